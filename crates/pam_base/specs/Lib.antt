@@ -1,0 +1,7 @@
+pub mod Bytes
+pub mod Code
+pub mod Fault
+pub mod Lines
+pub mod Words
+pub mod Number
+pub mod Quote

@@ -1,0 +1,164 @@
+ghost use Rattle.std.specs.Prelude.{◌≡◌, ◌==◌, ◌<◌, ◌↔◌, IfSome, IsNone};
+ghost use Rattle.pam_base.specs.Code.{number_of, name_of, all_codes, is_word, code_of_word};
+ghost use Rattle.std.specs.List.{find};
+
+/// The return codes of PAM, in the order of their numbers (`pam(3)`, `_pam_types.h`).
+#[derive(Clone, Copy, Debug, PartialEq, Eq)]
+pub enum Code {
+    Success,
+    OpenErr,
+    SymbolErr,
+    ServiceErr,
+    SystemErr,
+    BufErr,
+    PermDenied,
+    AuthErr,
+    CredInsufficient,
+    AuthinfoUnavail,
+    UserUnknown,
+    MaxTries,
+    NewAuthtokReqd,
+    AcctExpired,
+    SessionErr,
+    CredUnavail,
+    CredExpired,
+    CredErr,
+    NoModuleData,
+    ConvErr,
+    AuthtokErr,
+    AuthtokRecoveryErr,
+    AuthtokLockBusy,
+    AuthtokDisableAging,
+    TryAgain,
+    Ignore,
+    Abort,
+    AuthtokExpired,
+    ModuleUnknown,
+    BadItem,
+    ConvAgain,
+    Incomplete,
+}
+
+/// All codes, in the order of their numbers.
+pub const ALL_CODES: [Code; 32] = [
+    Code::Success,
+    Code::OpenErr,
+    Code::SymbolErr,
+    Code::ServiceErr,
+    Code::SystemErr,
+    Code::BufErr,
+    Code::PermDenied,
+    Code::AuthErr,
+    Code::CredInsufficient,
+    Code::AuthinfoUnavail,
+    Code::UserUnknown,
+    Code::MaxTries,
+    Code::NewAuthtokReqd,
+    Code::AcctExpired,
+    Code::SessionErr,
+    Code::CredUnavail,
+    Code::CredExpired,
+    Code::CredErr,
+    Code::NoModuleData,
+    Code::ConvErr,
+    Code::AuthtokErr,
+    Code::AuthtokRecoveryErr,
+    Code::AuthtokLockBusy,
+    Code::AuthtokDisableAging,
+    Code::TryAgain,
+    Code::Ignore,
+    Code::Abort,
+    Code::AuthtokExpired,
+    Code::ModuleUnknown,
+    Code::BadItem,
+    Code::ConvAgain,
+    Code::Incomplete,
+];
+
+/// The names, in the order of the codes' numbers.
+const CODE_NAMES: [&str; 32] = [
+    "SUCCESS",
+    "OPEN_ERR",
+    "SYMBOL_ERR",
+    "SERVICE_ERR",
+    "SYSTEM_ERR",
+    "BUF_ERR",
+    "PERM_DENIED",
+    "AUTH_ERR",
+    "CRED_INSUFFICIENT",
+    "AUTHINFO_UNAVAIL",
+    "USER_UNKNOWN",
+    "MAXTRIES",
+    "NEW_AUTHTOK_REQD",
+    "ACCT_EXPIRED",
+    "SESSION_ERR",
+    "CRED_UNAVAIL",
+    "CRED_EXPIRED",
+    "CRED_ERR",
+    "NO_MODULE_DATA",
+    "CONV_ERR",
+    "AUTHTOK_ERR",
+    "AUTHTOK_RECOVERY_ERR",
+    "AUTHTOK_LOCK_BUSY",
+    "AUTHTOK_DISABLE_AGING",
+    "TRY_AGAIN",
+    "IGNORE",
+    "ABORT",
+    "AUTHTOK_EXPIRED",
+    "MODULE_UNKNOWN",
+    "BAD_ITEM",
+    "CONV_AGAIN",
+    "INCOMPLETE",
+];
+
+/// The other word for code 21, which `pam.conf(5)` has.
+const RECOVER_ERR: &[u8] = b"authtok_recover_err";
+
+/// The number of a code, from 0 to 31.
+pub fn code_number(code: Code) -> u32
+    ensures { result ≡ number_of code }
+{
+    code as u32
+}
+
+/// The code with this number; None exactly where it is above 31.
+pub fn code_of(number: u32) -> Option<Code>
+    ensures code { IfSome result (λ code. number_of code ≡ number) }
+    ensures none { IsNone result ↔ (31 < number) }
+{
+    find_number(number)
+}
+
+fn find_number(number: u32) -> Option<Code>
+    ensures { result ≡ find (λ code. number_of code == number) all_codes }
+{
+    ALL_CODES
+        .iter()
+        .copied()
+        .find(|code| code_number(*code) == number)
+}
+
+/// The name in capitals, as `AUTH_ERR`.
+pub fn code_name(code: Code) -> &'static str
+    ensures { result.now ≡ name_of code }
+{
+    CODE_NAMES[code as usize]
+}
+
+/// The code that a word of a configuration names, in any case (`pam.conf(5)`). Each code is named by its
+/// name, and 21 by `authtok_recover_err` too. None exactly for all other words.
+pub fn code_named(word: &[u8]) -> Option<Code>
+    ensures { result ≡ code_of_word word.now }
+{
+    ALL_CODES
+        .iter()
+        .copied()
+        .find(|code| is_word_of(*code, word))
+}
+
+fn is_word_of(code: Code, word: &[u8]) -> bool
+    ensures { result ≡ is_word code word.now }
+{
+    word.eq_ignore_ascii_case(code_name(code).as_bytes())
+        || (code == Code::AuthtokRecoveryErr && word.eq_ignore_ascii_case(RECOVER_ERR))
+}

@@ -1,0 +1,109 @@
+ghost use Rattle.std.specs.Prelude.{◌≡◌};
+ghost use Rattle.pam_base.specs.Fault.{fault_number, fault_name, script_fault_number, script_fault_name};
+
+use std::alloc::{AllocError, AllocFailed};
+
+/// There was no memory.
+#[derive(Clone, Copy, Debug, PartialEq, Eq)]
+pub struct NoMemory;
+
+/// The item may not be read or set by this caller (`PAM_BAD_ITEM`).
+#[derive(Clone, Copy, Debug, PartialEq, Eq)]
+pub struct BadItem;
+
+/// The outside failed: a device, a folder or a stream.
+#[derive(Clone, Copy, Debug, PartialEq, Eq)]
+pub struct Failed;
+
+/// The conversation gave no reply (`PAM_CONV_ERR`).
+#[derive(Clone, Copy, Debug, PartialEq, Eq)]
+pub struct ConvErr;
+
+/// No datum of this name is set (`PAM_NO_MODULE_DATA`).
+#[derive(Clone, Copy, Debug, PartialEq, Eq)]
+pub struct NoModuleData;
+
+/// Why a call was refused: there was no memory, or one of its own faults.
+#[derive(Clone, Copy, Debug, PartialEq, Eq)]
+pub enum Refuse<F> {
+    NoMemory,
+    Named(F),
+}
+
+/// What is wrong with a configuration. The numbers are printed; those that are missing here come with
+/// the parts of the configuration that they speak of.
+#[derive(Clone, Copy, Debug, PartialEq, Eq)]
+pub enum FaultKind {
+    /// The configuration holds what this version doesn't read yet.
+    NotBuilt = 0,
+    /// A file of the configuration couldn't be read.
+    ReadFailed = 16,
+}
+
+/// What is wrong with a line of a script.
+#[derive(Clone, Copy, Debug, PartialEq, Eq)]
+pub enum ScriptKind {
+    /// The line has none of the forms that this version reads.
+    NotBuilt = 0,
+}
+
+impl From<AllocError> for NoMemory {
+    fn from(_: AllocError) -> Self {
+        NoMemory
+    }
+}
+
+impl<T: Drop> From<AllocFailed<T>> for NoMemory {
+    fn from(_: AllocFailed<T>) -> Self {
+        NoMemory
+    }
+}
+
+impl<F> From<NoMemory> for Refuse<F> {
+    ghost use Rattle.std.specs.Prelude.{◌≡◌};
+    ghost use Rattle.pam_base.specs.declared.fault.Refuse.{Refuse};
+    ghost use Rattle.pam_base.specs.declared.fault.Refuse.TheVariants as refusals;
+
+    ghost from_gives = { λ _ e. e ≡ refusals.NoMemory };
+
+    fn from(_: NoMemory) -> Self {
+        Refuse::NoMemory
+    }
+}
+
+impl FaultKind {
+    /// The number that is printed, from 0 to 16.
+    pub fn number(self) -> u32
+        ensures { result ≡ fault_number self }
+    {
+        self as u32
+    }
+
+    /// The name that is printed.
+    pub fn name(self) -> &'static str
+        ensures { result.now ≡ fault_name self }
+    {
+        match self {
+            FaultKind::NotBuilt => "NotBuilt",
+            FaultKind::ReadFailed => "ReadFailed",
+        }
+    }
+}
+
+impl ScriptKind {
+    /// The number that is printed.
+    pub fn number(self) -> u32
+        ensures { result ≡ script_fault_number self }
+    {
+        self as u32
+    }
+
+    /// The name that is printed.
+    pub fn name(self) -> &'static str
+        ensures { result.now ≡ script_fault_name self }
+    {
+        match self {
+            ScriptKind::NotBuilt => "NotBuilt",
+        }
+    }
+}

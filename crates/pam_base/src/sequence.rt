@@ -1,0 +1,107 @@
+ghost use Rattle.std.specs.Prelude.{◌≡◌, ◌==◌, ◌<◌, [], ◌∷◌, ◌++◌, length, slice_get, Some, OnOk, OnErr, IfOk};
+
+use crate::fault::NoMemory;
+use std::alloc::Global;
+use std::marker::Model;
+
+/// A list that grows at its end. Contracts see the list of its elements.
+#[derive(Debug, Drop)]
+pub struct Sequence<T> {
+    vec: Vec<T>,
+}
+
+impl<T> Model for Sequence<T> {
+    ghost use Rattle.std.specs.Prelude.{List};
+
+    ghost Value = { List T };
+
+    ghost view = { λ s. s.vec.items };
+}
+
+/// Bytes.
+pub type Text = Sequence<u8>;
+
+/// Texts, in order.
+pub type Texts = Sequence<Text>;
+
+/// Numbers, in order.
+pub type Numbers = Sequence<u64>;
+
+impl<T> Sequence<T> {
+    /// An empty list. It takes no memory before the first `push`.
+    pub fn new(alloc: Global) -> Self
+        ensures { result ≡ [] }
+    {
+        Sequence {
+            vec: Vec::new(alloc),
+        }
+    }
+
+    /// Adds an element at the end. Without memory the list stays as it was.
+    pub fn push(&mut self, element: T) -> Result<(), NoMemory>
+    where
+        T: Drop,
+        ensures ok { OnOk result (self.new ≡ self.old ++ element ∷ []) }
+        ensures err { OnErr result (self.new ≡ self.old) }
+    {
+        self.vec.push(element)?;
+        Ok(())
+    }
+
+    pub fn len(&self) -> usize
+        ensures { result ≡ length self.now }
+    {
+        self.vec.len()
+    }
+
+    pub fn is_empty(&self) -> bool
+        ensures { result ≡ (length self.now == 0) }
+    {
+        self.vec.is_empty()
+    }
+
+    /// The element at index i, from 0.
+    pub fn at(&self, i: usize) -> &T
+        requires { i < length self.now }
+        ensures { slice_get self.now i ≡ Some result.now }
+    {
+        &self.vec[i]
+    }
+
+    pub fn items(&self) -> &[T]
+        ensures { result.now ≡ self.now }
+    {
+        &self.vec
+    }
+
+    /// Takes no memory.
+    pub fn from_vec(vec: Vec<T>) -> Self
+        ensures { result ≡ vec.items }
+    {
+        Sequence { vec }
+    }
+
+    /// Takes no memory.
+    pub fn into_vec(self) -> Vec<T>
+        ensures { result.items ≡ self }
+    {
+        self.vec
+    }
+}
+
+impl Sequence<u8> {
+    pub fn bytes(&self) -> &[u8]
+        ensures { result.now ≡ self.now }
+    {
+        &self.vec
+    }
+
+    /// A copy of the bytes.
+    pub fn from_bytes(alloc: Global, bytes: &[u8]) -> Result<Self, NoMemory>
+        ensures { IfOk result (λ text. text ≡ bytes.now) }
+    {
+        Ok(Sequence {
+            vec: Vec::from_slice(alloc, bytes)?,
+        })
+    }
+}
