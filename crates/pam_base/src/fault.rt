@@ -36,6 +36,13 @@ pub enum Refuse<F> {
 pub enum FaultKind {
     /// The configuration holds what this version doesn't read yet.
     NotBuilt = 0,
+    /// A bracket is still open at the end of its line.
+    OpenBracket = 1,
+    NulByte = 2,
+    /// A line, with those joined to it, has more than 4,096 bytes.
+    RuleTooLong = 3,
+    /// A file has more than 65,536 bytes.
+    FileTooLong = 4,
     /// A file of the configuration couldn't be read.
     ReadFailed = 16,
 }
@@ -85,6 +92,10 @@ impl FaultKind {
     {
         match self {
             FaultKind::NotBuilt => "NotBuilt",
+            FaultKind::OpenBracket => "OpenBracket",
+            FaultKind::NulByte => "NulByte",
+            FaultKind::RuleTooLong => "RuleTooLong",
+            FaultKind::FileTooLong => "FileTooLong",
             FaultKind::ReadFailed => "ReadFailed",
         }
     }

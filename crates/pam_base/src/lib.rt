@@ -17,9 +17,7 @@ mod words;
 pub use bytes::first_place;
 pub use call::{AppCall, Func, Step};
 pub use code::{ALL_CODES, Code, code_name, code_named, code_number, code_of};
-pub use fault::{
-    BadItem, ConvErr, Failed, FaultKind, NoMemory, NoModuleData, Refuse, ScriptKind,
-};
+pub use fault::{BadItem, ConvErr, Failed, FaultKind, NoMemory, NoModuleData, Refuse, ScriptKind};
 pub use item::ItemName;
 pub use lines::Lines;
 pub use number::number_in;
@@ -27,4 +25,3 @@ pub use quote::quoted;
 pub use sequence::{Numbers, Sequence, Text, Texts};
 pub use style::Style;
 pub use words::Words;
-

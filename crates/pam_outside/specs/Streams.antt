@@ -1,0 +1,38 @@
+-- What a source and a sink may tell, and what a call does to it (this project's own).
+use Rattle.std.specs.Prelude.{◌≡◌, ℕ, ◌+◌, ◌≤◌, List, [], ◌++◌, length, take, Result, Ok, IfOk, OnOk, OnErr}
+use Rattle.pam_base.specs.declared.fault.Failed.{Failed}
+use Rattle.pam_outside.specs.Counts.{next_count}
+
+-- a source: the bytes that are left, and how often it was read
+pub record SourceState : Type 0 where
+  pub left : List ℕ
+  pub calls : ℕ
+
+-- a sink: the bytes that were written, and how often it was called
+pub record SinkState : Type 0 where
+  pub written : List ℕ
+  pub calls : ℕ
+
+-- the next bytes are taken, none only at the end, and none where it fails
+pub record Reads (result : Result ℕ Failed) (into : List ℕ) (old new : SourceState) : Type 0 where
+  pub calls : new.calls ≡ next_count old.calls
+  pub taken : IfOk result (λ n. old.left ≡ take n into ++ new.left)
+  pub end : result ≡ Ok 0 → new.left ≡ []
+  pub none : OnErr result (new.left ≡ old.left)
+
+-- bytes of the piece's front are written, and none where it fails
+pub record Writes (result : Result ℕ Failed) (piece : List ℕ) (old new : SinkState) : Type 0 where
+  pub calls : new.calls ≡ next_count old.calls
+  pub some : IfOk result (λ n. new.written ≡ old.written ++ take n piece)
+  pub none : OnErr result (new.written ≡ old.written)
+
+-- a front of the text is written, with at most one call more than it has bytes; all of it where nothing failed,
+-- and then with at most as many calls as it has bytes
+pub record WritesWhole {T : Type 0} (result : Result T Failed) (text : List ℕ) (old new : SinkState) : Type 0 where
+  pub front : List ℕ
+  pub back : List ℕ
+  pub parts : text ≡ front ++ back
+  pub written : new.written ≡ old.written ++ front
+  pub all : OnOk result (front ≡ text)
+  pub calls_ok : OnOk result (new.calls ≤ old.calls + length front)
+  pub calls : new.calls ≤ old.calls + length front + 1

@@ -1,0 +1,13 @@
+//! What the runtime reaches of the outside: where bytes come from, where they go, and files by their paths.
+//! An object may tell what it holds, as those in memory do; the real ones tell nothing but their faults.
+#![tactic(auto)]
+
+mod sink;
+mod source;
+mod vault;
+mod whole;
+
+pub use sink::Sink;
+pub use source::Source;
+pub use vault::{Vault, VaultFault, read_file};
+pub use whole::write_all;

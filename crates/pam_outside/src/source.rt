@@ -1,0 +1,27 @@
+ghost use Rattle.std.specs.Prelude.{◌≡◌, ◌<◌, ◌≤◌, ℕ, Bool, length, IsTrue, IfOk, OnErr};
+ghost use Rattle.pam_outside.specs.Counts.{Rose};
+ghost use Rattle.pam_outside.specs.Streams.{SourceState, Reads};
+
+use pam_base::Failed;
+
+/// Where bytes come from, as standard input.
+pub trait Source {
+    /// Whether it tells what it holds. It does so for ever or never.
+    ghost source_tells: { Self → Bool };
+
+    /// The bytes that are left and how often it was read, where it tells.
+    ghost source_holds: { Self → SourceState };
+
+    /// How often it has failed. The count never falls, and stands still at 2^64 - 1.
+    ghost source_faults: { Self → ℕ };
+
+    /// Takes the next bytes into the front of the buffer and answers how many, at most the buffer's length.
+    /// 0 comes exactly at the end. Failed takes none, and comes only where the count of faults rose.
+    fn read(&mut self, into: &mut [u8]) -> Result<usize, Failed>
+        requires { 0 < length into.old }
+        ensures bound { IfOk result (λ n. n ≤ length into.new) }
+        ensures tells { source_tells self.new ≡ source_tells self.old }
+        ensures told { IsTrue (source_tells self.old) → Reads result into.new (source_holds self.old) (source_holds self.new) }
+        ensures faults { source_faults self.old ≤ source_faults self.new }
+        ensures failed { OnErr result (Rose (source_faults self.old) (source_faults self.new)) };
+}
