@@ -1,0 +1,6 @@
+use Rattle.std.proofs.Common.{length, ap}
+use Rattle.control_words.proofs.Listing.{count-stack_of}
+use Rattle.control_words.proofs.nodes.Nodes.len.Goals as goal
+
+pub returns : goal.returns
+returns c = rw count-stack_of (ap length c.items.ensures)

@@ -1,0 +1,3 @@
+pub mod Control
+pub mod Keyword
+pub mod Stack

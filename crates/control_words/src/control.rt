@@ -1,0 +1,56 @@
+ghost use Rattle.std.specs.Prelude.{◌≡◌};
+
+use pam_base::Code;
+use std::marker::Model;
+
+/// What a line does to the state of its stack, by the answer that decides (`pam.conf(5)`).
+#[derive(Clone, Copy, Debug, PartialEq, Eq)]
+pub enum Action {
+    Ignore,
+    Bad,
+    Die,
+    Ok,
+    Done,
+    Reset,
+    /// Passes over so many nodes of the list, from 1 to 255.
+    Jump(u8),
+}
+
+/// A control: one action for each of the 32 codes. Contracts see the list of the actions, in the order of
+/// the codes' numbers.
+#[derive(Debug, Drop)]
+pub struct Control {
+    actions: [Action; 32],
+}
+
+impl Model for Control {
+    ghost use Rattle.std.specs.Prelude.{List};
+    ghost use Rattle.control_words.specs.declared.control.Action.{Action};
+
+    ghost Value = { List Action };
+
+    ghost view = { λ c. c.actions };
+}
+
+impl Control {
+    ghost use Rattle.control_words.specs.Control.{action_at, usual};
+
+    /// The action for a code.
+    pub fn action(&self, code: Code) -> Action
+        ensures { result ≡ action_at self.now code }
+    {
+        self.actions[code as usize]
+    }
+
+    /// The form of the keywords' controls: one action for SUCCESS and NEW_AUTHTOK_REQD, one for IGNORE, and
+    /// one for every other code.
+    pub(crate) fn usual(good: Action, passed: Action, other: Action) -> Self
+        ensures { result ≡ usual good passed other }
+    {
+        let mut actions = [other; 32];
+        actions[Code::Success as usize] = good;
+        actions[Code::NewAuthtokReqd as usize] = good;
+        actions[Code::Ignore as usize] = passed;
+        Control { actions }
+    }
+}

@@ -1,0 +1,12 @@
+//! The words of a stack: what a line makes of each return code (`pam.conf(5)`'s controls with their
+//! keywords), the rule of a line, and the nested lists of lines and substacks.
+#![tactic(auto)]
+
+mod control;
+mod keywords;
+mod nodes;
+
+pub use control::{Action, Control};
+pub use keywords::keyword;
+pub use nodes::{Node, Nodes, Rule};
+

@@ -1,0 +1,70 @@
+ghost use Rattle.std.specs.Prelude.{◌≡◌, ◌==◌, OnOk, OnErr};
+ghost use Rattle.control_words.specs.Stack.{joined, node_on, none, stack_of, count};
+
+use crate::control::Control;
+use pam_base::{NoMemory, Text, Texts};
+use std::alloc::Global;
+
+/// What a line of a service names: its module, with the module's arguments, and its control.
+#[derive(Debug, Drop)]
+pub struct Rule {
+    /// Whether a missing module is passed over in silence (a `-` before the type).
+    pub silent: bool,
+    pub control: Control,
+    /// The module's path, as it is written.
+    pub path: Text,
+    pub args: Texts,
+}
+
+/// A node of a stack: a line, or a substack with a list of its own.
+#[cycle(nodes)]
+#[derive(Debug, Drop)]
+pub enum Node {
+    Line(Rule),
+    Sub(Nodes),
+}
+
+/// The nodes of a stack, in order. Contracts see a list of lines and of substacks.
+#[cycle(nodes)]
+#[derive(Debug, Drop)]
+pub struct Nodes {
+    pub vec: Vec<Node>,
+}
+
+impl Nodes {
+    pub fn new(alloc: Global) -> Self
+        ensures { stack_of result.vec.items ≡ none }
+    {
+        Nodes {
+            vec: Vec::new(alloc),
+        }
+    }
+
+    /// Adds a node at the end. Without memory the list stays as it was.
+    pub fn push(&mut self, node: Node) -> Result<(), NoMemory>
+        ensures ok { OnOk result (stack_of self.new.vec.items ≡ joined (stack_of self.old.vec.items) (node_on node none)) }
+        ensures err { OnErr result (self.new.vec.items ≡ self.old.vec.items) }
+    {
+        self.vec.push(node)?;
+        Ok(())
+    }
+
+    /// How many nodes stand in the list itself.
+    pub fn len(&self) -> usize
+        ensures { result ≡ count (stack_of self.now.vec.items) }
+    {
+        self.items().len()
+    }
+
+    pub fn is_empty(&self) -> bool
+        ensures { result ≡ (count (stack_of self.now.vec.items) == 0) }
+    {
+        self.items().is_empty()
+    }
+
+    pub fn items(&self) -> &[Node]
+        ensures { result.now ≡ self.now.vec.items }
+    {
+        &self.vec
+    }
+}
