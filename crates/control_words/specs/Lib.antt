@@ -1,3 +1,4 @@
 pub mod Control
 pub mod Keyword
+pub mod Module
 pub mod Stack

@@ -4,9 +4,11 @@
 
 mod control;
 mod keywords;
+mod module;
 mod nodes;
 
 pub use control::{Action, Control};
 pub use keywords::keyword;
+pub use module::module_name;
 pub use nodes::{Node, Nodes, Rule};
 
