@@ -11,4 +11,3 @@ pub use control::{Action, Control};
 pub use keywords::keyword;
 pub use module::module_name;
 pub use nodes::{Node, Nodes, Rule};
-

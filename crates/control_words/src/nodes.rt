@@ -1,4 +1,4 @@
-ghost use Rattle.std.specs.Prelude.{◌≡◌, ◌==◌, OnOk, OnErr};
+ghost use Rattle.std.specs.Prelude.{◌≡◌, ◌==◌, length, OnOk, OnErr};
 ghost use Rattle.control_words.specs.Stack.{joined, node_on, none, stack_of, count};
 
 use crate::control::Control;
@@ -51,7 +51,8 @@ impl Nodes {
 
     /// How many nodes stand in the list itself.
     pub fn len(&self) -> usize
-        ensures { result ≡ count (stack_of self.now.vec.items) }
+        ensures counted { result ≡ count (stack_of self.now.vec.items) }
+        ensures nodes { result ≡ length self.now.vec.items }
     {
         self.items().len()
     }

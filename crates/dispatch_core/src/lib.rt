@@ -1,13 +1,12 @@
-// A library with one function.
+//! The stack: a pass visits the lines of a service in order, and its code is what the opinions of the visited
+//! lines come to (`pam.conf(5)`).
 #![tactic(auto)]
 
-ghost use Rattle.std.specs.Prelude.{◌≡◌};
-ghost use Rattle.dispatch_core.specs.Echo.{echo_of};
+mod modules;
+mod opinion;
+mod pass;
+mod visits;
 
-// The `ensures` clause is the contract: what `echo` returns is `echo_of` of its argument, a definition
-// in `specs/Echo.antt`, which a caller's clause can cite too.
-pub fn echo(x: usize) -> usize
-    ensures { result ≡ echo_of x }
-{
-    x
-}
+pub use opinion::{Impression, Opinion};
+pub use pass::dispatch;
+pub use visits::{Visit, Visits};

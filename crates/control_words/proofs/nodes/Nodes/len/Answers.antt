@@ -2,5 +2,5 @@ use Rattle.std.proofs.Common.{length, ap}
 use Rattle.control_words.proofs.Listing.{count-stack_of}
 use Rattle.control_words.proofs.nodes.Nodes.len.Goals as goal
 
-pub returns : goal.returns
-returns c = rw count-stack_of (ap length c.items.ensures)
+pub returns-clause-counted : goal.returns-clause-counted
+returns-clause-counted c = rw count-stack_of (ap length c.items.ensures)
