@@ -1,0 +1,8 @@
+//! `pamsess`: applies the calls of a script to transactions of a configuration, and reports what each answers.
+#![tactic(auto)]
+
+mod load;
+mod service_file;
+mod shape;
+
+fn main() {}
