@@ -1,3 +1,6 @@
 pub mod Shape
 pub mod Service
 pub mod Loading
+pub mod Script
+pub mod Step
+pub mod Report

@@ -2,6 +2,9 @@
 #![tactic(auto)]
 
 mod load;
+mod outcome;
+mod report;
+mod script;
 mod service_file;
 mod shape;
 

@@ -1,0 +1,24 @@
+use crate::load::LoadFault;
+use dispatch_core::Visits;
+use pam_base::Code;
+
+/// What a call answers.
+#[derive(Debug, Drop)]
+pub enum Answer {
+    Code(Code),
+    /// The configuration was refused.
+    Refused(LoadFault),
+    /// The transaction isn't open.
+    NotOpen,
+    /// A start of a transaction that is open.
+    AlreadyOpen,
+    /// A call that isn't there yet.
+    Nothing,
+}
+
+/// What a step did: the lines it visited, and its answer.
+#[derive(Debug, Drop)]
+pub struct Outcome {
+    pub trail: Visits,
+    pub answer: Answer,
+}
