@@ -1,9 +1,16 @@
 -- The stack of a service's lines.
-use Rattle.std.proofs.Common.{◌≡◌, ℕ, ◌+◌, ◌≤◌, ◌<◌, Bool, true, false, List, [], ◌∷◌, ◌++◌, length, drop, slice_get, Option, Some, None, Result, Ok, Err, refl, sym, ap, ◌∙◌, arith, length-append, eqb}
+use Rattle.std.proofs.Common.{◌≡◌, ℕ, ◌+◌, ◌≤◌, ◌<◌, Bool, true, false, cond, ◌&&◌, List, [], ◌∷◌, ◌++◌, length, drop, slice_get, Option, Some, None, Result, Ok, Err, refl, sym, ap, ◌∙◌, arith, length-append, eqb}
 use Rattle.pam_base.specs.Lines.{Cut, onto, cut, last_line, lines_of}
 use Rattle.control_words.specs.declared.nodes.Rule.{Rule}
-use Rattle.control_words.specs.Stack.{Stack, none, line, sub, joined}
-use Rattle.pam_session_cli.specs.Service.{rule_of_line, with_line, stack_of_lines}
+use Rattle.control_words.specs.declared.control.Action.{Action}
+use Rattle.control_words.specs.Keyword.{required, requisite, sufficient, optional, control_of_word}
+use Rattle.dispatch_core.specs.Pass.{is_plain, is_plain_stack}
+use Rattle.std.specs.List.{list_all}
+use Rattle.std.specs.Str.{bytes_eq, str_eq_ignore_ascii_case}
+use Rattle.std.specs.Prelude.{codes, option_map}
+use Rattle.pam_base.specs.Words.{words_of}
+use Rattle.control_words.specs.Stack.{Stack, none, line, sub, joined, count}
+use Rattle.pam_session_cli.specs.Service.{is_lowercase, is_module, plain_rule, rule_of_words, rule_of_line, with_line, stack_of_lines}
 
 -- a text has no more lines than bytes
 counted_cut : Cut → ℕ
@@ -85,3 +92,58 @@ pub one_less : (left new : List (List ℕ)) (text : List ℕ) → ◌≡◌ {A =
 one_less left new text e n =
     let cut : left ≡ text ∷ new = first_line left new text e n in
     rw cut (omega arith)
+
+-- ---- what is read is plain
+
+is_plain_of : (path : List ℕ) (control : List Action) (rule : Rule) → ◌≡◌ {A = Option Rule} (Some (plain_rule path control)) (Some rule) → list_all is_plain control ≡ true → list_all is_plain rule.control ≡ true
+is_plain_of path control rule e p =
+    let is : plain_rule path control ≡ rule = cc in
+    ap (λ (r : Rule). list_all is_plain r.control) (sym is) ∙ p
+
+by_case : (a b c d : Bool) (path : List ℕ) (rule : Rule)
+    → ◌≡◌ {A = Option Rule} (option_map (plain_rule path) (cond a (Some required) (cond b (Some requisite) (cond c (Some sufficient) (cond d (Some optional) None))))) (Some rule) → list_all is_plain rule.control ≡ true
+by_case true b c d path rule e = is_plain_of path required rule e refl
+by_case false true c d path rule e = is_plain_of path requisite rule e refl
+by_case false false true d path rule e = is_plain_of path sufficient rule e refl
+by_case false false false true path rule e = is_plain_of path optional rule e refl
+by_case false false false false path rule e = absurd cc
+
+pub plain-keyword : (path word : List ℕ) (rule : Rule) → ◌≡◌ {A = Option Rule} (option_map (plain_rule path) (control_of_word word)) (Some rule) → list_all is_plain rule.control ≡ true
+plain-keyword path word rule e =
+    by_case (str_eq_ignore_ascii_case word (codes "required")) (str_eq_ignore_ascii_case word (codes "requisite")) (str_eq_ignore_ascii_case word (codes "sufficient")) (str_eq_ignore_ascii_case word (codes "optional")) path rule e
+
+plain-if : (b : Bool) (path word : List ℕ) (rule : Rule) → ◌≡◌ {A = Option Rule} (cond b (option_map (plain_rule path) (control_of_word word)) None) (Some rule) → list_all is_plain rule.control ≡ true
+plain-if true path word rule e = plain-keyword path word rule e
+plain-if false path word rule e = absurd cc
+
+plain-words : (words : List (List ℕ)) (rule : Rule) → ◌≡◌ {A = Option Rule} (rule_of_words words) (Some rule) → list_all is_plain rule.control ≡ true
+plain-words [] rule e = absurd cc
+plain-words (a ∷ []) rule e = absurd cc
+plain-words (a ∷ b ∷ []) rule e = absurd cc
+plain-words (kind ∷ word ∷ path ∷ []) rule e = plain-if (bytes_eq kind (codes "auth") && is_lowercase word && is_module path) path word rule e
+plain-words (a ∷ b ∷ c ∷ d ∷ rest) rule e = absurd cc
+
+pub record IsReadable (stack : Stack) (n : ℕ) : Type 0 where
+  pub plain : is_plain_stack stack ≡ true
+  pub few : count stack ≤ n
+
+stacked : (number : ℕ) (o : Option Rule) (rest : Result Stack ℕ) (n : ℕ) → ((rule : Rule) → o ≡ Some rule → list_all is_plain rule.control ≡ true) → ((t : Stack) → rest ≡ Ok t → IsReadable t n)
+    → (s : Stack) → with_line number o rest ≡ Ok s → IsReadable s (n + 1)
+stacked number None rest n p h s e = absurd cc
+stacked number (Some rule) (Err m) n p h s e = absurd cc
+stacked number (Some rule) (Ok t) n p h s e =
+    let is : line rule t ≡ s = cc in
+    let r = h t refl in
+    let both : is_plain_stack (line rule t) ≡ true = rw (p rule refl, r.plain) refl in
+    record {
+      plain = ap is_plain_stack (sym is) ∙ both;
+      few = rw (← is) (omega (arith, r.few));
+    }
+
+pub readable : (number : ℕ) (texts : List (List ℕ)) (s : Stack) → stack_of_lines number texts ≡ Ok s → IsReadable s (length texts)
+readable number [] s e =
+    let is : none ≡ s = cc in
+    record { plain = rw (← is) refl; few = rw (← is) (omega arith) }
+readable number (text ∷ texts) s e =
+    let k : length (text ∷ texts) ≡ length texts + 1 = omega arith in
+    rw k (stacked number (rule_of_line text) (stack_of_lines (number + 1) texts) (length texts) (λ rule r. plain-words (words_of text) rule r) (readable (number + 1) texts) s e)

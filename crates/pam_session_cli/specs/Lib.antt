@@ -4,3 +4,4 @@ pub mod Loading
 pub mod Script
 pub mod Step
 pub mod Report
+pub mod State

@@ -1,5 +1,7 @@
-ghost use Rattle.std.specs.Prelude.{◌≡◌, ◌≤◌, ◌<◌, ◌++◌, ◌∷◌, [], length, IsTrue, IfOk, IfSome, IfNone};
+ghost use Rattle.std.specs.Prelude.{◌≡◌, ◌≤◌, ◌<◌, ◌++◌, ◌∷◌, [], length, true, IsTrue, IfOk, IfSome, IfNone};
 ghost use Rattle.std.specs.Str.{str_to_ascii_lowercase};
+ghost use Rattle.control_words.specs.Stack.{stack_of, count};
+ghost use Rattle.dispatch_core.specs.Pass.{is_plain_stack};
 ghost use Rattle.pam_outside.specs.Files.{counted};
 ghost use Rattle.pam_session_cli.specs.Service.{root_before, service_file, service_path};
 ghost use Rattle.pam_session_cli.specs.Loading.{Loads, IfCalled, HasReadCause};
@@ -36,6 +38,8 @@ pub fn load(
     ensures tells { vault_tells vault.new ≡ vault_tells vault.old }
     ensures told { IsTrue (vault_tells vault.old) → Loads result (vault_holds vault.old) root.now service.now }
     ensures counts { IsTrue (vault_tells vault.old) → IfCalled result (vault_holds vault.new ≡ counted (vault_holds vault.old)) }
+    ensures plain { IfOk result (λ nodes. is_plain_stack (stack_of nodes.vec.items) ≡ true) }
+    ensures few { IfOk result (λ nodes. count (stack_of nodes.vec.items) ≤ 65536) }
     ensures faults { vault_faults vault.old ≤ vault_faults vault.new }
     ensures cause { HasReadCause result (vault_faults vault.old) (vault_faults vault.new) }
 {

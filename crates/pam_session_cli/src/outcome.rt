@@ -1,6 +1,9 @@
+ghost use Rattle.std.specs.Prelude.{◌≡◌, []};
+
 use crate::load::LoadFault;
 use dispatch_core::Visits;
 use pam_base::Code;
+use std::alloc::Global;
 
 /// What a call answers.
 #[derive(Debug, Drop)]
@@ -21,4 +24,17 @@ pub enum Answer {
 pub struct Outcome {
     pub trail: Visits,
     pub answer: Answer,
+}
+
+impl Outcome {
+    /// Nothing was visited.
+    pub fn new(alloc: Global, answer: Answer) -> Self
+        ensures answer { result.answer ≡ answer }
+        ensures visits { result.trail.visits ≡ [] }
+    {
+        Outcome {
+            trail: Visits::new(alloc),
+            answer,
+        }
+    }
 }

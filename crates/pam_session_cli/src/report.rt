@@ -86,12 +86,7 @@ fn answer_report(
     }
 }
 
-fn code_report(
-    alloc: Global,
-    handle: u32,
-    command: &str,
-    code: Code,
-) -> Result<String, AllocError>
+fn code_report(alloc: Global, handle: u32, command: &str, code: Code) -> Result<String, AllocError>
     ensures { IfOk result (λ text. string_bytes text ≡ code_text handle command.now code) }
 {
     let name = code_name(code);

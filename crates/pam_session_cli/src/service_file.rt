@@ -1,4 +1,6 @@
-ghost use Rattle.std.specs.Prelude.{◌≡◌, ◌≤◌, length, IfOk};
+ghost use Rattle.std.specs.Prelude.{◌≡◌, ◌≤◌, length, true, IfOk};
+ghost use Rattle.control_words.specs.Stack.{stack_of, count};
+ghost use Rattle.dispatch_core.specs.Pass.{is_plain_stack};
 ghost use Rattle.std.specs.Char.{is_ascii_uppercase};
 ghost use Rattle.std.specs.List.{list_any};
 ghost use Rattle.pam_session_cli.specs.Service.{is_lowercase, is_module, rule_of_line};
@@ -12,7 +14,9 @@ use std::alloc::Global;
 /// The stack of a service file's text, or the number of its first line of another form.
 pub fn stack_in(alloc: Global, text: &[u8]) -> Result<Nodes, Refuse<u32>>
     requires { length text.now ≤ 65536 }
-    ensures { ReadsStack result text.now }
+    ensures stack { ReadsStack result text.now }
+    ensures plain { IfOk result (λ nodes. is_plain_stack (stack_of nodes.vec.items) ≡ true) }
+    ensures few { IfOk result (λ nodes. count (stack_of nodes.vec.items) ≤ 65536) }
 {
     let mut nodes = Nodes::new(alloc);
     let mut lines = Lines::new(text);

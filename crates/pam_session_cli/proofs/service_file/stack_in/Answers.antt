@@ -1,5 +1,5 @@
 use Rattle.std.proofs.Common.{arith, rules, sym, ◌∙◌, ap, length, length-drop}
-use Rattle.pam_session_cli.proofs.Reading.{length-lines_of, line_more, lines_done, one_less}
+use Rattle.pam_session_cli.proofs.Reading.{length-lines_of, line_more, lines_done, one_less, readable}
 use Rattle.pam_session_cli.proofs.service_file.stack_in.Goals as goal
 
 pub overflow_add-number : goal.overflow_add-number
@@ -15,5 +15,13 @@ loop-line-preserved c =
       few = omega (arith, less, c.loop-line.invariant.few);
     }
 
-pub returns : goal.returns
-returns c = lines_done _ c.loop-line.number _ _ c.in_default.ensures.line c.loop-line.invariant.same
+pub returns-clause-stack : goal.returns-clause-stack
+returns-clause-stack c = lines_done _ c.loop-line.number _ _ c.in_default.ensures.line c.loop-line.invariant.same
+
+pub returns-clause-plain : goal.returns-clause-plain
+returns-clause-plain c = (readable 1 _ _ (lines_done _ c.loop-line.number _ _ c.in_default.ensures.line c.loop-line.invariant.same)).plain
+
+pub returns-clause-few : goal.returns-clause-few
+returns-clause-few c =
+    let r = readable 1 _ _ (lines_done _ c.loop-line.number _ _ c.in_default.ensures.line c.loop-line.invariant.same) in
+    omega (arith, r.few, length-lines_of c.args.text.now, c.requires)
