@@ -1,3 +1,4 @@
 pub mod Reading
 pub mod Roots
 pub mod Stepping
+pub mod Taken

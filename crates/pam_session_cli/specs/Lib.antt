@@ -5,3 +5,9 @@ pub mod Script
 pub mod Step
 pub mod Report
 pub mod State
+pub mod Looked
+pub mod Run
+pub mod Taking
+pub mod Turns
+pub mod Whole
+pub mod Command

@@ -2,12 +2,18 @@
 #![tactic(auto)]
 
 mod calls;
+mod command;
+mod drive;
 mod load;
 mod outcome;
+mod program;
+mod reader;
 mod report;
 mod script;
 mod service_file;
 mod session;
 mod shape;
+
+pub use program::pamsess;
 
 fn main() {}

@@ -1,0 +1,138 @@
+ghost use Rattle.std.specs.Prelude.{◌≡◌, ◌⊎◌, ◌≤◌, ◌++◌, ℕ, List, None, Some, Ok, Err, OnErr, OnOk, IfOk, IsTrue, IsSome, string_bytes, codes};
+ghost use Rattle.pam_outside.specs.Counts.{Rose};
+ghost use Rattle.pam_outside.specs.Files.{VaultState};
+ghost use Rattle.pam_session_cli.specs.Command.{root_of_words, Usage};
+ghost use Rattle.pam_session_cli.specs.Report.{script_text};
+ghost use Rattle.pam_session_cli.specs.Run.{opening};
+ghost use Rattle.pam_session_cli.specs.State.{slot_of, session_state};
+ghost use Rattle.pam_session_cli.specs.Whole.{closings, ending_text, Scripts, Finishes, Runs, IsStatus, Completes};
+
+use crate::command::root_of;
+use crate::drive::{Ending, Stop, drive};
+use crate::report::{closed_report, script_report};
+use crate::session::Session;
+use pam_base::{Code, Failed, NoMemory, Text};
+use pam_outside::{Sink, Source, Vault, write_all};
+use std::alloc::Global;
+
+const USAGE: &str = "usage: pamsess run ROOT\n";
+
+/// The program `pamsess`: reads the calls of a script, applies them to the configuration under a root, and
+/// writes what each does. `words` are those of the command line, without the program's name.
+pub fn pamsess<S: Source, K: Sink>(
+    alloc: Global,
+    words: &[String],
+    script: &mut S,
+    out: &mut K,
+    vault: &mut dyn Vault,
+) -> u8
+    // Where the words are run ROOT, and all objects tell, this is a run of the script.
+    ensures told { (root : List ℕ) → root_of_words words.now ≡ Some root → IsTrue (S.source_tells script.old) → IsTrue (K.sink_tells out.old) → IsTrue (vault_tells vault.old) →
+        Runs result root (vault_holds vault.old) (vault_holds vault.new) (S.source_holds script.old) (S.source_holds script.new) (K.sink_holds out.old) (K.sink_holds out.new) }
+    ensures statuses { IsSome (root_of_words words.now) → IsStatus result }
+
+    // No run gives up by itself.
+    ensures complete { (root : List ℕ) → root_of_words words.now ≡ Some root → IsTrue (S.source_tells script.old) → IsTrue (K.sink_tells out.old) → IsTrue (vault_tells vault.old) →
+        Completes result (Rose (S.source_faults script.old) (S.source_faults script.new)) (Rose (K.sink_faults out.old) (K.sink_faults out.new)) (opening root (vault_holds vault.old)) (S.source_holds script.old) }
+
+    // Where they are not, the usage line is written.
+    ensures usage { root_of_words words.now ≡ None → IsTrue (K.sink_tells out.old) → Usage result (K.sink_holds out.old) (K.sink_holds out.new) }
+    ensures usage_status { root_of_words words.now ≡ None → (result ≡ 2) ⊎ (result ≡ 6) }
+    ensures usage_source { root_of_words words.now ≡ None → script.new ≡ script.old }
+    ensures usage_vault { root_of_words words.now ≡ None → vault.new ≡ vault.old }
+
+    // The causes, in any world.
+    ensures words_only { result ≡ 2 → root_of_words words.now ≡ None }
+    ensures read_fault { result ≡ 5 → Rose (S.source_faults script.old) (S.source_faults script.new) }
+    ensures write_fault { result ≡ 6 → Rose (K.sink_faults out.old) (K.sink_faults out.new) }
+{
+    let Some(root) = root_of(words) else {
+        return match write_all(out, USAGE.as_bytes()) {
+            Ok(()) => 2,
+            Err(Failed) => 6,
+        };
+    };
+    match run_script(alloc, root.as_bytes(), script, out, vault) {
+        Ok(Ending::Done) => 0,
+        Err(Stop::NoMemory) => 4,
+        Ok(Ending::ReadFault) => 5,
+        Err(Stop::WriteFault) => 6,
+        Ok(Ending::Refused(_)) => 7,
+    }
+}
+
+/// Runs the lines of the script and writes the report.
+fn run_script<S: Source, K: Sink>(
+    alloc: Global,
+    root: &[u8],
+    script: &mut S,
+    out: &mut K,
+    vault: &mut dyn Vault,
+) -> Result<Ending, Stop>
+    ensures told { IsTrue (S.source_tells script.old) → IsTrue (K.sink_tells out.old) → IsTrue (vault_tells vault.old) →
+        Scripts result root.now (vault_holds vault.old) (vault_holds vault.new) (S.source_holds script.old) (S.source_holds script.new) (K.sink_holds out.old) (K.sink_holds out.new) }
+    ensures read_fault { result ≡ Ok Ending.ReadFault → Rose (S.source_faults script.old) (S.source_faults script.new) }
+    ensures write_fault { result ≡ Err Stop.WriteFault → Rose (K.sink_faults out.old) (K.sink_faults out.new) }
+{
+    let mut session = match Text::from_bytes(alloc, root) {
+        Ok(root) => Session {
+            root,
+            lines: 0,
+            slot: None,
+        },
+        Err(NoMemory) => return Err(Stop::NoMemory),
+    };
+    match drive(alloc, &mut session, script, out, vault) {
+        Err(stop) => Err(stop),
+        Ok(ending) => match finish(alloc, ending, &session, out) {
+            Err(stop) => Err(stop),
+            Ok(()) => Ok(ending),
+        },
+    }
+}
+
+// Writes what is written last.
+fn finish<K: Sink>(
+    alloc: Global,
+    ending: Ending,
+    session: &Session,
+    out: &mut K,
+) -> Result<(), Stop>
+    requires { session.now.lines ≤ 65536 }
+    ensures told { (vault : VaultState) → IsTrue (K.sink_tells out.old) → Finishes result (ending_text ending (session_state session.now vault)) (K.sink_holds out.old) (K.sink_holds out.new) }
+    ensures faults { K.sink_faults out.old ≤ K.sink_faults out.new }
+    ensures fault { result ≡ Err Stop.WriteFault → Rose (K.sink_faults out.old) (K.sink_faults out.new) }
+{
+    match last_words(alloc, ending, session) {
+        Err(NoMemory) => Err(Stop::NoMemory),
+        Ok(text) => match write_all(out, text.as_bytes()) {
+            Ok(()) => Ok(()),
+            Err(Failed) => Err(Stop::WriteFault),
+        },
+    }
+}
+
+fn last_words(alloc: Global, ending: Ending, session: &Session) -> Result<String, NoMemory>
+    requires { session.now.lines ≤ 65536 }
+    ensures { (vault : VaultState) → IfOk result (λ text. string_bytes text ≡ ending_text ending (session_state session.now vault)) }
+{
+    match ending {
+        Ending::Done => closing_words(alloc, session, Code::Success),
+        Ending::ReadFault => Ok(String::new(alloc)),
+        Ending::Refused(kind) => {
+            let mut text = closing_words(alloc, session, Code::Abort)?;
+            text.push_str(&script_report(alloc, session.lines + 1, kind)?)?;
+            Ok(text)
+        }
+    }
+}
+
+// The line of the transaction that the program ends, where it is open.
+fn closing_words(alloc: Global, session: &Session, code: Code) -> Result<String, NoMemory>
+    ensures { IfOk result (λ text. string_bytes text ≡ closings (slot_of session.now.slot) code) }
+{
+    match &session.slot {
+        Some(_) => closed_report(alloc, 1, code),
+        None => Ok(String::new(alloc)),
+    }
+}
