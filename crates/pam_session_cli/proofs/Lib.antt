@@ -2,3 +2,7 @@ pub mod Reading
 pub mod Roots
 pub mod Stepping
 pub mod Taken
+pub mod Running
+pub mod Turning
+pub mod Refusing
+pub mod Scripting
