@@ -2,11 +2,22 @@
 //! An object may tell what it holds, as those in memory do; the real ones tell nothing but their faults.
 #![tactic(auto)]
 
+mod calls;
+mod folder_vault;
+mod memory_sink;
+mod memory_source;
+mod memory_vault;
+mod real;
 mod sink;
 mod source;
 mod vault;
 mod whole;
 
+pub use folder_vault::FolderVault;
+pub use memory_sink::MemSink;
+pub use memory_source::MemSource;
+pub use memory_vault::MemVault;
+pub use real::{ReaderSource, WriterSink};
 pub use sink::Sink;
 pub use source::Source;
 pub use vault::{Vault, VaultFault, read_file};

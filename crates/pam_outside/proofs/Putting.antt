@@ -1,0 +1,43 @@
+-- A file is set where its path stands, or behind the others.
+use Rattle.std.proofs.Common.{◌≡◌, ℕ, zero, suc, ◌<◌, Bool, true, false, cond, List, [], ◌∷◌, ◌++◌, length, get_or, set, Option, Some, None, refl, sym, ap, arith}
+use Rattle.std.specs.List.{position, position_or_len}
+use Rattle.std.specs.Str.{bytes_eq}
+use Rattle.std.proofs.lemmas.Bool.{ltb-false}
+use Rattle.std.proofs.lemmas.List.Quantifiers.{position-Some}
+use Rattle.std.proofs.lemmas.List.Sums.{fails_before_first}
+use Rattle.pam_outside.specs.Files.{File, file_put}
+
+module _ (path bytes : List ℕ) where
+  abbrev is_it : File → Bool
+  is_it f = bytes_eq f.path path
+
+  abbrev it : File
+  it = record { path = path; bytes = bytes }
+
+  over : (files : List File) (n : ℕ) → n < length files → is_it (get_or files n it) ≡ true → ((k : ℕ) → k < n → is_it (get_or files k it) ≡ false) → file_put path bytes files ≡ set files n it
+  over [] n lt here before = absurd (omega arith)
+  over (f ∷ fs) zero lt here before = rw here refl
+  over (f ∷ fs) (suc n) lt here before =
+      let first : is_it f ≡ false = before 0 (omega arith) in
+      rw first (ap (λ (x : List File). f ∷ x) (over fs n (omega arith) here (λ k le. before (suc k) (omega arith))))
+
+  behind : (files : List File) → ((k : ℕ) → k < length files → is_it (get_or files k it) ≡ false) → file_put path bytes files ≡ files ++ it ∷ []
+  behind [] none = refl
+  behind (f ∷ fs) none =
+      let first : is_it f ≡ false = none 0 (omega arith) in
+      rw first (ap (λ (x : List File). f ∷ x) (behind fs (λ k lt. none (suc k) (omega arith))))
+
+  not_some : (b : Bool) (i : ℕ) → cond b (Some i) None ≡ None → b ≡ false
+  not_some true i e = absurd cc
+  not_some false i e = refl
+
+  pub is_within : (files : List File) (n : ℕ) → position is_it files ≡ Some n → n < length files
+  is_within files n e = (position-Some is_it files n it e).0
+
+  pub put_over : (files : List File) (n : ℕ) → position is_it files ≡ Some n → file_put path bytes files ≡ set files n it
+  put_over files n e = let at = position-Some is_it files n it e in over files n at.0 at.1 at.2
+
+  pub put_behind : (files : List File) → position is_it files ≡ None → file_put path bytes files ≡ files ++ it ∷ []
+  put_behind files e =
+      let past = ltb-false (position_or_len is_it files) (length files) (not_some _ _ e) in
+      behind files (λ k lt. fails_before_first is_it files k it (omega (arith, past)))
