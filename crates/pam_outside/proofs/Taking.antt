@@ -1,7 +1,7 @@
 -- Bytes are taken from what is left of a text.
-use Rattle.std.proofs.Common.{◌≡◌, ℕ, ◌+◌, ◌-◌, ◌≤◌, ◌<◌, min, List, [], ◌++◌, length, take, drop, sym, Result, Ok, arith, length-drop}
+use Rattle.std.proofs.Common.{◌≡◌, ℕ, ◌-◌, ◌≤◌, ◌<◌, min, List, [], ◌++◌, length, take, drop, sym, Result, Ok, arith, length-drop}
 use Rattle.pam_base.specs.declared.fault.Failed.{Failed}
-use Rattle.std.proofs.lemmas.List.{take-append-drop, take_at, length-take, nil_from_length, drop-drop, take_all}
+use Rattle.std.proofs.lemmas.List.{take-append-drop, take_at, length-take, nil_from_length, take_all}
 
 -- what is copied to the front of a buffer is what was next
 pub taken : (left into copied : List ℕ) (n : ℕ) → n ≤ length left → copied ≡ take n left → left ≡ take n (copied ++ drop n into) ++ drop n left

@@ -1,4 +1,5 @@
-ghost use Rattle.std.specs.Prelude.{◌≡◌, ◌≢◌, ◌≤◌, ◌<◌, ◌↔◌, ◌+◌, [], false, length, take, IfOk, OnErr, Err, vec_len};
+ghost use Rattle.std.specs.Prelude.{◌≡◌, ◌≢◌, ◌≤◌, ◌<◌, ◌↔◌, ◌+◌, [], false, length, take, IfOk, IfSome, OnErr, Ok, Err, vec_len, Option, List, ℕ};
+ghost use Rattle.std.specs.Io.KnownBytes.{Consumes, IsAtEnd};
 ghost use Rattle.pam_outside.specs.Counts.{Rose};
 
 use crate::vault::{Vault, VaultFault};
@@ -43,12 +44,7 @@ impl<R: Files + Drop> Vault for FolderVault<R> {
     }
 }
 
-fn file_bytes<R: Files>(
-    rt: &R,
-    alloc: Global,
-    path: &[u8],
-    limit: u32,
-) -> Result<Text, VaultFault>
+fn file_bytes<R: Files>(rt: &R, alloc: Global, path: &[u8], limit: u32) -> Result<Text, VaultFault>
     ensures bound { IfOk result (λ text. length text ≤ limit) }
 {
     let path = str::from_utf8(path).map_err(|_| VaultFault::Failed)?;
@@ -74,11 +70,11 @@ fn opening_fault(kind: ErrorKind) -> VaultFault
 // The first bytes of a reader, all where it has at most so many.
 fn front<F: Read>(alloc: Global, reader: &mut F, most: usize) -> Result<Text, VaultFault>
     ensures bound { IfOk result (λ text. length text ≤ most) }
+    ensures front { IfOk result (λ text. IfSome (F.remaining reader.old) (λ left. text ≡ take most left)) }
 {
     let mut bytes = Vec::new(alloc);
     while bytes.len() < most {
-        let n = read_more(reader, &mut bytes, most)?;
-        if n == 0 {
+        if read_more(reader, &mut bytes, most)? == 0 {
             break;
         }
     }
@@ -90,6 +86,8 @@ fn read_more<F: Read>(reader: &mut F, bytes: &mut Vec<u8>, most: usize) -> Resul
     requires { vec_len bytes.old < most }
     ensures grows { IfOk result (λ n. vec_len bytes.new ≡ vec_len bytes.old + n) }
     ensures bound { IfOk result (λ n. vec_len bytes.new ≤ most) }
+    ensures taken { IfOk result (λ n. (all : Option (List ℕ)) → Consumes all (F.remaining reader.old) bytes.old.items → Consumes all (F.remaining reader.new) bytes.new.items) }
+    ensures end { result ≡ Ok 0 → IsAtEnd (F.remaining reader.new) }
 {
     let mut piece = [0u8; 4096];
     let room = (most - bytes.len()).min(4096);

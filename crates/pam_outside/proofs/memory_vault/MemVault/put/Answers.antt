@@ -1,4 +1,4 @@
-use Rattle.std.proofs.Common.{rules, ◌≡◌, length, sym, refl, arith}
+use Rattle.std.proofs.Common.{sym, refl, arith}
 use Rattle.pam_outside.proofs.Putting.{is_within, put_over, put_behind}
 use Rattle.pam_outside.proofs.memory_vault.MemVault.put.Goals as goal
 
