@@ -1,12 +1,15 @@
-ghost use Rattle.std.specs.Prelude.{◌≡◌, ◌≢◌, ◌≤◌, ◌<◌, ◌↔◌, ◌+◌, [], false, length, take, IfOk, IfSome, OnErr, Ok, Err, vec_len, Option, List, ℕ};
+ghost use Rattle.std.specs.Prelude.{IsTrue, ◌≡◌, ◌≢◌, ◌≤◌, ◌<◌, ◌↔◌, ◌+◌, [], false, length, take, IfOk, IfSome, OnErr, Ok, Err, vec_len, Option, List, ℕ};
+ghost use Rattle.std.specs.Str.{IsUtf8};
 ghost use Rattle.std.specs.Io.KnownBytes.{Consumes, IsAtEnd};
-ghost use Rattle.pam_outside.specs.Counts.{Rose};
+ghost use Rattle.pam_outside.specs.Counts.{Rose, next_count};
+ghost use Rattle.pam_outside.specs.Files.{ReadsFile, counted};
 
 use crate::vault::{Vault, VaultFault};
 use pam_base::Text;
 use std::alloc::Global;
 use std::fs;
 use std::io::{ErrorKind, Read};
+use std::marker::Model;
 use std::rt::Files;
 
 /// The files of a runtime, by their paths. It tells nothing but its faults.
@@ -16,10 +19,18 @@ pub struct FolderVault<R: Files + Drop> {
     faults: u64,
 }
 
+impl<R: Files + Drop> Model for FolderVault<R> {
+    ghost use Rattle.pam_outside.specs.Real.{Over};
+
+    ghost Value = { Over R };
+
+    ghost view = { λ v. record { inner = v.rt; faults = v.faults } };
+}
+
 impl<R: Files + Drop> FolderVault<R> {
     /// A vault that hasn't failed yet.
     pub fn new(rt: R) -> Self
-        ensures { ⟦<FolderVault<R> as Vault>⟧.vault_faults result ≡ 0 }
+        ensures { result ≡ record { inner = rt; faults = 0 } }
     {
         FolderVault { rt, faults: 0 }
     }
@@ -35,7 +46,17 @@ impl<R: Files + Drop> Vault for FolderVault<R> {
 
     /// Absent comes where opening answers that there is no such file, and nowhere else. A path that isn't UTF-8
     /// or that the system refuses, a folder, and any other error are Failed, and each Failed counts a fault.
-    fn read(&mut self, alloc: Global, path: &[u8], limit: u32) -> Result<Text, VaultFault> {
+    fn read(&mut self, alloc: Global, path: &[u8], limit: u32) -> Result<Text, VaultFault>
+        ensures bound { IfOk result (λ text. length text ≤ limit) }
+        ensures tells { ⟦<FolderVault<R> as Vault>⟧.vault_tells self.new ≡ ⟦<FolderVault<R> as Vault>⟧.vault_tells self.old }
+        ensures told { IsTrue (⟦<FolderVault<R> as Vault>⟧.vault_tells self.old) → ReadsFile result path.now limit (⟦<FolderVault<R> as Vault>⟧.vault_holds self.old) }
+        ensures counts { IsTrue (⟦<FolderVault<R> as Vault>⟧.vault_tells self.old) → ⟦<FolderVault<R> as Vault>⟧.vault_holds self.new ≡ counted (⟦<FolderVault<R> as Vault>⟧.vault_holds self.old) }
+        ensures faults { ⟦<FolderVault<R> as Vault>⟧.vault_faults self.old ≤ ⟦<FolderVault<R> as Vault>⟧.vault_faults self.new }
+        ensures failed { result ≡ Err VaultFault.Failed → Rose (⟦<FolderVault<R> as Vault>⟧.vault_faults self.old) (⟦<FolderVault<R> as Vault>⟧.vault_faults self.new) }
+        ensures fault { result ≡ Err VaultFault.Failed → self.new ≡ record self.old { faults = next_count self.old.faults } }
+        ensures stays { result ≢ Err VaultFault.Failed → self.new ≡ self.old }
+        ensures not_text { ¬ (IsUtf8 path.now) → result ≡ Err VaultFault.Failed }
+    {
         let result = file_bytes(&self.rt, alloc, path, limit);
         if let Err(VaultFault::Failed) = result {
             self.faults = self.faults.saturating_add(1);
@@ -46,6 +67,7 @@ impl<R: Files + Drop> Vault for FolderVault<R> {
 
 fn file_bytes<R: Files>(rt: &R, alloc: Global, path: &[u8], limit: u32) -> Result<Text, VaultFault>
     ensures bound { IfOk result (λ text. length text ≤ limit) }
+    ensures not_text { ¬ (IsUtf8 path.now) → result ≡ Err VaultFault.Failed }
 {
     let path = str::from_utf8(path).map_err(|_| VaultFault::Failed)?;
     let mut file = fs::open(rt, path).map_err(|error| opening_fault(error.kind()))?;
