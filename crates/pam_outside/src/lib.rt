@@ -10,6 +10,8 @@ mod memory_vault;
 mod reader_source;
 mod sink;
 mod source;
+#[cfg(test)]
+mod tests;
 mod vault;
 mod whole;
 mod writer_sink;
