@@ -2,4 +2,4 @@ pub mod Counts
 pub mod Streams
 pub mod Files
 pub mod Memory
-pub mod Real
+pub mod Adapter

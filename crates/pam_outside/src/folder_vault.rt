@@ -1,4 +1,4 @@
-ghost use Rattle.std.specs.Prelude.{IsTrue, ◌≡◌, ◌≢◌, ◌≤◌, ◌<◌, ◌↔◌, ◌+◌, [], false, length, take, IfOk, IfSome, OnErr, Ok, Err, vec_len, Option, List, ℕ};
+ghost use Rattle.std.specs.Prelude.{IsTrue, ◌≡◌, ◌≢◌, ◌≤◌, ◌<◌, ◌↔◌, ◌+◌, [], false, length, take, IfOk, IfSome, Ok, Err, vec_len, Option, List, ℕ};
 ghost use Rattle.std.specs.Str.{IsUtf8};
 ghost use Rattle.std.specs.Io.KnownBytes.{Consumes, IsAtEnd};
 ghost use Rattle.pam_outside.specs.Counts.{Rose, next_count};
@@ -12,7 +12,8 @@ use std::io::{ErrorKind, Read};
 use std::marker::Model;
 use std::rt::Files;
 
-/// The files of a runtime, by their paths. It tells nothing but its faults.
+/// The files of a runtime, as `main` is given one, by their paths; a relative path begins at the working folder.
+/// It tells nothing but its faults.
 #[derive(Drop)]
 pub struct FolderVault<R: Files + Drop> {
     rt: R,
@@ -20,9 +21,9 @@ pub struct FolderVault<R: Files + Drop> {
 }
 
 impl<R: Files + Drop> Model for FolderVault<R> {
-    ghost use Rattle.pam_outside.specs.Real.{Over};
+    ghost use Rattle.pam_outside.specs.Adapter.{Adapter};
 
-    ghost Value = { Over R };
+    ghost Value = { Adapter R };
 
     ghost view = { λ v. record { inner = v.rt; faults = v.faults } };
 }
@@ -44,8 +45,9 @@ impl<R: Files + Drop> Vault for FolderVault<R> {
 
     ghost vault_faults = { λ v. v.faults };
 
-    /// Absent comes where opening answers that there is no such file, and nowhere else. A path that isn't UTF-8
-    /// or that the system refuses, a folder, and any other error are Failed, and each Failed counts a fault.
+    /// Absent comes where opening answers that there is no such file, or no folder on the way to it, and nowhere
+    /// else. A path that isn't UTF-8 or that the system refuses, a folder, and any other error are Failed. Each
+    /// Failed counts one fault, and nothing else counts one.
     fn read(&mut self, alloc: Global, path: &[u8], limit: u32) -> Result<Text, VaultFault>
         ensures bound { IfOk result (λ text. length text ≤ limit) }
         ensures tells { ⟦<FolderVault<R> as Vault>⟧.vault_tells self.new ≡ ⟦<FolderVault<R> as Vault>⟧.vault_tells self.old }

@@ -1,4 +1,4 @@
-ghost use Rattle.std.specs.Prelude.{◌≡◌, ◌<◌, ◌≤◌, ◌-◌, [], length, take, ◌++◌, IfOk, OnErr, OnOk, IsErr, ◌↔◌, IsTrue, ◌||◌, Ok, nat_lt};
+ghost use Rattle.std.specs.Prelude.{◌≡◌, ◌<◌, ◌≤◌, ◌-◌, [], length, ◌++◌, IfOk, OnErr, OnOk, IsErr, ◌↔◌, IsTrue, ◌||◌, Ok, nat_lt};
 ghost use Rattle.pam_outside.specs.Counts.{next_count, fails_next, Rose};
 ghost use Rattle.pam_outside.specs.Streams.{Writes};
 
@@ -13,7 +13,7 @@ use std::marker::Model;
 pub struct MemSink {
     bytes: Vec<u8>,
     room: usize,
-    count: Calls,
+    calls: Calls,
 }
 
 impl Model for MemSink {
@@ -22,7 +22,7 @@ impl Model for MemSink {
 
     ghost Value = { SinkMemory };
 
-    ghost view = { λ s. record { written = s.bytes.items; room = s.room; calls = s.count.calls; faults = s.count.faults; fails = s.count.fails } };
+    ghost view = { λ s. record { written = s.bytes.items; room = s.room; calls = s.calls.made; faults = s.calls.faults; fails = s.calls.fails } };
 
     ghost invariant = { λ s. vec_len s.bytes + s.room ≤ vec_capacity s.bytes };
 }
@@ -36,7 +36,7 @@ impl MemSink {
         Ok(MemSink {
             bytes: Vec::with_capacity(alloc, room)?,
             room,
-            count: Calls::new(fails),
+            calls: Calls::new(fails),
         })
     }
 
@@ -73,8 +73,8 @@ impl Sink for MemSink {
         ensures written { OnOk result (self.new ≡ record self.old { written = self.old.written ++ piece.now; room = self.old.room - length piece.now; calls = next_count self.old.calls }) }
         ensures fault { OnErr result (self.new ≡ record self.old { calls = next_count self.old.calls; faults = next_count self.old.faults }) }
     {
-        if self.count.count() || self.room < piece.len() {
-            self.count.fault();
+        if self.calls.next_fails() || self.room < piece.len() {
+            self.calls.count_fault();
             return Err(Failed);
         }
         self.bytes.extend_from_slice(piece).unwrap();

@@ -1,4 +1,4 @@
-ghost use Rattle.std.specs.Prelude.{◌≡◌, ◌<◌, ◌≤◌, IsTrue, length, min, take, drop, ◌++◌, IfOk, OnErr, OnOk, IsErr, ◌↔◌};
+ghost use Rattle.std.specs.Prelude.{◌≡◌, ◌<◌, ◌≤◌, IsTrue, length, min, take, drop, ◌++◌, IfOk, OnErr, IsErr, ◌↔◌};
 ghost use Rattle.pam_outside.specs.Counts.{next_count, fails_next, Rose};
 ghost use Rattle.pam_outside.specs.Streams.{Reads};
 
@@ -12,7 +12,7 @@ use std::marker::Model;
 pub struct MemSource {
     bytes: Text,
     at: usize,
-    count: Calls,
+    calls: Calls,
 }
 
 impl Model for MemSource {
@@ -21,7 +21,7 @@ impl Model for MemSource {
 
     ghost Value = { SourceMemory };
 
-    ghost view = { λ s. record { left = drop s.at s.bytes; calls = s.count.calls; faults = s.count.faults; fails = s.count.fails } };
+    ghost view = { λ s. record { left = drop s.at s.bytes; calls = s.calls.made; faults = s.calls.faults; fails = s.calls.fails } };
 
     ghost invariant = { λ s. s.at ≤ length s.bytes };
 }
@@ -34,7 +34,7 @@ impl MemSource {
         MemSource {
             bytes,
             at: 0,
-            count: Calls::new(fails),
+            calls: Calls::new(fails),
         }
     }
 }
@@ -64,8 +64,8 @@ impl Source for MemSource {
         ensures fault { OnErr result (self.new ≡ record self.old { calls = next_count self.old.calls; faults = next_count self.old.faults }) }
         ensures buffer_stays { OnErr result (into.new ≡ into.old) }
     {
-        if self.count.count() {
-            self.count.fault();
+        if self.calls.next_fails() {
+            self.calls.count_fault();
             return Err(Failed);
         }
         let rest = &self.bytes.bytes()[self.at..];

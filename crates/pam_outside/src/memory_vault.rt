@@ -1,4 +1,4 @@
-ghost use Rattle.std.specs.Prelude.{◌≡◌, ◌≤◌, [], ℕ, Bool, true, if◌then◌else◌, length, IsTrue, IfOk, OnOk, OnErr, Err, option_map};
+ghost use Rattle.std.specs.Prelude.{◌≡◌, ◌≤◌, [], true, if◌then◌else◌, length, IsTrue, IfOk, OnOk, OnErr, Err, option_map};
 ghost use Rattle.std.specs.List.{position};
 ghost use Rattle.std.specs.Str.{bytes_eq};
 ghost use Rattle.pam_outside.specs.Counts.{Rose, next_count, fails_next};
@@ -29,7 +29,7 @@ impl Model for StoredFile {
 #[derive(Drop)]
 pub struct MemVault {
     files: Vec<StoredFile>,
-    count: Calls,
+    calls: Calls,
 }
 
 impl Model for MemVault {
@@ -37,7 +37,7 @@ impl Model for MemVault {
 
     ghost Value = { VaultMemory };
 
-    ghost view = { λ v. record { files = v.files.items; calls = v.count.calls; faults = v.count.faults; fails = v.count.fails } };
+    ghost view = { λ v. record { files = v.files.items; calls = v.calls.made; faults = v.calls.faults; fails = v.calls.fails } };
 }
 
 impl MemVault {
@@ -47,7 +47,7 @@ impl MemVault {
     {
         MemVault {
             files: Vec::new(alloc),
-            count: Calls::new(fails),
+            calls: Calls::new(fails),
         }
     }
 
@@ -109,8 +109,8 @@ impl Vault for MemVault {
         ensures fails_first { IsTrue (fails_next self.old.calls self.old.fails) → result ≡ Err VaultFault.Failed }
         ensures stays { self.new ≡ record self.old { calls = next_count self.old.calls; faults = if fails_next self.old.calls self.old.fails then next_count self.old.faults else self.old.faults } }
     {
-        if self.count.count() {
-            self.count.fault();
+        if self.calls.next_fails() {
+            self.calls.count_fault();
             return Err(VaultFault::Failed);
         }
         let Some(bytes) = bytes_at(path, &self.files) else {

@@ -16,9 +16,9 @@ pub struct ReaderSource<R: Read + Drop> {
 }
 
 impl<R: Read + Drop> Model for ReaderSource<R> {
-    ghost use Rattle.pam_outside.specs.Real.{Over};
+    ghost use Rattle.pam_outside.specs.Adapter.{Adapter};
 
-    ghost Value = { Over R };
+    ghost Value = { Adapter R };
 
     ghost view = { λ s. record { inner = s.inner; faults = s.faults } };
 }

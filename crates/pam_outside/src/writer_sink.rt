@@ -16,9 +16,9 @@ pub struct WriterSink<W: Write + Drop> {
 }
 
 impl<W: Write + Drop> Model for WriterSink<W> {
-    ghost use Rattle.pam_outside.specs.Real.{Over};
+    ghost use Rattle.pam_outside.specs.Adapter.{Adapter};
 
-    ghost Value = { Over W };
+    ghost Value = { Adapter W };
 
     ghost view = { λ s. record { inner = s.inner; faults = s.faults } };
 }

@@ -1,7 +1,0 @@
--- An object of the outside over a stream or a runtime (this project's own).
-use Rattle.std.specs.Prelude.{ℕ}
-
--- what it stands over, and its faults so far
-pub record Over (T : Type 0) : Type 0 where
-  pub inner : T
-  pub faults : ℕ
