@@ -1,11 +1,13 @@
--- A file is set where its path stands, or behind the others.
-use Rattle.std.proofs.Common.{◌≡◌, ℕ, zero, suc, ◌<◌, Bool, true, false, cond, List, [], ◌∷◌, ◌++◌, length, get_or, set, Some, None, refl, ap, arith}
+-- A file is set where its path stands, or behind the others; and then it is found, as the others are.
+use Rattle.std.proofs.Common.{◌≡◌, ◌≢◌, ◌∙◌, sym, ℕ, zero, suc, ◌<◌, Bool, true, false, cond, List, [], ◌∷◌, ◌++◌, length, get_or, set, Some, None, refl, ap, arith}
 use Rattle.std.specs.List.{position, position_or_len}
 use Rattle.std.specs.Str.{bytes_eq}
+use Rattle.std.specs.Bool.{Decides}
 use Rattle.std.proofs.lemmas.Bool.{ltb-false}
 use Rattle.std.proofs.lemmas.List.Quantifiers.{position-Some}
 use Rattle.std.proofs.lemmas.List.Sums.{fails_before_first}
-use Rattle.pam_outside.specs.Files.{File, file_put}
+use Rattle.std.proofs.lemmas.Slice.Eq.{bytes_eq-Decides}
+use Rattle.pam_outside.specs.Files.{File, file_at, file_put}
 
 module _ (path bytes : List ℕ) where
   abbrev is_it : File → Bool
@@ -41,3 +43,36 @@ module _ (path bytes : List ℕ) where
   put_behind files e =
       let past = ltb-false (position_or_len is_it files) (length files) (not_some _ _ e) in
       behind files (λ k lt. fails_before_first is_it files k it (omega (arith, past)))
+
+-- ---- what is found after a file was set
+
+is_not : {P : Type 0} (b : Bool) → Decides b P → ¬ P → b ≡ false
+is_not true d n = absurd (n (d.0 refl))
+is_not false d n = refl
+
+module _ (path bytes : List ℕ) where
+  same : bytes_eq path path ≡ true
+  same = (bytes_eq-Decides path path).1 refl
+
+  pub put_found : (files : List File) → file_at path (file_put path bytes files) ≡ Some bytes
+  put_found [] = rw same refl
+  put_found (f ∷ fs) = by (bytes_eq f.path path) refl (put_found fs)
+    where
+      by : (b : Bool) → bytes_eq f.path path ≡ b → file_at path (file_put path bytes fs) ≡ Some bytes → file_at path (cond b (it path bytes ∷ fs) (f ∷ file_put path bytes fs)) ≡ Some bytes
+      by true e below = rw same refl
+      by false e below = rw e below
+
+  module _ (other : List ℕ) (differs : other ≢ path) where
+    not_it : bytes_eq path other ≡ false
+    not_it = is_not (bytes_eq path other) (bytes_eq-Decides path other) (λ e. differs (sym e))
+
+    pub put_others : (files : List File) → file_at other (file_put path bytes files) ≡ file_at other files
+    put_others [] = rw not_it refl
+    put_others (f ∷ fs) = by (bytes_eq f.path path) refl (put_others fs)
+      where
+        by : (b : Bool) → bytes_eq f.path path ≡ b → file_at other (file_put path bytes fs) ≡ file_at other fs → file_at other (cond b (it path bytes ∷ fs) (f ∷ file_put path bytes fs)) ≡ file_at other (f ∷ fs)
+        by true e below =
+            let is : f.path ≡ path = (bytes_eq-Decides f.path path).0 e in
+            let passed : bytes_eq f.path other ≡ false = ap (λ (p : List ℕ). bytes_eq p other) is ∙ not_it in
+            rw (not_it, passed) refl
+        by false e below = rw below refl

@@ -1,4 +1,4 @@
-ghost use Rattle.std.specs.Prelude.{◌≡◌, ◌≤◌, [], true, if◌then◌else◌, length, IsTrue, IfOk, OnOk, OnErr, Err, option_map};
+ghost use Rattle.std.specs.Prelude.{◌≡◌, ◌≢◌, ◌≤◌, ℕ, List, [], Some, true, if◌then◌else◌, length, IsTrue, IfOk, OnOk, OnErr, Err, option_map};
 ghost use Rattle.std.specs.List.{position};
 ghost use Rattle.std.specs.Str.{bytes_eq};
 ghost use Rattle.pam_outside.specs.Counts.{Rose, next_count, fails_next};
@@ -55,6 +55,8 @@ impl MemVault {
     /// call. Without memory the vault stays as it was.
     pub fn put(&mut self, alloc: Global, path: &[u8], bytes: &[u8]) -> Result<(), NoMemory>
         ensures ok { OnOk result (self.new ≡ record self.old { files = file_put path.now bytes.now self.old.files }) }
+        ensures found { OnOk result (file_at path.now self.new.files ≡ Some bytes.now) }
+        ensures others { OnOk result ((other : List ℕ) → other ≢ path.now → file_at other self.new.files ≡ file_at other self.old.files) }
         ensures err { OnErr result (self.new ≡ self.old) }
     {
         let file = StoredFile {
