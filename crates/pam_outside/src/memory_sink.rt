@@ -1,0 +1,84 @@
+ghost use Rattle.std.specs.Prelude.{◌≡◌, ◌<◌, ◌≤◌, ◌-◌, [], length, ◌++◌, IfOk, OnErr, OnOk, IsErr, ◌↔◌, IsTrue, ◌||◌, Ok, nat_lt};
+ghost use Rattle.pam_outside.specs.Counts.{next_count, fails_next, Rose};
+ghost use Rattle.pam_outside.specs.Streams.{Writes};
+
+use crate::calls::Calls;
+use crate::sink::Sink;
+use pam_base::{Failed, NoMemory, Numbers};
+use std::alloc::Global;
+use std::marker::Model;
+
+/// A sink into memory of a fixed size, which can be told to fail. It tells what it holds.
+#[derive(Drop)]
+pub struct MemSink {
+    bytes: Vec<u8>,
+    room: usize,
+    calls: Calls,
+}
+
+impl Model for MemSink {
+    ghost use Rattle.std.specs.Prelude.{◌≤◌, ◌+◌, vec_len, vec_capacity};
+    ghost use Rattle.pam_outside.specs.Memory.{SinkMemory};
+
+    ghost Value = { SinkMemory };
+
+    ghost view = { λ s. record { written = s.bytes.items; room = s.room; calls = s.calls.made; faults = s.calls.faults; fails = s.calls.fails } };
+
+    ghost invariant = { λ s. vec_len s.bytes + s.room ≤ vec_capacity s.bytes };
+}
+
+impl MemSink {
+    /// An empty sink with room for so many bytes, which it takes here and not later. `fails` has the numbers,
+    /// from 1, of the writes that are to fail.
+    pub fn new(alloc: Global, room: usize, fails: Numbers) -> Result<MemSink, NoMemory>
+        ensures { IfOk result (λ sink. sink ≡ record { written = []; room = room; calls = 0; faults = 0; fails = fails }) }
+    {
+        Ok(MemSink {
+            bytes: Vec::with_capacity(alloc, room)?,
+            room,
+            calls: Calls::new(fails),
+        })
+    }
+
+    /// The bytes that were written, in order.
+    pub fn bytes(&self) -> &[u8]
+        ensures { result.now ≡ self.now.written }
+    {
+        &self.bytes
+    }
+}
+
+impl Sink for MemSink {
+    ghost use Rattle.std.specs.Prelude.{true};
+
+    ghost sink_tells = { λ s. true };
+
+    ghost sink_holds = { λ s. record { written = s.written; calls = s.calls } };
+
+    ghost sink_faults = { λ s. s.faults };
+
+    /// Fails exactly at the writes whose numbers were given and where the piece is longer than the room that is
+    /// left, and otherwise takes the whole piece. A write that fails counts one fault, and no other does. It
+    /// takes no memory.
+    fn write(&mut self, piece: &[u8]) -> Result<usize, Failed>
+        requires { 0 < length piece.now }
+        ensures bound { IfOk result (λ n. n ≤ length piece.now) }
+        ensures tells { ⟦<MemSink as Sink>⟧.sink_tells self.new ≡ ⟦<MemSink as Sink>⟧.sink_tells self.old }
+        ensures told { IsTrue (⟦<MemSink as Sink>⟧.sink_tells self.old) → Writes result piece.now (⟦<MemSink as Sink>⟧.sink_holds self.old) (⟦<MemSink as Sink>⟧.sink_holds self.new) }
+        ensures faults { ⟦<MemSink as Sink>⟧.sink_faults self.old ≤ ⟦<MemSink as Sink>⟧.sink_faults self.new }
+        ensures failed { OnErr result (Rose (⟦<MemSink as Sink>⟧.sink_faults self.old) (⟦<MemSink as Sink>⟧.sink_faults self.new)) }
+        ensures nothing { result ≡ Ok 0 → Rose (⟦<MemSink as Sink>⟧.sink_faults self.old) (⟦<MemSink as Sink>⟧.sink_faults self.new) }
+        ensures fails_exactly { IsErr result ↔ IsTrue (fails_next self.old.calls self.old.fails || nat_lt self.old.room (length piece.now)) }
+        ensures amount { IfOk result (λ n. n ≡ length piece.now) }
+        ensures written { OnOk result (self.new ≡ record self.old { written = self.old.written ++ piece.now; room = self.old.room - length piece.now; calls = next_count self.old.calls }) }
+        ensures fault { OnErr result (self.new ≡ record self.old { calls = next_count self.old.calls; faults = next_count self.old.faults }) }
+    {
+        if self.calls.next_fails() || self.room < piece.len() {
+            self.calls.count_fault();
+            return Err(Failed);
+        }
+        self.bytes.extend_from_slice(piece).unwrap();
+        self.room -= piece.len();
+        Ok(piece.len())
+    }
+}

@@ -1,0 +1,77 @@
+ghost use Rattle.std.specs.Prelude.{◌≡◌, ◌<◌, ◌≤◌, IsTrue, length, min, take, drop, ◌++◌, IfOk, OnErr, IsErr, ◌↔◌};
+ghost use Rattle.pam_outside.specs.Counts.{next_count, fails_next, Rose};
+ghost use Rattle.pam_outside.specs.Streams.{Reads};
+
+use crate::calls::Calls;
+use crate::source::Source;
+use pam_base::{Failed, Numbers, Text};
+use std::marker::Model;
+
+/// A source of bytes in memory, which can be told to fail. It tells what it holds.
+#[derive(Drop)]
+pub struct MemSource {
+    bytes: Text,
+    at: usize,
+    calls: Calls,
+}
+
+impl Model for MemSource {
+    ghost use Rattle.std.specs.Prelude.{◌≤◌, length, drop};
+    ghost use Rattle.pam_outside.specs.Memory.{SourceMemory};
+
+    ghost Value = { SourceMemory };
+
+    ghost view = { λ s. record { left = drop s.at s.bytes; calls = s.calls.made; faults = s.calls.faults; fails = s.calls.fails } };
+
+    ghost invariant = { λ s. s.at ≤ length s.bytes };
+}
+
+impl MemSource {
+    /// A source of these bytes. `fails` has the numbers, from 1, of the reads that are to fail.
+    pub fn new(bytes: Text, fails: Numbers) -> MemSource
+        ensures { result ≡ record { left = bytes; calls = 0; faults = 0; fails = fails } }
+    {
+        MemSource {
+            bytes,
+            at: 0,
+            calls: Calls::new(fails),
+        }
+    }
+}
+
+impl Source for MemSource {
+    ghost use Rattle.std.specs.Prelude.{true};
+
+    ghost source_tells = { λ s. true };
+
+    ghost source_holds = { λ s. record { left = s.left; calls = s.calls } };
+
+    ghost source_faults = { λ s. s.faults };
+
+    /// Fails exactly at the reads whose numbers were given, and otherwise takes as many bytes as the buffer and
+    /// what is left allow. A read that fails counts one fault, and no other does.
+    fn read(&mut self, into: &mut [u8]) -> Result<usize, Failed>
+        requires { 0 < length into.old }
+        ensures bound { IfOk result (λ n. n ≤ length into.new) }
+        ensures tells { ⟦<MemSource as Source>⟧.source_tells self.new ≡ ⟦<MemSource as Source>⟧.source_tells self.old }
+        ensures told { IsTrue (⟦<MemSource as Source>⟧.source_tells self.old) → Reads result into.new (⟦<MemSource as Source>⟧.source_holds self.old) (⟦<MemSource as Source>⟧.source_holds self.new) }
+        ensures faults { ⟦<MemSource as Source>⟧.source_faults self.old ≤ ⟦<MemSource as Source>⟧.source_faults self.new }
+        ensures failed { OnErr result (Rose (⟦<MemSource as Source>⟧.source_faults self.old) (⟦<MemSource as Source>⟧.source_faults self.new)) }
+        ensures fails_exactly { IsErr result ↔ IsTrue (fails_next self.old.calls self.old.fails) }
+        ensures amount { IfOk result (λ n. n ≡ min (length into.old) (length self.old.left)) }
+        ensures buffer { IfOk result (λ n. into.new ≡ take n self.old.left ++ drop n into.old) }
+        ensures taken { IfOk result (λ n. self.new ≡ record self.old { left = drop n self.old.left; calls = next_count self.old.calls }) }
+        ensures fault { OnErr result (self.new ≡ record self.old { calls = next_count self.old.calls; faults = next_count self.old.faults }) }
+        ensures buffer_stays { OnErr result (into.new ≡ into.old) }
+    {
+        if self.calls.next_fails() {
+            self.calls.count_fault();
+            return Err(Failed);
+        }
+        let rest = &self.bytes.bytes()[self.at..];
+        let n = rest.len().min(into.len());
+        into[..n].copy_from_slice(&rest[..n]);
+        self.at += n;
+        Ok(n)
+    }
+}

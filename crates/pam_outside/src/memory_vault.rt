@@ -1,0 +1,126 @@
+ghost use Rattle.std.specs.Prelude.{◌≡◌, ◌≢◌, ◌≤◌, ℕ, List, [], Some, true, if◌then◌else◌, length, IsTrue, IfOk, OnOk, OnErr, Err, option_map};
+ghost use Rattle.std.specs.List.{position};
+ghost use Rattle.std.specs.Str.{bytes_eq};
+ghost use Rattle.pam_outside.specs.Counts.{Rose, next_count, fails_next};
+ghost use Rattle.pam_outside.specs.Files.{ReadsFile, counted, file_at, file_put};
+
+use crate::calls::Calls;
+use crate::vault::{Vault, VaultFault};
+use pam_base::{NoMemory, Numbers, Text};
+use std::alloc::Global;
+use std::marker::Model;
+
+// A file in memory.
+#[derive(Drop)]
+struct StoredFile {
+    path: Text,
+    bytes: Text,
+}
+
+impl Model for StoredFile {
+    ghost use Rattle.pam_outside.specs.Files.{File};
+
+    ghost Value = { File };
+
+    ghost view = { λ f. record { path = f.path; bytes = f.bytes } };
+}
+
+/// Files in memory, which can be told to fail. It tells what it holds.
+#[derive(Drop)]
+pub struct MemVault {
+    files: Vec<StoredFile>,
+    calls: Calls,
+}
+
+impl Model for MemVault {
+    ghost use Rattle.pam_outside.specs.Memory.{VaultMemory};
+
+    ghost Value = { VaultMemory };
+
+    ghost view = { λ v. record { files = v.files.items; calls = v.calls.made; faults = v.calls.faults; fails = v.calls.fails } };
+}
+
+impl MemVault {
+    /// A vault without files. `fails` has the numbers, from 1, of the reads that are to fail. It takes no memory.
+    pub fn new(alloc: Global, fails: Numbers) -> MemVault
+        ensures { result ≡ record { files = []; calls = 0; faults = 0; fails = fails } }
+    {
+        MemVault {
+            files: Vec::new(alloc),
+            calls: Calls::new(fails),
+        }
+    }
+
+    /// Sets the file with this path, whole: one that is there is replaced, and keeps its place. It is no counted
+    /// call. Without memory the vault stays as it was.
+    pub fn put(&mut self, alloc: Global, path: &[u8], bytes: &[u8]) -> Result<(), NoMemory>
+        ensures ok { OnOk result (self.new ≡ record self.old { files = file_put path.now bytes.now self.old.files }) }
+        ensures found { OnOk result (file_at path.now self.new.files ≡ Some bytes.now) }
+        ensures others { OnOk result ((other : List ℕ) → other ≢ path.now → file_at other self.new.files ≡ file_at other self.old.files) }
+        ensures err { OnErr result (self.new ≡ self.old) }
+    {
+        let file = StoredFile {
+            path: Text::from_bytes(alloc, path)?,
+            bytes: Text::from_bytes(alloc, bytes)?,
+        };
+        match place_of(path, &self.files) {
+            Some(place) => self.files[place] = file,
+            None => self.files.push(file)?,
+        }
+        Ok(())
+    }
+}
+
+// The place of the file with this path.
+fn place_of(path: &[u8], files: &[StoredFile]) -> Option<usize>
+    ensures { result ≡ position (λ file. bytes_eq file.path path.now) files.now }
+{
+    files.iter().position(|file| file.path.bytes() == path)
+}
+
+// The bytes of the file with this path.
+fn bytes_at<'a>(path: &[u8], files: &'a [StoredFile]) -> Option<&'a [u8]>
+    ensures { option_map (λ bytes. bytes.now) result ≡ file_at path.now files.now }
+{
+    for file in files {
+        if file.path.bytes() == path {
+            return Some(file.bytes.bytes());
+        }
+    }
+    None
+}
+
+impl Vault for MemVault {
+    ghost use Rattle.std.specs.Prelude.{true};
+
+    ghost vault_tells = { λ v. true };
+
+    ghost vault_holds = { λ v. record { files = v.files; calls = v.calls; fails = v.fails } };
+
+    ghost vault_faults = { λ v. v.faults };
+
+    /// Failed comes exactly at the reads whose numbers were given, before every other answer, NoMemory too, and
+    /// counts one fault; no other read counts one.
+    fn read(&mut self, alloc: Global, path: &[u8], limit: u32) -> Result<Text, VaultFault>
+        ensures bound { IfOk result (λ text. length text ≤ limit) }
+        ensures tells { ⟦<MemVault as Vault>⟧.vault_tells self.new ≡ ⟦<MemVault as Vault>⟧.vault_tells self.old }
+        ensures told { IsTrue (⟦<MemVault as Vault>⟧.vault_tells self.old) → ReadsFile result path.now limit (⟦<MemVault as Vault>⟧.vault_holds self.old) }
+        ensures counts { IsTrue (⟦<MemVault as Vault>⟧.vault_tells self.old) → ⟦<MemVault as Vault>⟧.vault_holds self.new ≡ counted (⟦<MemVault as Vault>⟧.vault_holds self.old) }
+        ensures faults { ⟦<MemVault as Vault>⟧.vault_faults self.old ≤ ⟦<MemVault as Vault>⟧.vault_faults self.new }
+        ensures failed { result ≡ Err VaultFault.Failed → Rose (⟦<MemVault as Vault>⟧.vault_faults self.old) (⟦<MemVault as Vault>⟧.vault_faults self.new) }
+        ensures fails_first { IsTrue (fails_next self.old.calls self.old.fails) → result ≡ Err VaultFault.Failed }
+        ensures stays { self.new ≡ record self.old { calls = next_count self.old.calls; faults = if fails_next self.old.calls self.old.fails then next_count self.old.faults else self.old.faults } }
+    {
+        if self.calls.next_fails() {
+            self.calls.count_fault();
+            return Err(VaultFault::Failed);
+        }
+        let Some(bytes) = bytes_at(path, &self.files) else {
+            return Err(VaultFault::Absent);
+        };
+        if bytes.len() > limit as usize {
+            return Err(VaultFault::TooLong);
+        }
+        Text::from_bytes(alloc, bytes).map_err(|_| VaultFault::NoMemory)
+    }
+}

@@ -1,0 +1,63 @@
+ghost use Rattle.std.specs.Prelude.{◌≡◌, ◌≤◌, ◌<◌, [], false, length, IsTrue, IfOk, OnOk, OnErr};
+ghost use Rattle.std.specs.Io.KnownBytes.{ReadConsumes};
+ghost use Rattle.pam_outside.specs.Counts.{Rose, next_count};
+ghost use Rattle.pam_outside.specs.Streams.{Reads};
+
+use crate::source::Source;
+use pam_base::Failed;
+use std::io::Read;
+use std::marker::Model;
+
+/// A source over any reader, as standard input. It tells nothing but its faults.
+#[derive(Drop)]
+pub struct ReaderSource<R: Read + Drop> {
+    inner: R,
+    faults: u64,
+}
+
+impl<R: Read + Drop> Model for ReaderSource<R> {
+    ghost use Rattle.pam_outside.specs.Adapter.{Adapter};
+
+    ghost Value = { Adapter R };
+
+    ghost view = { λ s. record { inner = s.inner; faults = s.faults } };
+}
+
+impl<R: Read + Drop> ReaderSource<R> {
+    /// A source that hasn't failed yet.
+    pub fn new(inner: R) -> Self
+        ensures { result ≡ record { inner = inner; faults = 0 } }
+    {
+        ReaderSource { inner, faults: 0 }
+    }
+}
+
+impl<R: Read + Drop> Source for ReaderSource<R> {
+    ghost source_tells = { λ s. false };
+
+    // never told
+    ghost source_holds = { λ s. record { left = []; calls = 0 } };
+
+    ghost source_faults = { λ s. s.faults };
+
+    /// Gives what the reader gives. Each error of the reader is Failed and counts a fault, and nothing else does.
+    fn read(&mut self, into: &mut [u8]) -> Result<usize, Failed>
+        requires { 0 < length into.old }
+        ensures bound { IfOk result (λ n. n ≤ length into.new) }
+        ensures tells { ⟦<ReaderSource<R> as Source>⟧.source_tells self.new ≡ ⟦<ReaderSource<R> as Source>⟧.source_tells self.old }
+        ensures told { IsTrue (⟦<ReaderSource<R> as Source>⟧.source_tells self.old) → Reads result into.new (⟦<ReaderSource<R> as Source>⟧.source_holds self.old) (⟦<ReaderSource<R> as Source>⟧.source_holds self.new) }
+        ensures faults { ⟦<ReaderSource<R> as Source>⟧.source_faults self.old ≤ ⟦<ReaderSource<R> as Source>⟧.source_faults self.new }
+        ensures failed { OnErr result (Rose (⟦<ReaderSource<R> as Source>⟧.source_faults self.old) (⟦<ReaderSource<R> as Source>⟧.source_faults self.new)) }
+        ensures given { ReadConsumes (R.remaining self.old.inner) (R.remaining self.new.inner) result into.new }
+        ensures no_fault { OnOk result (self.new.faults ≡ self.old.faults) }
+        ensures fault { OnErr result (self.new.faults ≡ next_count self.old.faults) }
+    {
+        match self.inner.read(into) {
+            Ok(n) => Ok(n),
+            Err(_) => {
+                self.faults = self.faults.saturating_add(1);
+                Err(Failed)
+            }
+        }
+    }
+}
