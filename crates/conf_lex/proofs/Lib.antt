@@ -1,2 +1,3 @@
 mod Rows
 pub mod Once
+pub mod Every

@@ -2,6 +2,7 @@
 //! of the line that they begin in, or the first fault of the text. What the tokens mean is left to others.
 #![tactic(auto)]
 
+mod lexer;
 mod token;
 
 pub use token::{LexFault, RawRule, RawRules, Token, Tokens};
