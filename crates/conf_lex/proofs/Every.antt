@@ -17,12 +17,12 @@ chosen false x y z e = inr (refl, e)
 
 -- ---- joins
 
-and_true : (a b : Bool) → a ≡ true → b ≡ true → (a && b) ≡ true
+pub and_true : (a b : Bool) → a ≡ true → b ≡ true → (a && b) ≡ true
 and_true true true e f = refl
 and_true true false e f = f
 and_true false b e f = e
 
-no_unit : (text : List ℕ) → length text ≤ 0 → unit_at text ≡ None
+pub no_unit : (text : List ℕ) → length text ≤ 0 → unit_at text ≡ None
 no_unit [] le = refl
 no_unit (b ∷ bs) le = absurd (omega arith)
 
@@ -35,7 +35,7 @@ pub record IsJoin (text : List ℕ) (j : Join) : Type 0 where
   pub rest : List ℕ
   pub spelled : text ≡ join_bytes j ++ rest
 
-begins : (a : ℕ) (text : List ℕ) → begins_with a text ≡ true → (rest : List ℕ) × (text ≡ a ∷ rest)
+pub begins : (a : ℕ) (text : List ℕ) → begins_with a text ≡ true → (rest : List ℕ) × (text ≡ a ∷ rest)
 begins a [] e = absurd cc
 begins a (b ∷ bs) e = (bs, ap (λ (x : ℕ). x ∷ bs) (eqb-true b a e))
 
@@ -72,7 +72,7 @@ pub record IsUnit (text : List ℕ) (u : BracketUnit) : Type 0 where
   pub spelled : text ≡ unit_bytes u ++ rest
   pub stand : unit_stands u rest ≡ true
 
-which_join : (o : Option Join) → (o ≡ None) ⊎ ((j : Join) × (o ≡ Some j))
+pub which_join : (o : Option Join) → (o ≡ None) ⊎ ((j : Join) × (o ≡ Some j))
 which_join None = inl refl
 which_join (Some j) = inr (j, refl)
 

@@ -1,3 +1,5 @@
 mod Rows
 pub mod Once
 pub mod Every
+pub mod Taking
+pub mod TakingPieces

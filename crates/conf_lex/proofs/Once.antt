@@ -116,7 +116,7 @@ three false true z e = inr (inl refl)
 three false false true e = inr (inr refl)
 three false false false e = absurd cc
 
-white_cases : (b : ℕ) → is_white b ≡ true → (b ≡ 32) ⊎ ((b ≡ 9) ⊎ (b ≡ 13))
+pub white_cases : (b : ℕ) → is_white b ≡ true → (b ≡ 32) ⊎ ((b ≡ 9) ⊎ (b ≡ 13))
 white_cases b e =
     elim (three (eqb b 32) (eqb b 9) (eqb b 13) e) [ inl x ↦ inl (eqb-true b 32 x) | inr r ↦ elim r [ inl x ↦ inr (inl (eqb-true b 9 x)) | inr x ↦ inr (inr (eqb-true b 13 x)) ] ]
 

@@ -1,5 +1,5 @@
 -- What the parts of the lexer give (this project's own).
-use Rattle.std.specs.Prelude.{◌≡◌, ℕ, ◌+◌, Bool, true, false, List, [], ◌∷◌, ◌++◌, Option, Some, None, Result, Ok, Err, length, nat_lt, if◌then◌else◌}
+use Rattle.std.specs.Prelude.{◌≡◌, ℕ, ◌+◌, Bool, true, false, List, [], ◌∷◌, ◌++◌, Option, Some, None, Result, Ok, Err, length, nat_lt, ◌==◌, ◌||◌, ◌&&◌, if◌then◌else◌}
 use Rattle.std.specs.List.{flat_map, list_any}
 use Rattle.pam_base.specs.declared.fault.Refuse.{Refuse}
 use Rattle.pam_base.specs.declared.fault.Refuse.TheVariants as refusals
@@ -10,9 +10,22 @@ use Rattle.conf_lex.specs.declared.token.LexFault.{LexFault}
 use Rattle.conf_lex.specs.declared.lexer.Found.{Found}
 use Rattle.conf_lex.specs.declared.lexer.Found.TheVariants as founds
 use Rattle.conf_lex.specs.declared.lexer.Line.{Line}
-use Rattle.conf_lex.specs.Piece.{Join, join_bytes, join_at, BracketUnit, unit_bytes, unit_text, units_bytes, units_text, units_stand, unit_stands, Piece, piece_bytes, piece_tokens, spelling, tokens_of, is_newline, is_open, stands, at_line_end, Reads}
+use Rattle.conf_lex.specs.Piece.{Join, join_bytes, join_at, BracketUnit, unit_bytes, unit_text, units_bytes, units_text, units_stand, unit_stands, Piece, piece_bytes, piece_tokens, spelling, tokens_of, is_newline, is_open, stands, at_line_end, begins_with, is_white, Reads}
 use Rattle.conf_lex.specs.Reading.{unit_at, pieces_of}
 use Rattle.conf_lex.specs.Rules.{newlines, JoinedLine, lines_of_pieces, numbered, rule_at, line_rules, first_fault}
+
+-- whether a bracket's units end here, with a `]` or the line
+abbrev pub is_bracket_end : List ℕ → Bool
+is_bracket_end [] = true
+is_bracket_end (b ∷ bs) = b == 93 || b == 10
+
+abbrev pub is_escape : List ℕ → Bool
+is_escape [] = false
+is_escape (b ∷ bs) = b == 92 && begins_with 93 bs
+
+abbrev pub begins_white : List ℕ → Bool
+begins_white [] = false
+begins_white (b ∷ bs) = is_white b
 
 -- a join was taken from the front, or none stands there
 abbrev pub TakesJoin : Bool → List ℕ → List ℕ → ℕ → ℕ → Type 0
