@@ -3,3 +3,5 @@ pub mod Once
 pub mod Every
 pub mod Taking
 pub mod TakingPieces
+pub mod Answering
+pub mod Deciding

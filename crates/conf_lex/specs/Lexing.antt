@@ -81,6 +81,11 @@ pub record TakesPieces (line : Line) (before after : List ℕ) (old_line new_lin
   pub opened : line.opened ≡ list_any is_open pieces
   pub lines : new_line ≡ old_line + newlines (spelling pieces)
 
+-- a joined line was ended, by a newline or with the text
+abbrev pub EndsLine : List ℕ → List ℕ → ℕ → ℕ → Type 0
+EndsLine [] after old_line new_line = (after ≡ []) × (new_line ≡ old_line)
+EndsLine (b ∷ bs) after old_line new_line = (b ≡ 10) × (after ≡ bs) × (new_line ≡ old_line + 1)
+
 -- the fault of a joined line of this length
 abbrev pub fault_at : ℕ → ℕ → Bool → Option LexFault
 fault_at first length opened =
@@ -116,3 +121,9 @@ abbrev pub Gives : {A : Type 0} → Result A (Refuse LexFault) → Result A LexF
 Gives (Ok x) answer = answer ≡ Ok x
 Gives (Err (refusals.Named f)) answer = answer ≡ Err f
 Gives (Err refusals.NoMemory) answer = Unit {0}
+
+-- a fault that was named has this property
+abbrev pub IfNamed : {A : Type 0} → Result A (Refuse LexFault) → (LexFault → Type 0) → Type 0
+IfNamed (Ok x) P = Unit {0}
+IfNamed (Err (refusals.Named f)) P = P f
+IfNamed (Err refusals.NoMemory) P = Unit {0}

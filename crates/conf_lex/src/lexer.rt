@@ -2,7 +2,7 @@ ghost use Rattle.std.specs.Prelude.{◌≡◌, ℕ, ◌+◌, ◌<◌, ◌≤◌,
 ghost use Rattle.pam_base.specs.Bytes.{has_byte};
 ghost use Rattle.conf_lex.specs.Piece.{at_line_end, begins_with, join_at, join_bytes, goes_on};
 ghost use Rattle.conf_lex.specs.Reading.{run_of, unit_at};
-ghost use Rattle.conf_lex.specs.Lexing.{is_bracket_end, is_escape, begins_white, TakesJoin, TakesUnit, TakesUnits, TakesPiece, TakesPieces, GivesLine, found_tokens, found_open, fault_at, answer_at};
+ghost use Rattle.conf_lex.specs.Lexing.{is_bracket_end, is_escape, begins_white, TakesJoin, TakesUnit, TakesUnits, TakesPiece, TakesPieces, EndsLine, GivesLine, found_tokens, found_open, fault_at, answer_at};
 
 use crate::token::{LexFault, Token, Tokens};
 use pam_base::{FaultKind, NoMemory, Refuse, Text, first_place};
@@ -273,5 +273,37 @@ impl<'a> Lexer<'a> {
             line.add(found)?;
         }
         Ok(line)
+    }
+
+    /// Takes the newline that ends a joined line, if the text doesn't end here.
+    fn newline(&mut self)
+        requires fits { self.old.line + length self.old.rest.now < 2 ^ 32 }
+        requires ends { at_line_end self.old.rest.now ≡ true }
+        ensures { EndsLine self.old.rest.now self.new.rest.now self.old.line self.new.line }
+    {
+        if !self.rest.is_empty() {
+            self.skip(1);
+            self.line += 1;
+        }
+    }
+
+    /// Takes a joined line with its newline, and answers its tokens or its fault.
+    pub fn rule(&mut self, alloc: Global) -> Result<Tokens, Refuse<LexFault>>
+        requires fits { self.old.line + length self.old.rest.now < 2 ^ 32 }
+        requires some { 0 < length self.old.rest.now }
+        ensures given { GivesLine result (answer_at self.old.line self.old.rest.now) self.old.line (answer_at self.new.line self.new.rest.now) }
+        ensures fits { OnOk result (self.new.line + length self.new.rest.now ≤ self.old.line + length self.old.rest.now) }
+        ensures shorter { OnOk result (length self.new.rest.now < length self.old.rest.now) }
+    {
+        let first = self.line;
+        let length = self.rest.len();
+        let line = self.pieces(alloc)?;
+        match line_fault(first, length - self.rest.len(), line.opened) {
+            Some(fault) => Err(Refuse::Named(fault)),
+            None => {
+                self.newline();
+                Ok(line.tokens)
+            }
+        }
     }
 }
