@@ -81,8 +81,9 @@ lines_open : (ps : List Piece) → any_open (lines_of_pieces ps) ≡ list_any is
 lines_open [] = refl
 lines_open (p ∷ ps) =
     elim (which (is_newline p)) [
-      inl y ↦ rw (y, newline_closed p y) (lines_open ps)
-    | inr n ↦ rw n (front_open p (lines_of_pieces ps) ∙ ap (λ (b : Bool). is_open p || b) (lines_open ps)) ]
+      | inl y ↦ rw (y, newline_closed p y) (lines_open ps)
+      | inr n ↦ rw n (front_open p (lines_of_pieces ps) ∙ ap (λ (b : Bool). is_open p || b) (lines_open ps))
+    ]
 
 none_both : (a b : Option LexFault) → or_else a b ≡ None → (a ≡ None) × (b ≡ None)
 none_both None b e = (refl, e)
@@ -91,8 +92,9 @@ none_both (Some f) b e = absurd cc
 line_closed : (l : JoinedLine) → line_fault l ≡ None → list_any is_open l.pieces ≡ false
 line_closed l e =
     elim (chosen (nat_lt 4096 (length (spelling l.pieces))) (Some (record { line = l.first; kind = RuleTooLong })) (cond (list_any is_open l.pieces) (Some (record { line = l.first; kind = OpenBracket })) None) None e) [
-      inl h ↦ absurd cc
-    | inr h ↦ elim (chosen (list_any is_open l.pieces) (Some (record { line = l.first; kind = OpenBracket })) None None h.1) [ inl k ↦ absurd cc | inr k ↦ k.0 ] ]
+      | inl h ↦ absurd cc
+      | inr h ↦ elim (chosen (list_any is_open l.pieces) (Some (record { line = l.first; kind = OpenBracket })) None None h.1) [ inl k ↦ absurd cc | inr k ↦ k.0 ]
+    ]
 
 -- lines without a fault have no open bracket
 none_open : (n : ℕ) (ls : List (List Piece)) → first_fault (numbered n ls) ≡ None → any_open ls ≡ false
@@ -117,8 +119,9 @@ which_or (Some g) b f e = inl e
 line_kind : (l : JoinedLine) (f : LexFault) → line_fault l ≡ Some f → IsLineKind f.kind
 line_kind l f e =
     elim (chosen (nat_lt 4096 (length (spelling l.pieces))) (Some (record { line = l.first; kind = RuleTooLong })) (cond (list_any is_open l.pieces) (Some (record { line = l.first; kind = OpenBracket })) None) (Some f) e) [
-      inl h ↦ by_kind (record { line = l.first; kind = RuleTooLong }) f h.1 tt
-    | inr h ↦ elim (chosen (list_any is_open l.pieces) (Some (record { line = l.first; kind = OpenBracket })) None (Some f) h.1) [ inl k ↦ by_kind (record { line = l.first; kind = OpenBracket }) f k.1 tt | inr k ↦ absurd cc ] ]
+      | inl h ↦ by_kind (record { line = l.first; kind = RuleTooLong }) f h.1 tt
+      | inr h ↦ elim (chosen (list_any is_open l.pieces) (Some (record { line = l.first; kind = OpenBracket })) None (Some f) h.1) [ inl k ↦ by_kind (record { line = l.first; kind = OpenBracket }) f k.1 tt | inr k ↦ absurd cc ]
+    ]
 
 first_kind : (ls : List JoinedLine) (f : LexFault) → first_fault ls ≡ Some f → IsLineKind f.kind
 first_kind [] f e = absurd cc

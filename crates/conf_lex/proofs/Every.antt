@@ -46,24 +46,27 @@ after_backslash : (bs : List ℕ) (j : Join) → join_after_backslash bs ≡ Som
 after_backslash [] j e = absurd cc
 after_backslash (b ∷ bs) j e =
     elim (chosen (eqb b 10) (Some feed) (cond (eqb b 13 && begins_with 10 bs) (Some return_feed) None) (Some j) e) [
-      inl h ↦ (let is : j ≡ feed = cc in let ten : b ≡ 10 = eqb-true b 10 h.0 in record { rest = bs; spelled = rw (is, ten) refl })
-    | inr h ↦ elim (chosen (eqb b 13 && begins_with 10 bs) (Some return_feed) None (Some j) h.1) [
-        inl k ↦
-          (let is : j ≡ return_feed = cc in
-          let parts = both (eqb b 13) (begins_with 10 bs) k.0 in
-          let more = begins 10 bs parts.1 in
-          a_return_feed b bs more.0 j (eqb-true b 13 parts.0) more.1 is)
-      | inr k ↦ absurd cc ] ]
+      | inl h ↦ (let is : j ≡ feed = cc in let ten : b ≡ 10 = eqb-true b 10 h.0 in record { rest = bs; spelled = rw (is, ten) refl })
+      | inr h ↦ elim (chosen (eqb b 13 && begins_with 10 bs) (Some return_feed) None (Some j) h.1) [
+        | inl k ↦
+            (let is : j ≡ return_feed = cc in
+            let parts = both (eqb b 13) (begins_with 10 bs) k.0 in
+            let more = begins 10 bs parts.1 in
+            a_return_feed b bs more.0 j (eqb-true b 13 parts.0) more.1 is)
+        | inr k ↦ absurd cc
+      ]
+    ]
 
 pub is_join : (text : List ℕ) (j : Join) → join_at text ≡ Some j → IsJoin text j
 is_join [] j e = absurd cc
 is_join (b ∷ bs) j e =
     elim (chosen (eqb b 92) (join_after_backslash bs) None (Some j) e) [
-      inl h ↦
-        (let tail = after_backslash bs j h.1 in
-        let is : b ≡ 92 = eqb-true b 92 h.0 in
-        record { rest = tail.rest; spelled = ap (λ (x : ℕ). x ∷ bs) is ∙ tail.spelled })
-    | inr h ↦ absurd cc ]
+      | inl h ↦
+          (let tail = after_backslash bs j h.1 in
+          let is : b ≡ 92 = eqb-true b 92 h.0 in
+          record { rest = tail.rest; spelled = ap (λ (x : ℕ). x ∷ bs) is ∙ tail.spelled })
+      | inr h ↦ absurd cc
+    ]
 
 -- ---- units
 
@@ -91,22 +94,25 @@ no_unit_at_close bs = refl
 unit_without : (b : ℕ) (bs : List ℕ) → join_at (b ∷ bs) ≡ None → (eqb b 92 && begins_with 93 bs) ≡ false → (unit_at (b ∷ bs) ≡ None) ⊎ ((u : BracketUnit) × IsUnit (b ∷ bs) u)
 unit_without b bs none no_escape =
     elim (which (eqb b 93 || eqb b 10)) [
-      inl y ↦ inl (rw (none, no_escape, y) refl)
-    | inr n ↦
-        (let parts = either (eqb b 93) (eqb b 10) n in
-        inr (single b, record { rest = bs; spelled = refl; stand = is_single_by b bs none no_escape parts.0 parts.1 })) ]
+      | inl y ↦ inl (rw (none, no_escape, y) refl)
+      | inr n ↦
+          (let parts = either (eqb b 93) (eqb b 10) n in
+          inr (single b, record { rest = bs; spelled = refl; stand = is_single_by b bs none no_escape parts.0 parts.1 }))
+    ]
 
 pub which_unit : (text : List ℕ) → (unit_at text ≡ None) ⊎ ((u : BracketUnit) × IsUnit text u)
 which_unit [] = inl refl
 which_unit (b ∷ bs) =
     elim (which_join (join_at (b ∷ bs))) [
-      inr h ↦ (let is = is_join (b ∷ bs) h.0 h.1 in inr (joined h.0, record { rest = is.rest; spelled = is.spelled; stand = refl }))
-    | inl none ↦ elim (which (eqb b 92 && begins_with 93 bs)) [
-        inl y ↦
-          (let parts = both (eqb b 92) (begins_with 93 bs) y in
-          let more = begins 93 bs parts.1 in
-          inr (escaped, an_escape b bs more.0 (eqb-true b 92 parts.0) more.1))
-      | inr n ↦ unit_without b bs none n ] ]
+      | inr h ↦ (let is = is_join (b ∷ bs) h.0 h.1 in inr (joined h.0, record { rest = is.rest; spelled = is.spelled; stand = refl }))
+      | inl none ↦ elim (which (eqb b 92 && begins_with 93 bs)) [
+        | inl y ↦
+            (let parts = both (eqb b 92) (begins_with 93 bs) y in
+            let more = begins 93 bs parts.1 in
+            inr (escaped, an_escape b bs more.0 (eqb-true b 92 parts.0) more.1))
+        | inr n ↦ unit_without b bs none n
+      ]
+    ]
 
 pub record IsUnits (text : List ℕ) : Type 0 where
   pub units : List BracketUnit
@@ -134,10 +140,11 @@ pub units_of : (fuel : ℕ) (text : List ℕ) → length text ≤ fuel → IsUni
 units_of zero text le = record { units = []; rest = text; spelled = refl; stand = refl; ends = no_unit text le }
 units_of (suc fuel) text le =
     elim (which_unit text) [
-      inl none ↦ record { units = []; rest = text; spelled = refl; stand = refl; ends = none }
-    | inr h ↦
-        (let shorter : length h.1.rest ≤ fuel = omega (arith, unit_length h.0, ap length h.1.spelled, length-append (unit_bytes h.0) h.1.rest) in
-        unit_then text h.0 h.1 (units_of fuel h.1.rest shorter)) ]
+      | inl none ↦ record { units = []; rest = text; spelled = refl; stand = refl; ends = none }
+      | inr h ↦
+          (let shorter : length h.1.rest ≤ fuel = omega (arith, unit_length h.0, ap length h.1.spelled, length-append (unit_bytes h.0) h.1.rest) in
+          unit_then text h.0 h.1 (units_of fuel h.1.rest shorter))
+    ]
 
 -- ---- runs and comments
 
@@ -161,8 +168,9 @@ run_in : (text : List ℕ) → IsRun text
 run_in [] = record { run = []; rest = []; spelled = refl; on = refl; ends = refl }
 run_in (b ∷ bs) =
     elim (which (goes_on (b ∷ bs))) [
-      inl y ↦ run_more b bs y (run_in bs)
-    | inr n ↦ record { run = []; rest = b ∷ bs; spelled = refl; on = refl; ends = n } ]
+      | inl y ↦ run_more b bs y (run_in bs)
+      | inr n ↦ record { run = []; rest = b ∷ bs; spelled = refl; on = refl; ends = n }
+    ]
 
 pub record IsLine (text : List ℕ) : Type 0 where
   pub line : List ℕ
@@ -175,10 +183,11 @@ line_in : (text : List ℕ) → IsLine text
 line_in [] = record { line = []; rest = []; spelled = refl; one = refl; ends = refl }
 line_in (b ∷ bs) =
     elim (which (eqb b 10)) [
-      inl y ↦ record { line = []; rest = b ∷ bs; spelled = refl; one = refl; ends = y }
-    | inr n ↦
-        (let more = line_in bs in
-        record { line = b ∷ more.line; rest = more.rest; spelled = ap (λ (t : List ℕ). b ∷ t) more.spelled; one = rw (n, more.one) refl; ends = more.ends }) ]
+      | inl y ↦ record { line = []; rest = b ∷ bs; spelled = refl; one = refl; ends = y }
+      | inr n ↦
+          (let more = line_in bs in
+          record { line = b ∷ more.line; rest = more.rest; spelled = ap (λ (t : List ℕ). b ∷ t) more.spelled; one = rw (n, more.one) refl; ends = more.ends })
+    ]
 
 -- ---- pieces
 
@@ -190,19 +199,23 @@ pub record IsPiece (text : List ℕ) (p : Piece) : Type 0 where
 no_end : (b : ℕ) (bs : List ℕ) → unit_at (b ∷ bs) ≡ None → eqb b 93 ≡ false → eqb b 10 ≡ false → ⊥
 no_end b bs e no_close no_newline =
     elim (which_join (join_at (b ∷ bs))) [
-      inr h ↦ (let some : Some (joined h.0) ≡ None = rw h.1 at e in absurd cc)
-    | inl none ↦ elim (which (eqb b 92 && begins_with 93 bs)) [
-        inl y ↦ (let some : Some escaped ≡ None = rw (none, y) at e in absurd cc)
-      | inr n ↦ (let some : Some (single b) ≡ None = rw (none, n, no_close, no_newline) at e in absurd cc) ] ]
+      | inr h ↦ (let some : Some (joined h.0) ≡ None = rw h.1 at e in absurd cc)
+      | inl none ↦ elim (which (eqb b 92 && begins_with 93 bs)) [
+        | inl y ↦ (let some : Some escaped ≡ None = rw (none, y) at e in absurd cc)
+        | inr n ↦ (let some : Some (single b) ≡ None = rw (none, n, no_close, no_newline) at e in absurd cc)
+      ]
+    ]
 
 pub unit_end : (rest : List ℕ) → unit_at rest ≡ None → (at_line_end rest ≡ true) ⊎ ((more : List ℕ) × (rest ≡ 93 ∷ more))
 unit_end [] e = inl refl
 unit_end (b ∷ bs) e =
     elim (which (eqb b 93)) [
-      inl y ↦ inr (bs, ap (λ (x : ℕ). x ∷ bs) (eqb-true b 93 y))
-    | inr no_close ↦ elim (which (eqb b 10)) [
-        inl y ↦ inl y
-      | inr no_newline ↦ absurd (no_end b bs e no_close no_newline) ] ]
+      | inl y ↦ inr (bs, ap (λ (x : ℕ). x ∷ bs) (eqb-true b 93 y))
+      | inr no_close ↦ elim (which (eqb b 10)) [
+        | inl y ↦ inl y
+        | inr no_newline ↦ absurd (no_end b bs e no_close no_newline)
+      ]
+    ]
 
 a_comment : (b : ℕ) (bs : List ℕ) (l : IsLine bs) → b ≡ 35 → IsPiece (b ∷ bs) (comment l.line)
 a_comment b bs l is = record {
@@ -238,28 +251,34 @@ a_plain b bs r on no_newline no_bracket =
 either_bracket : (b : ℕ) (bs : List ℕ) (us : IsUnits bs) → b ≡ 91 → (p : Piece) × IsPiece (b ∷ bs) p
 either_bracket b bs us is =
     elim (unit_end us.rest us.ends) [
-      inl end ↦ (open_bracket us.units, an_open_bracket b bs us is end)
-    | inr h ↦ (bracket us.units, a_bracket b bs us h.0 is h.1) ]
+      | inl end ↦ (open_bracket us.units, an_open_bracket b bs us is end)
+      | inr h ↦ (bracket us.units, a_bracket b bs us h.0 is h.1)
+    ]
 
 piece_without : (b : ℕ) (bs : List ℕ) → join_at (b ∷ bs) ≡ None → (p : Piece) × IsPiece (b ∷ bs) p
 piece_without b bs none =
     elim (which (eqb b 10)) [
-      inl y ↦ (newline, record { rest = bs; spelled = ap (λ (x : ℕ). x ∷ bs) (eqb-true b 10 y); stand = refl })
-    | inr no_newline ↦ elim (which (is_white b)) [
-        inl y ↦ (white b, record { rest = bs; spelled = refl; stand = y })
-      | inr no_white ↦ elim (which (eqb b 35)) [
-          inl y ↦ (let l = line_in bs in (comment l.line, a_comment b bs l (eqb-true b 35 y)))
-        | inr no_hash ↦ elim (which (eqb b 91)) [
-            inl y ↦ either_bracket b bs (units_of (length bs) bs (omega arith)) (eqb-true b 91 y)
-          | inr no_bracket ↦
-              (let r = run_in bs in
-              (plain (b ∷ r.run), a_plain b bs r (goes_on_by b bs no_white no_hash no_newline none) no_newline no_bracket)) ] ] ] ]
+      | inl y ↦ (newline, record { rest = bs; spelled = ap (λ (x : ℕ). x ∷ bs) (eqb-true b 10 y); stand = refl })
+      | inr no_newline ↦ elim (which (is_white b)) [
+        | inl y ↦ (white b, record { rest = bs; spelled = refl; stand = y })
+        | inr no_white ↦ elim (which (eqb b 35)) [
+          | inl y ↦ (let l = line_in bs in (comment l.line, a_comment b bs l (eqb-true b 35 y)))
+          | inr no_hash ↦ elim (which (eqb b 91)) [
+            | inl y ↦ either_bracket b bs (units_of (length bs) bs (omega arith)) (eqb-true b 91 y)
+            | inr no_bracket ↦
+                (let r = run_in bs in
+                (plain (b ∷ r.run), a_plain b bs r (goes_on_by b bs no_white no_hash no_newline none) no_newline no_bracket))
+          ]
+        ]
+      ]
+    ]
 
 which_piece : (b : ℕ) (bs : List ℕ) → (p : Piece) × IsPiece (b ∷ bs) p
 which_piece b bs =
     elim (which_join (join_at (b ∷ bs))) [
-      inr h ↦ (let is = is_join (b ∷ bs) h.0 h.1 in (join h.0, record { rest = is.rest; spelled = is.spelled; stand = refl }))
-    | inl none ↦ piece_without b bs none ]
+      | inr h ↦ (let is = is_join (b ∷ bs) h.0 h.1 in (join h.0, record { rest = is.rest; spelled = is.spelled; stand = refl }))
+      | inl none ↦ piece_without b bs none
+    ]
 
 -- ---- readings
 

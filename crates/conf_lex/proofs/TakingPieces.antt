@@ -66,8 +66,9 @@ run_on : (text : List ℕ) → all_go_on (run_of text) (drop (length (run_of tex
 run_on [] = refl
 run_on (b ∷ bs) =
     elim (which (goes_on (b ∷ bs))) [
-      inl y ↦ rw y (and_true _ _ (ap (λ (t : List ℕ). goes_on (b ∷ t)) (sym (run_whole bs)) ∙ y) (run_on bs))
-    | inr n ↦ rw n refl ]
+      | inl y ↦ rw y (and_true _ _ (ap (λ (t : List ℕ). goes_on (b ∷ t)) (sym (run_whole bs)) ∙ y) (run_on bs))
+      | inr n ↦ rw n refl
+    ]
 
 run_ends : (text : List ℕ) → goes_on (drop (length (run_of text)) text) ≡ false
 run_ends [] = refl
