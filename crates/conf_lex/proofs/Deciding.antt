@@ -184,19 +184,19 @@ module _ (text : List ℕ) (short : length text ≤ 65536) (place : ℕ) (at : I
   nul_only line OpenBracket h = absurd (no_lines h.no_nul)
   nul_only line _ h = absurd h
 
-  line_of : Result (List RawRule) (Refuse LexFault) → ℕ
-  line_of (Err (Named f)) = f.line
-  line_of _ = 0
+  fault_line : Result (List RawRule) (Refuse LexFault) → ℕ
+  fault_line (Err (Named f)) = f.line
+  fault_line _ = 0
 
-  line_is_of : (k line : ℕ) → ◌≡◌ {A = Result (List RawRule) (Refuse LexFault)} (Err (Named (record { line = 1 + k; kind = NulByte }))) (Err (Named (record { line = line; kind = NulByte }))) → 1 + k ≡ line
-  unfolding line_of
-  line_is_of k line e = ap line_of e
+  fault_line-is : (k line : ℕ) → ◌≡◌ {A = Result (List RawRule) (Refuse LexFault)} (Err (Named (record { line = k; kind = NulByte }))) (Err (Named (record { line = line; kind = NulByte }))) → k ≡ line
+  unfolding fault_line
+  fault_line-is k line e = ap fault_line e
 
-  pub nul_given : (k line : ℕ) → k ≡ newlines (take place text) → (◌≡◌ {A = Result (List RawRule) (Refuse LexFault)} (Err (Named (record { line = 1 + k; kind = NulByte }))) (Err (Named (record { line = line; kind = NulByte })))) ↔ HasNul text line
-  nul_given k line is = (λ e. record { short = short; place = place; first = at; line_is = sym (line_is_of k line e) ∙ ap (λ (n : ℕ). 1 + n) is }, λ h. ap (λ (n : ℕ). Err (Named (record { line = n; kind = NulByte }))) (ap (λ (n : ℕ). 1 + n) is ∙ sym (nul_line line h)))
+  pub nul_given : (k line : ℕ) → k ≡ 1 + newlines (take place text) → (◌≡◌ {A = Result (List RawRule) (Refuse LexFault)} (Err (Named (record { line = k; kind = NulByte }))) (Err (Named (record { line = line; kind = NulByte })))) ↔ HasNul text line
+  nul_given k line is = (λ e. record { short = short; place = place; first = at; line_is = sym (fault_line-is k line e) ∙ is }, λ h. ap (λ (n : ℕ). Err (Named (record { line = n; kind = NulByte }))) (is ∙ sym (nul_line line h)))
 
-  pub nul_first : (k : ℕ) → k ≡ newlines (take place text) → (f : LexFault) → IsFirstFault text f → ◌≡◌ {A = Result (List RawRule) LexFault} (Err f) (Err (record { line = 1 + k; kind = NulByte }))
-  nul_first k is f h = ap Err (nul_only f.line f.kind h ∙ ap (λ (n : ℕ). record { line = 1 + n; kind = NulByte }) (sym is))
+  pub nul_first : (k : ℕ) → k ≡ 1 + newlines (take place text) → (f : LexFault) → IsFirstFault text f → ◌≡◌ {A = Result (List RawRule) LexFault} (Err f) (Err (record { line = k; kind = NulByte }))
+  nul_first k is f h = ap Err (nul_only f.line f.kind h ∙ ap (λ (n : ℕ). record { line = n; kind = NulByte }) (sym is))
 
 module _ (text : List ℕ) (short : length text ≤ 65536) (no_nul : has_byte 0 text ≡ false) where
   has_fault : (f : LexFault) → faults text ≡ Some f → HasLineFault text f

@@ -1,4 +1,4 @@
-ghost use Rattle.std.specs.Prelude.{◌≡◌, ℕ, ◌+◌, ◌<◌, ◌≤◌, ◌^◌, ◌++◌, ◌↔◌, List, length, Err, Ok, IfOk, OnOk};
+ghost use Rattle.std.specs.Prelude.{◌≡◌, ℕ, ◌+◌, ◌<◌, ◌≤◌, ◌^◌, ◌++◌, ◌↔◌, List, length, take, Err, Ok, IfOk, OnOk};
 ghost use Rattle.pam_base.specs.declared.fault.Refuse.TheVariants as refusals;
 ghost use Rattle.pam_base.specs.declared.fault.FaultKind.TheVariants as kinds;
 ghost use Rattle.conf_lex.specs.declared.token.LexFault.{LexFault};
@@ -38,12 +38,21 @@ pub fn rules(alloc: Global, text: &[u8]) -> Result<RawRules, Refuse<LexFault>>
         }));
     }
     match first_place(0, text) {
-        Some(n) => Err(Refuse::Named(LexFault {
-            line: 1 + newlines(&text[..n]),
+        Some(place) => Err(Refuse::Named(LexFault {
+            line: line_of(text, place),
             kind: FaultKind::NulByte,
         })),
         None => rules_of_lines(alloc, text),
     }
+}
+
+/// The number of the physical line that the place is in.
+fn line_of(text: &[u8], place: usize) -> u32
+    requires short { length text.now ≤ 65536 }
+    requires within { place ≤ length text.now }
+    ensures { result ≡ 1 + newlines (take place text.now) }
+{
+    1 + newlines(&text[..place])
 }
 
 fn newlines(text: &[u8]) -> u32

@@ -7,13 +7,13 @@ pub returns-then-text-gt-MAX_TEXT-clause-spelled : goal.returns-then-text-gt-MAX
 returns-then-text-gt-MAX_TEXT-clause-spelled c = λ rules none s. absurd (none (record { line = 0; kind = FileTooLong }) (c.if-text-gt-MAX_TEXT.true, refl))
 
 pub returns-in-Some-clause-spelled : goal.returns-in-Some-clause-spelled
-returns-in-Some-clause-spelled c = λ rules none s. absurd (none (record { line = _; kind = NulByte }) (nul_here _ c.if-text-gt-MAX_TEXT.false c.in-Some.n c.in-Some.ensures))
+returns-in-Some-clause-spelled c = λ rules none s. absurd (none (record { line = _; kind = NulByte }) (nul_here _ c.if-text-gt-MAX_TEXT.false c.in-Some.place c.in-Some.ensures))
 
 pub returns-in-Some-clause-first : goal.returns-in-Some-clause-first
-returns-in-Some-clause-first c = nul_first _ c.if-text-gt-MAX_TEXT.false c.in-Some.n c.in-Some.ensures _ c.newlines.ensures
+returns-in-Some-clause-first c = nul_first _ c.if-text-gt-MAX_TEXT.false c.in-Some.place c.in-Some.ensures _ c.line_of.ensures
 
 pub returns-in-Some-clause-nul_byte : goal.returns-in-Some-clause-nul_byte
-returns-in-Some-clause-nul_byte c = λ line. nul_given _ c.if-text-gt-MAX_TEXT.false c.in-Some.n c.in-Some.ensures _ line c.newlines.ensures
+returns-in-Some-clause-nul_byte c = λ line. nul_given _ c.if-text-gt-MAX_TEXT.false c.in-Some.place c.in-Some.ensures _ line c.line_of.ensures
 
 pub returns-in-None-clause-read : goal.returns-in-None-clause-read
 returns-in-None-clause-read c = gives_read _ c.if-text-gt-MAX_TEXT.false c.in-None.ensures _ c.rules_of_lines.ensures
