@@ -19,10 +19,12 @@ abbrev pub is_bracket_end : List ℕ → Bool
 is_bracket_end [] = true
 is_bracket_end (b ∷ bs) = b == 93 || b == 10
 
+-- whether a `\]` stands here
 abbrev pub is_escape : List ℕ → Bool
 is_escape [] = false
 is_escape (b ∷ bs) = b == 92 && begins_with 93 bs
 
+-- whether white space stands here
 abbrev pub begins_white : List ℕ → Bool
 begins_white [] = false
 begins_white (b ∷ bs) = is_white b
@@ -40,6 +42,7 @@ pub record UnitTaken (byte : ℕ) (before after : List ℕ) (old_line new_line :
   pub gives : unit_text unit ≡ byte ∷ []
   pub lines : new_line ≡ old_line + newlines (unit_bytes unit)
 
+-- the unit at the front was taken, if one stands there
 abbrev pub TakesUnit : Option ℕ → List ℕ → List ℕ → ℕ → ℕ → Type 0
 TakesUnit (Some byte) before after old_line new_line = UnitTaken byte before after old_line new_line
 TakesUnit None before after old_line new_line = (unit_at before ≡ None) × (after ≡ before) × (new_line ≡ old_line)
@@ -58,6 +61,7 @@ found_tokens founds.Blank = []
 found_tokens (founds.Token t) = t ∷ []
 found_tokens founds.OpenBracket = []
 
+-- whether it is an open bracket
 abbrev pub found_open : Found → Bool
 found_open founds.OpenBracket = true
 found_open _ = false
@@ -98,6 +102,7 @@ abbrev pub given : Option LexFault → List RawRule → Result (List RawRule) Le
 given None rules = Ok rules
 given (Some f) rules = Err f
 
+-- the answer for these joined lines
 abbrev pub answer_of : List JoinedLine → Result (List RawRule) LexFault
 answer_of lines = given (first_fault lines) (flat_map line_rules lines)
 
