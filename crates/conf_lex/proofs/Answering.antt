@@ -1,5 +1,5 @@
 -- The answer for what is left of a text, one joined line at a time.
-use Rattle.std.proofs.Common.{◌≡◌, ℕ, ◌+◌, ◌-◌, Bool, true, false, eqb, List, [], ◌∷◌, ◌++◌, length, Option, Some, None, Result, Ok, Err, refl, sym, ap, ◌∙◌, arith, append_assoc, append-nil, length-append}
+use Rattle.std.proofs.Common.{◌≡◌, ℕ, ◌+◌, ◌-◌, Bool, true, false, List, [], ◌∷◌, ◌++◌, length, Option, Some, None, Ok, Err, refl, sym, ap, ◌∙◌, arith, append-nil, length-append}
 use Rattle.std.proofs.lemmas.Bool.{eqb-true}
 use Rattle.std.specs.List.{flat_map, list_any}
 use Rattle.conf_lex.specs.declared.token.Token.{Token}
@@ -7,7 +7,7 @@ use Rattle.conf_lex.specs.declared.token.RawRule.{RawRule}
 use Rattle.conf_lex.specs.declared.token.LexFault.{LexFault}
 use Rattle.conf_lex.specs.Piece.{Piece, newline, spelling, tokens_of, is_newline, is_open, at_line_end, Reads}
 use Rattle.conf_lex.specs.Reading.{pieces_of, pieces_behind}
-use Rattle.conf_lex.specs.Rules.{newlines, JoinedLine, lines_of_pieces, in_front, numbered, rule_at, line_rules, line_fault, or_else, first_fault}
+use Rattle.conf_lex.specs.Rules.{newlines, JoinedLine, lines_of_pieces, numbered, rule_at, line_rules, line_fault, first_fault}
 use Rattle.conf_lex.specs.Lexing.{EndsLine, fault_at, given, answer_of, answer_at, with_front}
 use Rattle.conf_lex.proofs.Once.{either, piece_again, reads_pieces}
 

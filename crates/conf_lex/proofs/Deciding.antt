@@ -1,18 +1,19 @@
 -- From the answer for the joined lines to the rules and the first fault of a text.
-use Rattle.std.proofs.Common.{◌≡◌, ℕ, zero, suc, ◌+◌, ◌<◌, ◌≤◌, Bool, true, false, ◌||◌, eqb, List, [], ◌∷◌, ◌++◌, length, take, drop, Option, Some, None, Result, Ok, Err, refl, sym, ap, ◌∙◌, subst, arith, eq-eqb, cond, nat_lt, ◌↔◌, IfOk, ◌⊎◌, inl, inr}
+use Rattle.std.proofs.Common.{◌≡◌, ℕ, ◌+◌, ◌<◌, ◌≤◌, Bool, true, false, ◌||◌, eqb, List, [], ◌∷◌, ◌++◌, length, take, drop, Option, Some, None, Result, Ok, Err, refl, sym, ap, ◌∙◌, subst, arith, eq-eqb, cond, nat_lt, ◌↔◌, IfOk, All, ◌⊎◌, inl, inr}
 use Rattle.std.specs.List.{flat_map, list_any}
-use Rattle.std.proofs.lemmas.List.Folds.{list_any-append}
+use Rattle.std.proofs.lemmas.List.Elements.{All-nil, All-cons, All-append}
 use Rattle.pam_base.specs.Bytes.{has_byte, IsFirstPlace}
 use Rattle.pam_base.specs.declared.fault.FaultKind.{FaultKind}
-use Rattle.pam_base.specs.declared.fault.FaultKind.TheVariants.{NotBuilt, OpenBracket, NulByte, RuleTooLong, FileTooLong, ReadFailed}
+use Rattle.pam_base.specs.declared.fault.FaultKind.TheVariants.{OpenBracket, NulByte, RuleTooLong, FileTooLong}
 use Rattle.pam_base.specs.declared.fault.Refuse.{Refuse}
 use Rattle.pam_base.specs.declared.fault.Refuse.TheVariants.{NoMemory, Named}
+use Rattle.conf_lex.specs.declared.token.Token.{Token}
 use Rattle.conf_lex.specs.declared.token.RawRule.{RawRule}
 use Rattle.conf_lex.specs.declared.token.LexFault.{LexFault}
-use Rattle.conf_lex.specs.Piece.{Piece, newline, spelling, is_newline, is_open, IsReading}
+use Rattle.conf_lex.specs.Piece.{Piece, newline, spelling, tokens_of, is_newline, is_open}
 use Rattle.conf_lex.specs.Reading.{pieces_of}
-use Rattle.conf_lex.specs.Rules.{newlines, JoinedLine, in_front, lines_of_pieces, numbered, joined_lines, line_rules, line_fault, or_else, first_fault, Spells, HasLineFault, HasNul, IsFaultOf, IsFirstFault, HasNoFault}
-use Rattle.conf_lex.specs.Lexing.{given, answer_of, answer_at, Gives, IfNamed}
+use Rattle.conf_lex.specs.Rules.{newlines, JoinedLine, in_front, lines_of_pieces, numbered, joined_lines, rule_at, line_rules, line_fault, or_else, first_fault, Spells, HasLineFault, HasNul, IsFaultOf, IsFirstFault, HasNoFault}
+use Rattle.conf_lex.specs.Lexing.{given, answer_at, Gives, IfNamed}
 use Rattle.conf_lex.proofs.Once.{either, one_reading}
 use Rattle.conf_lex.proofs.Every.{which, chosen, reading_is}
 
@@ -290,3 +291,23 @@ by_first text line _ g h k = absurd h
 
 pub one_first_fault : (text : List ℕ) (fault other : LexFault) → IsFirstFault text fault → IsFirstFault text other → fault ≡ other
 one_first_fault text fault other h k = by_first text fault.line fault.kind other h k
+
+-- ---- each rule has a token
+
+abbrev HasToken : RawRule → Type 0
+HasToken rule = 0 < length rule.tokens
+
+rule_has_token : (n : ℕ) (tokens : List Token) → All HasToken (rule_at n tokens)
+rule_has_token n [] = All-nil HasToken
+rule_has_token n (t ∷ ts) = All-cons HasToken _ [] (omega arith) (All-nil HasToken)
+
+rules_have_tokens : (ls : List JoinedLine) → All HasToken (flat_map line_rules ls)
+rules_have_tokens [] = All-nil HasToken
+rules_have_tokens (l ∷ ls) = All-append HasToken (line_rules l) (flat_map line_rules ls) (rule_has_token l.first (tokens_of l.pieces)) (rules_have_tokens ls)
+
+spelled_have_tokens : (text : List ℕ) (rules : List RawRule) → Spells text rules → All HasToken rules
+spelled_have_tokens text rules s = subst (λ (rs : List RawRule). All HasToken rs) (sym s.rules_are) (rules_have_tokens (joined_lines s.pieces))
+
+pub gives_tokens : (text : List ℕ) (r : Result (List RawRule) (Refuse LexFault)) → IfOk r (λ rules. HasNoFault text × Spells text rules) → IfOk r (λ rules. All HasToken rules)
+gives_tokens text (Ok rules) h = spelled_have_tokens text rules h.1
+gives_tokens text (Err e) h = tt

@@ -1,10 +1,9 @@
 -- Every text has a reading.
-use Rattle.std.proofs.Common.{◌≡◌, ℕ, zero, suc, ◌+◌, ◌-◌, ◌<◌, ◌≤◌, Bool, true, false, not, ◌||◌, ◌&&◌, cond, eqb, List, [], ◌∷◌, ◌++◌, length, drop, Option, Some, None, refl, sym, ap, ◌∙◌, subst, arith, append_assoc, append-nil, length-append, ◌⊎◌, inl, inr}
+use Rattle.std.proofs.Common.{◌≡◌, ℕ, zero, suc, ◌<◌, ◌≤◌, Bool, true, false, not, ◌||◌, ◌&&◌, cond, eqb, List, [], ◌∷◌, ◌++◌, length, Option, Some, None, refl, sym, ap, ◌∙◌, subst, arith, append_assoc, length-append, ◌⊎◌, inl, inr}
 use Rattle.std.proofs.lemmas.Bool.{eqb-true}
-use Rattle.std.specs.List.{flat_map}
 use Rattle.pam_base.specs.Bytes.{has_byte}
-use Rattle.conf_lex.specs.Piece.{Join, feed, return_feed, join_bytes, BracketUnit, escaped, joined, single, unit_bytes, units_bytes, Piece, newline, white, join, plain, bracket, open_bracket, comment, piece_bytes, spelling, is_white, begins_with, at_line_end, join_after_backslash, join_at, has_join, begins_join, goes_on, all_go_on, is_single, unit_stands, units_stand, stands, all_stand, Reads, IsReading}
-use Rattle.conf_lex.specs.Reading.{run_of, rest_of_line, unit_at, pieces_of}
+use Rattle.conf_lex.specs.Piece.{Join, feed, return_feed, join_bytes, BracketUnit, escaped, joined, single, unit_bytes, units_bytes, Piece, newline, white, join, plain, bracket, open_bracket, comment, piece_bytes, spelling, is_white, begins_with, at_line_end, join_after_backslash, join_at, has_join, begins_join, goes_on, all_go_on, is_single, unit_stands, units_stand, stands, Reads, IsReading}
+use Rattle.conf_lex.specs.Reading.{unit_at, pieces_of}
 use Rattle.conf_lex.proofs.Once.{both, either, one_reading}
 
 pub which : (b : Bool) → (b ≡ true) ⊎ (b ≡ false)

@@ -1,10 +1,10 @@
 -- The definitions computed on texts, before any code stands on them.
-use Rattle.std.proofs.Common.{◌≡◌, ℕ, Bool, true, false, List, [], ◌∷◌, ◌++◌, length, codes, replicate, refl, lit<, lit≤}
-use Rattle.pam_base.specs.declared.fault.FaultKind.TheVariants.{OpenBracket, RuleTooLong, NulByte}
+use Rattle.std.proofs.Common.{ℕ, true, false, List, [], ◌∷◌, ◌++◌, codes, refl, lit<, lit≤}
+use Rattle.pam_base.specs.declared.fault.FaultKind.TheVariants.{OpenBracket, NulByte}
 use Rattle.conf_lex.specs.declared.token.Token.{Token}
 use Rattle.conf_lex.specs.declared.token.RawRule.{RawRule}
-use Rattle.conf_lex.specs.Piece.{Piece, newline, white, join, plain, bracket, open_bracket, comment, feed, return_feed, escaped, joined, single, BracketUnit, IsReading}
-use Rattle.conf_lex.specs.Rules.{Spells, HasLineFault, HasNul, IsFirstFault}
+use Rattle.conf_lex.specs.Piece.{newline, white, join, plain, bracket, open_bracket, comment, feed, return_feed, escaped, joined, single}
+use Rattle.conf_lex.specs.Rules.{Spells, IsFirstFault}
 
 abbrev word : List ℕ → Token
 word text = record { bracketed = false; text = text }

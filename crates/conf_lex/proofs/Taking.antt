@@ -1,21 +1,13 @@
 -- Taking units and pieces from the front of a text.
-use Rattle.std.proofs.Common.{◌≡◌, ℕ, zero, suc, ◌+◌, ◌-◌, ◌<◌, ◌≤◌, Bool, true, false, not, ◌||◌, ◌&&◌, cond, eqb, List, [], ◌∷◌, ◌++◌, length, take, drop, get_or, count_by, Option, Some, None, refl, sym, ap, ◌∙◌, subst, arith, append_assoc, append-nil, length-append, ◌⊎◌, inl, inr}
-use Rattle.std.proofs.lemmas.Bool.{eqb-true}
+use Rattle.std.proofs.Common.{◌≡◌, ℕ, ◌+◌, ◌<◌, ◌≤◌, Bool, true, false, cond, eqb, List, [], ◌∷◌, ◌++◌, length, drop, get_or, None, refl, sym, ap, ◌∙◌, arith, append_assoc, append-nil, length-append}
 use Rattle.std.proofs.lemmas.Grind.{flat_map-append}
-use Rattle.std.proofs.lemmas.List.{take-append-drop}
 use Rattle.std.proofs.lemmas.List.Sums.{count_by-le-length, sum_by-append}
-use Rattle.std.proofs.lemmas.List.Folds.{list_any-append}
-use Rattle.std.specs.List.{flat_map, list_any}
-use Rattle.pam_base.specs.Bytes.{has_byte}
-use Rattle.conf_lex.specs.declared.token.Token.{Token}
-use Rattle.conf_lex.specs.declared.lexer.Found.{Found}
-use Rattle.conf_lex.specs.declared.lexer.Found.TheVariants as founds
-use Rattle.conf_lex.specs.Piece.{Join, feed, return_feed, join_bytes, join_at, BracketUnit, escaped, joined, single, unit_bytes, unit_text, units_bytes, units_text, units_stand, unit_stands, Piece, newline, white, join, plain, bracket, open_bracket, comment, piece_bytes, piece_tokens, spelling, tokens_of, is_newline, is_open, stands, all_stand, at_line_end, begins_with, begins_join, has_join, is_white, goes_on, all_go_on, is_single, Reads}
-use Rattle.conf_lex.specs.Reading.{unit_at, run_of}
+use Rattle.conf_lex.specs.Piece.{Join, feed, return_feed, join_bytes, join_at, BracketUnit, joined, single, unit_bytes, unit_text, units_bytes, units_text, units_stand, unit_stands, goes_on}
+use Rattle.conf_lex.specs.Reading.{run_of}
 use Rattle.conf_lex.specs.Rules.{newlines}
-use Rattle.conf_lex.specs.Lexing.{is_bracket_end, is_escape, begins_white, TakesJoin, UnitTaken, TakesUnit, TakesUnits, TakesPiece, TakesPieces, found_tokens, found_open}
-use Rattle.conf_lex.proofs.Once.{both, either, not_true, no_join, drop_front}
-use Rattle.conf_lex.proofs.Every.{which, is_single_by, unit_end, and_true}
+use Rattle.conf_lex.specs.Lexing.{is_bracket_end, is_escape, TakesJoin, UnitTaken, TakesUnits}
+use Rattle.conf_lex.proofs.Once.{both, either}
+use Rattle.conf_lex.proofs.Every.{is_single_by, and_true}
 
 -- ---- newlines
 

@@ -1,21 +1,20 @@
 -- Taking a piece of a joined line from the front of a text, and one after another.
-use Rattle.std.proofs.Common.{◌≡◌, ℕ, zero, suc, ◌+◌, ◌-◌, ◌<◌, ◌≤◌, Bool, true, false, not, ◌||◌, ◌&&◌, cond, eqb, List, [], ◌∷◌, ◌++◌, length, take, drop, get_or, count_by, Option, Some, None, refl, sym, ap, ◌∙◌, subst, arith, append_assoc, append-nil, length-append, ◌⊎◌, inl, inr}
+use Rattle.std.proofs.Common.{◌≡◌, ℕ, zero, suc, ◌+◌, ◌≤◌, Bool, true, false, not, ◌||◌, eqb, List, [], ◌∷◌, ◌++◌, length, take, drop, None, refl, sym, ap, ◌∙◌, subst, arith, append_assoc, append-nil, length-append, inl, inr}
 use Rattle.std.proofs.lemmas.Bool.{eqb-true}
 use Rattle.std.proofs.lemmas.Grind.{flat_map-append}
 use Rattle.std.proofs.lemmas.List.{take-append-drop}
 use Rattle.std.proofs.lemmas.List.Folds.{list_any-append}
-use Rattle.std.specs.List.{flat_map, list_any}
+use Rattle.std.specs.List.{list_any}
 use Rattle.pam_base.specs.Bytes.{has_byte}
-use Rattle.conf_lex.specs.declared.token.Token.{Token}
 use Rattle.conf_lex.specs.declared.lexer.Found.{Found}
 use Rattle.conf_lex.specs.declared.lexer.Line.{Line}
 use Rattle.conf_lex.specs.declared.lexer.Found.TheVariants as founds
-use Rattle.conf_lex.specs.Piece.{Join, join_bytes, join_at, BracketUnit, units_bytes, units_text, units_stand, Piece, newline, white, join, plain, bracket, open_bracket, comment, piece_bytes, piece_tokens, spelling, tokens_of, is_newline, is_open, stands, all_stand, at_line_end, begins_with, is_white, goes_on, all_go_on, Reads}
+use Rattle.conf_lex.specs.Piece.{BracketUnit, units_bytes, units_stand, Piece, white, join, plain, bracket, open_bracket, comment, piece_bytes, piece_tokens, spelling, tokens_of, is_newline, is_open, stands, all_stand, at_line_end, begins_with, is_white, goes_on, all_go_on, Reads}
 use Rattle.conf_lex.specs.Reading.{unit_at, run_of}
 use Rattle.conf_lex.specs.Rules.{newlines}
 use Rattle.conf_lex.specs.Lexing.{begins_white, TakesJoin, TakesUnits, TakesPiece, TakesPieces, found_tokens, found_open}
-use Rattle.conf_lex.proofs.Once.{both, either, not_true, white_cases, goes_on_facts}
-use Rattle.conf_lex.proofs.Every.{which, unit_end, and_true, begins}
+use Rattle.conf_lex.proofs.Once.{both, either, white_cases, goes_on_facts}
+use Rattle.conf_lex.proofs.Every.{which, unit_end, and_true}
 use Rattle.conf_lex.proofs.Taking.{newlines-append, no_newline, join_newline}
 
 pub join_piece : (taken : Bool) (before after : List ℕ) (m n : ℕ) → TakesJoin taken before after m n → taken ≡ true → TakesPiece founds.Blank before after m n

@@ -2,7 +2,7 @@
 -- this project's own. Bytes are numbers: 9 tab, 10 newline, 13 carriage return, 32 space, 35 `#`, 91 `[`,
 -- 92 backslash, 93 `]`.
 use Rattle.std.specs.Prelude.{◌≡◌, ℕ, Bool, true, false, not, List, [], ◌∷◌, ◌++◌, Option, Some, None, ◌==◌, ◌||◌, ◌&&◌, if◌then◌else◌}
-use Rattle.std.specs.List.{flat_map, list_any}
+use Rattle.std.specs.List.{flat_map}
 use Rattle.pam_base.specs.Bytes.{has_byte}
 use Rattle.conf_lex.specs.declared.token.Token.{Token}
 

@@ -1,4 +1,4 @@
-ghost use Rattle.std.specs.Prelude.{◌≡◌, ℕ, ◌+◌, ◌<◌, ◌≤◌, ◌^◌, ◌++◌, ◌↔◌, List, length, take, Err, Ok, IfOk, OnOk};
+ghost use Rattle.std.specs.Prelude.{◌≡◌, ℕ, ◌+◌, ◌<◌, ◌≤◌, ◌^◌, ◌++◌, ◌↔◌, All, List, length, take, Err, Ok, IfOk, OnOk};
 ghost use Rattle.pam_base.specs.declared.fault.Refuse.TheVariants as refusals;
 ghost use Rattle.pam_base.specs.declared.fault.FaultKind.TheVariants as kinds;
 ghost use Rattle.conf_lex.specs.declared.token.LexFault.{LexFault};
@@ -25,6 +25,7 @@ const MAX_TEXT: usize = 65536;
 /// without taking any.
 pub fn rules(alloc: Global, text: &[u8]) -> Result<RawRules, Refuse<LexFault>>
     ensures read { IfOk result (λ rules. HasNoFault text.now × Spells text.now rules) }
+    ensures tokens { IfOk result (λ rules. All (λ rule. 0 < length rule.tokens) rules) }
     ensures spelled { (rules : List RawRule) → HasNoFault text.now → Spells text.now rules → Gives result (Ok rules) }
     ensures fault { IfNamed result (λ fault. IsFirstFault text.now fault) }
     ensures first { (fault : LexFault) → IsFirstFault text.now fault → Gives result (Err fault) }

@@ -1,6 +1,6 @@
-use Rattle.std.proofs.Common.{◌≤◌, length, arith, refl, sym, ap, ◌∙◌}
+use Rattle.std.proofs.Common.{refl}
 use Rattle.pam_base.specs.declared.fault.FaultKind.TheVariants.{FileTooLong, NulByte}
-use Rattle.conf_lex.proofs.Deciding.{nul_here, nul_given, nul_first, gives_read, gives_spelled, gives_fault, gives_first, gives_long, gives_nul}
+use Rattle.conf_lex.proofs.Deciding.{nul_here, nul_given, nul_first, gives_read, gives_tokens, gives_spelled, gives_fault, gives_first, gives_long, gives_nul}
 use Rattle.conf_lex.proofs.service_file.rules.Goals as goal
 
 pub returns-then-text-gt-MAX_TEXT-clause-spelled : goal.returns-then-text-gt-MAX_TEXT-clause-spelled
@@ -32,3 +32,6 @@ returns-in-None-clause-file_too_long c = gives_long _ c.if-text-gt-MAX_TEXT.fals
 
 pub returns-in-None-clause-nul_byte : goal.returns-in-None-clause-nul_byte
 returns-in-None-clause-nul_byte c = gives_nul _ c.if-text-gt-MAX_TEXT.false c.in-None.ensures _ c.rules_of_lines.ensures
+
+pub returns-in-None-clause-tokens : goal.returns-in-None-clause-tokens
+returns-in-None-clause-tokens c = gives_tokens _ _ (gives_read _ c.if-text-gt-MAX_TEXT.false c.in-None.ensures _ c.rules_of_lines.ensures)

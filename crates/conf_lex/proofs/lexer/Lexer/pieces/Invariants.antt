@@ -1,4 +1,4 @@
-use Rattle.std.proofs.Common.{◌≡◌, ◌+◌, length}
+use Rattle.std.proofs.Common.{length}
 use Rattle.conf_lex.specs.Lexing.{TakesPieces}
 use Rattle.conf_lex.proofs.lexer.Lexer.pieces.Given as goal
 

@@ -1,5 +1,3 @@
-use Rattle.std.proofs.Common.{sym, subst, List, ℕ}
-use Rattle.conf_lex.specs.Lexing.{TakesUnits}
 use Rattle.conf_lex.proofs.Taking.{push_unit}
 use Rattle.conf_lex.proofs.lexer.Lexer.units.Goals as goal
 

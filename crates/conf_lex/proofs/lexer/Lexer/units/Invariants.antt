@@ -1,4 +1,4 @@
-use Rattle.std.proofs.Common.{◌≡◌, ◌+◌, length}
+use Rattle.std.proofs.Common.{length}
 use Rattle.conf_lex.specs.Lexing.{TakesUnits}
 use Rattle.conf_lex.proofs.lexer.Lexer.units.Given as goal
 
