@@ -180,7 +180,8 @@ impl<'a> Lexer<'a> {
     /// Takes the units of a bracket, up to its end or the line's, and gives their bytes.
     fn units(&mut self, alloc: Global) -> Result<Text, NoMemory>
         requires { self.old.line + length self.old.rest.now < 2 ^ 32 }
-        ensures units { IfOk result (λ text. TakesUnits text self.old.rest.now self.new.rest.now self.old.line self.new.line) }
+        ensures units { IfOk result (λ text.
+            TakesUnits text self.old.rest.now self.new.rest.now self.old.line self.new.line) }
         ensures ends { OnOk result (unit_at self.new.rest.now ≡ None) }
     {
         let mut text = Text::new(alloc);
@@ -194,7 +195,8 @@ impl<'a> Lexer<'a> {
     fn bracket(&mut self, alloc: Global) -> Result<Found, NoMemory>
         requires fits { self.old.line + length self.old.rest.now < 2 ^ 32 }
         requires bracket { IsTrue (begins_with 91 self.old.rest.now) }
-        ensures { IfOk result (λ found. TakesPiece found self.old.rest.now self.new.rest.now self.old.line self.new.line) }
+        ensures { IfOk result (λ found.
+            TakesPiece found self.old.rest.now self.new.rest.now self.old.line self.new.line) }
     {
         self.skip(1);
         let text = self.units(alloc)?;
@@ -212,7 +214,8 @@ impl<'a> Lexer<'a> {
     fn plain(&mut self, alloc: Global) -> Result<Found, NoMemory>
         requires on { goes_on self.old.rest.now ≡ true }
         requires no_bracket { begins_with 91 self.old.rest.now ≡ false }
-        ensures { IfOk result (λ found. TakesPiece found self.old.rest.now self.new.rest.now self.old.line self.new.line) }
+        ensures { IfOk result (λ found.
+            TakesPiece found self.old.rest.now self.new.rest.now self.old.line self.new.line) }
     {
         let (run, rest) = self.rest.split_at(run_length(self.rest));
         self.rest = rest;
@@ -245,7 +248,8 @@ impl<'a> Lexer<'a> {
     fn piece(&mut self, alloc: Global) -> Result<Found, NoMemory>
         requires fits { self.old.line + length self.old.rest.now < 2 ^ 32 }
         requires within { at_line_end self.old.rest.now ≡ false }
-        ensures { IfOk result (λ found. TakesPiece found self.old.rest.now self.new.rest.now self.old.line self.new.line) }
+        ensures { IfOk result (λ found.
+            TakesPiece found self.old.rest.now self.new.rest.now self.old.line self.new.line) }
     {
         if self.join() {
             return Ok(Found::Blank);
@@ -261,7 +265,8 @@ impl<'a> Lexer<'a> {
     /// Takes a joined line, up to its ending newline or the text's end.
     fn pieces(&mut self, alloc: Global) -> Result<Line, NoMemory>
         requires { self.old.line + length self.old.rest.now < 2 ^ 32 }
-        ensures pieces { IfOk result (λ line. TakesPieces line self.old.rest.now self.new.rest.now self.old.line self.new.line) }
+        ensures pieces { IfOk result (λ line.
+            TakesPieces line self.old.rest.now self.new.rest.now self.old.line self.new.line) }
         ensures ends { OnOk result (at_line_end self.new.rest.now ≡ true) }
     {
         let mut line = Line {
@@ -291,8 +296,10 @@ impl<'a> Lexer<'a> {
     pub fn rule(&mut self, alloc: Global) -> Result<Tokens, Refuse<LexFault>>
         requires fits { self.old.line + length self.old.rest.now < 2 ^ 32 }
         requires some { 0 < length self.old.rest.now }
-        ensures given { GivesLine result (answer_at self.old.line self.old.rest.now) self.old.line (answer_at self.new.line self.new.rest.now) }
-        ensures fits { OnOk result (self.new.line + length self.new.rest.now ≤ self.old.line + length self.old.rest.now) }
+        ensures given { GivesLine result (answer_at self.old.line self.old.rest.now) self.old.line
+            (answer_at self.new.line self.new.rest.now) }
+        ensures fits { OnOk result
+            (self.new.line + length self.new.rest.now ≤ self.old.line + length self.old.rest.now) }
         ensures shorter { OnOk result (length self.new.rest.now < length self.old.rest.now) }
     {
         let first = self.line;

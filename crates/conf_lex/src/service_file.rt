@@ -26,11 +26,17 @@ const MAX_TEXT: usize = 65536;
 pub fn rules(alloc: Global, text: &[u8]) -> Result<RawRules, Refuse<LexFault>>
     ensures read { IfOk result (λ rules. HasNoFault text.now × Spells text.now rules) }
     ensures tokens { IfOk result (λ rules. All (λ rule. 0 < length rule.tokens) rules) }
-    ensures spelled { (rules : List RawRule) → HasNoFault text.now → Spells text.now rules → Gives result (Ok rules) }
+    // Such rules are the answer, unless memory runs out.
+    ensures spelled { (rules : List RawRule) → HasNoFault text.now → Spells text.now rules →
+        Gives result (Ok rules) }
     ensures fault { IfNamed result (λ fault. IsFirstFault text.now fault) }
+    // A first fault is the answer, unless memory runs out.
     ensures first { (fault : LexFault) → IsFirstFault text.now fault → Gives result (Err fault) }
-    ensures file_too_long { (result ≡ Err (refusals.Named (record { line = 0; kind = kinds.FileTooLong }))) ↔ (65536 < length text.now) }
-    ensures nul_byte { (line : ℕ) → (result ≡ Err (refusals.Named (record { line = line; kind = kinds.NulByte }))) ↔ HasNul text.now line }
+    ensures file_too_long { (result ≡ Err (refusals.Named (record { line = 0; kind = kinds.FileTooLong }))) ↔
+        (65536 < length text.now) }
+    ensures nul_byte { (line : ℕ) →
+        (result ≡ Err (refusals.Named (record { line = line; kind = kinds.NulByte }))) ↔
+        HasNul text.now line }
 {
     if text.len() > MAX_TEXT {
         return Err(Refuse::Named(LexFault {

@@ -4,82 +4,82 @@ use std::alloc::Global;
 use std::test::Fail;
 
 /// A text, and its rules or its fault as `shown` writes them.
-const ROWS: [(&[u8], &[u8]); 53] = [
-    (b"", b""),
-    (b"\n\n", b""),
+const ROWS: [(&[u8], &str); 53] = [
+    (b"", ""),
+    (b"\n\n", ""),
     // a rule is the tokens of a line, and the last line may lack its newline
     (
         b"auth required pam_deny.so\n",
-        b"1|auth|required|pam_deny.so\n",
+        "1|auth|required|pam_deny.so\n",
     ),
     (
         b"auth required pam_deny.so",
-        b"1|auth|required|pam_deny.so\n",
+        "1|auth|required|pam_deny.so\n",
     ),
-    (b"a\n\nb", b"1|a\n3|b\n"),
+    (b"a\n\nb", "1|a\n3|b\n"),
     // white space is space, tab and carriage return
-    (b" a\t b\r\rc \t\r\n", b"1|a|b|c\n"),
-    (b"a b\r\n\r\nc\r\n", b"1|a|b\n3|c\n"),
-    (b"a\x0bb\x0c", b"1|a\x0bb\x0c\n"),
+    (b" a\t b\r\rc \t\r\n", "1|a|b|c\n"),
+    (b"a b\r\n\r\nc\r\n", "1|a|b\n3|c\n"),
+    (b"a\x0bb\x0c", "1|a\x0bb\x0c\n"),
     // a comment goes on to the line's end
-    (b"# c\na # [\n#\nb", b"2|a\n4|b\n"),
-    (b"a#b", b"1|a\n"),
-    (b"[a]#b", b"1|<a>\n"),
+    (b"# c\na # [\n#\nb", "2|a\n4|b\n"),
+    (b"a#b", "1|a\n"),
+    (b"[a]#b", "1|<a>\n"),
     // a backslash in a comment joins nothing
-    (b"# c\\\na", b"2|a\n"),
-    (b"a # c\\\r\nb", b"1|a\n2|b\n"),
-    (b"#\\", b""),
+    (b"# c\\\na", "2|a\n"),
+    (b"a # c\\\r\nb", "1|a\n2|b\n"),
+    (b"#\\", ""),
     // a backslash before a line's end joins, and reads as one space
     (
         b"auth \\\n required\\\npam_deny.so\n",
-        b"1|auth|required|pam_deny.so\n",
+        "1|auth|required|pam_deny.so\n",
     ),
-    (b"a\\\r\nb", b"1|a|b\n"),
-    (b"a\\\nb\nc", b"1|a|b\n3|c\n"),
-    (b"\\\n\\\na", b"1|a\n"),
-    (b" \\\n\t\n b", b"3|b\n"),
-    (b"a\\\n#b\nc", b"1|a\n3|c\n"),
-    (b"a\\\\\nb", b"1|a\\|b\n"),
-    (b"a\\\n", b"1|a\n"),
+    (b"a\\\r\nb", "1|a|b\n"),
+    (b"a\\\nb\nc", "1|a|b\n3|c\n"),
+    (b"\\\n\\\na", "1|a\n"),
+    (b" \\\n\t\n b", "3|b\n"),
+    (b"a\\\n#b\nc", "1|a\n3|c\n"),
+    (b"a\\\\\nb", "1|a\\|b\n"),
+    (b"a\\\n", "1|a\n"),
     // any other backslash is plain, also the last byte
-    (b"a\\", b"1|a\\\n"),
-    (b"\\", b"1|\\\n"),
-    (b"a\\b \\c", b"1|a\\b|\\c\n"),
-    (b"a\\\rb", b"1|a\\|b\n"),
-    (b"a\\\r", b"1|a\\\n"),
-    (b"a\\ \nb", b"1|a\\\n2|b\n"),
+    (b"a\\", "1|a\\\n"),
+    (b"\\", "1|\\\n"),
+    (b"a\\b \\c", "1|a\\b|\\c\n"),
+    (b"a\\\rb", "1|a\\|b\n"),
+    (b"a\\\r", "1|a\\\n"),
+    (b"a\\ \nb", "1|a\\\n2|b\n"),
     // a token that begins with a bracket ends at the first closing one without a backslash before it
     (
         b"auth [success=ok default=ignore] a",
-        b"1|auth|<success=ok default=ignore>|a\n",
+        "1|auth|<success=ok default=ignore>|a\n",
     ),
-    (b"[]", b"1|<>\n"),
-    (b"[a]b[c]", b"1|<a>|b[c]\n"),
-    (b"[a][b]", b"1|<a>|<b>\n"),
-    (b"a[b c]", b"1|a[b|c]\n"),
-    (b"]", b"1|]\n"),
+    (b"[]", "1|<>\n"),
+    (b"[a]b[c]", "1|<a>|b[c]\n"),
+    (b"[a][b]", "1|<a>|<b>\n"),
+    (b"a[b c]", "1|a[b|c]\n"),
+    (b"]", "1|]\n"),
     // inside, an escaped closing bracket, a join, white space, an opening bracket and `#`
-    (b"[a\\]b]", b"1|<a]b>\n"),
-    (b"[a\\\\]b]", b"1|<a\\]b>\n"),
-    (b"[a\\\nb] c", b"1|<a b>|c\n"),
-    (b"[a\\\r\nb]\nc", b"1|<a b>\n3|c\n"),
-    (b"[\\\n]", b"1|< >\n"),
-    (b"[a\\b \t\r[#]", b"1|<a\\b \t\r[#>\n"),
+    (b"[a\\]b]", "1|<a]b>\n"),
+    (b"[a\\\\]b]", "1|<a\\]b>\n"),
+    (b"[a\\\nb] c", "1|<a b>|c\n"),
+    (b"[a\\\r\nb]\nc", "1|<a b>\n3|c\n"),
+    (b"[\\\n]", "1|< >\n"),
+    (b"[a\\b \t\r[#]", "1|<a\\b \t\r[#>\n"),
     // a bracket that is open at the end of the joined line, which has the number of its first line
-    (b"[a", b"!1 OpenBracket\n"),
-    (b"a\n[b\nc]", b"!2 OpenBracket\n"),
-    (b"a\\\n[b\n", b"!1 OpenBracket\n"),
-    (b"[a\\]", b"!1 OpenBracket\n"),
-    (b"[a\\\n", b"!1 OpenBracket\n"),
-    (b"[a\\", b"!1 OpenBracket\n"),
-    (b"[a\\\n#\n]", b"!1 OpenBracket\n"),
+    (b"[a", "!1 OpenBracket\n"),
+    (b"a\n[b\nc]", "!2 OpenBracket\n"),
+    (b"a\\\n[b\n", "!1 OpenBracket\n"),
+    (b"[a\\]", "!1 OpenBracket\n"),
+    (b"[a\\\n", "!1 OpenBracket\n"),
+    (b"[a\\", "!1 OpenBracket\n"),
+    (b"[a\\\n#\n]", "!1 OpenBracket\n"),
     // a NUL byte anywhere, at its physical line, before all faults of joined lines
-    (b"a\0b", b"!1 NulByte\n"),
-    (b"# \0", b"!1 NulByte\n"),
-    (b"a\\\n\0", b"!2 NulByte\n"),
-    (b"a\n[\n\0\n\0", b"!3 NulByte\n"),
-    (b"\0\n[", b"!1 NulByte\n"),
-    (b"[\0]", b"!1 NulByte\n"),
+    (b"a\0b", "!1 NulByte\n"),
+    (b"# \0", "!1 NulByte\n"),
+    (b"a\\\n\0", "!2 NulByte\n"),
+    (b"a\n[\n\0\n\0", "!3 NulByte\n"),
+    (b"\0\n[", "!1 NulByte\n"),
+    (b"[\0]", "!1 NulByte\n"),
 ];
 
 /// Rules one a line, as number and tokens with `|` before each and `<>` for brackets; a fault after `!`.
@@ -138,7 +138,7 @@ fn texts_have_these_rules_and_faults(rt: HostRuntime) -> Result<(), Fail> {
     let alloc = rt.alloc();
     for (text, want) in ROWS {
         let lines = shown(alloc, text)?;
-        assert_eq!(rt; lines.as_bytes(), want);
+        assert_eq!(rt; lines.as_str(), want);
     }
     Ok(())
 }
