@@ -1,0 +1,7 @@
+mod Rows
+pub mod Once
+pub mod Every
+pub mod Taking
+pub mod TakingPieces
+pub mod Answering
+pub mod Deciding

@@ -1,0 +1,5 @@
+use Rattle.conf_lex.proofs.Deciding.{one_first_fault}
+use Rattle.conf_lex.proofs.laws.one_first_fault.Goals as goal
+
+pub returns : goal.returns
+returns c = one_first_fault

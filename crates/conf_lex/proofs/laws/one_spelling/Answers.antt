@@ -1,0 +1,5 @@
+use Rattle.conf_lex.proofs.Deciding.{one_spelling}
+use Rattle.conf_lex.proofs.laws.one_spelling.Goals as goal
+
+pub returns : goal.returns
+returns c = one_spelling

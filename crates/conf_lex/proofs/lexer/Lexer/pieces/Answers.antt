@@ -1,0 +1,5 @@
+use Rattle.conf_lex.proofs.TakingPieces.{push_piece}
+use Rattle.conf_lex.proofs.lexer.Lexer.pieces.Goals as goal
+
+pub loop-alloc-preserved : goal.loop-alloc-preserved
+loop-alloc-preserved c = push_piece _ _ c.in_ok-found.found _ _ _ _ _ _ c.loop-alloc.invariant c.in_ok-found.ensures c.in_ok-add.ensures.tokens c.in_ok-add.ensures.opened

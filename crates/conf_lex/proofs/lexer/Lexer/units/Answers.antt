@@ -1,0 +1,5 @@
+use Rattle.conf_lex.proofs.Taking.{push_unit}
+use Rattle.conf_lex.proofs.lexer.Lexer.units.Goals as goal
+
+pub loop-byte-preserved : goal.loop-byte-preserved
+loop-byte-preserved c = rw c.in_ok-push.ensures.ok (push_unit _ _ _ _ _ _ _ _ c.loop-byte.invariant c.in-Some.ensures)

@@ -1,0 +1,4 @@
+pub mod Piece
+pub mod Rules
+pub mod Reading
+pub mod Lexing

@@ -1,0 +1,59 @@
+-- The pieces of a text by a plain function on lists, a piece at a time from the front (this project's own; the law
+-- `one_reading` says that they are the text's only reading).
+use Rattle.std.specs.Prelude.{ℕ, zero, suc, ◌-◌, ◌||◌, List, [], ◌∷◌, length, drop, Option, Some, None, ◌==◌, ◌&&◌, if◌then◌else◌}
+use Rattle.conf_lex.specs.Piece.{Join, BracketUnit, escaped, joined, single, unit_bytes, units_bytes, Piece, newline, white, join, plain, bracket, open_bracket, comment, piece_bytes, is_white, begins_with, join_at, goes_on}
+
+-- the plain token at the front, without a look at its first byte (own)
+abbrev pub run_of : List ℕ → List ℕ
+run_of [] = []
+run_of (b ∷ bs) = if goes_on (b ∷ bs) then b ∷ run_of bs else []
+
+-- the bytes before the end of the physical line (own)
+abbrev pub rest_of_line : List ℕ → List ℕ
+rest_of_line [] = []
+rest_of_line (b ∷ bs) = if b == 10 then [] else b ∷ rest_of_line bs
+
+-- the unit at a byte, if no join stands there (own)
+abbrev pub unit_without_join : Option Join → ℕ → List ℕ → Option BracketUnit
+unit_without_join (Some j) b bs = Some (joined j)
+unit_without_join None b bs = if b == 92 && begins_with 93 bs then Some escaped else if b == 93 || b == 10 then None else Some (single b)
+
+-- the unit at the front of a text, or None where a bracket's units end (own)
+abbrev pub unit_at : List ℕ → Option BracketUnit
+unit_at [] = None
+unit_at (b ∷ bs) = unit_without_join (join_at (b ∷ bs)) b bs
+
+-- the units behind the first n bytes, which an earlier unit has (own)
+unfoldable pub units_behind : ℕ → List ℕ → List BracketUnit
+units_behind n [] = []
+units_behind zero (b ∷ bs) = elim (unit_at (b ∷ bs)) [ Some u ↦ u ∷ units_behind (length (unit_bytes u) - 1) bs | None ↦ [] ]
+units_behind (suc n) (b ∷ bs) = units_behind n bs
+
+-- the bracket of these units, closed or open by what stands behind them (own)
+abbrev pub bracket_of : List BracketUnit → List ℕ → Piece
+bracket_of us text = if begins_with 93 (drop (length (units_bytes us)) text) then bracket us else open_bracket us
+
+-- the piece at a byte, if no join stands there (own)
+abbrev pub piece_without_join : Option Join → ℕ → List ℕ → Piece
+piece_without_join (Some j) b bs = join j
+piece_without_join None b bs =
+    if b == 10 then newline
+    else if is_white b then white b
+    else if b == 35 then comment (rest_of_line bs)
+    else if b == 91 then bracket_of (units_behind 0 bs) bs
+    else plain (b ∷ run_of bs)
+
+-- the piece at the front of a text (own)
+unfoldable pub first_piece : List ℕ → Piece
+first_piece [] = newline
+first_piece (b ∷ bs) = piece_without_join (join_at (b ∷ bs)) b bs
+
+-- the pieces behind the first n bytes, which an earlier piece has (own)
+unfoldable pub pieces_behind : ℕ → List ℕ → List Piece
+pieces_behind n [] = []
+pieces_behind zero (b ∷ bs) = first_piece (b ∷ bs) ∷ pieces_behind (length (piece_bytes (first_piece (b ∷ bs))) - 1) bs
+pieces_behind (suc n) (b ∷ bs) = pieces_behind n bs
+
+-- the pieces of a text (own)
+abbrev pub pieces_of : List ℕ → List Piece
+pieces_of text = pieces_behind 0 text
