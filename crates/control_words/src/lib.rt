@@ -2,11 +2,14 @@
 //! keywords), the rule of a line, and the nested lists of lines and substacks.
 #![tactic(auto)]
 
+mod bracket;
 mod control;
+mod entries;
 mod keywords;
 mod module;
 mod nodes;
 
+pub use bracket::{ControlFault, control_of};
 pub use control::{Action, Control};
 pub use keywords::keyword;
 pub use module::module_name;
