@@ -1,6 +1,6 @@
 -- The entries of a text are cut off its front, one after another.
-use Rattle.std.proofs.Common.{◌≡◌, ◌<◌, ◌≤◌, ℕ, zero, suc, ◌+◌, ◌-◌, Bool, true, false, cond, not, eqb, List, [], ◌∷◌, length, drop, refl, sym, ap, subst, ◌∙◌, arith, length-drop}
-use Rattle.std.specs.List.{position_or_len, prefix_len, before_first}
+use Rattle.std.proofs.Common.{◌≡◌, ◌<◌, ◌≤◌, ℕ, zero, suc, ◌+◌, ◌-◌, Bool, true, false, not, eqb, List, [], ◌∷◌, length, drop, refl, sym, ap, subst, ◌∙◌, arith, length-drop}
+use Rattle.std.specs.List.{position_or_len, before_first}
 use Rattle.std.proofs.lemmas.List.{drop-drop, nil_from_length}
 use Rattle.std.proofs.lemmas.List.Sums.{prefix_len-le-length}
 use Rattle.control_words.specs.Entries.{Entry, FirstEntry, behind_space, ends_name, entries_behind, entries_in, first_entry, from_first, is_other, is_space, with_name}
@@ -54,12 +54,12 @@ module _ (name : List ℕ) where
   with_name-end (b ∷ bs) = with_name-by b bs (eqb b 61) refl
 
 -- a test that the first byte fails looks on behind it
-from_first-later : (test : ℕ → Bool) (b : ℕ) (bs : List ℕ) → test b ≡ false → from_first test (b ∷ bs) ≡ from_first test bs
+pub from_first-later : (test : ℕ → Bool) (b : ℕ) (bs : List ℕ) → test b ≡ false → from_first test (b ∷ bs) ≡ from_first test bs
 from_first-later test b bs e =
     let n : 1 + position_or_len test bs ≡ suc (position_or_len test bs) = omega arith in
     rw (e, n) refl
 
-from_first-here : (test : ℕ → Bool) (b : ℕ) (bs : List ℕ) → test b ≡ true → from_first test (b ∷ bs) ≡ b ∷ bs
+pub from_first-here : (test : ℕ → Bool) (b : ℕ) (bs : List ℕ) → test b ≡ true → from_first test (b ∷ bs) ≡ b ∷ bs
 from_first-here test b bs e = rw e refl
 
 module _ (b : ℕ) (bs : List ℕ) (other : is_space b ≡ false) where
@@ -135,7 +135,7 @@ pub entries-behind_space : (text : List ℕ) → entries_in text ≡ entries_in 
 entries-behind_space [] = refl
 entries-behind_space (b ∷ bs) = entries-behind_space-by b bs (is_space b) refl (entries-behind_space bs)
 
-not-true : (b : Bool) → not b ≡ true → b ≡ false
+pub not-true : (b : Bool) → not b ≡ true → b ≡ false
 not-true true e = absurd cc
 not-true false e = refl
 

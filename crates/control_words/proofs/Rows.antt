@@ -1,136 +1,135 @@
 -- The definition of controls, computed on worked rows.
-use Rattle.std.proofs.Common.{◌≡◌, ℕ, true, false, List, [], ◌∷◌, Ok, Err, refl}
+use Rattle.std.proofs.Common.{◌≡◌, true, false, Ok, Err, refl}
 use Rattle.std.specs.Prelude.{codes}
 use Rattle.pam_base.specs.declared.fault.FaultKind.TheVariants.{BadControl, BadReturnName, BadAction, ZeroJump}
-use Rattle.control_words.specs.declared.control.Action.{Action}
 use Rattle.control_words.specs.declared.control.Action.TheVariants as actions
 use Rattle.control_words.specs.Bracket.{control_of, fault}
 use Rattle.control_words.specs.Control.{usual}
 use Rattle.control_words.specs.Entries.{entries_in, entries_behind}
 use Rattle.control_words.specs.Keyword.{required, requisite, sufficient, optional}
 
-row-1 : control_of true (codes "x=0") ≡ Err (fault BadReturnName)
+unknown_name_before_bad_action : control_of true (codes "x=0") ≡ Err (fault BadReturnName)
 unfolding entries_in entries_behind
-row-1 = refl
+unknown_name_before_bad_action = refl
 
-row-2 : control_of true (codes "success=256") ≡ Err (fault BadAction)
+number_above_255 : control_of true (codes "success=256") ≡ Err (fault BadAction)
 unfolding entries_in entries_behind
-row-2 = refl
+number_above_255 = refl
 
-row-3 : control_of true (codes "success=0") ≡ Err (fault ZeroJump)
+zero : control_of true (codes "success=0") ≡ Err (fault ZeroJump)
 unfolding entries_in entries_behind
-row-3 = refl
+zero = refl
 
-row-4 : control_of true (codes "success=000") ≡ Err (fault ZeroJump)
+zero_of_many_digits : control_of true (codes "success=000") ≡ Err (fault ZeroJump)
 unfolding entries_in entries_behind
-row-4 = refl
+zero_of_many_digits = refl
 
-row-5 : control_of true (codes "success") ≡ Err (fault BadControl)
+name_alone : control_of true (codes "success") ≡ Err (fault BadControl)
 unfolding entries_in entries_behind
-row-5 = refl
+name_alone = refl
 
-row-6 : control_of true (codes "=ok") ≡ Err (fault BadControl)
+empty_name : control_of true (codes "=ok") ≡ Err (fault BadControl)
 unfolding entries_in entries_behind
-row-6 = refl
+empty_name = refl
 
-row-7 : control_of true (codes "success=") ≡ Err (fault BadControl)
+empty_action : control_of true (codes "success=") ≡ Err (fault BadControl)
 unfolding entries_in entries_behind
-row-7 = refl
+empty_action = refl
 
-row-8 : control_of true (codes "success = ") ≡ Err (fault BadControl)
+empty_action_before_space : control_of true (codes "success = ") ≡ Err (fault BadControl)
 unfolding entries_in entries_behind
-row-8 = refl
+empty_action_before_space = refl
 
-row-9 : control_of true (codes "success=ok x") ≡ Err (fault BadControl)
+second_entry_without_equals : control_of true (codes "success=ok x") ≡ Err (fault BadControl)
 unfolding entries_in entries_behind
-row-9 = refl
+second_entry_without_equals = refl
 
-row-10 : control_of true (codes "success ok") ≡ Err (fault BadControl)
+no_equals_between_words : control_of true (codes "success ok") ≡ Err (fault BadControl)
 unfolding entries_in entries_behind
-row-10 = refl
+no_equals_between_words = refl
 
-row-11 : control_of true (codes "ok=x =") ≡ Err (fault BadReturnName)
+name_of_an_action : control_of true (codes "ok=x =") ≡ Err (fault BadReturnName)
 unfolding entries_in entries_behind
-row-11 = refl
+name_of_an_action = refl
 
-row-12 : control_of true (codes "succes=ok") ≡ Err (fault BadReturnName)
+name_misspelled : control_of true (codes "succes=ok") ≡ Err (fault BadReturnName)
 unfolding entries_in entries_behind
-row-12 = refl
+name_misspelled = refl
 
-row-13 : control_of true (codes "success=okay") ≡ Err (fault BadAction)
+action_misspelled : control_of true (codes "success=okay") ≡ Err (fault BadAction)
 unfolding entries_in entries_behind
-row-13 = refl
+action_misspelled = refl
 
-row-14 : control_of true (codes "success=+1") ≡ Err (fault BadAction)
+sign_before_a_number : control_of true (codes "success=+1") ≡ Err (fault BadAction)
 unfolding entries_in entries_behind
-row-14 = refl
+sign_before_a_number = refl
 
-row-15 : control_of true (codes "success==ok") ≡ Err (fault BadAction)
+second_equals_begins_the_action : control_of true (codes "success==ok") ≡ Err (fault BadAction)
 unfolding entries_in entries_behind
-row-15 = refl
+second_equals_begins_the_action = refl
 
-row-16 : control_of true (codes "success=ok default=1000000000000000000000000000000000000000") ≡ Err (fault BadAction)
+number_of_40_digits : control_of true (codes "success=ok default=1000000000000000000000000000000000000000") ≡ Err (fault BadAction)
 unfolding entries_in entries_behind
-row-16 = refl
+number_of_40_digits = refl
 
-row-17 : control_of true (codes "success=ok=ok") ≡ Err (fault BadAction)
+second_equals_in_the_action : control_of true (codes "success=ok=ok") ≡ Err (fault BadAction)
 unfolding entries_in entries_behind
-row-17 = refl
+second_equals_in_the_action = refl
 
-row-18 : control_of true (codes "auth_err=0 =") ≡ Err (fault ZeroJump)
+fault_of_the_first_entry : control_of true (codes "auth_err=0 =") ≡ Err (fault ZeroJump)
 unfolding entries_in entries_behind
-row-18 = refl
+fault_of_the_first_entry = refl
 
-row-19 : control_of true (codes "x=ok auth_err=0") ≡ Err (fault BadReturnName)
+fault_of_the_name_first : control_of true (codes "x=ok auth_err=0") ≡ Err (fault BadReturnName)
 unfolding entries_in entries_behind
-row-19 = refl
+fault_of_the_name_first = refl
 
-row-20 : control_of true (codes "x=") ≡ Err (fault BadControl)
+fault_of_the_form_first : control_of true (codes "x=") ≡ Err (fault BadControl)
 unfolding entries_in entries_behind
-row-20 = refl
+fault_of_the_form_first = refl
 
-row-21 : control_of true (codes "success=ok new_authtok_reqd=ok ignore=ignore default=bad") ≡ Ok (required)
+required_spelled_out : control_of true (codes "success=ok new_authtok_reqd=ok ignore=ignore default=bad") ≡ Ok (required)
 unfolding entries_in entries_behind
-row-21 = refl
+required_spelled_out = refl
 
-row-22 : control_of true (codes "\tSUCCESS = OK  New_authtok_reqd =ok ignore= Ignore default=DIE ") ≡ Ok (requisite)
+requisite_in_any_case : control_of true (codes "\tSUCCESS = OK  New_authtok_reqd =ok ignore= Ignore default=DIE ") ≡ Ok (requisite)
 unfolding entries_in entries_behind
-row-22 = refl
+requisite_in_any_case = refl
 
-row-23 : control_of true (codes "default=ignore new_authtok_reqd=die success=done new_authtok_reqd=done") ≡ Ok (sufficient)
+sufficient_with_a_name_twice : control_of true (codes "default=ignore new_authtok_reqd=die success=done new_authtok_reqd=done") ≡ Ok (sufficient)
 unfolding entries_in entries_behind
-row-23 = refl
+sufficient_with_a_name_twice = refl
 
-row-24 : control_of true (codes "success=bad default=die default=ignore success=ok new_authtok_reqd=ok") ≡ Ok (optional)
+optional_with_default_twice : control_of true (codes "success=bad default=die default=ignore success=ok new_authtok_reqd=ok") ≡ Ok (optional)
 unfolding entries_in entries_behind
-row-24 = refl
+optional_with_default_twice = refl
 
-row-25 : control_of true (codes "") ≡ Ok (usual actions.Bad actions.Bad actions.Bad)
+empty_list : control_of true (codes "") ≡ Ok (usual actions.Bad actions.Bad actions.Bad)
 unfolding entries_in entries_behind
-row-25 = refl
+empty_list = refl
 
-row-26 : control_of true (codes "  ") ≡ Ok (usual actions.Bad actions.Bad actions.Bad)
+white_space_alone : control_of true (codes "  ") ≡ Ok (usual actions.Bad actions.Bad actions.Bad)
 unfolding entries_in entries_behind
-row-26 = refl
+white_space_alone = refl
 
-row-27 : control_of true (codes "ignore=00255 default=1") ≡ Ok (usual (actions.Jump 1) (actions.Jump 255) (actions.Jump 1))
+leading_zeros : control_of true (codes "ignore=00255 default=1") ≡ Ok (usual (actions.Jump 1) (actions.Jump 255) (actions.Jump 1))
 unfolding entries_in entries_behind
-row-27 = refl
+leading_zeros = refl
 
-row-28 : control_of false (codes "Required") ≡ Ok required
-row-28 = refl
+keyword_required : control_of false (codes "Required") ≡ Ok required
+keyword_required = refl
 
-row-29 : control_of false (codes "requisite") ≡ Ok requisite
-row-29 = refl
+keyword_requisite : control_of false (codes "requisite") ≡ Ok requisite
+keyword_requisite = refl
 
-row-30 : control_of false (codes "SUFFICIENT") ≡ Ok sufficient
-row-30 = refl
+keyword_sufficient : control_of false (codes "SUFFICIENT") ≡ Ok sufficient
+keyword_sufficient = refl
 
-row-31 : control_of false (codes "optionaL") ≡ Ok optional
-row-31 = refl
+keyword_optional : control_of false (codes "optionaL") ≡ Ok optional
+keyword_optional = refl
 
-row-32 : control_of false (codes "include") ≡ Err (fault BadControl)
-row-32 = refl
+keyword_include : control_of false (codes "include") ≡ Err (fault BadControl)
+keyword_include = refl
 
-row-33 : control_of false (codes "") ≡ Err (fault BadControl)
-row-33 = refl
+keyword_empty : control_of false (codes "") ≡ Err (fault BadControl)
+keyword_empty = refl

@@ -1,5 +1,5 @@
 -- The table that is filled with what the entries of a bracketed control say, one after another.
-use Rattle.std.specs.Prelude.{Bool, true, false, List, map, slice_set, Option, Some, None, if◌then◌else◌}
+use Rattle.std.specs.Prelude.{List, map, slice_set, Option, Some, None, if◌then◌else◌}
 use Rattle.std.specs.Option.{option_or, unwrap_or}
 use Rattle.std.specs.Result.{result_ok}
 use Rattle.pam_base.specs.Code.{all_codes, code_of_word, number_of}

@@ -86,7 +86,8 @@ impl Table {
         if name.eq_ignore_ascii_case(b"default") {
             self.default = Some(action_named(action)?);
         } else if let Some(code) = code_named(name) {
-            self.named[place_of(code)] = Some(action_named(action)?);
+            let place = place_of(code);
+            self.named[place] = Some(action_named(action)?);
         } else {
             return Err(fault(FaultKind::BadReturnName));
         }

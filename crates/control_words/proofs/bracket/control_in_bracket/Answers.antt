@@ -1,9 +1,8 @@
-use Rattle.std.proofs.Common.{rules, ◌≡◌, ◌<◌, true, length, refl, sym, ap, ◌∙◌, arith, None, Some, Ok, Err, ◌∷◌, []}
+use Rattle.std.proofs.Common.{rules, ◌≡◌, ◌<◌, length, sym, ap, ◌∙◌, arith, Err, ◌∷◌}
 use Rattle.std.proofs.lemmas.Bool.{eqb-true}
 use Rattle.std.proofs.lemmas.Bool.Decides.{nat_tests}
 use Rattle.control_words.specs.Bracket.{fault_of_entry}
 use Rattle.control_words.specs.Entries.{Entry, behind_space, entries_in, first_entry}
-use Rattle.control_words.specs.Table.{filled, settled}
 use Rattle.control_words.proofs.Cutting.{entries-behind_space, entries-first, none-left, rest-shorter, starts, starts-behind_space}
 use Rattle.control_words.proofs.Filling.{filled-all, filled-fault, filled-more, filled-none}
 use Rattle.control_words.proofs.bracket.control_in_bracket.Goals as goal

@@ -1,4 +1,4 @@
-use Rattle.std.proofs.Common.{rules, ◌≡◌, ◌<◌, length, length-set, arith, ◌∙◌}
+use Rattle.std.proofs.Common.{◌≡◌, ◌<◌, length, length-set, arith, ◌∙◌}
 use Rattle.std.specs.Option.{option_or, unwrap_or}
 use Rattle.control_words.specs.declared.control.Action.TheVariants.{Bad}
 use Rattle.control_words.proofs.Filling.{put_next, put_all}
