@@ -13,7 +13,7 @@ use Rattle.pam_base.specs.declared.code.Code.{Code}
 use Rattle.pam_base.specs.declared.code.Code.TheVariants as codes
 use Rattle.pam_base.specs.Code.{all_codes, code_of_word, name_of, number_of, other_words}
 use Rattle.control_words.specs.declared.bracket.ControlFault.{ControlFault}
-use Rattle.control_words.specs.declared.bracket.Table.{Table}
+use Rattle.control_words.specs.declared.table.Table.{Table}
 use Rattle.control_words.specs.declared.control.Action.{Action}
 use Rattle.control_words.specs.Bracket.{action_among, action_of_word, control_of_entries, control_unless, fault_of_entry, is_code, is_default, last_action, names}
 use Rattle.control_words.specs.Entries.{Entry}

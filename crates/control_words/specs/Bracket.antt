@@ -3,7 +3,7 @@
 use Rattle.std.specs.Prelude.{ℕ, Bool, true, false, List, [], ◌∷◌, length, map, codes, Option, Some, None, Result, Ok, Err, ◌==◌, ◌&&◌, ◌||◌, not, nat_le, if◌then◌else◌}
 use Rattle.std.specs.Char.{is_ascii_digit}
 use Rattle.std.specs.List.{filter, filter_map, last_or, list_all}
-use Rattle.std.specs.Option.{is_some, option_and_then, option_or, unwrap_or}
+use Rattle.std.specs.Option.{is_some, ok_or, option_and_then, option_or, unwrap_or}
 use Rattle.std.specs.Result.{result_ok, result_err}
 use Rattle.std.specs.Str.{str_eq_ignore_ascii_case}
 use Rattle.pam_base.specs.Code.{all_codes, code_of_word, number_of}
@@ -77,12 +77,8 @@ control_unless (first ∷ more) entries = Err first
 abbrev pub control_of_entries : List Entry → Result (List Action) ControlFault
 control_of_entries entries = control_unless (filter_map fault_of_entry entries) entries
 
--- a word that stands in no brackets is a keyword
-abbrev pub control_of_keyword : Option (List Action) → Result (List Action) ControlFault
-control_of_keyword None = Err (fault BadControl)
-control_of_keyword (Some control) = Ok control
-
--- the control that a token stands for, by whether it is bracketed and by its text
+-- the control that a token stands for, by whether it is bracketed and by its text; a word outside brackets
+-- is a keyword
 abbrev pub control_of : Bool → List ℕ → Result (List Action) ControlFault
 control_of true text = control_of_entries (entries_in text)
-control_of false text = control_of_keyword (control_of_word text)
+control_of false text = ok_or (control_of_word text) (fault BadControl)

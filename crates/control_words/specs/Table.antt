@@ -4,7 +4,7 @@ use Rattle.std.specs.Option.{option_or, unwrap_or}
 use Rattle.std.specs.Result.{result_ok}
 use Rattle.pam_base.specs.Code.{all_codes, code_of_word, number_of}
 use Rattle.pam_base.specs.declared.code.Code.{Code}
-use Rattle.control_words.specs.declared.bracket.Table.{Table}
+use Rattle.control_words.specs.declared.table.Table.{Table}
 use Rattle.control_words.specs.declared.control.Action.{Action}
 use Rattle.control_words.specs.declared.control.Action.TheVariants.{Bad}
 use Rattle.control_words.specs.Bracket.{action_of_word, is_default, last_action, names}

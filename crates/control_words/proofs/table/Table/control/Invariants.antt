@@ -1,7 +1,7 @@
 use Rattle.std.proofs.Common.{◌≡◌, length, take, map}
 use Rattle.std.specs.Option.{option_or, unwrap_or}
 use Rattle.control_words.specs.declared.control.Action.TheVariants.{Bad}
-use Rattle.control_words.proofs.bracket.Table.control.Given as goal
+use Rattle.control_words.proofs.table.Table.control.Given as goal
 
 abbrev pub invariant-loop-place : goal.invariant-loop-place
 invariant-loop-place l = record {
