@@ -17,6 +17,7 @@ use Rattle.control_words.specs.declared.control.Action.TheVariants as actions
 use Rattle.control_words.specs.Entries.{Entry, entries_in}
 use Rattle.control_words.specs.Keyword.{control_of_word}
 
+-- a fault by its kind (this project's own)
 abbrev pub fault : FaultKind → ControlFault
 fault kind = record { kind = kind }
 
@@ -35,7 +36,7 @@ named_action word =
 abbrev pub jump_of : ℕ → Result Action ControlFault
 jump_of number = if number == 0 then Err (fault ZeroJump) else if nat_le number 255 then Ok (actions.Jump number) else Err (fault BadAction)
 
--- an action is one of the words or the digits of a jump
+-- an action is one of the words or the digits of a jump (pam.conf(5)), with leading zeros (this project's own)
 abbrev pub action_of_word : List ℕ → Result Action ControlFault
 action_of_word word = elim (named_action word) [
   | Some action ↦ Ok action
@@ -46,11 +47,12 @@ action_of_word word = elim (named_action word) [
 abbrev pub is_default : List ℕ → Bool
 is_default name = str_eq_ignore_ascii_case name (codes "default")
 
--- whether a name, by the code that it is the word of, names the code
+-- whether a name, by the code that it is the word of, names the code (pam.conf(5))
 abbrev pub is_code : Code → Option Code → Bool
 is_code code None = false
 is_code code (Some named) = number_of named == number_of code
 
+-- whether a name is a word of the code (pam.conf(5))
 abbrev pub names : Code → List ℕ → Bool
 names code name = is_code code (code_of_word name)
 
@@ -65,20 +67,23 @@ fault_of_entry entry =
 abbrev pub last_action : (List ℕ → Bool) → List Entry → Option Action
 last_action test entries = option_and_then (λ entry. result_ok (action_of_word entry.action)) (last_or None (filter (λ entry. test entry.name) entries))
 
--- the action of a code: that of the last entry that names it, else that of the last `default`, else bad
+-- the action of a code: that of the last entry that names it, else that of the last `default` (pam.conf(5)),
+-- else bad (this project's own)
 abbrev pub action_among : List Entry → Code → Action
 action_among entries code = unwrap_or (option_or (last_action (names code) entries) (last_action is_default entries)) actions.Bad
 
--- the control of some entries where none has a fault, else the first fault
+-- the control of some entries where none has a fault, else the first of the faults (this project's own)
 abbrev pub control_unless : List ControlFault → List Entry → Result (List Action) ControlFault
 control_unless [] entries = Ok (map (action_among entries) all_codes)
 control_unless (first ∷ more) entries = Err first
 
+-- the control of some entries, each code looked up in all of them, or the fault of the first that has one
+-- (this project's own)
 abbrev pub control_of_entries : List Entry → Result (List Action) ControlFault
 control_of_entries entries = control_unless (filter_map fault_of_entry entries) entries
 
--- the control that a token stands for, by whether it is bracketed and by its text; a word outside brackets
--- is a keyword
+-- the control that a token stands for, by whether it is bracketed and by its text (pam.conf(5)); a word
+-- outside brackets is a keyword
 abbrev pub control_of : Bool → List ℕ → Result (List Action) ControlFault
 control_of true text = control_of_entries (entries_in text)
 control_of false text = ok_or (control_of_word text) (fault BadControl)

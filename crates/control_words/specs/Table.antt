@@ -1,4 +1,5 @@
--- The table that is filled with what the entries of a bracketed control say, one after another.
+-- The table that is filled with what the entries of a bracketed control say, one after another (this
+-- project's own).
 use Rattle.std.specs.Prelude.{List, map, slice_set, Option, Some, None, if◌then◌else◌}
 use Rattle.std.specs.Option.{option_or, unwrap_or}
 use Rattle.std.specs.Result.{result_ok}
