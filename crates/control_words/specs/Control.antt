@@ -1,5 +1,5 @@
 -- Controls (pam.conf(5), "the control field"): a list of 32 actions, in the order of the codes' numbers.
-use Rattle.std.specs.Prelude.{ℕ, List, map, slice_index_or}
+use Rattle.std.specs.Prelude.{List, map, slice_index_or}
 use Rattle.pam_base.specs.declared.code.Code.{Code}
 use Rattle.pam_base.specs.declared.code.Code.TheVariants as codes
 use Rattle.pam_base.specs.Code.{number_of, all_codes}

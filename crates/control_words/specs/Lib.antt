@@ -1,4 +1,7 @@
+pub mod Bracket
 pub mod Control
+pub mod Entries
 pub mod Keyword
 pub mod Module
 pub mod Stack
+pub mod Table

@@ -2,7 +2,6 @@
 use Rattle.std.specs.Prelude.{ℕ, ◌+◌, List, [], ◌∷◌}
 use Rattle.control_words.specs.declared.nodes.Rule.{Rule}
 use Rattle.control_words.specs.declared.nodes.Node.{Node, Line, Sub', Row_of-Node, end_of-Node, more_of-Node}
-use Rattle.control_words.specs.declared.nodes.Nodes.{Nodes}
 
 -- a list of lines and of substacks
 pub data Stack : Type 0 where

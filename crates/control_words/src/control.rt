@@ -42,6 +42,13 @@ impl Control {
         self.actions[code as usize]
     }
 
+    /// The control with these actions, in the order of the codes' numbers.
+    pub(crate) fn of_each(actions: [Action; 32]) -> Self
+        ensures { result ≡ actions }
+    {
+        Control { actions }
+    }
+
     /// The form of the keywords' controls: one action for SUCCESS and NEW_AUTHTOK_REQD, one for IGNORE, and
     /// one for every other code.
     pub(crate) fn usual(good: Action, passed: Action, other: Action) -> Self

@@ -2,12 +2,20 @@
 //! keywords), the rule of a line, and the nested lists of lines and substacks.
 #![tactic(auto)]
 
+mod action_words;
+mod bracket;
 mod control;
+mod entries;
 mod keywords;
 mod module;
 mod nodes;
+mod table;
 
+pub use bracket::{ControlFault, control_of};
 pub use control::{Action, Control};
 pub use keywords::keyword;
 pub use module::module_name;
 pub use nodes::{Node, Nodes, Rule};
+
+#[cfg(test)]
+mod tests;

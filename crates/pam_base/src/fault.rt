@@ -43,6 +43,14 @@ pub enum FaultKind {
     RuleTooLong = 3,
     /// A file has more than 65,536 bytes.
     FileTooLong = 4,
+    /// A control is no keyword, or an entry in its brackets isn't `name=action`.
+    BadControl = 5,
+    /// A name in brackets is neither `default` nor the word of a code.
+    BadReturnName = 6,
+    /// An action in brackets is no word of an action and no number from 1 to 255.
+    BadAction = 7,
+    /// A jump over no node.
+    ZeroJump = 8,
     /// A file of the configuration couldn't be read.
     ReadFailed = 16,
 }
@@ -96,6 +104,10 @@ impl FaultKind {
             FaultKind::NulByte => "NulByte",
             FaultKind::RuleTooLong => "RuleTooLong",
             FaultKind::FileTooLong => "FileTooLong",
+            FaultKind::BadControl => "BadControl",
+            FaultKind::BadReturnName => "BadReturnName",
+            FaultKind::BadAction => "BadAction",
+            FaultKind::ZeroJump => "ZeroJump",
             FaultKind::ReadFailed => "ReadFailed",
         }
     }

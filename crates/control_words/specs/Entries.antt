@@ -1,0 +1,62 @@
+-- The entries of a bracketed control (pam.conf(5): `[value1=action1 value2=action2 ...]`). What white space
+-- is, where it may stand and where a name and an action end are this project's own rules.
+use Rattle.std.specs.Prelude.{ℕ, zero, suc, ◌-◌, Bool, true, false, List, [], ◌∷◌, length, drop, ◌==◌, ◌||◌, not, if◌then◌else◌}
+use Rattle.std.specs.List.{position_or_len, before_first}
+
+-- white space is space, tab and carriage return (this project's own)
+abbrev pub is_space : ℕ → Bool
+is_space byte = byte == 32 || byte == 9 || byte == 13
+
+-- a name runs up to white space or `=` (this project's own)
+abbrev pub ends_name : ℕ → Bool
+ends_name byte = is_space byte || byte == 61
+
+-- any other byte (this project's own)
+abbrev pub is_other : ℕ → Bool
+is_other byte = not (is_space byte)
+
+-- a text from the first byte on that passes the test, or nothing where none does (this project's own)
+abbrev pub from_first : (ℕ → Bool) → List ℕ → List ℕ
+from_first test text = drop (position_or_len test text) text
+
+-- an entry as it is written (pam.conf(5)); where it has no `=`, its action is empty (this project's own)
+pub record Entry : Type 0 where
+  pub name : List ℕ
+  pub action : List ℕ
+
+-- the entry at the front of a text, and what stands behind it (this project's own)
+pub record FirstEntry : Type 0 where
+  pub entry : Entry
+  pub rest : List ℕ
+
+-- a text without the white space at its front (this project's own)
+abbrev pub behind_space : List ℕ → List ℕ
+behind_space text = from_first is_other text
+
+-- an action runs up to white space (this project's own)
+abbrev pub with_action : List ℕ → List ℕ → FirstEntry
+with_action name text = record { entry = record { name = name; action = before_first is_space text }; rest = from_first is_space text }
+
+-- behind its name an entry has `=` and its action (pam.conf(5)), with white space on both sides of `=` (this
+-- project's own)
+abbrev pub with_name : List ℕ → List ℕ → FirstEntry
+with_name name [] = record { entry = record { name = name; action = [] }; rest = [] }
+with_name name (b ∷ bs) = if b == 61 then with_action name (behind_space bs) else record { entry = record { name = name; action = [] }; rest = b ∷ bs }
+
+-- the first entry of a text that begins with no white space (this project's own)
+abbrev pub first_entry : List ℕ → FirstEntry
+first_entry text = with_name (before_first ends_name text) (behind_space (from_first ends_name text))
+
+-- the entries behind the first so many bytes of a text, which were passed; white space stands between
+-- entries (pam.conf(5))
+unfoldable pub entries_behind : ℕ → List ℕ → List Entry
+entries_behind passed [] = []
+entries_behind (suc passed) (b ∷ bs) = entries_behind passed bs
+entries_behind zero (b ∷ bs) = elim (is_space b) [
+  | true ↦ entries_behind zero bs
+  | false ↦ (first_entry (b ∷ bs)).entry ∷ entries_behind (length bs - length (first_entry (b ∷ bs)).rest) bs
+]
+
+-- the entries of a text, all of them (pam.conf(5))
+unfoldable pub entries_in : List ℕ → List Entry
+entries_in text = entries_behind 0 text

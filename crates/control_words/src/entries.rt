@@ -1,0 +1,81 @@
+ghost use Rattle.std.specs.Prelude.{◌≡◌};
+ghost use Rattle.std.specs.List.{before_first, position};
+ghost use Rattle.control_words.specs.Entries.{behind_space, ends_name, first_entry, from_first, is_other, is_space};
+
+/// An entry `name=action` as it is written, and what stands behind it. Where it has no `=`, its action is
+/// empty.
+#[derive(Clone, Copy)]
+pub(crate) struct Entry<'a> {
+    pub(crate) name: &'a [u8],
+    pub(crate) action: &'a [u8],
+    pub(crate) rest: &'a [u8],
+}
+
+/// The entry at the front of a text, whose first byte is no white space.
+pub(crate) fn first_entry(text: &[u8]) -> Entry
+    ensures name { result.name.now ≡ (first_entry text.now).entry.name }
+    ensures action { result.action.now ≡ (first_entry text.now).entry.action }
+    ensures rest { result.rest.now ≡ (first_entry text.now).rest }
+{
+    let (name, behind) = up_to_name_end(text);
+    match behind_space(behind) {
+        [b'=', behind @ ..] => {
+            let (action, rest) = up_to_space(behind_space(behind));
+            Entry { name, action, rest }
+        }
+        rest => Entry {
+            name,
+            action: &[],
+            rest,
+        },
+    }
+}
+
+/// The text without the white space at its front.
+pub(crate) fn behind_space(text: &[u8]) -> &[u8]
+    ensures { result.now ≡ behind_space text.now }
+{
+    let end = first_other(text).unwrap_or(text.len());
+    &text[end..]
+}
+
+fn up_to_name_end(text: &[u8]) -> (&[u8], &[u8])
+    ensures front { result.0.now ≡ before_first ends_name text.now }
+    ensures rest { result.1.now ≡ from_first ends_name text.now }
+{
+    let end = first_name_end(text).unwrap_or(text.len());
+    text.split_at(end)
+}
+
+fn up_to_space(text: &[u8]) -> (&[u8], &[u8])
+    ensures front { result.0.now ≡ before_first is_space text.now }
+    ensures rest { result.1.now ≡ from_first is_space text.now }
+{
+    let end = first_space(text).unwrap_or(text.len());
+    text.split_at(end)
+}
+
+fn first_other(text: &[u8]) -> Option<usize>
+    ensures { result ≡ position is_other text.now }
+{
+    text.iter().position(|byte| !is_space(*byte))
+}
+
+fn first_name_end(text: &[u8]) -> Option<usize>
+    ensures { result ≡ position ends_name text.now }
+{
+    text.iter()
+        .position(|byte| is_space(*byte) || *byte == b'=')
+}
+
+fn first_space(text: &[u8]) -> Option<usize>
+    ensures { result ≡ position is_space text.now }
+{
+    text.iter().position(|byte| is_space(*byte))
+}
+
+fn is_space(byte: u8) -> bool
+    ensures { result ≡ is_space byte }
+{
+    matches!(byte, b' ' | b'\t' | b'\r')
+}
