@@ -5,6 +5,8 @@
 mod modules;
 mod opinion;
 mod pass;
+#[cfg(test)]
+mod tests;
 mod visits;
 
 pub use opinion::{Impression, Opinion};

@@ -1,10 +1,10 @@
 -- Taking the lines and the words of a text one by one.
-use Rattle.std.proofs.Common.{◌≡◌, ℕ, zero, suc, ◌+◌, ◌-◌, ◌<◌, Bool, true, false, ◌||◌, cond, List, [], ◌∷◌, ◌++◌, length, take, drop, slice_get, get_or, Option, Some, None, All, refl, sym, ap, ◌∙◌, arith, rules, eqb, length-drop}
+use Rattle.std.proofs.Common.{◌≡◌, ℕ, zero, suc, ◌+◌, ◌-◌, ◌<◌, Bool, true, false, ◌||◌, cond, List, [], ◌∷◌, ◌++◌, length, take, drop, slice_get, get_or, Option, Some, None, All, refl, sym, ap, ◌∙◌, arith, eqb, length-drop}
 use Rattle.std.proofs.lemmas.List.{take_all, nil_from_length}
 use Rattle.std.proofs.lemmas.List.Elements.{All-from_get_or}
 use Rattle.std.proofs.lemmas.List.Splits.{slice_split_at, slice_split_none}
 use Rattle.pam_base.specs.Bytes.{has_byte, IsFirstPlace}
-use Rattle.pam_base.specs.Lines.{cut, lines_of, lines_of-line, lines_of-part, last_line}
+use Rattle.pam_base.specs.Lines.{lines_of, lines_of-line, lines_of-part, last_line}
 use Rattle.pam_base.specs.Words.{words_of}
 
 -- a slice from a place to the end

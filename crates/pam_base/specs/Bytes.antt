@@ -1,5 +1,5 @@
 -- Where a byte stands in a text.
-use Rattle.std.specs.Prelude.{◌≡◌, ℕ, ◌+◌, ◌<◌, Bool, true, false, List, ◌∷◌, ◌++◌, length, take, drop, Option, Some, None, ◌==◌}
+use Rattle.std.specs.Prelude.{◌≡◌, ℕ, ◌+◌, ◌<◌, Bool, false, List, ◌∷◌, ◌++◌, length, take, drop, Option, Some, None, ◌==◌}
 use Rattle.std.specs.List.{list_any}
 
 -- whether the byte stands in the text

@@ -1,5 +1,5 @@
 -- The return codes, by the table of numbers and names in pam(3) and _pam_types.h.
-use Rattle.std.specs.Prelude.{ℕ, Bool, List, [], ◌∷◌, Option, Some, None, codes, ◌≡◌, ◌<◌, ◌||◌, if◌then◌else◌}
+use Rattle.std.specs.Prelude.{ℕ, Bool, List, [], ◌∷◌, Option, codes}
 use Rattle.std.specs.Str.{str_eq_ignore_ascii_case}
 use Rattle.std.specs.List.{find, list_any}
 use Rattle.pam_base.specs.declared.code.Code.{Code}

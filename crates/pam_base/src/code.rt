@@ -1,6 +1,5 @@
-ghost use Rattle.std.specs.Prelude.{◌≡◌, ◌==◌, ◌<◌, ◌↔◌, IfSome, IsNone};
+ghost use Rattle.std.specs.Prelude.{◌≡◌, ◌<◌, ◌↔◌, IfSome, IsNone};
 ghost use Rattle.pam_base.specs.Code.{number_of, name_of, all_codes, is_word, code_of_word};
-ghost use Rattle.std.specs.List.{find};
 
 /// The return codes of PAM, in the order of their numbers (`pam(3)`, `_pam_types.h`).
 #[derive(Clone, Copy, Debug, PartialEq, Eq)]
@@ -126,16 +125,18 @@ pub fn code_of(number: u32) -> Option<Code>
     ensures code { IfSome result (λ code. number_of code ≡ number) }
     ensures none { IsNone result ↔ (31 < number) }
 {
-    find_number(number)
+    if number < 32 {
+        Some(code_at(number))
+    } else {
+        None
+    }
 }
 
-fn find_number(number: u32) -> Option<Code>
-    ensures { result ≡ find (λ code. number_of code == number) all_codes }
+fn code_at(number: u32) -> Code
+    requires { number < 32 }
+    ensures { number_of result ≡ number }
 {
-    ALL_CODES
-        .iter()
-        .copied()
-        .find(|code| code_number(*code) == number)
+    ALL_CODES[number as usize]
 }
 
 /// The name in capitals, as `AUTH_ERR`.

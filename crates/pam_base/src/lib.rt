@@ -12,6 +12,8 @@ mod number;
 mod quote;
 mod sequence;
 mod style;
+#[cfg(test)]
+mod tests;
 mod words;
 
 pub use bytes::first_place;
