@@ -1,24 +1,20 @@
 -- Steps of a script.
-use Rattle.std.proofs.Common.{◌≡◌, ℕ, ◌+◌, ◌≤◌, ◌<◌, Bool, true, false, cond, leb, ltb, List, [], ◌∷◌, ◌++◌, length, Option, Some, None, Result, Ok, Err, refl, sym, ap, ◌∙◌, arith, is_some, String, Global, string_bytes}
+use Rattle.std.proofs.Common.{◌≡◌, ℕ, ◌≤◌, ◌<◌, false, List, [], length, Option, Some, None, Ok, Err, refl, is_some}
 use Rattle.std.proofs.lemmas.Bool.{le-ltb, lt-ltb, le-leb, lt-leb}
-use Rattle.pam_base.specs.declared.call.AppCall.{AppCall}
-use Rattle.pam_base.specs.declared.call.AppCall.TheVariants.{Start, End, Authenticate}
+use Rattle.pam_base.specs.declared.call.AppCall.TheVariants.{Start}
 use Rattle.pam_base.specs.declared.call.Step.{Step}
 use Rattle.pam_base.specs.declared.code.Code.TheVariants.{Success}
-use Rattle.pam_base.specs.declared.fault.ScriptKind.{ScriptKind}
 use Rattle.pam_base.specs.declared.fault.ScriptKind.TheVariants.{NotBuilt}
 use Rattle.pam_outside.specs.Files.{VaultState, counted}
 use Rattle.control_words.specs.Stack.{Stack}
 use Rattle.pam_session_cli.specs.declared.load.LoadFault.{LoadFault}
-use Rattle.pam_session_cli.specs.declared.outcome.Answer.{Answer}
 use Rattle.pam_session_cli.specs.declared.outcome.Answer.TheVariants as answers
 use Rattle.pam_session_cli.specs.declared.outcome.Outcome.{Outcome}
 use Rattle.pam_session_cli.specs.declared.session.Transaction.{Transaction}
 use Rattle.pam_session_cli.specs.Service.{loaded}
-use Rattle.pam_session_cli.specs.Step.{applied}
 use Rattle.pam_session_cli.specs.Script.{step_of_line}
 use Rattle.pam_session_cli.specs.Report.{step_text}
-use Rattle.pam_session_cli.specs.State.{State, slot_of, done_to, next_line, stepped, step_of, Applies}
+use Rattle.pam_session_cli.specs.State.{State, slot_of, next_line, step_of, Applies}
 
 pub closed : (slot : Option Transaction) → is_some slot ≡ false → slot_of slot ≡ None
 closed None e = refl

@@ -7,7 +7,7 @@ use Rattle.pam_base.specs.declared.fault.FaultKind.TheVariants.{ReadFailed}
 use Rattle.pam_outside.specs.Counts.{Rose}
 use Rattle.pam_outside.specs.Files.{VaultState}
 use Rattle.control_words.specs.declared.nodes.Nodes.{Nodes}
-use Rattle.control_words.specs.Stack.{Stack, stack_of}
+use Rattle.control_words.specs.Stack.{stack_of}
 use Rattle.pam_session_cli.specs.declared.load.LoadFault.{LoadFault}
 use Rattle.pam_session_cli.specs.Service.{stack_of_lines, loaded}
 

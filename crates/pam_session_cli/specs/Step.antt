@@ -1,8 +1,7 @@
 -- One step: a call of the application on its transaction (pam_start(3), pam_authenticate(3), pam_end(3)).
-use Rattle.std.specs.Prelude.{◌≡◌, ℕ, List, [], Option, Some, None, Result, Ok, Err}
+use Rattle.std.specs.Prelude.{ℕ, List, [], Option, Some, None, Result, Ok, Err}
 use Rattle.pam_base.specs.declared.call.AppCall.{AppCall}
 use Rattle.pam_base.specs.declared.call.AppCall.TheVariants.{Start, End, Authenticate}
-use Rattle.pam_base.specs.declared.code.Code.{Code}
 use Rattle.pam_base.specs.declared.code.Code.TheVariants.{Success}
 use Rattle.pam_outside.specs.Files.{VaultState, counted}
 use Rattle.control_words.specs.Stack.{Stack}

@@ -1,5 +1,5 @@
 -- What a reader of lines takes from its source.
-use Rattle.std.specs.Prelude.{◌≡◌, ◌⊎◌, ℕ, ◌+◌, ◌≤◌, ◌<◌, false, List, [], ◌++◌, ◌∷◌, length, take, drop, Option, Some, None, Result, Ok, Err, IfOk}
+use Rattle.std.specs.Prelude.{◌≡◌, ◌⊎◌, ℕ, ◌+◌, ◌≤◌, ◌<◌, false, List, [], ◌++◌, ◌∷◌, length, take, drop, Result, Ok, Err, IfOk}
 use Rattle.pam_base.specs.declared.fault.Failed.{Failed}
 use Rattle.pam_base.specs.Bytes.{has_byte}
 use Rattle.pam_outside.specs.Streams.{SourceState}

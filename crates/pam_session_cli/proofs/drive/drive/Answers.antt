@@ -1,5 +1,5 @@
-use Rattle.std.proofs.Common.{refl, sym, ◌∙◌, Some, None, Ok, Err, arith}
-use Rattle.pam_session_cli.proofs.Turning.{turns_then, no_drive, no_turn}
+use Rattle.std.proofs.Common.{◌∙◌, Some, None, Ok, Err, arith}
+use Rattle.pam_session_cli.proofs.Turning.{turns_then, no_drive}
 use Rattle.pam_session_cli.proofs.drive.drive.Goals as goal
 
 pub returns-in-Err-clause-told : goal.returns-in-Err-clause-told

@@ -1,4 +1,4 @@
-use Rattle.std.proofs.Common.{refl, take, Some, None, Ok, Err}
+use Rattle.std.proofs.Common.{refl}
 use Rattle.pam_session_cli.proofs.Turning.{turn_fault, turn_end, turn_served, turn_refused, turn_stopped, rest_served, rest_refused, rest_stopped}
 use Rattle.pam_session_cli.proofs.drive.turn.Goals as goal
 

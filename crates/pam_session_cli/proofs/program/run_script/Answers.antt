@@ -1,4 +1,4 @@
-use Rattle.std.proofs.Common.{Ok, Err, ◌∙◌}
+use Rattle.std.proofs.Common.{◌∙◌}
 use Rattle.pam_session_cli.proofs.Scripting.{no_script, stopped_early, stopped, done}
 use Rattle.pam_session_cli.proofs.program.run_script.Goals as goal
 

@@ -1,4 +1,4 @@
-use Rattle.std.proofs.Common.{arith, rules, sym, ◌∙◌, ap, length, length-drop}
+use Rattle.std.proofs.Common.{arith, sym, ◌∙◌}
 use Rattle.pam_session_cli.proofs.Reading.{length-lines_of, line_more, lines_done, one_less, readable}
 use Rattle.pam_session_cli.proofs.service_file.stack_in.Goals as goal
 

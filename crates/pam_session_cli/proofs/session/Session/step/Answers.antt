@@ -1,4 +1,4 @@
-use Rattle.std.proofs.Common.{sym, ◌∙◌, refl, arith}
+use Rattle.std.proofs.Common.{sym, ◌∙◌, refl}
 use Rattle.pam_session_cli.proofs.Stepping.{refused_many, refused_long, refused_form, done_step}
 use Rattle.pam_session_cli.proofs.session.Session.step.Goals as goal
 
