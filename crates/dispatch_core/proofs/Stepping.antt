@@ -1,5 +1,5 @@
 -- A pass goes from line to line.
-use Rattle.std.proofs.Common.{◌≡◌, ℕ, zero, suc, ◌+◌, ◌-◌, ◌≤◌, Bool, true, false, ◌&&◌, cond, List, [], ◌∷◌, ◌++◌, length, take, drop, get_or, Option, Some, None, ◌<◌, refl, sym, ap, ◌∙◌, arith, append_assoc}
+use Rattle.std.proofs.Common.{◌≡◌, ℕ, zero, suc, ◌+◌, ◌-◌, ◌≤◌, Bool, true, false, ◌&&◌, cond, List, [], ◌∷◌, ◌++◌, length, take, drop, get_or, Option, Some, ◌<◌, refl, sym, ap, ◌∙◌, arith}
 use Rattle.std.proofs.lemmas.List.{take_all}
 use Rattle.std.specs.List.{list_all}
 use Rattle.std.specs.Option.{option_to_list}
@@ -9,11 +9,11 @@ use Rattle.control_words.specs.declared.control.Action.TheVariants as actions
 use Rattle.control_words.specs.declared.nodes.Rule.{Rule}
 use Rattle.control_words.specs.declared.nodes.Node.{Node, Line, Sub'}
 use Rattle.control_words.specs.Control.{action_at}
-use Rattle.control_words.specs.Stack.{Stack, none, line, sub, count, node_on, stack_of}
+use Rattle.control_words.specs.Stack.{Stack, none, line, count, node_on, stack_of}
 use Rattle.dispatch_core.specs.declared.opinion.Opinion.{Opinion}
 use Rattle.dispatch_core.specs.declared.visits.Visit.{Visit}
 use Rattle.dispatch_core.specs.Opinion.{opening, acted}
-use Rattle.dispatch_core.specs.Walk.{Walked, walk, walked, ends, Next, after, stop, next_of, settled}
+use Rattle.dispatch_core.specs.Walk.{Walked, walk, ends, after, stop, next_of, settled}
 use Rattle.dispatch_core.specs.Pass.{serve_line, answer_of_module, behind_line, is_plain, is_plain_stack, paths_in, visit_of}
 use Rattle.control_words.specs.Module.{name_of_module}
 use Rattle.pam_base.specs.Code.{number_of}

@@ -1,5 +1,4 @@
 -- The state of a stack: what its lines came to so far (pam.conf(5)).
-use Rattle.std.specs.Prelude.{ℕ, Bool, true, false}
 use Rattle.pam_base.specs.declared.code.Code.{Code}
 use Rattle.pam_base.specs.declared.code.Code.TheVariants as codes
 use Rattle.control_words.specs.declared.control.Action.{Action}

@@ -1,4 +1,4 @@
-use Rattle.std.proofs.Common.{length, refl, sym, ◌∙◌, ap, arith, rules}
+use Rattle.std.proofs.Common.{length, refl, ap, arith}
 use Rattle.dispatch_core.specs.Pass.{pass}
 use Rattle.dispatch_core.proofs.Stepping.{cut_first, first_plain, path_there, path_taken, goes_on}
 use Rattle.dispatch_core.proofs.pass.dispatch.Goals as goal

@@ -1,4 +1,4 @@
-use Rattle.std.proofs.Common.{rules, sym, ◌∙◌}
+use Rattle.std.proofs.Common.{rules}
 use Rattle.dispatch_core.proofs.Stepping.{walk-line, path_is}
 use Rattle.dispatch_core.proofs.pass.visit.Goals as goal
 
