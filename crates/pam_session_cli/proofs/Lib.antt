@@ -1,3 +1,4 @@
+mod Rows
 pub mod Reading
 pub mod Roots
 pub mod Stepping

@@ -20,7 +20,10 @@ impl Session {
         vault: &mut dyn Vault,
     ) -> Result<Outcome, NoMemory>
         ensures tells { vault_tells vault.new ≡ vault_tells vault.old }
-        ensures told { (user : Option (List ℕ)) → IsTrue (vault_tells vault.old) → IfOk result (λ outcome. Applies (Start service.now user) (session_state self.old (vault_holds vault.old)) outcome (session_state self.new (vault_holds vault.new))) }
+        ensures told { (user : Option (List ℕ)) → IsTrue (vault_tells vault.old) →
+            IfOk result (λ outcome. Applies (Start service.now user)
+            (session_state self.old (vault_holds vault.old)) outcome
+            (session_state self.new (vault_holds vault.new))) }
         ensures lines { self.new.lines ≡ self.old.lines }
     {
         if self.slot.is_some() {
@@ -38,7 +41,9 @@ impl Session {
 
     /// `pam_authenticate(3)`: one pass over the transaction's stack.
     pub fn authenticate(&self, alloc: Global) -> Result<Outcome, NoMemory>
-        ensures { (flags : ℕ) (vault : VaultState) → IfOk result (λ outcome. Applies (Authenticate flags) (session_state self.now vault) outcome (session_state self.now vault)) }
+        ensures { (flags : ℕ) (vault : VaultState) →
+            IfOk result (λ outcome. Applies (Authenticate flags)
+            (session_state self.now vault) outcome (session_state self.now vault)) }
     {
         let Some(transaction) = &self.slot else {
             return Ok(Outcome::new(alloc, Answer::NotOpen));

@@ -37,13 +37,19 @@ pub fn drive<S: Source, K: Sink>(
     ensures source_tells { S.source_tells source.new ≡ S.source_tells source.old }
     ensures sink_tells { K.sink_tells sink.new ≡ K.sink_tells sink.old }
     ensures vault_tells { vault_tells vault.new ≡ vault_tells vault.old }
-    ensures told { IsTrue (S.source_tells source.old) → IsTrue (K.sink_tells sink.old) → IsTrue (vault_tells vault.old) →
-        Drives result (session_state session.old (vault_holds vault.old)) (session_state session.new (vault_holds vault.new)) (S.source_holds source.old) (S.source_holds source.new) (K.sink_holds sink.old) (K.sink_holds sink.new) }
+    ensures told { IsTrue (S.source_tells source.old) → IsTrue (K.sink_tells sink.old) →
+        IsTrue (vault_tells vault.old) → Drives result
+        (session_state session.old (vault_holds vault.old))
+        (session_state session.new (vault_holds vault.new))
+        (S.source_holds source.old) (S.source_holds source.new)
+        (K.sink_holds sink.old) (K.sink_holds sink.new) }
     ensures lines { session.new.lines ≤ 65536 }
     ensures source_faults { S.source_faults source.old ≤ S.source_faults source.new }
     ensures sink_faults { K.sink_faults sink.old ≤ K.sink_faults sink.new }
-    ensures read_fault { result ≡ Ok Ending.ReadFault → Rose (S.source_faults source.old) (S.source_faults source.new) }
-    ensures write_fault { result ≡ Err Stop.WriteFault → Rose (K.sink_faults sink.old) (K.sink_faults sink.new) }
+    ensures read_fault { result ≡ Ok Ending.ReadFault →
+        Rose (S.source_faults source.old) (S.source_faults source.new) }
+    ensures write_fault { result ≡ Err Stop.WriteFault →
+        Rose (K.sink_faults sink.old) (K.sink_faults sink.new) }
 {
     let mut reader = match LineReader::new(alloc) {
         Ok(reader) => reader,
@@ -71,14 +77,21 @@ fn turn<S: Source, K: Sink>(
     ensures source_tells { S.source_tells source.new ≡ S.source_tells source.old }
     ensures sink_tells { K.sink_tells sink.new ≡ K.sink_tells sink.old }
     ensures vault_tells { vault_tells vault.new ≡ vault_tells vault.old }
-    ensures told { IsTrue (S.source_tells source.old) → IsTrue (K.sink_tells sink.old) → IsTrue (vault_tells vault.old) →
-        Turns result (session_state session.old (vault_holds vault.old)) (session_state session.new (vault_holds vault.new)) reader.old reader.new (S.source_holds source.old) (S.source_holds source.new) (K.sink_holds sink.old) (K.sink_holds sink.new) }
+    ensures told { IsTrue (S.source_tells source.old) → IsTrue (K.sink_tells sink.old) →
+        IsTrue (vault_tells vault.old) → Turns result
+        (session_state session.old (vault_holds vault.old))
+        (session_state session.new (vault_holds vault.new))
+        reader.old reader.new
+        (S.source_holds source.old) (S.source_holds source.new)
+        (K.sink_holds sink.old) (K.sink_holds sink.new) }
     ensures lines { session.new.lines ≤ 65536 }
     ensures next { result ≡ Ok None → session.new.lines ≡ session.old.lines + 1 }
     ensures source_faults { S.source_faults source.old ≤ S.source_faults source.new }
     ensures sink_faults { K.sink_faults sink.old ≤ K.sink_faults sink.new }
-    ensures read_fault { result ≡ Ok (Some Ending.ReadFault) → Rose (S.source_faults source.old) (S.source_faults source.new) }
-    ensures write_fault { result ≡ Err Stop.WriteFault → Rose (K.sink_faults sink.old) (K.sink_faults sink.new) }
+    ensures read_fault { result ≡ Ok (Some Ending.ReadFault) →
+        Rose (S.source_faults source.old) (S.source_faults source.new) }
+    ensures write_fault { result ≡ Err Stop.WriteFault →
+        Rose (K.sink_faults sink.old) (K.sink_faults sink.new) }
 {
     let limit = limit_of(session.lines);
     match reader.find(source, limit) {
@@ -119,11 +132,15 @@ fn serve<K: Sink>(
     ensures sink_tells { K.sink_tells sink.new ≡ K.sink_tells sink.old }
     ensures vault_tells { vault_tells vault.new ≡ vault_tells vault.old }
     ensures told { IsTrue (K.sink_tells sink.old) → IsTrue (vault_tells vault.old) →
-        ServesTold result line.now (session_state session.old (vault_holds vault.old)) (session_state session.new (vault_holds vault.new)) (K.sink_holds sink.old) (K.sink_holds sink.new) }
+        ServesTold result line.now
+        (session_state session.old (vault_holds vault.old))
+        (session_state session.new (vault_holds vault.new))
+        (K.sink_holds sink.old) (K.sink_holds sink.new) }
     ensures lines { session.new.lines ≤ 65536 }
     ensures next { result ≡ Ok None → session.new.lines ≡ session.old.lines + 1 }
     ensures faults { K.sink_faults sink.old ≤ K.sink_faults sink.new }
-    ensures fault { result ≡ Err Stop.WriteFault → Rose (K.sink_faults sink.old) (K.sink_faults sink.new) }
+    ensures fault { result ≡ Err Stop.WriteFault →
+        Rose (K.sink_faults sink.old) (K.sink_faults sink.new) }
 {
     match session.step(alloc, line, vault) {
         Err(Refuse::NoMemory) => Err(Stop::NoMemory),

@@ -36,8 +36,10 @@ pub fn load(
     service: &[u8],
 ) -> Result<Nodes, Refuse<LoadFault>>
     ensures tells { vault_tells vault.new ≡ vault_tells vault.old }
-    ensures told { IsTrue (vault_tells vault.old) → Loads result (vault_holds vault.old) root.now service.now }
-    ensures counts { IsTrue (vault_tells vault.old) → IfCalled result (vault_holds vault.new ≡ counted (vault_holds vault.old)) }
+    ensures told { IsTrue (vault_tells vault.old) →
+        Loads result (vault_holds vault.old) root.now service.now }
+    ensures counts { IsTrue (vault_tells vault.old) →
+        IfCalled result (vault_holds vault.new ≡ counted (vault_holds vault.old)) }
     ensures plain { IfOk result (λ nodes. is_plain_stack (stack_of nodes.vec.items) ≡ true) }
     ensures few { IfOk result (λ nodes. count (stack_of nodes.vec.items) ≤ 65536) }
     ensures faults { vault_faults vault.old ≤ vault_faults vault.new }

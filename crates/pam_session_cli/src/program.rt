@@ -1,8 +1,7 @@
-ghost use Rattle.std.specs.Prelude.{◌≡◌, ◌⊎◌, ◌≤◌, ◌++◌, ℕ, List, None, Some, Ok, Err, OnErr, OnOk, IfOk, IsTrue, IsSome, string_bytes, codes};
+ghost use Rattle.std.specs.Prelude.{◌≡◌, ◌⊎◌, ◌≤◌, ℕ, List, None, Some, Ok, Err, IfOk, IsTrue, IsSome, string_bytes};
 ghost use Rattle.pam_outside.specs.Counts.{Rose};
 ghost use Rattle.pam_outside.specs.Files.{VaultState};
 ghost use Rattle.pam_session_cli.specs.Command.{root_of_words, Usage};
-ghost use Rattle.pam_session_cli.specs.Report.{script_text};
 ghost use Rattle.pam_session_cli.specs.Run.{opening};
 ghost use Rattle.pam_session_cli.specs.State.{slot_of, session_state};
 ghost use Rattle.pam_session_cli.specs.Whole.{closings, ending_text, Scripts, Finishes, Runs, IsStatus, Completes};
@@ -27,23 +26,33 @@ pub fn pamsess<S: Source, K: Sink>(
     vault: &mut dyn Vault,
 ) -> u8
     // Where the words are run ROOT, and all objects tell, this is a run of the script.
-    ensures told { (root : List ℕ) → root_of_words words.now ≡ Some root → IsTrue (S.source_tells script.old) → IsTrue (K.sink_tells out.old) → IsTrue (vault_tells vault.old) →
-        Runs result root (vault_holds vault.old) (vault_holds vault.new) (S.source_holds script.old) (S.source_holds script.new) (K.sink_holds out.old) (K.sink_holds out.new) }
+    ensures told { (root : List ℕ) → root_of_words words.now ≡ Some root →
+        IsTrue (S.source_tells script.old) → IsTrue (K.sink_tells out.old) →
+        IsTrue (vault_tells vault.old) → Runs result root
+        (vault_holds vault.old) (vault_holds vault.new)
+        (S.source_holds script.old) (S.source_holds script.new)
+        (K.sink_holds out.old) (K.sink_holds out.new) }
     ensures statuses { IsSome (root_of_words words.now) → IsStatus result }
 
     // No run gives up by itself.
-    ensures complete { (root : List ℕ) → root_of_words words.now ≡ Some root → IsTrue (S.source_tells script.old) → IsTrue (K.sink_tells out.old) → IsTrue (vault_tells vault.old) →
-        Completes result (Rose (S.source_faults script.old) (S.source_faults script.new)) (Rose (K.sink_faults out.old) (K.sink_faults out.new)) (opening root (vault_holds vault.old)) (S.source_holds script.old) }
+    ensures complete { (root : List ℕ) → root_of_words words.now ≡ Some root →
+        IsTrue (S.source_tells script.old) → IsTrue (K.sink_tells out.old) →
+        IsTrue (vault_tells vault.old) → Completes result
+        (Rose (S.source_faults script.old) (S.source_faults script.new))
+        (Rose (K.sink_faults out.old) (K.sink_faults out.new))
+        (opening root (vault_holds vault.old)) (S.source_holds script.old) }
 
     // Where they are not, the usage line is written.
-    ensures usage { root_of_words words.now ≡ None → IsTrue (K.sink_tells out.old) → Usage result (K.sink_holds out.old) (K.sink_holds out.new) }
+    ensures usage { root_of_words words.now ≡ None → IsTrue (K.sink_tells out.old) →
+        Usage result (K.sink_holds out.old) (K.sink_holds out.new) }
     ensures usage_status { root_of_words words.now ≡ None → (result ≡ 2) ⊎ (result ≡ 6) }
     ensures usage_source { root_of_words words.now ≡ None → script.new ≡ script.old }
     ensures usage_vault { root_of_words words.now ≡ None → vault.new ≡ vault.old }
 
     // The causes, in any world.
     ensures words_only { result ≡ 2 → root_of_words words.now ≡ None }
-    ensures read_fault { result ≡ 5 → Rose (S.source_faults script.old) (S.source_faults script.new) }
+    ensures read_fault { result ≡ 5 →
+        Rose (S.source_faults script.old) (S.source_faults script.new) }
     ensures write_fault { result ≡ 6 → Rose (K.sink_faults out.old) (K.sink_faults out.new) }
 {
     let Some(root) = root_of(words) else {
@@ -69,10 +78,15 @@ fn run_script<S: Source, K: Sink>(
     out: &mut K,
     vault: &mut dyn Vault,
 ) -> Result<Ending, Stop>
-    ensures told { IsTrue (S.source_tells script.old) → IsTrue (K.sink_tells out.old) → IsTrue (vault_tells vault.old) →
-        Scripts result root.now (vault_holds vault.old) (vault_holds vault.new) (S.source_holds script.old) (S.source_holds script.new) (K.sink_holds out.old) (K.sink_holds out.new) }
-    ensures read_fault { result ≡ Ok Ending.ReadFault → Rose (S.source_faults script.old) (S.source_faults script.new) }
-    ensures write_fault { result ≡ Err Stop.WriteFault → Rose (K.sink_faults out.old) (K.sink_faults out.new) }
+    ensures told { IsTrue (S.source_tells script.old) → IsTrue (K.sink_tells out.old) →
+        IsTrue (vault_tells vault.old) → Scripts result root.now
+        (vault_holds vault.old) (vault_holds vault.new)
+        (S.source_holds script.old) (S.source_holds script.new)
+        (K.sink_holds out.old) (K.sink_holds out.new) }
+    ensures read_fault { result ≡ Ok Ending.ReadFault →
+        Rose (S.source_faults script.old) (S.source_faults script.new) }
+    ensures write_fault { result ≡ Err Stop.WriteFault →
+        Rose (K.sink_faults out.old) (K.sink_faults out.new) }
 {
     let mut session = match Text::from_bytes(alloc, root) {
         Ok(root) => Session {
@@ -99,9 +113,12 @@ fn finish<K: Sink>(
     out: &mut K,
 ) -> Result<(), Stop>
     requires { session.now.lines ≤ 65536 }
-    ensures told { (vault : VaultState) → IsTrue (K.sink_tells out.old) → Finishes result (ending_text ending (session_state session.now vault)) (K.sink_holds out.old) (K.sink_holds out.new) }
+    ensures told { (vault : VaultState) → IsTrue (K.sink_tells out.old) →
+        Finishes result (ending_text ending (session_state session.now vault))
+        (K.sink_holds out.old) (K.sink_holds out.new) }
     ensures faults { K.sink_faults out.old ≤ K.sink_faults out.new }
-    ensures fault { result ≡ Err Stop.WriteFault → Rose (K.sink_faults out.old) (K.sink_faults out.new) }
+    ensures fault { result ≡ Err Stop.WriteFault →
+        Rose (K.sink_faults out.old) (K.sink_faults out.new) }
 {
     match last_words(alloc, ending, session) {
         Err(NoMemory) => Err(Stop::NoMemory),
@@ -114,7 +131,8 @@ fn finish<K: Sink>(
 
 fn last_words(alloc: Global, ending: Ending, session: &Session) -> Result<String, NoMemory>
     requires { session.now.lines ≤ 65536 }
-    ensures { (vault : VaultState) → IfOk result (λ text. string_bytes text ≡ ending_text ending (session_state session.now vault)) }
+    ensures { (vault : VaultState) → IfOk result (λ text.
+        string_bytes text ≡ ending_text ending (session_state session.now vault)) }
 {
     match ending {
         Ending::Done => closing_words(alloc, session, Code::Success),

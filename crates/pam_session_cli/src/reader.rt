@@ -70,7 +70,9 @@ impl LineReader {
         requires { limit ≤ 513 }
         ensures found { IsFound result limit self.new }
         ensures tells { S.source_tells source.new ≡ S.source_tells source.old }
-        ensures told { IsTrue (S.source_tells source.old) → Finds result limit self.old self.new (S.source_holds source.old) (S.source_holds source.new) }
+        ensures told { IsTrue (S.source_tells source.old) →
+            Finds result limit self.old self.new
+            (S.source_holds source.old) (S.source_holds source.new) }
         ensures faults { S.source_faults source.old ≤ S.source_faults source.new }
         ensures failed { OnErr result (Rose (S.source_faults source.old) (S.source_faults source.new)) }
     {
@@ -104,7 +106,8 @@ impl LineReader {
         ensures more { IfOk result (λ n. Adds n self.old self.new) }
         ensures err { OnErr result (self.new ≡ self.old) }
         ensures tells { S.source_tells source.new ≡ S.source_tells source.old }
-        ensures told { IsTrue (S.source_tells source.old) → Fills result self.old self.new (S.source_holds source.old) (S.source_holds source.new) }
+        ensures told { IsTrue (S.source_tells source.old) →
+            Fills result self.old self.new (S.source_holds source.old) (S.source_holds source.new) }
         ensures faults { S.source_faults source.old ≤ S.source_faults source.new }
         ensures failed { OnErr result (Rose (S.source_faults source.old) (S.source_faults source.new)) }
     {

@@ -46,7 +46,9 @@ impl Session {
     ) -> Result<String, Refuse<ScriptKind>>
         requires { self.old.lines ≤ 65536 }
         ensures tells { vault_tells vault.new ≡ vault_tells vault.old }
-        ensures told { IsTrue (vault_tells vault.old) → StepsAs result line.now (session_state self.old (vault_holds vault.old)) (session_state self.new (vault_holds vault.new)) }
+        ensures told { IsTrue (vault_tells vault.old) → StepsAs result line.now
+            (session_state self.old (vault_holds vault.old))
+            (session_state self.new (vault_holds vault.new)) }
         ensures next { OnOk result (self.new.lines ≡ self.old.lines + 1) }
         ensures lines { self.new.lines ≤ 65536 }
     {
@@ -73,7 +75,9 @@ impl Session {
         vault: &mut dyn Vault,
     ) -> Result<Outcome, NoMemory>
         ensures tells { vault_tells vault.new ≡ vault_tells vault.old }
-        ensures told { IsTrue (vault_tells vault.old) → IfOk result (λ outcome. Applies call.now (session_state self.old (vault_holds vault.old)) outcome (session_state self.new (vault_holds vault.new))) }
+        ensures told { IsTrue (vault_tells vault.old) → IfOk result (λ outcome. Applies call.now
+            (session_state self.old (vault_holds vault.old)) outcome
+            (session_state self.new (vault_holds vault.new))) }
         ensures lines { self.new.lines ≡ self.old.lines }
     {
         match call {
