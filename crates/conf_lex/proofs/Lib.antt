@@ -3,5 +3,6 @@ pub mod Once
 pub mod Every
 pub mod Taking
 pub mod TakingPieces
+pub mod Moving
 pub mod Answering
 pub mod Deciding

@@ -30,7 +30,7 @@ pub white_piece : (before after : List ℕ) (m n : ℕ) → begins_white before 
 white_piece [] after m n e rest line = absurd cc
 white_piece (b ∷ bs) after m n e rest line = record { piece = white b; spelled = ap (λ (t : List ℕ). b ∷ t) (sym rest); stand = e; within = refl; tokens = refl; opened = refl; lines = omega (arith, line, white_is_none b e) }
 
-no_newlines : (text : List ℕ) → has_byte 10 text ≡ false → newlines text ≡ 0
+pub no_newlines : (text : List ℕ) → has_byte 10 text ≡ false → newlines text ≡ 0
 no_newlines [] e = refl
 no_newlines (b ∷ bs) e =
     let parts = either (eqb b 10) (has_byte 10 bs) e in
@@ -54,14 +54,14 @@ comment_piece (b ∷ bs) after m n (suc k) e one end rest line =
 
 -- ---- plain tokens
 
-run_front : (text : List ℕ) → take (length (run_of text)) text ≡ run_of text
+pub run_front : (text : List ℕ) → take (length (run_of text)) text ≡ run_of text
 run_front [] = refl
 run_front (b ∷ bs) = elim (which (goes_on (b ∷ bs))) [ inl y ↦ rw y (ap (λ (t : List ℕ). b ∷ t) (run_front bs)) | inr n ↦ rw n refl ]
 
 run_whole : (text : List ℕ) → text ≡ run_of text ++ drop (length (run_of text)) text
 run_whole text = sym (take-append-drop (length (run_of text)) text) ∙ ap (λ (t : List ℕ). t ++ drop (length (run_of text)) text) (run_front text)
 
-run_on : (text : List ℕ) → all_go_on (run_of text) (drop (length (run_of text)) text) ≡ true
+pub run_on : (text : List ℕ) → all_go_on (run_of text) (drop (length (run_of text)) text) ≡ true
 run_on [] = refl
 run_on (b ∷ bs) =
     elim (which (goes_on (b ∷ bs))) [
@@ -73,7 +73,7 @@ run_ends : (text : List ℕ) → goes_on (drop (length (run_of text)) text) ≡ 
 run_ends [] = refl
 run_ends (b ∷ bs) = elim (which (goes_on (b ∷ bs))) [ inl y ↦ rw y (run_ends bs) | inr n ↦ rw n n ]
 
-run_newlines : (run rest : List ℕ) → all_go_on run rest ≡ true → newlines run ≡ 0
+pub run_newlines : (run rest : List ℕ) → all_go_on run rest ≡ true → newlines run ≡ 0
 run_newlines [] rest e = refl
 run_newlines (b ∷ bs) rest e =
     let parts = both (goes_on (b ∷ (bs ++ rest))) (all_go_on bs rest) e in

@@ -1,5 +1,5 @@
 -- What the parts of the lexer give (this project's own).
-use Rattle.std.specs.Prelude.{◌≡◌, ℕ, ◌+◌, Bool, true, false, List, [], ◌∷◌, ◌++◌, Option, Some, None, Result, Ok, Err, length, nat_lt, ◌==◌, ◌||◌, ◌&&◌, if◌then◌else◌}
+use Rattle.std.specs.Prelude.{◌≡◌, ℕ, ◌+◌, ◌≤◌, Bool, true, false, List, [], ◌∷◌, ◌++◌, Option, Some, None, Result, Ok, Err, length, nat_lt, ◌==◌, ◌||◌, ◌&&◌, if◌then◌else◌}
 use Rattle.std.specs.List.{flat_map, list_any}
 use Rattle.pam_base.specs.declared.fault.Refuse.{Refuse}
 use Rattle.pam_base.specs.declared.fault.Refuse.TheVariants as refusals
@@ -13,6 +13,22 @@ use Rattle.conf_lex.specs.declared.lexer.Line.{Line}
 use Rattle.conf_lex.specs.Piece.{Join, join_bytes, join_at, BracketUnit, unit_bytes, unit_text, units_bytes, units_text, units_stand, unit_stands, Piece, piece_bytes, piece_tokens, spelling, tokens_of, is_newline, is_open, stands, begins_with, is_white, Reads}
 use Rattle.conf_lex.specs.Reading.{unit_at, pieces_of}
 use Rattle.conf_lex.specs.Rules.{newlines, JoinedLine, lines_of_pieces, numbered, rule_at, line_rules, first_fault}
+
+-- the bytes before the first NUL byte: no more is read
+abbrev pub before_nul : List ℕ → List ℕ
+before_nul [] = []
+before_nul (b ∷ bs) = if b == 0 then [] else b ∷ before_nul bs
+
+-- the physical line of the first NUL byte, if there is one, where the text begins in line n
+abbrev pub nul_line : ℕ → List ℕ → Option ℕ
+nul_line n [] = None
+nul_line n (b ∷ bs) = if b == 0 then Some n else nul_line (n + newlines (b ∷ [])) bs
+
+-- some of the text was left behind, but no NUL byte: the first is in the same line, and as much stands behind it
+pub record Moves (before after : List ℕ) (old_line new_line : ℕ) : Type 0 where
+  pub nul : nul_line new_line after ≡ nul_line old_line before
+  pub behind : length after + length (before_nul before) ≡ length before + length (before_nul after)
+  pub fits : new_line + length after ≤ old_line + length before
 
 -- whether a bracket's units end here, with a `]` or the line
 abbrev pub is_bracket_end : List ℕ → Bool

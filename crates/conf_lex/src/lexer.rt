@@ -1,17 +1,18 @@
-ghost use Rattle.std.specs.Prelude.{◌≡◌, ℕ, ◌+◌, ◌<◌, ◌≤◌, ◌^◌, ◌++◌, ◌∷◌, ◌||◌, [], true, false, length, take, drop, option_map, None, IfOk, OnOk, IsTrue};
-ghost use Rattle.pam_base.specs.Bytes.{has_byte};
+ghost use Rattle.std.specs.Prelude.{◌≡◌, ℕ, ◌+◌, ◌<◌, ◌≤◌, ◌^◌, ◌++◌, ◌∷◌, ◌||◌, ◌==◌, [], true, false, length, take, drop, option_map, None, IfOk, OnOk, IsTrue};
 ghost use Rattle.conf_lex.specs.Piece.{at_line_end, begins_with, join_at, join_bytes, goes_on};
-ghost use Rattle.conf_lex.specs.Reading.{run_of, unit_at};
-ghost use Rattle.conf_lex.specs.Lexing.{is_bracket_end, is_escape, begins_white, TakesJoin, TakesUnit, TakesUnits, TakesPiece, TakesPieces, EndsLine, GivesLine, found_tokens, found_open, fault_at, answer_at};
+ghost use Rattle.conf_lex.specs.Reading.{run_of, rest_of_line, unit_at};
+ghost use Rattle.conf_lex.specs.Rules.{newlines, rule_at};
+ghost use Rattle.conf_lex.specs.Lexing.{before_nul, nul_line, Moves, is_bracket_end, is_escape, begins_white, TakesJoin, TakesUnit, TakesUnits, TakesPiece, TakesPieces, EndsLine, GivesLine, Gives, found_tokens, found_open, fault_at, answer_at};
 
-use crate::token::{LexFault, Token, Tokens};
-use pam_base::{FaultKind, NoMemory, Refuse, Text, first_place};
+use crate::token::{LexFault, RawRule, RawRules, Token, Tokens};
+use pam_base::{FaultKind, NoMemory, Refuse, Text};
 use std::alloc::Global;
 
 /// The most bytes of a joined line, its ending newline not counted.
 const MAX_LINE: usize = 4096;
 
-/// What is left of a text, and the number of the physical line that it stands in.
+/// What is left of a text, and the number of the physical line that it stands in. It reads up to the first NUL
+/// byte, as if the text ended there, and never past it.
 #[derive(Drop)]
 pub struct Lexer<'a> {
     pub rest: &'a [u8],
@@ -35,9 +36,16 @@ pub struct Line {
     pub opened: bool,
 }
 
+/// Whether nothing is left to read.
+fn at_end(text: &[u8]) -> bool
+    ensures { result ≡ (length (before_nul text.now) == 0) }
+{
+    matches!(text, [] | [0, ..])
+}
+
 /// How many bytes the join at the front of the text has, if one stands there.
 fn join_length(text: &[u8]) -> Option<usize>
-    ensures { result ≡ option_map (λ j. length (join_bytes j)) (join_at text.now) }
+    ensures { result ≡ option_map (λ j. length (join_bytes j)) (join_at (before_nul text.now)) }
 {
     match text {
         [b'\\', b'\n', ..] => Some(2),
@@ -47,23 +55,23 @@ fn join_length(text: &[u8]) -> Option<usize>
 }
 
 fn at_line_end(text: &[u8]) -> bool
-    ensures { result ≡ at_line_end text.now }
+    ensures { result ≡ at_line_end (before_nul text.now) }
 {
-    matches!(text, [] | [b'\n', ..])
+    matches!(text, [] | [b'\n' | 0, ..])
 }
 
 fn goes_on(text: &[u8]) -> bool
-    ensures { result ≡ goes_on text.now }
+    ensures { result ≡ goes_on (before_nul text.now) }
 {
     match text {
-        [] | [b' ' | b'\t' | b'\r' | b'#' | b'\n', ..] => false,
+        [] | [b' ' | b'\t' | b'\r' | b'#' | b'\n' | 0, ..] => false,
         _ => join_length(text).is_none(),
     }
 }
 
 /// How many bytes the plain token at the front of the text has.
 fn run_length(text: &[u8]) -> usize
-    ensures { result ≡ length (run_of text.now) }
+    ensures { result ≡ length (run_of (before_nul text.now)) }
 {
     let mut rest = text;
     while goes_on(rest) {
@@ -74,27 +82,26 @@ fn run_length(text: &[u8]) -> usize
 
 /// Whether a bracket ends here: by its `]`, or open, with the line.
 fn is_bracket_end(text: &[u8]) -> bool
-    ensures { result ≡ is_bracket_end text.now }
+    ensures { result ≡ is_bracket_end (before_nul text.now) }
 {
-    matches!(text, [] | [b']' | b'\n', ..])
+    matches!(text, [] | [b']' | b'\n' | 0, ..])
 }
 
 fn is_escape(text: &[u8]) -> bool
-    ensures { result ≡ is_escape text.now }
+    ensures { result ≡ is_escape (before_nul text.now) }
 {
     matches!(text, [b'\\', b']', ..])
 }
 
 /// How many bytes stand before the end of the physical line.
 fn line_length(text: &[u8]) -> usize
-    ensures length { result ≤ length text.now }
-    ensures one { has_byte 10 (take result text.now) ≡ false }
-    ensures ends { IsTrue (at_line_end (drop result text.now)) }
+    ensures { result ≡ length (rest_of_line (before_nul text.now)) }
 {
-    match first_place(b'\n', text) {
-        Some(n) => n,
-        None => text.len(),
+    let mut rest = text;
+    while !at_line_end(rest) {
+        rest = &rest[1..];
     }
+    text.len() - rest.len()
 }
 
 /// The fault of a joined line of so many bytes that begins in this physical line.
@@ -132,24 +139,29 @@ impl Line {
 }
 
 impl<'a> Lexer<'a> {
-    /// Leaves the first n bytes behind, which have no newline.
-    fn skip(&mut self, n: usize)
-        requires { n ≤ length self.old.rest.now }
-        ensures rest { self.new.rest.now ≡ drop n self.old.rest.now }
-        ensures line { self.new.line ≡ self.old.line }
+    /// Leaves the first n bytes behind, which have so many newlines.
+    fn skip(&mut self, n: usize, lines: u32)
+        requires within { n ≤ length (before_nul self.old.rest.now) }
+        requires lines { lines ≡ newlines (take n (before_nul self.old.rest.now)) }
+        requires fits { self.old.line + length self.old.rest.now < 2 ^ 32 }
+        ensures rest { before_nul self.new.rest.now ≡ drop n (before_nul self.old.rest.now) }
+        ensures line { self.new.line ≡ self.old.line + lines }
+        ensures moves { Moves self.old.rest.now self.new.rest.now self.old.line self.new.line }
     {
         self.rest = &self.rest[n..];
+        self.line += lines;
     }
 
     /// Takes the join at the front, if one stands there.
     fn join(&mut self) -> bool
         requires { self.old.line + length self.old.rest.now < 2 ^ 32 }
-        ensures { TakesJoin result self.old.rest.now self.new.rest.now self.old.line self.new.line }
+        ensures taken { TakesJoin result (before_nul self.old.rest.now) (before_nul self.new.rest.now)
+            self.old.line self.new.line }
+        ensures moves { Moves self.old.rest.now self.new.rest.now self.old.line self.new.line }
     {
         match join_length(self.rest) {
             Some(n) => {
-                self.skip(n);
-                self.line += 1;
+                self.skip(n, 1);
                 true
             }
             None => false,
@@ -160,7 +172,9 @@ impl<'a> Lexer<'a> {
     /// bracket's end and at the line's.
     fn unit(&mut self) -> Option<u8>
         requires { self.old.line + length self.old.rest.now < 2 ^ 32 }
-        ensures { TakesUnit result self.old.rest.now self.new.rest.now self.old.line self.new.line }
+        ensures taken { TakesUnit result (before_nul self.old.rest.now) (before_nul self.new.rest.now)
+            self.old.line self.new.line }
+        ensures moves { Moves self.old.rest.now self.new.rest.now self.old.line self.new.line }
     {
         if self.join() {
             return Some(b' ');
@@ -169,20 +183,21 @@ impl<'a> Lexer<'a> {
             return None;
         }
         if is_escape(self.rest) {
-            self.skip(2);
+            self.skip(2, 0);
             return Some(b']');
         }
         let byte = self.rest[0];
-        self.skip(1);
+        self.skip(1, 0);
         Some(byte)
     }
 
     /// Takes the units of a bracket, up to its end or the line's, and gives their bytes.
     fn units(&mut self, alloc: Global) -> Result<Text, NoMemory>
         requires { self.old.line + length self.old.rest.now < 2 ^ 32 }
-        ensures units { IfOk result (λ text.
-            TakesUnits text self.old.rest.now self.new.rest.now self.old.line self.new.line) }
-        ensures ends { OnOk result (unit_at self.new.rest.now ≡ None) }
+        ensures taken { IfOk result (λ text. TakesUnits text (before_nul self.old.rest.now)
+            (before_nul self.new.rest.now) self.old.line self.new.line) }
+        ensures ends { OnOk result (unit_at (before_nul self.new.rest.now) ≡ None) }
+        ensures moves { Moves self.old.rest.now self.new.rest.now self.old.line self.new.line }
     {
         let mut text = Text::new(alloc);
         while let Some(byte) = self.unit() {
@@ -194,16 +209,17 @@ impl<'a> Lexer<'a> {
     /// Takes a bracket.
     fn bracket(&mut self, alloc: Global) -> Result<Found, NoMemory>
         requires fits { self.old.line + length self.old.rest.now < 2 ^ 32 }
-        requires bracket { IsTrue (begins_with 91 self.old.rest.now) }
-        ensures { IfOk result (λ found.
-            TakesPiece found self.old.rest.now self.new.rest.now self.old.line self.new.line) }
+        requires bracket { IsTrue (begins_with 91 (before_nul self.old.rest.now)) }
+        ensures taken { IfOk result (λ found. TakesPiece found (before_nul self.old.rest.now)
+            (before_nul self.new.rest.now) self.old.line self.new.line) }
+        ensures moves { Moves self.old.rest.now self.new.rest.now self.old.line self.new.line }
     {
-        self.skip(1);
+        self.skip(1, 0);
         let text = self.units(alloc)?;
         if at_line_end(self.rest) {
             return Ok(Found::OpenBracket);
         }
-        self.skip(1);
+        self.skip(1, 0);
         Ok(Found::Token(Token {
             bracketed: true,
             text,
@@ -212,13 +228,16 @@ impl<'a> Lexer<'a> {
 
     /// Takes a plain token.
     fn plain(&mut self, alloc: Global) -> Result<Found, NoMemory>
-        requires on { goes_on self.old.rest.now ≡ true }
-        requires no_bracket { begins_with 91 self.old.rest.now ≡ false }
-        ensures { IfOk result (λ found.
-            TakesPiece found self.old.rest.now self.new.rest.now self.old.line self.new.line) }
+        requires fits { self.old.line + length self.old.rest.now < 2 ^ 32 }
+        requires on { goes_on (before_nul self.old.rest.now) ≡ true }
+        requires no_bracket { begins_with 91 (before_nul self.old.rest.now) ≡ false }
+        ensures taken { IfOk result (λ found. TakesPiece found (before_nul self.old.rest.now)
+            (before_nul self.new.rest.now) self.old.line self.new.line) }
+        ensures moves { Moves self.old.rest.now self.new.rest.now self.old.line self.new.line }
     {
-        let (run, rest) = self.rest.split_at(run_length(self.rest));
-        self.rest = rest;
+        let length = run_length(self.rest);
+        let run = &self.rest[..length];
+        self.skip(length, 0);
         Ok(Found::Token(Token {
             bracketed: false,
             text: Text::from_bytes(alloc, run)?,
@@ -227,29 +246,36 @@ impl<'a> Lexer<'a> {
 
     /// Takes a comment.
     fn comment(&mut self) -> Found
-        requires { IsTrue (begins_with 35 self.old.rest.now) }
-        ensures { TakesPiece result self.old.rest.now self.new.rest.now self.old.line self.new.line }
+        requires fits { self.old.line + length self.old.rest.now < 2 ^ 32 }
+        requires hash { IsTrue (begins_with 35 (before_nul self.old.rest.now)) }
+        ensures taken { TakesPiece result (before_nul self.old.rest.now) (before_nul self.new.rest.now)
+            self.old.line self.new.line }
+        ensures moves { Moves self.old.rest.now self.new.rest.now self.old.line self.new.line }
     {
         let length = line_length(self.rest);
-        self.skip(length);
+        self.skip(length, 0);
         Found::Blank
     }
 
     /// Takes white space.
     fn white(&mut self) -> Found
-        requires { IsTrue (begins_white self.old.rest.now) }
-        ensures { TakesPiece result self.old.rest.now self.new.rest.now self.old.line self.new.line }
+        requires fits { self.old.line + length self.old.rest.now < 2 ^ 32 }
+        requires white { IsTrue (begins_white (before_nul self.old.rest.now)) }
+        ensures taken { TakesPiece result (before_nul self.old.rest.now) (before_nul self.new.rest.now)
+            self.old.line self.new.line }
+        ensures moves { Moves self.old.rest.now self.new.rest.now self.old.line self.new.line }
     {
-        self.skip(1);
+        self.skip(1, 0);
         Found::Blank
     }
 
     /// Takes the next piece of a joined line.
     fn piece(&mut self, alloc: Global) -> Result<Found, NoMemory>
         requires fits { self.old.line + length self.old.rest.now < 2 ^ 32 }
-        requires within { at_line_end self.old.rest.now ≡ false }
-        ensures { IfOk result (λ found.
-            TakesPiece found self.old.rest.now self.new.rest.now self.old.line self.new.line) }
+        requires within { at_line_end (before_nul self.old.rest.now) ≡ false }
+        ensures taken { IfOk result (λ found. TakesPiece found (before_nul self.old.rest.now)
+            (before_nul self.new.rest.now) self.old.line self.new.line) }
+        ensures moves { Moves self.old.rest.now self.new.rest.now self.old.line self.new.line }
     {
         if self.join() {
             return Ok(Found::Blank);
@@ -262,12 +288,13 @@ impl<'a> Lexer<'a> {
         }
     }
 
-    /// Takes a joined line, up to its ending newline or the text's end.
+    /// Takes a joined line, up to its ending newline or the end.
     fn pieces(&mut self, alloc: Global) -> Result<Line, NoMemory>
         requires { self.old.line + length self.old.rest.now < 2 ^ 32 }
-        ensures pieces { IfOk result (λ line.
-            TakesPieces line self.old.rest.now self.new.rest.now self.old.line self.new.line) }
-        ensures ends { OnOk result (at_line_end self.new.rest.now ≡ true) }
+        ensures taken { IfOk result (λ line. TakesPieces line (before_nul self.old.rest.now)
+            (before_nul self.new.rest.now) self.old.line self.new.line) }
+        ensures ends { OnOk result (at_line_end (before_nul self.new.rest.now) ≡ true) }
+        ensures moves { Moves self.old.rest.now self.new.rest.now self.old.line self.new.line }
     {
         let mut line = Line {
             tokens: Tokens::new(alloc),
@@ -280,27 +307,28 @@ impl<'a> Lexer<'a> {
         Ok(line)
     }
 
-    /// Takes the newline that ends a joined line, if the text doesn't end here.
+    /// Takes the newline that ends a joined line, if this isn't the end.
     fn newline(&mut self)
         requires fits { self.old.line + length self.old.rest.now < 2 ^ 32 }
-        requires ends { at_line_end self.old.rest.now ≡ true }
-        ensures { EndsLine self.old.rest.now self.new.rest.now self.old.line self.new.line }
+        requires ends { at_line_end (before_nul self.old.rest.now) ≡ true }
+        ensures taken { EndsLine (before_nul self.old.rest.now) (before_nul self.new.rest.now)
+            self.old.line self.new.line }
+        ensures moves { Moves self.old.rest.now self.new.rest.now self.old.line self.new.line }
     {
-        if !self.rest.is_empty() {
-            self.skip(1);
-            self.line += 1;
+        if !at_end(self.rest) {
+            self.skip(1, 1);
         }
     }
 
     /// Takes a joined line with its newline, and answers its tokens or its fault.
-    pub fn rule(&mut self, alloc: Global) -> Result<Tokens, Refuse<LexFault>>
+    fn rule(&mut self, alloc: Global) -> Result<Tokens, Refuse<LexFault>>
         requires fits { self.old.line + length self.old.rest.now < 2 ^ 32 }
-        requires some { 0 < length self.old.rest.now }
-        ensures given { GivesLine result (answer_at self.old.line self.old.rest.now) self.old.line
-            (answer_at self.new.line self.new.rest.now) }
-        ensures fits { OnOk result
-            (self.new.line + length self.new.rest.now ≤ self.old.line + length self.old.rest.now) }
-        ensures shorter { OnOk result (length self.new.rest.now < length self.old.rest.now) }
+        requires some { 0 < length (before_nul self.old.rest.now) }
+        ensures given { GivesLine result (answer_at self.old.line (before_nul self.old.rest.now)) self.old.line
+            (answer_at self.new.line (before_nul self.new.rest.now)) }
+        ensures shorter { OnOk result
+            (length (before_nul self.new.rest.now) < length (before_nul self.old.rest.now)) }
+        ensures moves { Moves self.old.rest.now self.new.rest.now self.old.line self.new.line }
     {
         let first = self.line;
         let length = self.rest.len();
@@ -313,4 +341,45 @@ impl<'a> Lexer<'a> {
             }
         }
     }
+
+    /// Takes the joined lines up to the end, and answers their rules, or stops at the first that has a fault.
+    pub fn rules(&mut self, alloc: Global) -> Result<RawRules, Refuse<LexFault>>
+        requires { self.old.line + length self.old.rest.now < 2 ^ 32 }
+        ensures given { Gives result (answer_at self.old.line (before_nul self.old.rest.now)) }
+        ensures moves { Moves self.old.rest.now self.new.rest.now self.old.line self.new.line }
+    {
+        let mut rules = RawRules::new(alloc);
+        while !at_end(self.rest) {
+            let line = self.line;
+            let tokens = self.rule(alloc)?;
+            add_rule(&mut rules, line, tokens)?;
+        }
+        Ok(rules)
+    }
+
+    /// The physical line of the first NUL byte in what is left, if it has one.
+    pub fn nul(&self) -> Option<u32>
+        requires { self.now.line + length self.now.rest.now < 2 ^ 32 }
+        ensures { result ≡ nul_line self.now.line self.now.rest.now }
+    {
+        let mut line = self.line;
+        for byte in self.rest {
+            match *byte {
+                0 => return Some(line),
+                b'\n' => line += 1,
+                _ => {}
+            }
+        }
+        None
+    }
+}
+
+/// Adds the rule of these tokens, if there are any.
+fn add_rule(rules: &mut RawRules, line: u32, tokens: Tokens) -> Result<(), NoMemory>
+    ensures { OnOk result (rules.new ≡ rules.old ++ rule_at line tokens) }
+{
+    if !tokens.is_empty() {
+        rules.push(RawRule { line, tokens })?;
+    }
+    Ok(())
 }

@@ -1,14 +1,14 @@
-ghost use Rattle.std.specs.Prelude.{◌≡◌, ℕ, ◌+◌, ◌<◌, ◌≤◌, ◌^◌, ◌++◌, ◌↔◌, All, List, length, take, Err, Ok, IfOk, OnOk};
+ghost use Rattle.std.specs.Prelude.{◌≡◌, ℕ, ◌<◌, ◌↔◌, All, List, length, Err, Ok, IfOk};
 ghost use Rattle.pam_base.specs.declared.fault.Refuse.TheVariants as refusals;
 ghost use Rattle.pam_base.specs.declared.fault.FaultKind.TheVariants as kinds;
 ghost use Rattle.conf_lex.specs.declared.token.LexFault.{LexFault};
 ghost use Rattle.conf_lex.specs.declared.token.RawRule.{RawRule};
-ghost use Rattle.conf_lex.specs.Rules.{newlines, rule_at, Spells, HasNoFault, IsFirstFault, HasNul};
-ghost use Rattle.conf_lex.specs.Lexing.{answer_at, Gives, IfNamed};
+ghost use Rattle.conf_lex.specs.Rules.{Spells, HasNoFault, IsFirstFault, HasNul};
+ghost use Rattle.conf_lex.specs.Lexing.{Gives, IfNamed};
 
 use crate::lexer::Lexer;
-use crate::token::{LexFault, RawRule, RawRules, Tokens};
-use pam_base::{FaultKind, NoMemory, Refuse, first_place};
+use crate::token::{LexFault, RawRules};
+use pam_base::{FaultKind, Refuse};
 use std::alloc::Global;
 
 /// The most bytes of a text.
@@ -21,8 +21,10 @@ const MAX_TEXT: usize = 65536;
 /// than 65,536 bytes; `NulByte` at the physical line of the first NUL byte; then, joined line by joined line
 /// and at the first physical line of each, `RuleTooLong`, it has more than 4,096 bytes before its ending
 /// newline, with comments and joins, and `OpenBracket`, a bracket is still open at its end. A text with a
-/// fault has no rules. Without memory nothing is given; a text that is too long or has a NUL byte is refused
-/// without taking any.
+/// fault has no rules. Without memory nothing is given; but a text that is too long or has a NUL byte is
+/// refused for that, also then.
+///
+/// Each byte is read once: behind a line with a fault, only a NUL byte is looked for.
 pub fn rules(alloc: Global, text: &[u8]) -> Result<RawRules, Refuse<LexFault>>
     ensures read { IfOk result (λ rules. HasNoFault text.now × Spells text.now rules) }
     ensures tokens { IfOk result (λ rules. All (λ rule. 0 < length rule.tokens) rules) }
@@ -44,55 +46,16 @@ pub fn rules(alloc: Global, text: &[u8]) -> Result<RawRules, Refuse<LexFault>>
             kind: FaultKind::FileTooLong,
         }));
     }
-    match first_place(0, text) {
-        Some(place) => Err(Refuse::Named(LexFault {
-            line: line_of(text, place),
-            kind: FaultKind::NulByte,
-        })),
-        None => rules_of_lines(alloc, text),
-    }
-}
-
-/// The number of the physical line that the place is in.
-fn line_of(text: &[u8], place: usize) -> u32
-    requires short { length text.now ≤ 65536 }
-    requires within { place ≤ length text.now }
-    ensures { result ≡ 1 + newlines (take place text.now) }
-{
-    1 + newlines(&text[..place])
-}
-
-fn newlines(text: &[u8]) -> u32
-    requires { length text.now < 2 ^ 32 }
-    ensures { result ≡ newlines text.now }
-{
-    text.iter().filter(|byte| **byte == b'\n').count() as u32
-}
-
-/// The rules of the joined lines, or the fault of the first that has one.
-fn rules_of_lines(alloc: Global, text: &[u8]) -> Result<RawRules, Refuse<LexFault>>
-    requires { length text.now ≤ 65536 }
-    ensures { Gives result (answer_at 1 text.now) }
-{
     let mut lexer = Lexer {
         rest: text,
         line: 1,
     };
-    let mut rules = RawRules::new(alloc);
-    while !lexer.rest.is_empty() {
-        let line = lexer.line;
-        let tokens = lexer.rule(alloc)?;
-        add_rule(&mut rules, line, tokens)?;
+    let answer = lexer.rules(alloc);
+    match lexer.nul() {
+        Some(line) => Err(Refuse::Named(LexFault {
+            line,
+            kind: FaultKind::NulByte,
+        })),
+        None => answer,
     }
-    Ok(rules)
-}
-
-/// Adds the rule of these tokens, if there are any.
-fn add_rule(rules: &mut RawRules, line: u32, tokens: Tokens) -> Result<(), NoMemory>
-    ensures { OnOk result (rules.new ≡ rules.old ++ rule_at line tokens) }
-{
-    if !tokens.is_empty() {
-        rules.push(RawRule { line, tokens })?;
-    }
-    Ok(())
 }

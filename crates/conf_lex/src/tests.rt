@@ -4,7 +4,7 @@ use std::alloc::Global;
 use std::test::Fail;
 
 /// A text, and its rules or its fault as `shown` writes them.
-const ROWS: [(&[u8], &str); 53] = [
+const ROWS: [(&[u8], &str); 59] = [
     (b"", ""),
     (b"\n\n", ""),
     // a rule is the tokens of a line, and the last line may lack its newline
@@ -80,6 +80,12 @@ const ROWS: [(&[u8], &str); 53] = [
     (b"a\n[\n\0\n\0", "!3 NulByte\n"),
     (b"\0\n[", "!1 NulByte\n"),
     (b"[\0]", "!1 NulByte\n"),
+    (b"\\\0\n", "!1 NulByte\n"),
+    (b"a\n\\\r\0\n", "!2 NulByte\n"),
+    (b"[\\\0]", "!1 NulByte\n"),
+    (b"[\\\n\0", "!2 NulByte\n"),
+    (b"[\\\n\n\0", "!3 NulByte\n"),
+    (b"a\n[\n#\n\0\n\0", "!4 NulByte\n"),
 ];
 
 /// Rules one a line, as number and tokens with `|` before each and `<>` for brackets; a fault after `!`.

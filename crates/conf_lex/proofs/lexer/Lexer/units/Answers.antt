@@ -1,5 +1,9 @@
 use Rattle.conf_lex.proofs.Taking.{push_unit}
+use Rattle.conf_lex.proofs.Moving.{moves_on}
 use Rattle.conf_lex.proofs.lexer.Lexer.units.Goals as goal
 
 pub loop-byte-preserved : goal.loop-byte-preserved
-loop-byte-preserved c = rw c.in_ok-push.ensures.ok (push_unit _ _ _ _ _ _ _ _ c.loop-byte.invariant c.in-Some.ensures)
+loop-byte-preserved c = record {
+  taken = rw c.in_ok-push.ensures.ok (push_unit _ _ _ _ _ _ _ _ c.loop-byte.invariant.taken c.in-Some.ensures.taken);
+  moves = moves_on _ _ _ _ _ _ c.loop-byte.invariant.moves c.in-Some.ensures.moves;
+}
