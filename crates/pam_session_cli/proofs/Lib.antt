@@ -7,3 +7,4 @@ pub mod Running
 pub mod Turning
 pub mod Refusing
 pub mod Scripting
+pub mod Statuses

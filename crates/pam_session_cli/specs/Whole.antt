@@ -2,6 +2,7 @@
 use Rattle.std.specs.Prelude.{◌≡◌, ◌⊎◌, ℕ, ◌+◌, ◌≤◌, Bool, true, List, [], ◌++◌, length, Option, Some, None, Result, Ok, Err, OnOk}
 use Rattle.pam_base.specs.declared.code.Code.{Code}
 use Rattle.pam_base.specs.declared.code.Code.TheVariants.{Success, Abort}
+use Rattle.pam_base.specs.declared.fault.ScriptKind.{ScriptKind}
 use Rattle.pam_outside.specs.Files.{VaultState}
 use Rattle.pam_outside.specs.Streams.{SourceState, SinkState}
 use Rattle.control_words.specs.Stack.{Stack}
@@ -80,6 +81,19 @@ pub record Runs (status : ℕ) (root : List ℕ) (v w : VaultState) (x y : Sourc
   pub result : Result Ending Stop
   pub is : status ≡ status_of result
   pub script : Scripts result root v w x y p q
+
+-- a run of the whole script: no line is refused, its report is written, and the vault is as it leaves it
+pub record IsDone (start : State) (w : VaultState) (x y : SourceState) (p q : SinkState) : Type 0 where
+  pub accepted : (run_of start x.left true).refused ≡ None
+  pub written : q.written ≡ p.written ++ full_text Done (run_of start x.left true)
+  pub vault : (run_of start x.left true).last.vault ≡ w
+  pub read_out : y.left ≡ []
+
+-- a run up to the line that the whole script is refused for: the report of those before it, and why, is written
+pub record IsRefused (start : State) (x : SourceState) (p q : SinkState) : Type 0 where
+  pub kind : ScriptKind
+  pub refused : (run_of start x.left true).refused ≡ Some kind
+  pub written : q.written ≡ p.written ++ full_text (Refused kind) (run_of start x.left true)
 
 abbrev pub IsStatus : ℕ → Type 0
 IsStatus n = (result : Result Ending Stop) × (n ≡ status_of result)

@@ -4,7 +4,7 @@ ghost use Rattle.pam_outside.specs.Files.{VaultState};
 ghost use Rattle.pam_session_cli.specs.Command.{root_of_words, Usage};
 ghost use Rattle.pam_session_cli.specs.Run.{opening};
 ghost use Rattle.pam_session_cli.specs.State.{slot_of, session_state};
-ghost use Rattle.pam_session_cli.specs.Whole.{closings, ending_text, Scripts, Finishes, Runs, IsStatus, Completes};
+ghost use Rattle.pam_session_cli.specs.Whole.{closings, ending_text, Scripts, Finishes, Runs, IsDone, IsRefused, IsStatus, Completes};
 
 use crate::command::root_of;
 use crate::drive::{Ending, Stop, drive};
@@ -17,7 +17,12 @@ use std::alloc::Global;
 const USAGE: &str = "usage: pamsess run ROOT\n";
 
 /// The program `pamsess`: reads the calls of a script, applies them to the configuration under a root, and
-/// writes what each does. `words` are those of the command line, without the program's name.
+/// writes what each does. `words` are those of the command line, without the program's name: `run` and a ROOT
+/// that isn't empty and doesn't begin with `-`.
+///
+/// It answers the program's status: 0, the script was run to its end; 2, the words are others, so only a line
+/// on the usage is written; 4, memory ran out; 5, the script's source failed; 6, the sink failed; 7, a line of
+/// the script was refused. Nothing more is written after a failure of memory, source or sink.
 pub fn pamsess<S: Source, K: Sink>(
     alloc: Global,
     words: &[String],
@@ -25,7 +30,21 @@ pub fn pamsess<S: Source, K: Sink>(
     out: &mut K,
     vault: &mut dyn Vault,
 ) -> u8
-    // Where the words are run ROOT, and all objects tell, this is a run of the script.
+    // Where the words are run ROOT, and all objects tell: with status 0 the whole script was read, and its
+    // report is written.
+    ensures done { (root : List ℕ) → root_of_words words.now ≡ Some root →
+        IsTrue (S.source_tells script.old) → IsTrue (K.sink_tells out.old) →
+        IsTrue (vault_tells vault.old) → result ≡ 0 →
+        IsDone (opening root (vault_holds vault.old)) (vault_holds vault.new)
+        (S.source_holds script.old) (S.source_holds script.new)
+        (K.sink_holds out.old) (K.sink_holds out.new) }
+    // With status 7 the whole script is refused for the line that the report ends with.
+    ensures refused { (root : List ℕ) → root_of_words words.now ≡ Some root →
+        IsTrue (S.source_tells script.old) → IsTrue (K.sink_tells out.old) →
+        IsTrue (vault_tells vault.old) → result ≡ 7 →
+        IsRefused (opening root (vault_holds vault.old)) (S.source_holds script.old)
+        (K.sink_holds out.old) (K.sink_holds out.new) }
+    // By any status: what was read and written, and how often.
     ensures told { (root : List ℕ) → root_of_words words.now ≡ Some root →
         IsTrue (S.source_tells script.old) → IsTrue (K.sink_tells out.old) →
         IsTrue (vault_tells vault.old) → Runs result root
