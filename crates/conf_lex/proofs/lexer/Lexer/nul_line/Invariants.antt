@@ -1,6 +1,6 @@
 use Rattle.std.proofs.Common.{◌≡◌, ◌+◌, ◌≤◌, length, drop}
 use Rattle.conf_lex.specs.Lexing.{nul_line}
-use Rattle.conf_lex.proofs.lexer.Lexer.nul.Given as goal
+use Rattle.conf_lex.proofs.lexer.Lexer.nul_line.Given as goal
 
 abbrev pub invariant-loop-byte : goal.invariant-loop-byte
 invariant-loop-byte l = record {
