@@ -1,6 +1,6 @@
-use crate::{Action, Control, ControlFault, Node, Nodes, Rule, control_of, keyword, module_name};
 use conf_lex::Token;
-use pam_base::{ALL_CODES, Code, FaultKind, NoMemory, Text, Texts};
+use control_words::{Action, Control, ControlFault, control_of, keyword};
+use pam_base::{ALL_CODES, Code, FaultKind, NoMemory, Text};
 use std::alloc::Global;
 use std::test::Fail;
 
@@ -66,40 +66,6 @@ fn other_words_are_no_keywords(rt: HostRuntime) {
     let words: [&[u8]; 5] = [b"", b"require", b"required ", b"include", b"substack"];
     for word in words {
         assert!(rt; keyword(word).is_none(), "at {word:?}");
-    }
-}
-
-#[test]
-fn nodes_keep_their_order(rt: HostRuntime) -> Result<(), Fail> {
-    let alloc = rt.alloc();
-    let mut nodes = Nodes::new(alloc);
-    assert!(rt; nodes.is_empty());
-    let rule = Rule {
-        silent: false,
-        control: keyword(b"required").expect(&rt, "a keyword"),
-        path: Text::from_bytes(alloc, b"pam_unix.so")?,
-        args: Texts::new(alloc),
-    };
-    nodes.push(Node::Line(rule))?;
-    nodes.push(Node::Sub(Nodes::new(alloc)))?;
-    assert_eq!(rt; nodes.len(), 2);
-    assert!(rt; !nodes.is_empty());
-    assert!(rt; matches!(nodes.items(), [Node::Line(_), Node::Sub(_)]));
-    Ok(())
-}
-
-#[test]
-fn a_module_is_named_by_the_last_part_of_its_path(rt: HostRuntime) {
-    let rows: [(&[u8], &[u8]); 6] = [
-        (b"pam_unix.so", b"pam_unix"),
-        (b"/lib/security/pam_unix.so", b"pam_unix"),
-        (b"pam_unix", b"pam_unix"),
-        (b".so", b""),
-        (b"a/", b""),
-        (b"", b""),
-    ];
-    for (path, name) in rows {
-        assert_eq!(rt; module_name(path), name, "at {path:?}");
     }
 }
 

@@ -1,4 +1,4 @@
-use super::*;
+use conf_lex::{RawRule, Token, rules};
 use pam_base::Refuse;
 use std::alloc::Global;
 use std::test::Fail;
