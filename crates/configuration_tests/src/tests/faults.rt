@@ -1,42 +1,73 @@
 use pam_base::{Code, FaultKind, NoMemory, Refuse, ScriptKind};
 
+// The names of the faults of a configuration and of a script, in the order of their numbers.
+const CONFIGURATION: [&str; 17] = [
+    "NotBuilt",
+    "OpenBracket",
+    "NulByte",
+    "RuleTooLong",
+    "FileTooLong",
+    "BadControl",
+    "BadReturnName",
+    "BadAction",
+    "ZeroJump",
+    "BadType",
+    "MissingField",
+    "IncludeAbsent",
+    "TooDeep",
+    "TooManyLines",
+    "TooManyFiles",
+    "NoService",
+    "ReadFailed",
+];
+
+const SCRIPT: [&str; 5] = [
+    "NotBuilt",
+    "BadWord",
+    "BadNumeral",
+    "LineTooLong",
+    "TooManyLines",
+];
+
 #[test]
 fn faults_of_a_configuration_are_printed_by_number_and_name(rt: HostRuntime) {
-    for (fault, number, name) in [
-        (FaultKind::NotBuilt, 0, "NotBuilt"),
-        (FaultKind::OpenBracket, 1, "OpenBracket"),
-        (FaultKind::NulByte, 2, "NulByte"),
-        (FaultKind::RuleTooLong, 3, "RuleTooLong"),
-        (FaultKind::FileTooLong, 4, "FileTooLong"),
-        (FaultKind::BadControl, 5, "BadControl"),
-        (FaultKind::BadReturnName, 6, "BadReturnName"),
-        (FaultKind::BadAction, 7, "BadAction"),
-        (FaultKind::ZeroJump, 8, "ZeroJump"),
-        (FaultKind::BadType, 9, "BadType"),
-        (FaultKind::MissingField, 10, "MissingField"),
-        (FaultKind::IncludeAbsent, 11, "IncludeAbsent"),
-        (FaultKind::TooDeep, 12, "TooDeep"),
-        (FaultKind::TooManyLines, 13, "TooManyLines"),
-        (FaultKind::TooManyFiles, 14, "TooManyFiles"),
-        (FaultKind::NoService, 15, "NoService"),
-        (FaultKind::ReadFailed, 16, "ReadFailed"),
-    ] {
-        assert_eq!(rt; fault.number(), number, "at {name}");
-        assert_eq!(rt; fault.name(), name);
+    let faults = [
+        FaultKind::NotBuilt,
+        FaultKind::OpenBracket,
+        FaultKind::NulByte,
+        FaultKind::RuleTooLong,
+        FaultKind::FileTooLong,
+        FaultKind::BadControl,
+        FaultKind::BadReturnName,
+        FaultKind::BadAction,
+        FaultKind::ZeroJump,
+        FaultKind::BadType,
+        FaultKind::MissingField,
+        FaultKind::IncludeAbsent,
+        FaultKind::TooDeep,
+        FaultKind::TooManyLines,
+        FaultKind::TooManyFiles,
+        FaultKind::NoService,
+        FaultKind::ReadFailed,
+    ];
+    for (place, fault) in faults.iter().enumerate() {
+        assert_eq!(rt; fault.number() as usize, place);
+        assert_eq!(rt; fault.name(), CONFIGURATION[place]);
     }
 }
 
 #[test]
 fn faults_of_a_script_are_printed_by_number_and_name(rt: HostRuntime) {
-    for (fault, number, name) in [
-        (ScriptKind::NotBuilt, 0, "NotBuilt"),
-        (ScriptKind::BadWord, 1, "BadWord"),
-        (ScriptKind::BadNumeral, 2, "BadNumeral"),
-        (ScriptKind::LineTooLong, 3, "LineTooLong"),
-        (ScriptKind::TooManyLines, 4, "TooManyLines"),
-    ] {
-        assert_eq!(rt; fault.number(), number, "at {name}");
-        assert_eq!(rt; fault.name(), name);
+    let faults = [
+        ScriptKind::NotBuilt,
+        ScriptKind::BadWord,
+        ScriptKind::BadNumeral,
+        ScriptKind::LineTooLong,
+        ScriptKind::TooManyLines,
+    ];
+    for (place, fault) in faults.iter().enumerate() {
+        assert_eq!(rt; fault.number() as usize, place);
+        assert_eq!(rt; fault.name(), SCRIPT[place]);
     }
 }
 
