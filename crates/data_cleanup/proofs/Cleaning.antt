@@ -5,8 +5,9 @@ use Rattle.std.proofs.lemmas.List.{map-append, reverse-append, append-nil}
 use Rattle.std.proofs.lemmas.List.Folds.{list_any-append}
 use Rattle.data_cleanup.specs.Datum.{PlainDatum}
 use Rattle.data_cleanup.specs.Ledger.{PlainLedger, is_filed}
-use Rattle.data_cleanup.specs.Grows.{AwaitsCleanup, AwaitCleanup, times, receipts_for, ledger_after}
+use Rattle.data_cleanup.specs.Cleanup.{Notes, AwaitsCleanup, AwaitCleanup, IsCleaningUp, times, receipts_for, ledger_after}
 use Rattle.data_cleanup.specs.declared.receipt.Filed.{Filed}
+use Rattle.data_cleanup.specs.declared.receipt.Receipt.{Receipt}
 
 pub times-append : (id : ℕ) (xs ys : List PlainDatum) → times id (xs ++ ys) ≡ times id xs + times id ys
 times-append id [] ys = omega arith
@@ -24,31 +25,33 @@ pub all-back : {A : Type 0} (P : A → Type 0) (xs ys : List A) → AllByRecursi
 all-back P [] ys a = a
 all-back P (x ∷ xs) ys a = all-back P xs ys a.1
 
--- what was filed, and what the data that are left will add; both lists stand in the order of filing
-pub record IsCleaningUp (note : ℕ → List ℕ → ℕ → ℕ) (status : ℕ) (before : PlainLedger) (all : List PlainDatum) (now : PlainLedger) (left : List PlainDatum) : Type 0 where
-  pub births : now.births ≡ before.births
-  pub filed : now.filed ++ receipts_for note status (length before.births) left ≡ before.filed ++ receipts_for note status (length before.births) all
-
-pub begins : (note : ℕ → List ℕ → ℕ → ℕ) (status : ℕ) (before : PlainLedger) (all : List PlainDatum) → IsCleaningUp note status before all before all
+pub begins : (note : Notes) (status : ℕ) (before : PlainLedger) (all : List PlainDatum) → IsCleaningUp note status before all before all
 begins note status before all = record { births = refl; filed = refl }
 
-pub goes_on : (note : ℕ → List ℕ → ℕ → ℕ) (status : ℕ) (before : PlainLedger) (all : List PlainDatum) (now next : PlainLedger) (left after : List PlainDatum) (d : PlainDatum)
-    → IsCleaningUp note status before all now left → left ≡ d ∷ after
+one_more : (note : Notes) (status : ℕ) (before : PlainLedger) (all : List PlainDatum) (now next : PlainLedger) (left rest : List PlainDatum) (d : PlainDatum)
+    → IsCleaningUp note status before all now left → left ≡ d ∷ rest
     → next ≡ record { births = now.births; filed = now.filed ++ record { receipt = record { id = d.id; status = status; note = note d.owner d.payload status }; mark = length now.births } ∷ [] }
-    → IsCleaningUp note status before all next after
-goes_on note status before all now next left after d t took filed =
+    → IsCleaningUp note status before all next rest
+one_more note status before all now next left rest d t took filed =
     let f : Filed = record { receipt = record { id = d.id; status = status; note = note d.owner d.payload status }; mark = length now.births } in
     record {
       births = ap (λ (l : PlainLedger). l.births) filed ∙ t.births;
-      filed = ap (λ (l : PlainLedger). l.filed ++ receipts_for note status (length before.births) after) filed
-          ∙ append_assoc now.filed (f ∷ []) (receipts_for note status (length before.births) after)
+      filed = ap (λ (l : PlainLedger). l.filed ++ receipts_for note status (length before.births) rest) filed
+          ∙ append_assoc now.filed (f ∷ []) (receipts_for note status (length before.births) rest)
           ∙ rw t.births (rw took at t.filed);
     }
+
+pub goes_on : (note : Notes) (status : ℕ) (before : PlainLedger) (all : List PlainDatum) (now next : PlainLedger) (left rest : List PlainDatum) (d : PlainDatum) (receipt : Receipt)
+    → IsCleaningUp note status before all now left → left ≡ d ∷ rest
+    → receipt ≡ record { id = d.id; status = status; note = note d.owner d.payload status }
+    → next ≡ record { births = now.births; filed = now.filed ++ record { receipt = receipt; mark = length now.births } ∷ [] }
+    → IsCleaningUp note status before all next rest
+goes_on note status before all now next left rest d receipt t took is filed = one_more note status before all now next left rest d t took (rw is at filed)
 
 ledger_is : (bs cs : _) (fs gs : List Filed) → bs ≡ cs → fs ≡ gs → ◌≡◌ {A = PlainLedger} (record { births = bs; filed = fs }) (record { births = cs; filed = gs })
 ledger_is bs cs fs gs e f = cc
 
-pub ends : (note : ℕ → List ℕ → ℕ → ℕ) (status : ℕ) (before : PlainLedger) (all : List PlainDatum) (now : PlainLedger) (left : List PlainDatum)
+pub ends : (note : Notes) (status : ℕ) (before : PlainLedger) (all : List PlainDatum) (now : PlainLedger) (left : List PlainDatum)
     → IsCleaningUp note status before all now left → left ≡ [] → now ≡ ledger_after note status all before
 ends note status before all now left t none =
     let filed : now.filed ++ [] ≡ before.filed ++ receipts_for note status (length before.births) all = rw none at t.filed in
@@ -67,16 +70,16 @@ none_left true n e = absurd (omega (arith, e))
 none_left false n e = omega (arith, e)
 
 -- a datum that stands elsewhere has another id
-still_open : (modules : ℕ) (ledger : PlainLedger) (f : Filed) (ds : List PlainDatum) → times f.receipt.id ds ≡ 0
+still_await : (modules : ℕ) (ledger : PlainLedger) (f : Filed) (ds : List PlainDatum) → times f.receipt.id ds ≡ 0
     → AllByRecursion (AwaitsCleanup modules ledger) ds
     → AllByRecursion (AwaitsCleanup modules (record { births = ledger.births; filed = ledger.filed ++ f ∷ [] })) ds
-still_open modules ledger f [] none all = tt
-still_open modules ledger f (x ∷ xs) none all = (
+still_await modules ledger f [] none all = tt
+still_await modules ledger f (x ∷ xs) none all = (
   record {
     outstanding = record { born = all.0.outstanding.born; unfiled = unfiled_still ledger f x.id all.0.outstanding.unfiled (apart _ _ none) };
     owner = all.0.owner;
   },
-  still_open modules ledger f xs (none_left _ _ none) all.1,
+  still_await modules ledger f xs (none_left _ _ none) all.1,
 )
 
 eqb_same : (n : ℕ) → eqb n n ≡ true
@@ -89,19 +92,20 @@ less : (b : Bool) (n : ℕ) → cond b 1 0 + n ≤ 1 → n ≤ 1
 less true n le = omega (arith, le)
 less false n le = omega (arith, le)
 
--- the first datum gets its receipt, and the others stay open
-pub taken : (modules : ℕ) (ledger next : PlainLedger) (f : Filed) (d : PlainDatum) (all ds : List PlainDatum) → f.receipt.id ≡ d.id → all ≡ d ∷ ds
-    → next ≡ record { births = ledger.births; filed = ledger.filed ++ f ∷ [] }
-    → AwaitCleanup modules ledger all → AwaitCleanup modules next ds
-taken modules ledger next f d all ds same is filed o =
-    let o' : AwaitCleanup modules ledger (d ∷ ds) = subst (AwaitCleanup modules ledger) is o in
-    subst (λ (l : PlainLedger). AwaitCleanup modules l ds) (sym filed) (record {
-      each = still_open modules ledger f ds (rw same (none_more d.id ds (o'.once d.id))) o'.each.1;
+-- the first datum gets its receipt, and the others still await theirs
+pub others_await : (modules : ℕ) (ledger next : PlainLedger) (all rest : List PlainDatum) (d : PlainDatum) (receipt : Receipt) → AwaitCleanup modules ledger all → all ≡ d ∷ rest
+    → receipt.id ≡ d.id → next ≡ record { births = ledger.births; filed = ledger.filed ++ record { receipt = receipt; mark = length ledger.births } ∷ [] }
+    → AwaitCleanup modules next rest
+others_await modules ledger next all rest d receipt o is same filed =
+    let f : Filed = record { receipt = receipt; mark = length ledger.births } in
+    let o' : AwaitCleanup modules ledger (d ∷ rest) = subst (AwaitCleanup modules ledger) is o in
+    subst (λ (l : PlainLedger). AwaitCleanup modules l rest) (sym filed) (record {
+      each = still_await modules ledger f rest (rw same (none_more d.id rest (o'.once d.id))) o'.each.1;
       once = λ id. less _ _ (o'.once id);
     })
 
-pub first_live : (modules : ℕ) (ledger : PlainLedger) (all ds : List PlainDatum) (d : PlainDatum) → all ≡ d ∷ ds → AwaitCleanup modules ledger all → AwaitsCleanup modules ledger d
-first_live modules ledger all ds d is o = let o' : AwaitCleanup modules ledger (d ∷ ds) = subst (AwaitCleanup modules ledger) is o in o'.each.0
+pub next_awaits : (modules : ℕ) (ledger : PlainLedger) (all rest : List PlainDatum) (d : PlainDatum) → AwaitCleanup modules ledger all → all ≡ d ∷ rest → AwaitsCleanup modules ledger d
+next_awaits modules ledger all rest d o is = let o' : AwaitCleanup modules ledger (d ∷ rest) = subst (AwaitCleanup modules ledger) is o in o'.each.0
 
 pub all-reverse : {A : Type 0} (P : A → Type 0) (xs : List A) → AllByRecursion P xs → AllByRecursion P (reverse xs)
 all-reverse P [] a = tt
@@ -112,8 +116,8 @@ times-reverse id [] = refl
 times-reverse id (x ∷ xs) = ap (times id) (reverse-append (x ∷ []) xs) ∙ omega (arith, times-append id (reverse xs) (x ∷ []), times-reverse id xs)
 
 -- in the other order they are open too
-pub open_reverse : (modules : ℕ) (ledger : PlainLedger) (ds : List PlainDatum) → AwaitCleanup modules ledger ds → AwaitCleanup modules ledger (reverse ds)
-open_reverse modules ledger ds o = record { each = all-reverse _ ds o.each; once = λ id. rw (times-reverse id ds) (o.once id) }
+pub await_reverse : (modules : ℕ) (ledger : PlainLedger) (ds : List PlainDatum) → AwaitCleanup modules ledger ds → AwaitCleanup modules ledger (reverse ds)
+await_reverse modules ledger ds o = record { each = all-reverse _ ds o.each; once = λ id. rw (times-reverse id ds) (o.once id) }
 
 pub newest_first : (xs ys : List PlainDatum) (d : PlainDatum) → xs ≡ ys ++ d ∷ [] → reverse xs ≡ d ∷ reverse ys
 newest_first xs ys d e = ap reverse e ∙ reverse-append ys (d ∷ [])

@@ -4,3 +4,4 @@ pub mod Placing
 pub mod Cleaning
 pub mod Growing
 pub mod Setting
+mod Rows

@@ -5,13 +5,15 @@ use Rattle.std.specs.Str.{bytes_eq}
 use Rattle.std.proofs.lemmas.List.{map-append, append-nil}
 use Rattle.std.proofs.lemmas.Bool.{eqb-true}
 use Rattle.data_cleanup.specs.Datum.{PlainDatum}
+use Rattle.data_cleanup.specs.DataList.{PlainDataList, birth_of, datum_of, with_datum, data_named, hold, hold_all}
 use Rattle.data_cleanup.specs.Ledger.{PlainLedger, IsSound, AreNumbered, filed_ids}
-use Rattle.data_cleanup.specs.DataList.{PlainDataList, datum_of, with_datum, data_named, hold}
-use Rattle.data_cleanup.specs.Grows.{AwaitsCleanup, AwaitCleanup, IsOf, AreSwept, Grows, times, receipts_for, ledger_after, replacements, with_births, data_replace}
-use Rattle.data_cleanup.specs.Sets.{hold_all, IsBy, Sets}
+use Rattle.data_cleanup.specs.Cleanup.{Notes, AwaitsCleanup, AwaitCleanup, times, receipts_for, data_replace, swept_list, swept_ledger}
+use Rattle.data_cleanup.specs.Sets.{IsBy, Sets}
+use Rattle.data_cleanup.specs.Grows.{IsOf, AreSwept, Grows, replacements, with_births}
 use Rattle.data_cleanup.specs.declared.datum.Birth.{Birth}
 use Rattle.data_cleanup.specs.declared.receipt.Filed.{Filed}
 use Rattle.data_cleanup.proofs.Cleaning.{times-append, all-append, all-front, all-back}
+use Rattle.data_cleanup.proofs.Growing.{list_is}
 use Rattle.data_cleanup.proofs.Sound.{ids_below}
 
 pub all-map : {A : Type 0} (P Q : A → Type 0) (xs : List A) → ((x : A) → P x → Q x) → AllByRecursion P xs → AllByRecursion Q xs
@@ -112,15 +114,15 @@ added_length : (before after : PlainLedger) (added : List Birth) → after.birth
 added_length before after added e = ap length e ∙ length-append before.births added
 
 -- Data that were set are open, and so are those that they replacements.
-pub sets_open : (modules handle owner : ℕ) (old : PlainDataList) (before : PlainLedger) (new : PlainDataList) (after : PlainLedger)
+pub sets_await : (modules owner : ℕ) (old : PlainDataList) (before : PlainLedger) (new : PlainDataList) (after : PlainLedger)
     → IsSound before.births before.filed → AreNumbered 0 after.births → owner < modules
-    → AwaitCleanup modules before (old.gone ++ old.live) → Sets handle owner old before new after → AwaitCleanup modules after (new.gone ++ new.live)
-sets_open modules handle owner old before new after sound numbered within o s =
+    → AwaitCleanup modules before (old.gone ++ old.live) → Sets owner old before new after → AwaitCleanup modules after (new.gone ++ new.live)
+sets_await modules owner old before new after sound numbered within o s =
     let start : AreSetting modules (length before.births) before.filed (old.gone ++ old.live) = record {
       each = all-map (AwaitsCleanup modules before) _ (old.gone ++ old.live) (λ (d : PlainDatum) (p : AwaitsCleanup modules before d). record { below = p.outstanding.born; unfiled = p.outstanding.unfiled; owner = p.owner }) o.each;
       once = o.once;
     } in
-    let all = setting_all modules handle owner (length before.births) before.filed old s.added (added_numbered before after s.added s.births numbered) s.each within (fresh before.births before.filed sound) start in
+    let all = setting_all modules old.handle owner (length before.births) before.filed old s.added (added_numbered before after s.added s.births numbered) s.each within (fresh before.births before.filed sound) start in
     let size = added_length before after s.added s.births in
     subst (λ (l : PlainDataList). AwaitCleanup modules after (l.gone ++ l.live)) (sym s.list) (record {
       each = all-map (IsSetting modules (length before.births + length s.added) before.filed) (AwaitsCleanup modules after) _ (λ (d : PlainDatum) (p : IsSetting modules (length before.births + length s.added) before.filed d). record {
@@ -156,16 +158,20 @@ replaced_below : (n : ℕ) (live : List PlainDatum) (bs : List Birth) → AllByR
 replaced_below n live [] all = tt
 replaced_below n live (b ∷ bs) all = all-append _ _ _ (all_paired n b.id (data_named live b.name) all.0) (replaced_below n (with_datum live (datum_of b)) bs all.1)
 
-all_swept : (note : ℕ → List ℕ → ℕ → ℕ) (n : ℕ) (rs : List (PlainDatum × ℕ)) → AllByRecursion (λ (r : PlainDatum × ℕ). r.1 < n) rs
+all_swept : (note : Notes) (n : ℕ) (rs : List (PlainDatum × ℕ)) → AllByRecursion (λ (r : PlainDatum × ℕ). r.1 < n) rs
     → AreSwept note n rs (receipts_for note data_replace n (map (λ (r : PlainDatum × ℕ). r.0) rs))
 all_swept note n [] all = tt
 all_swept note n (r ∷ rs) all = (record { id = refl; status = refl; by_owner = refl; after = all.0; within = omega arith }, all_swept note n rs all.1)
 
--- Data that were set, with the tidying of those that they replacements, grow.
-pub sets_grow : (note : ℕ → List ℕ → ℕ → ℕ) (modules handle owner : ℕ) (old : PlainDataList) (before : PlainLedger) (mid : PlainDataList) (after : PlainLedger)
-    → AreNumbered 0 after.births → owner < modules → old.gone ≡ [] → Sets handle owner old before mid after
-    → Grows note modules handle old.live before mid.live (ledger_after note data_replace mid.gone after)
-sets_grow note modules handle owner old before mid after numbered within none s =
+held_handle : (h : PlainDataList) (bs : List Birth) → (hold_all h bs).handle ≡ h.handle
+held_handle h [] = refl
+held_handle h (b ∷ bs) = held_handle (hold h b) bs
+
+-- Data that were set, with the cleanup of those that they replaced, grow.
+pub sets_grow : (note : Notes) (modules owner : ℕ) (old : PlainDataList) (before : PlainLedger) (mid : PlainDataList) (after : PlainLedger)
+    → AreNumbered 0 after.births → owner < modules → old.gone ≡ [] → Sets owner old before mid after
+    → Grows note modules old before (swept_list mid) (swept_ledger note mid after)
+sets_grow note modules owner old before mid after numbered within none s =
     let size = added_length before after s.added s.births in
     let gone : mid.gone ≡ map (λ (r : PlainDatum × ℕ). r.0) (replacements old.live s.added) = ap (λ (l : PlainDataList). l.gone) s.list ∙ held_gone old s.added ∙ rw none refl in
     let ids : AllByRecursion (λ (b : Birth). b.id < length after.births) s.added = rw size (numbered_below (length before.births) s.added (added_numbered before after s.added s.births numbered)) in
@@ -173,26 +179,41 @@ sets_grow note modules handle owner old before mid after numbered within none s 
       added = s.added;
       receipts = receipts_for note data_replace (length after.births) mid.gone;
       births = s.births;
-      each = all-map (IsBy handle owner) (IsOf modules handle) s.added (λ (b : Birth) (p : IsBy handle owner b). record { handle_is = p.handle_is; owner_is = omega (arith, p.owner_is, within) }) s.each;
-      live = ap (λ (l : PlainDataList). l.live) s.list ∙ held_live old s.added;
+      each = all-map (IsBy old.handle owner) (IsOf modules old.handle) s.added (λ (b : Birth) (p : IsBy old.handle owner b). record { handle_is = p.handle_is; owner_is = omega (arith, p.owner_is, within) }) s.each;
+      list = list_is _ _ _ _ (ap (λ (l : PlainDataList). l.handle) s.list ∙ held_handle old s.added) (ap (λ (l : PlainDataList). l.live) s.list ∙ held_live old s.added);
       filed = ap (λ (fs : List Filed). fs ++ receipts_for note data_replace (length after.births) mid.gone) s.filed;
       swept = subst (λ (ds : List PlainDatum). AreSwept note (length after.births) (replacements old.live s.added) (receipts_for note data_replace (length after.births) ds)) (sym gone) (all_swept note (length after.births) (replacements old.live s.added) (replaced_below (length after.births) old.live s.added ids));
     }
 
 -- Nothing was set.
-pub sets_none : (handle owner : ℕ) (l : PlainDataList) (ledger : PlainLedger) → Sets handle owner l ledger l ledger
-sets_none handle owner l ledger = record { added = []; births = sym (append-nil ledger.births); each = tt; list = refl; filed = refl }
+pub sets_none : (owner : ℕ) (l : PlainDataList) (ledger : PlainLedger) → Sets owner l ledger l ledger
+sets_none owner l ledger = record { added = []; births = sym (append-nil ledger.births); each = tt; list = refl; filed = refl }
+
+-- One birth was.
+pub sets_one : (owner : ℕ) (old new : PlainDataList) (before after : PlainLedger) (name payload : List ℕ)
+    → new ≡ hold old (birth_of (length before.births) old.handle owner name payload)
+    → after ≡ record { births = before.births ++ birth_of (length before.births) old.handle owner name payload ∷ []; filed = before.filed }
+    → Sets owner old before new after
+sets_one owner old new before after name payload list ledger = record {
+  added = birth_of (length before.births) old.handle owner name payload ∷ [];
+  births = ap (λ (l : PlainLedger). l.births) ledger;
+  each = (record { handle_is = refl; owner_is = refl }, tt);
+  list = list;
+  filed = ap (λ (l : PlainLedger). l.filed) ledger;
+}
 
 hold_all-append : (h : PlainDataList) (xs ys : List Birth) → hold_all h (xs ++ ys) ≡ hold_all (hold_all h xs) ys
 hold_all-append h [] ys = refl
 hold_all-append h (x ∷ xs) ys = hold_all-append (hold h x) xs ys
 
 -- What was set, and then more.
-pub sets_more : (handle owner : ℕ) (x y z : PlainDataList) (a b c : PlainLedger) → Sets handle owner x a y b → Sets handle owner y b z c → Sets handle owner x a z c
-sets_more handle owner x y z a b c s t = record {
-  added = s.added ++ t.added;
-  births = t.births ∙ rw s.births (append_assoc a.births s.added t.added);
-  each = all-append _ s.added t.added s.each t.each;
-  list = t.list ∙ rw s.list (sym (hold_all-append x s.added t.added));
-  filed = t.filed ∙ s.filed;
-}
+pub sets_transitive : (owner : ℕ) (x y z : PlainDataList) (a b c : PlainLedger) → Sets owner x a y b → Sets owner y b z c → Sets owner x a z c
+sets_transitive owner x y z a b c s t =
+    let handle : y.handle ≡ x.handle = ap (λ (l : PlainDataList). l.handle) s.list ∙ held_handle x s.added in
+    record {
+      added = s.added ++ t.added;
+      births = t.births ∙ rw s.births (append_assoc a.births s.added t.added);
+      each = all-append _ s.added t.added s.each (subst (λ n. AllByRecursion (IsBy n owner) t.added) handle t.each);
+      list = t.list ∙ rw s.list (sym (hold_all-append x s.added t.added));
+      filed = t.filed ∙ s.filed;
+    }
