@@ -5,3 +5,4 @@ pub mod Lines
 pub mod Words
 pub mod Number
 pub mod Quote
+pub mod Counts
