@@ -1,3 +1,2 @@
 mod Longest
 mod Spreading
-mod Numbers

@@ -1,6 +1,6 @@
 ghost use Rattle.std.specs.Prelude.{◌≡◌, ◌≤◌, ℕ};
 ghost use Rattle.pam_base.specs.declared.code.Code.{Code};
-ghost use Rattle.fail_delay.specs.DelayFn.{OneNumberEach, OneNumberEach-prop, number_given};
+ghost use Rattle.fail_delay.specs.DelayFn.{GivesOneNumber, IsNumberGiven};
 
 use pam_base::Code;
 
@@ -11,9 +11,10 @@ pub const LONGEST_ASKED: u32 = 90_000_000;
 /// microseconds.
 pub type DelayRule = Box<dyn Fn(Code, u32) -> u32>;
 
-/// What contracts see of a delay function: the one number that it answers for a code and an asked delay.
+/// What contracts see of a delay function.
 pub trait DelayTold {
-    ghost delay_number: { Self → Code → ℕ → ℕ };
+    // For a code and an asked delay up to 90 seconds the function gives this number.
+    ghost delay_is: { Self → (Code → ℕ → ℕ) → Type 0 };
 }
 
 /// An application's own delay function (PAM_FAIL_DELAY, `pam_fail_delay(3)`). Unlike that page's it doesn't
@@ -22,39 +23,32 @@ pub trait DelayTold {
 pub struct DelayFn {
     rule: DelayRule,
     ghost callable: { (code : Code) (asked : ℕ) → asked ≤ 90000000 → DelayRule.pre rule code asked },
-    ghost one_number: { OneNumberEach (DelayRule.post rule) } by { OneNumberEach-prop _ },
+    ghost one_number: { GivesOneNumber (DelayRule.post rule) },
 }
 
 impl DelayTold for DelayFn {
-    ghost delay_number = { λ f. number_given f.one_number };
+    ghost delay_is = { λ f number. IsNumberGiven (DelayRule.post f.rule) number };
 }
 
 impl DelayFn {
-    /// The function may be called for every code and every asked delay up to 90 seconds. It answers one number
+    /// The function may be called for every code and every asked delay up to 90 seconds. It gives one number
     /// for each pair of them, always the same, and at most 60 seconds.
     pub fn new(rule: DelayRule) -> Self
         requires callable { (code : Code) (asked : ℕ) → asked ≤ 90000000 → DelayRule.pre rule code asked }
-        requires one_number { OneNumberEach (DelayRule.post rule) }
-        ensures { (code : Code) (asked n : ℕ) → asked ≤ 90000000 → DelayRule.post rule code asked n →
-            n ≡ ⟦<DelayFn as DelayTold>⟧.delay_number result code asked }
+        requires one_number { GivesOneNumber (DelayRule.post rule) }
+        ensures { (number : Code → ℕ → ℕ) → IsNumberGiven (DelayRule.post rule) number →
+            ⟦<DelayFn as DelayTold>⟧.delay_is result number }
     {
         DelayFn { rule }
     }
 
-    /// How long to wait, in microseconds: the function's answer for the code and the asked delay, at most 60
-    /// seconds.
-    #[tactic(auto, using(crate::proofs::Numbers::number_within))]
+    /// How long to wait, in microseconds: the one number that the function gives for the code and the asked
+    /// delay. It is at most 60 seconds.
     pub fn wait(&self, code: Code, asked: u32) -> u32
         requires { asked ≤ 90000000 }
-        ensures number { result ≡ ⟦<DelayFn as DelayTold>⟧.delay_number self.now code asked }
+        ensures number { (number : Code → ℕ → ℕ) → ⟦<DelayFn as DelayTold>⟧.delay_is self.now number →
+            result ≡ number code asked }
         ensures within { result ≤ 60000000 }
-    {
-        self.answer(code, asked)
-    }
-
-    fn answer(&self, code: Code, asked: u32) -> u32
-        requires { asked ≤ 90000000 }
-        ensures { result ≡ ⟦<DelayFn as DelayTold>⟧.delay_number self.now code asked }
     {
         (self.rule)(code, asked)
     }
