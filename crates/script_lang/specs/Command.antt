@@ -6,6 +6,7 @@ use Rattle.pam_base.specs.declared.call.AppCall.{AppCall}
 use Rattle.pam_base.specs.declared.call.AppCall.TheVariants as calls
 use Rattle.pam_base.specs.declared.call.Func.{Func}
 use Rattle.pam_base.specs.declared.call.Func.TheVariants as funcs
+use Rattle.script_lang.specs.declared.place.Form.{Form}
 use Rattle.script_lang.specs.declared.place.Form.TheVariants.{Number, Moment, Random, Service, Name, Item, Switch, Text}
 use Rattle.script_lang.specs.declared.place.Place.{Place}
 use Rattle.script_lang.specs.declared.place.Place.TheVariants.{Wanted, Optional, Nothing}
@@ -17,30 +18,35 @@ pub record Row : Type 0 where
   pub word : List ℕ
   pub places : List Place
 
-abbrev pub row : List ℕ → Place → Place → Place → Row
-row word first second third = record { word = word; places = first ∷ second ∷ third ∷ [] }
+-- a call, whose first word is the transaction's number
+abbrev pub call_row : List ℕ → Place → Place → Row
+call_row word second third = record { word = word; places = Wanted Number ∷ second ∷ third ∷ [] }
+
+-- a setting of the world, with its value
+abbrev pub setting_row : List ℕ → Form → Row
+setting_row word form = record { word = word; places = Wanted form ∷ Nothing ∷ Nothing ∷ [] }
 
 -- the table
 abbrev pub row_of : Command → Row
-row_of commands.Start = row (codes "start") (Wanted Number) (Wanted Service) (Optional Name)
-row_of commands.End = row (codes "end") (Wanted Number) (Wanted Number) Nothing
-row_of commands.Authenticate = row (codes "authenticate") (Wanted Number) (Optional Number) Nothing
-row_of commands.SetCred = row (codes "setcred") (Wanted Number) (Optional Number) Nothing
-row_of commands.AcctMgmt = row (codes "acct_mgmt") (Wanted Number) (Optional Number) Nothing
-row_of commands.OpenSession = row (codes "open_session") (Wanted Number) (Optional Number) Nothing
-row_of commands.CloseSession = row (codes "close_session") (Wanted Number) (Optional Number) Nothing
-row_of commands.ChAuthTok = row (codes "chauthtok") (Wanted Number) (Optional Number) Nothing
-row_of commands.SetItem = row (codes "set_item") (Wanted Number) (Wanted Item) (Optional Text)
-row_of commands.GetItem = row (codes "get_item") (Wanted Number) (Wanted Item) Nothing
-row_of commands.PutEnv = row (codes "putenv") (Wanted Number) (Wanted Text) Nothing
-row_of commands.GetEnv = row (codes "getenv") (Wanted Number) (Wanted Name) Nothing
-row_of commands.EnvList = row (codes "envlist") (Wanted Number) Nothing Nothing
-row_of commands.FailDelay = row (codes "fail_delay") (Wanted Number) (Wanted Number) Nothing
-row_of commands.DelayFn = row (codes "delay") (Wanted Number) (Wanted Switch) Nothing
-row_of commands.Reply = row (codes "reply") (Wanted Number) (Wanted Text) Nothing
-row_of commands.At = row (codes "at") (Wanted Moment) Nothing Nothing
-row_of commands.Random = row (codes "random") (Wanted Random) Nothing Nothing
-row_of commands.Caller = row (codes "caller") (Wanted Number) Nothing Nothing
+row_of commands.Start = call_row (codes "start") (Wanted Service) (Optional Name)
+row_of commands.End = call_row (codes "end") (Wanted Number) Nothing
+row_of commands.Authenticate = call_row (codes "authenticate") (Optional Number) Nothing
+row_of commands.SetCred = call_row (codes "setcred") (Optional Number) Nothing
+row_of commands.AcctMgmt = call_row (codes "acct_mgmt") (Optional Number) Nothing
+row_of commands.OpenSession = call_row (codes "open_session") (Optional Number) Nothing
+row_of commands.CloseSession = call_row (codes "close_session") (Optional Number) Nothing
+row_of commands.ChAuthTok = call_row (codes "chauthtok") (Optional Number) Nothing
+row_of commands.SetItem = call_row (codes "set_item") (Wanted Item) (Optional Text)
+row_of commands.GetItem = call_row (codes "get_item") (Wanted Item) Nothing
+row_of commands.PutEnv = call_row (codes "putenv") (Wanted Text) Nothing
+row_of commands.GetEnv = call_row (codes "getenv") (Wanted Name) Nothing
+row_of commands.EnvList = call_row (codes "envlist") Nothing Nothing
+row_of commands.FailDelay = call_row (codes "fail_delay") (Wanted Number) Nothing
+row_of commands.DelayFn = call_row (codes "delay") (Wanted Switch) Nothing
+row_of commands.Reply = call_row (codes "reply") (Wanted Text) Nothing
+row_of commands.At = setting_row (codes "at") Moment
+row_of commands.Random = setting_row (codes "random") Random
+row_of commands.Caller = setting_row (codes "caller") Number
 
 abbrev pub all_commands : List Command
 all_commands = commands.Start ∷ commands.End ∷ commands.Authenticate ∷ commands.SetCred ∷ commands.AcctMgmt ∷ commands.OpenSession ∷ commands.CloseSession ∷ commands.ChAuthTok ∷ commands.SetItem ∷ commands.GetItem ∷ commands.PutEnv ∷ commands.GetEnv ∷ commands.EnvList ∷ commands.FailDelay ∷ commands.DelayFn ∷ commands.Reply ∷ commands.At ∷ commands.Random ∷ commands.Caller ∷ []

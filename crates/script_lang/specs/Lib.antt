@@ -6,3 +6,4 @@ pub mod Number
 pub mod Place
 pub mod ServiceName
 pub mod Value
+pub mod Written

@@ -16,44 +16,27 @@ pub(crate) fn line_made(
 ) -> Result<Line, NoMemory>
     ensures { IfOk result (λ line. line ≡ line_made command (meanings_of values.entry)) }
 {
-    let Values {
-        first,
-        second,
-        third,
-    } = values;
+    let second = values.second;
+    let third = values.third;
+    let number = second.number();
+    let item = second.item();
     let call = match command {
         Command::Start => AppCall::Start {
             service: second.text(alloc)?,
             user: third.optional_text(alloc)?,
         },
-        Command::End => AppCall::End {
-            status: second.number(),
-        },
-        Command::Authenticate => AppCall::Authenticate {
-            flags: second.number(),
-        },
-        Command::SetCred => AppCall::SetCred {
-            flags: second.number(),
-        },
-        Command::AcctMgmt => AppCall::AcctMgmt {
-            flags: second.number(),
-        },
-        Command::OpenSession => AppCall::OpenSession {
-            flags: second.number(),
-        },
-        Command::CloseSession => AppCall::CloseSession {
-            flags: second.number(),
-        },
-        Command::ChAuthTok => AppCall::ChAuthTok {
-            flags: second.number(),
-        },
+        Command::End => AppCall::End { status: number },
+        Command::Authenticate => AppCall::Authenticate { flags: number },
+        Command::SetCred => AppCall::SetCred { flags: number },
+        Command::AcctMgmt => AppCall::AcctMgmt { flags: number },
+        Command::OpenSession => AppCall::OpenSession { flags: number },
+        Command::CloseSession => AppCall::CloseSession { flags: number },
+        Command::ChAuthTok => AppCall::ChAuthTok { flags: number },
         Command::SetItem => AppCall::SetItem {
-            item: second.item(),
+            item,
             value: third.optional_text(alloc)?,
         },
-        Command::GetItem => AppCall::GetItem {
-            item: second.item(),
-        },
+        Command::GetItem => AppCall::GetItem { item },
         Command::PutEnv => AppCall::PutEnv {
             text: second.text(alloc)?,
         },
@@ -61,19 +44,15 @@ pub(crate) fn line_made(
             name: second.text(alloc)?,
         },
         Command::EnvList => AppCall::EnvList,
-        Command::FailDelay => AppCall::FailDelay {
-            micros: second.number(),
-        },
+        Command::FailDelay => AppCall::FailDelay { micros: number },
         Command::DelayFn => AppCall::DelayFn { on: second.is_on() },
         Command::Reply => AppCall::Reply {
             text: second.text(alloc)?,
         },
-        Command::At => return Ok(Line::At(first.wide())),
-        Command::Random => return Ok(Line::Random(first.wide())),
-        Command::Caller => return Ok(Line::Caller(first.number())),
+        Command::At => return Ok(Line::At(values.first.wide())),
+        Command::Random => return Ok(Line::Random(values.first.wide())),
+        Command::Caller => return Ok(Line::Caller(values.first.number())),
     };
-    Ok(Line::Step(Step {
-        number: first.number(),
-        call,
-    }))
+    let number = values.first.number();
+    Ok(Line::Step(Step { number, call }))
 }

@@ -1,8 +1,8 @@
 ghost use Rattle.std.specs.Prelude.{◌≡◌};
 ghost use Rattle.std.specs.Str.{bytes_eq};
-ghost use Rattle.script_lang.specs.Command.{row_of, command_of_word, command_of_call, command_of_func, word_of_call, word_of_func};
+ghost use Rattle.script_lang.specs.Command.{row_of, call_row, setting_row, command_of_word, command_of_call, command_of_func, word_of_call, word_of_func};
 
-use crate::place::Form::{Item, Moment, Name, Number, Random, Service, Switch, Text};
+use crate::place::Form::{self, Item, Moment, Name, Number, Random, Service, Switch, Text};
 use crate::place::Place::{self, Nothing, Optional, Wanted};
 use pam_base::{AppCall, Func};
 
@@ -59,55 +59,54 @@ pub(crate) struct Row {
     pub(crate) places: [Place; 3],
 }
 
-impl Row {
-    fn new(word: &'static str, places: [Place; 3]) -> Self
-        ensures word { result.word.now ≡ word.now }
-        ensures places { result.places ≡ places }
-    {
-        Row { word, places }
-    }
-}
-
 impl Command {
     pub(crate) fn row(self) -> Row
         ensures word { result.word.now ≡ (row_of self).word }
         ensures places { result.places ≡ (row_of self).places }
     {
         match self {
-            Command::Start => Row::new("start", [Wanted(Number), Wanted(Service), Optional(Name)]),
-            Command::End => Row::new("end", [Wanted(Number), Wanted(Number), Nothing]),
-            Command::Authenticate => Row::new(
-                "authenticate",
-                [Wanted(Number), Optional(Number), Nothing],
-            ),
-            Command::SetCred => Row::new("setcred", [Wanted(Number), Optional(Number), Nothing]),
-            Command::AcctMgmt => Row::new("acct_mgmt", [Wanted(Number), Optional(Number), Nothing]),
-            Command::OpenSession => Row::new(
-                "open_session",
-                [Wanted(Number), Optional(Number), Nothing],
-            ),
-            Command::CloseSession => Row::new(
-                "close_session",
-                [Wanted(Number), Optional(Number), Nothing],
-            ),
-            Command::ChAuthTok => Row::new(
-                "chauthtok",
-                [Wanted(Number), Optional(Number), Nothing],
-            ),
-            Command::SetItem => Row::new(
-                "set_item",
-                [Wanted(Number), Wanted(Item), Optional(Text)],
-            ),
-            Command::GetItem => Row::new("get_item", [Wanted(Number), Wanted(Item), Nothing]),
-            Command::PutEnv => Row::new("putenv", [Wanted(Number), Wanted(Text), Nothing]),
-            Command::GetEnv => Row::new("getenv", [Wanted(Number), Wanted(Name), Nothing]),
-            Command::EnvList => Row::new("envlist", [Wanted(Number), Nothing, Nothing]),
-            Command::FailDelay => Row::new("fail_delay", [Wanted(Number), Wanted(Number), Nothing]),
-            Command::DelayFn => Row::new("delay", [Wanted(Number), Wanted(Switch), Nothing]),
-            Command::Reply => Row::new("reply", [Wanted(Number), Wanted(Text), Nothing]),
-            Command::At => Row::new("at", [Wanted(Moment), Nothing, Nothing]),
-            Command::Random => Row::new("random", [Wanted(Random), Nothing, Nothing]),
-            Command::Caller => Row::new("caller", [Wanted(Number), Nothing, Nothing]),
+            Command::Start => Row::of_call("start", Wanted(Service), Optional(Name)),
+            Command::End => Row::of_call("end", Wanted(Number), Nothing),
+            Command::Authenticate => Row::of_call("authenticate", Optional(Number), Nothing),
+            Command::SetCred => Row::of_call("setcred", Optional(Number), Nothing),
+            Command::AcctMgmt => Row::of_call("acct_mgmt", Optional(Number), Nothing),
+            Command::OpenSession => Row::of_call("open_session", Optional(Number), Nothing),
+            Command::CloseSession => Row::of_call("close_session", Optional(Number), Nothing),
+            Command::ChAuthTok => Row::of_call("chauthtok", Optional(Number), Nothing),
+            Command::SetItem => Row::of_call("set_item", Wanted(Item), Optional(Text)),
+            Command::GetItem => Row::of_call("get_item", Wanted(Item), Nothing),
+            Command::PutEnv => Row::of_call("putenv", Wanted(Text), Nothing),
+            Command::GetEnv => Row::of_call("getenv", Wanted(Name), Nothing),
+            Command::EnvList => Row::of_call("envlist", Nothing, Nothing),
+            Command::FailDelay => Row::of_call("fail_delay", Wanted(Number), Nothing),
+            Command::DelayFn => Row::of_call("delay", Wanted(Switch), Nothing),
+            Command::Reply => Row::of_call("reply", Wanted(Text), Nothing),
+            Command::At => Row::of_setting("at", Moment),
+            Command::Random => Row::of_setting("random", Random),
+            Command::Caller => Row::of_setting("caller", Number),
+        }
+    }
+}
+
+impl Row {
+    // The transaction's number stands first.
+    fn of_call(word: &'static str, second: Place, third: Place) -> Self
+        ensures word { result.word.now ≡ word.now }
+        ensures places { result.places ≡ (call_row word.now second third).places }
+    {
+        Row {
+            word,
+            places: [Wanted(Number), second, third],
+        }
+    }
+
+    fn of_setting(word: &'static str, form: Form) -> Self
+        ensures word { result.word.now ≡ word.now }
+        ensures places { result.places ≡ (setting_row word.now form).places }
+    {
+        Row {
+            word,
+            places: [Wanted(form), Nothing, Nothing],
         }
     }
 }

@@ -4,6 +4,7 @@
 mod call;
 mod command;
 mod cut;
+mod law;
 mod line;
 mod number;
 mod place;
@@ -11,5 +12,6 @@ mod service_name;
 mod value;
 
 pub use command::{call_word, func_word};
+pub use law::written_is_read;
 pub use line::{Line, parse};
 pub use service_name::is_service_name;
