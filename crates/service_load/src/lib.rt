@@ -1,0 +1,13 @@
+//! The configuration of a service: its files under `/etc/pam.d` or its lines of `pam.conf(5)`, with the files
+//! that they include, come to four stacks, or to the first fault.
+#![tactic(auto)]
+
+mod entry;
+mod load_fault;
+mod rule_file;
+mod rule_type;
+mod trees;
+
+pub use load_fault::LoadFault;
+pub use rule_type::RuleType;
+pub use trees::Trees;
