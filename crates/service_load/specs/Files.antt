@@ -27,10 +27,14 @@ abbrev pub rule_without : List ℕ → ℕ → List Token → List RawRule
 rule_without service line [] = []
 rule_without service line (t ∷ ts) = if is_word service t then record { line = line; tokens = ts } ∷ [] else []
 
--- the rules that are meant: all, or in pam.conf those of the service
+-- a rule where it is meant: in a file of the folder, or in pam.conf without its service where it is one of the service
+abbrev pub own_rule : Option (List ℕ) → RawRule → List RawRule
+own_rule None rule = rule ∷ []
+own_rule (Some service) rule = rule_without service rule.line rule.tokens
+
+-- the rules of a text that are meant
 abbrev pub own_rules : Option (List ℕ) → List RawRule → List RawRule
-own_rules None rules = rules
-own_rules (Some service) rules = flat_map (λ r. rule_without service r.line r.tokens) rules
+own_rules service rules = flat_map (own_rule service) rules
 
 -- what stands in a file: it isn't there, its text has a fault, or it has these rules
 pub data Held : Type 0 where
@@ -44,7 +48,7 @@ held_in_conf [] = absent
 held_in_conf (r ∷ rs) = holds (r ∷ rs)
 
 abbrev pub held_for : Option (List ℕ) → List RawRule → Held
-held_for None rules = holds rules
+held_for None rules = holds (own_rules None rules)
 held_for (Some service) rules = held_in_conf (own_rules (Some service) rules)
 
 abbrev pub held_answer : Option (List ℕ) → Result (List RawRule) LexFault → Held

@@ -4,3 +4,6 @@ pub mod Files
 pub mod Tree
 pub mod Order
 pub mod FirstFault
+pub mod Names
+pub mod Answers
+pub mod Checking

@@ -3,6 +3,7 @@ use Rattle.std.specs.Prelude.{ℕ, Bool, true, false, List, [], ◌∷◌, Optio
 use Rattle.std.specs.Str.{str_eq_ignore_ascii_case}
 use Rattle.conf_lex.specs.declared.token.Token.{Token}
 use Rattle.service_load.specs.declared.rule_type.RuleType.{RuleType}
+use Rattle.service_load.specs.declared.type_field.TypeField.{TypeField}
 use Rattle.service_load.specs.declared.rule_type.RuleType.TheVariants.{Auth, Account, Password, Session}
 
 -- the types in the order in which their stacks are made (this project's own)
@@ -30,12 +31,7 @@ type_of_word word =
     else if str_eq_ignore_ascii_case word (codes "session") then Some Session
     else None
 
--- the type field of a rule: a type, and whether a `-` before it silences a module that is missing (pam.conf(5))
-pub record TypeField : Type 0 where
-  pub silent : Bool
-  pub rule_type : RuleType
-
--- the type field that a word is
+-- the type field that a word is: a type, and before it a `-` where a module that is missing is passed over in silence (pam.conf(5))
 abbrev pub type_field_of_word : List ℕ → Option TypeField
 type_field_of_word [] = None
 type_field_of_word (b ∷ bs) =

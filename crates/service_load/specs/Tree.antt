@@ -1,5 +1,5 @@
 -- The stack of a service for a type (pam.conf(5), pam.d(5)): a recursion on the files, without counts, limits or reads.
-use Rattle.std.specs.Prelude.{ℕ, zero, suc, Bool, List, [], ◌∷◌, Option, Some, None, codes, ◌==◌, if◌then◌else◌}
+use Rattle.std.specs.Prelude.{ℕ, zero, suc, Bool, true, List, [], ◌∷◌, Option, Some, None, codes, ◌==◌, if◌then◌else◌}
 use Rattle.control_words.specs.Stack.{Stack, none, line, sub, joined, count}
 use Rattle.service_load.specs.declared.entry.Content.{Content}
 use Rattle.service_load.specs.declared.entry.Content.TheVariants.{Line, Include, Substack}

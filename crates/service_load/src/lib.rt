@@ -3,10 +3,13 @@
 #![tactic(auto)]
 
 mod entry;
+mod file_rules;
 mod load_fault;
+mod names;
 mod rule_file;
 mod rule_type;
 mod trees;
+mod type_field;
 
 pub use load_fault::LoadFault;
 pub use rule_type::RuleType;
