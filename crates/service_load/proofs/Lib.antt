@@ -1,2 +1,3 @@
 mod Rows
 pub mod Roots
+pub mod CheckingLemmas
