@@ -2,7 +2,7 @@ use pam_base::{Code, code_name, code_named, code_number, code_of};
 use std::test::Fail;
 
 // The names of the codes in `_pam_types.h`, without `PAM_`, in the order of their numbers.
-const TABLE: [&str; 32] = [
+static TABLE: [&str; 32] = [
     "SUCCESS",
     "OPEN_ERR",
     "SYMBOL_ERR",

@@ -23,6 +23,59 @@ const DENY: &[u8] = b"/lib/security/pam_deny.so";
 
 const OTHER: &[u8] = b"pam_other.so";
 
+// Keyword and module of two lines, what they come to, and the places and answers of their visits.
+type Pair = (
+    (&'static [u8], &'static [u8]),
+    (&'static [u8], &'static [u8]),
+    Code,
+    &'static [(u32, Code)],
+);
+
+static PAIRS: [Pair; 7] = [
+    (
+        (REQUIRED, DENY),
+        (REQUIRED, PERMIT),
+        Code::AuthErr,
+        &[(1, Code::AuthErr), (2, Code::Success)],
+    ),
+    (
+        (REQUIRED, OTHER),
+        (REQUIRED, DENY),
+        Code::ModuleUnknown,
+        &[(1, Code::ModuleUnknown), (2, Code::AuthErr)],
+    ),
+    (
+        (REQUIRED, DENY),
+        (SUFFICIENT, PERMIT),
+        Code::AuthErr,
+        &[(1, Code::AuthErr), (2, Code::Success)],
+    ),
+    (
+        (REQUISITE, DENY),
+        (REQUIRED, PERMIT),
+        Code::AuthErr,
+        &[(1, Code::AuthErr)],
+    ),
+    (
+        (SUFFICIENT, PERMIT),
+        (REQUIRED, DENY),
+        Code::Success,
+        &[(1, Code::Success)],
+    ),
+    (
+        (SUFFICIENT, DENY),
+        (OPTIONAL, DENY),
+        Code::PermDenied,
+        &[(1, Code::AuthErr), (2, Code::AuthErr)],
+    ),
+    (
+        (OPTIONAL, PERMIT),
+        (SUFFICIENT, DENY),
+        Code::Success,
+        &[(1, Code::Success), (2, Code::AuthErr)],
+    ),
+];
+
 // A line without arguments.
 fn line(alloc: Global, word: &[u8], path: &[u8]) -> Result<Rule, Fail>
     ensures { IfOk result (λ rule. list_all is_plain rule.control ≡ true) }
@@ -69,62 +122,17 @@ fn an_empty_stack_denies(rt: HostRuntime) -> Result<(), Fail> {
 #[test]
 fn lines_decide_by_their_keywords(rt: HostRuntime) -> Result<(), Fail> {
     let alloc = rt.alloc();
-    let failed = (1, Code::AuthErr);
-    let passed = (1, Code::Success);
-    for (first, second, code, visits) in [
-        (
-            (REQUIRED, DENY),
-            (REQUIRED, PERMIT),
-            Code::AuthErr,
-            [failed, (2, Code::Success)].as_slice(),
-        ),
-        (
-            (REQUIRED, OTHER),
-            (REQUIRED, DENY),
-            Code::ModuleUnknown,
-            [(1, Code::ModuleUnknown), (2, Code::AuthErr)].as_slice(),
-        ),
-        (
-            (REQUIRED, DENY),
-            (SUFFICIENT, PERMIT),
-            Code::AuthErr,
-            [failed, (2, Code::Success)].as_slice(),
-        ),
-        (
-            (REQUISITE, DENY),
-            (REQUIRED, PERMIT),
-            Code::AuthErr,
-            [failed].as_slice(),
-        ),
-        (
-            (SUFFICIENT, PERMIT),
-            (REQUIRED, DENY),
-            Code::Success,
-            [passed].as_slice(),
-        ),
-        (
-            (SUFFICIENT, DENY),
-            (OPTIONAL, DENY),
-            Code::PermDenied,
-            [failed, (2, Code::AuthErr)].as_slice(),
-        ),
-        (
-            (OPTIONAL, PERMIT),
-            (SUFFICIENT, DENY),
-            Code::Success,
-            [passed, (2, Code::AuthErr)].as_slice(),
-        ),
-    ] {
-        let nodes = pair(alloc, first, second)?;
+    for (first, second, code, visits) in PAIRS.iter() {
+        let nodes = pair(alloc, *first, *second)?;
         let mut trail = Visits::new(alloc);
         assert_eq!(rt;
             dispatch(alloc, &nodes, &mut trail),
-            Ok(code),
+            Ok(*code),
             "at {first:?} {second:?}"
         );
         assert_eq!(rt;
             seen(alloc, &trail)?.as_slice(),
-            visits,
+            *visits,
             "at {first:?} {second:?}"
         );
     }

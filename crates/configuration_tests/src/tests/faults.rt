@@ -1,7 +1,7 @@
 use pam_base::{Code, FaultKind, NoMemory, Refuse, ScriptKind};
 
 // The names of the faults of a configuration and of a script, in the order of their numbers.
-const CONFIGURATION: [&str; 17] = [
+static CONFIGURATION: [&str; 17] = [
     "NotBuilt",
     "OpenBracket",
     "NulByte",
@@ -21,7 +21,7 @@ const CONFIGURATION: [&str; 17] = [
     "ReadFailed",
 ];
 
-const SCRIPT: [&str; 5] = [
+static SCRIPT: [&str; 5] = [
     "NotBuilt",
     "BadWord",
     "BadNumeral",

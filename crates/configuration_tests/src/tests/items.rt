@@ -1,7 +1,7 @@
 use pam_base::{ALL_ITEMS, Style, item_named};
 
 // The items of `_pam_types.h`, without `PAM_` and in lower case, in the order of their numbers.
-const TABLE: [&str; 13] = [
+static TABLE: [&str; 13] = [
     "service",
     "user",
     "tty",

@@ -4,88 +4,117 @@ use std::alloc::Global;
 use std::test::Fail;
 
 /// A text, and its rules or its fault as `shown` writes them.
-const ROWS: [(&[u8], &str); 59] = [
-    (b"", ""),
-    (b"\n\n", ""),
+static ROWS: [(&[u8], &[u8]); 59] = [
+    (b"", b""),
+    (b"\n\n", b""),
     // a rule is the tokens of a line, and the last line may lack its newline
     (
         b"auth required pam_deny.so\n",
-        "1|auth|required|pam_deny.so\n",
+        b"1|auth|required|pam_deny.so\n",
     ),
     (
         b"auth required pam_deny.so",
-        "1|auth|required|pam_deny.so\n",
+        b"1|auth|required|pam_deny.so\n",
     ),
-    (b"a\n\nb", "1|a\n3|b\n"),
+    (b"a\n\nb", b"1|a\n3|b\n"),
     // white space is space, tab and carriage return
-    (b" a\t b\r\rc \t\r\n", "1|a|b|c\n"),
-    (b"a b\r\n\r\nc\r\n", "1|a|b\n3|c\n"),
-    (b"a\x0bb\x0c", "1|a\x0bb\x0c\n"),
+    (b" a\t b\r\rc \t\r\n", b"1|a|b|c\n"),
+    (b"a b\r\n\r\nc\r\n", b"1|a|b\n3|c\n"),
+    (b"a\x0bb\x0c", b"1|a\x0bb\x0c\n"),
     // a comment goes on to the line's end
-    (b"# c\na # [\n#\nb", "2|a\n4|b\n"),
-    (b"a#b", "1|a\n"),
-    (b"[a]#b", "1|<a>\n"),
+    (b"# c\na # [\n#\nb", b"2|a\n4|b\n"),
+    (b"a#b", b"1|a\n"),
+    (b"[a]#b", b"1|<a>\n"),
     // a backslash in a comment joins nothing
-    (b"# c\\\na", "2|a\n"),
-    (b"a # c\\\r\nb", "1|a\n2|b\n"),
-    (b"#\\", ""),
+    (b"# c\\\na", b"2|a\n"),
+    (b"a # c\\\r\nb", b"1|a\n2|b\n"),
+    (b"#\\", b""),
     // a backslash before a line's end joins, and reads as one space
     (
         b"auth \\\n required\\\npam_deny.so\n",
-        "1|auth|required|pam_deny.so\n",
+        b"1|auth|required|pam_deny.so\n",
     ),
-    (b"a\\\r\nb", "1|a|b\n"),
-    (b"a\\\nb\nc", "1|a|b\n3|c\n"),
-    (b"\\\n\\\na", "1|a\n"),
-    (b" \\\n\t\n b", "3|b\n"),
-    (b"a\\\n#b\nc", "1|a\n3|c\n"),
-    (b"a\\\\\nb", "1|a\\|b\n"),
-    (b"a\\\n", "1|a\n"),
+    (b"a\\\r\nb", b"1|a|b\n"),
+    (b"a\\\nb\nc", b"1|a|b\n3|c\n"),
+    (b"\\\n\\\na", b"1|a\n"),
+    (b" \\\n\t\n b", b"3|b\n"),
+    (b"a\\\n#b\nc", b"1|a\n3|c\n"),
+    (b"a\\\\\nb", b"1|a\\|b\n"),
+    (b"a\\\n", b"1|a\n"),
     // any other backslash is plain, also the last byte
-    (b"a\\", "1|a\\\n"),
-    (b"\\", "1|\\\n"),
-    (b"a\\b \\c", "1|a\\b|\\c\n"),
-    (b"a\\\rb", "1|a\\|b\n"),
-    (b"a\\\r", "1|a\\\n"),
-    (b"a\\ \nb", "1|a\\\n2|b\n"),
+    (b"a\\", b"1|a\\\n"),
+    (b"\\", b"1|\\\n"),
+    (b"a\\b \\c", b"1|a\\b|\\c\n"),
+    (b"a\\\rb", b"1|a\\|b\n"),
+    (b"a\\\r", b"1|a\\\n"),
+    (b"a\\ \nb", b"1|a\\\n2|b\n"),
     // a token that begins with a bracket ends at the first closing one without a backslash before it
     (
         b"auth [success=ok default=ignore] a",
-        "1|auth|<success=ok default=ignore>|a\n",
+        b"1|auth|<success=ok default=ignore>|a\n",
     ),
-    (b"[]", "1|<>\n"),
-    (b"[a]b[c]", "1|<a>|b[c]\n"),
-    (b"[a][b]", "1|<a>|<b>\n"),
-    (b"a[b c]", "1|a[b|c]\n"),
-    (b"]", "1|]\n"),
+    (b"[]", b"1|<>\n"),
+    (b"[a]b[c]", b"1|<a>|b[c]\n"),
+    (b"[a][b]", b"1|<a>|<b>\n"),
+    (b"a[b c]", b"1|a[b|c]\n"),
+    (b"]", b"1|]\n"),
     // inside, an escaped closing bracket, a join, white space, an opening bracket and `#`
-    (b"[a\\]b]", "1|<a]b>\n"),
-    (b"[a\\\\]b]", "1|<a\\]b>\n"),
-    (b"[a\\\nb] c", "1|<a b>|c\n"),
-    (b"[a\\\r\nb]\nc", "1|<a b>\n3|c\n"),
-    (b"[\\\n]", "1|< >\n"),
-    (b"[a\\b \t\r[#]", "1|<a\\b \t\r[#>\n"),
+    (b"[a\\]b]", b"1|<a]b>\n"),
+    (b"[a\\\\]b]", b"1|<a\\]b>\n"),
+    (b"[a\\\nb] c", b"1|<a b>|c\n"),
+    (b"[a\\\r\nb]\nc", b"1|<a b>\n3|c\n"),
+    (b"[\\\n]", b"1|< >\n"),
+    (b"[a\\b \t\r[#]", b"1|<a\\b \t\r[#>\n"),
     // a bracket that is open at the end of the joined line, which has the number of its first line
-    (b"[a", "!1 OpenBracket\n"),
-    (b"a\n[b\nc]", "!2 OpenBracket\n"),
-    (b"a\\\n[b\n", "!1 OpenBracket\n"),
-    (b"[a\\]", "!1 OpenBracket\n"),
-    (b"[a\\\n", "!1 OpenBracket\n"),
-    (b"[a\\", "!1 OpenBracket\n"),
-    (b"[a\\\n#\n]", "!1 OpenBracket\n"),
+    (b"[a", b"!1 OpenBracket\n"),
+    (b"a\n[b\nc]", b"!2 OpenBracket\n"),
+    (b"a\\\n[b\n", b"!1 OpenBracket\n"),
+    (b"[a\\]", b"!1 OpenBracket\n"),
+    (b"[a\\\n", b"!1 OpenBracket\n"),
+    (b"[a\\", b"!1 OpenBracket\n"),
+    (b"[a\\\n#\n]", b"!1 OpenBracket\n"),
     // a NUL byte anywhere, at its physical line, before all faults of joined lines
-    (b"a\0b", "!1 NulByte\n"),
-    (b"# \0", "!1 NulByte\n"),
-    (b"a\\\n\0", "!2 NulByte\n"),
-    (b"a\n[\n\0\n\0", "!3 NulByte\n"),
-    (b"\0\n[", "!1 NulByte\n"),
-    (b"[\0]", "!1 NulByte\n"),
-    (b"\\\0\n", "!1 NulByte\n"),
-    (b"a\n\\\r\0\n", "!2 NulByte\n"),
-    (b"[\\\0]", "!1 NulByte\n"),
-    (b"[\\\n\0", "!2 NulByte\n"),
-    (b"[\\\n\n\0", "!3 NulByte\n"),
-    (b"a\n[\n#\n\0\n\0", "!4 NulByte\n"),
+    (b"a\0b", b"!1 NulByte\n"),
+    (b"# \0", b"!1 NulByte\n"),
+    (b"a\\\n\0", b"!2 NulByte\n"),
+    (b"a\n[\n\0\n\0", b"!3 NulByte\n"),
+    (b"\0\n[", b"!1 NulByte\n"),
+    (b"[\0]", b"!1 NulByte\n"),
+    (b"\\\0\n", b"!1 NulByte\n"),
+    (b"a\n\\\r\0\n", b"!2 NulByte\n"),
+    (b"[\\\0]", b"!1 NulByte\n"),
+    (b"[\\\n\0", b"!2 NulByte\n"),
+    (b"[\\\n\n\0", b"!3 NulByte\n"),
+    (b"a\n[\n#\n\0\n\0", b"!4 NulByte\n"),
+];
+
+/// Parts of a text, each so many times, and its rules or its fault as `shown` writes them.
+static LIMITS: [(&[(&[u8], usize)], &[u8]); 16] = [
+    // a text of 65,536 bytes, and one more
+    (&[(b"\n", 65536)], b""),
+    (&[(b"\n", 65535), (b"a", 1)], b"65536|a\n"),
+    (&[(b"\n", 65537)], b"!0 FileTooLong\n"),
+    (&[(b"\0", 65537)], b"!0 FileTooLong\n"),
+    (&[(b"\n", 65535), (b"\0", 1)], b"!65536 NulByte\n"),
+    // a joined line of 4,096 bytes, and one more; its newline isn't counted
+    (&[(b" ", 4095), (b"a", 1)], b"1|a\n"),
+    (&[(b"a #", 1), (b"b", 4093), (b"\nc", 1)], b"1|a\n2|c\n"),
+    (
+        &[(b"a #", 1), (b"b", 4094), (b"\nc", 1)],
+        b"!1 RuleTooLong\n",
+    ),
+    (&[(b"\\\n", 2047), (b"ab\nc", 1)], b"1|ab\n2049|c\n"),
+    (&[(b"\\\n", 2048), (b"a", 1)], b"!1 RuleTooLong\n"),
+    (&[(b" ", 4097)], b"!1 RuleTooLong\n"),
+    (
+        &[(b"\n", 1), (b" ", 4096), (b"\r\n", 1)],
+        b"!2 RuleTooLong\n",
+    ),
+    // too long before open, and the earlier line before the later; a NUL byte before both
+    (&[(b"[", 4097)], b"!1 RuleTooLong\n"),
+    (&[(b"[\n", 1), (b"a", 4097)], b"!1 OpenBracket\n"),
+    (&[(b"a", 4097), (b"\n[", 1)], b"!1 RuleTooLong\n"),
+    (&[(b"a", 4097), (b"\n[\n\0", 1)], b"!3 NulByte\n"),
 ];
 
 /// Rules one a line, as number and tokens with `|` before each and `<>` for brackets; a fault after `!`.
@@ -142,9 +171,9 @@ fn repeated(alloc: Global, parts: &[(&[u8], usize)]) -> Result<Vec<u8>, Fail> {
 #[test]
 fn texts_have_these_rules_and_faults(rt: HostRuntime) -> Result<(), Fail> {
     let alloc = rt.alloc();
-    for (text, want) in ROWS {
+    for (text, want) in ROWS.iter() {
         let lines = shown(alloc, text)?;
-        assert_eq!(rt; lines.as_str(), want);
+        assert_eq!(rt; lines.as_bytes(), *want);
     }
     Ok(())
 }
@@ -152,37 +181,10 @@ fn texts_have_these_rules_and_faults(rt: HostRuntime) -> Result<(), Fail> {
 #[test]
 fn limits_are_these(rt: HostRuntime) -> Result<(), Fail> {
     let alloc = rt.alloc();
-    let rows: [(&[(&[u8], usize)], &str); 16] = [
-        // a text of 65,536 bytes, and one more
-        (&[(b"\n", 65536)], ""),
-        (&[(b"\n", 65535), (b"a", 1)], "65536|a\n"),
-        (&[(b"\n", 65537)], "!0 FileTooLong\n"),
-        (&[(b"\0", 65537)], "!0 FileTooLong\n"),
-        (&[(b"\n", 65535), (b"\0", 1)], "!65536 NulByte\n"),
-        // a joined line of 4,096 bytes, and one more; its newline isn't counted
-        (&[(b" ", 4095), (b"a", 1)], "1|a\n"),
-        (&[(b"a #", 1), (b"b", 4093), (b"\nc", 1)], "1|a\n2|c\n"),
-        (
-            &[(b"a #", 1), (b"b", 4094), (b"\nc", 1)],
-            "!1 RuleTooLong\n",
-        ),
-        (&[(b"\\\n", 2047), (b"ab\nc", 1)], "1|ab\n2049|c\n"),
-        (&[(b"\\\n", 2048), (b"a", 1)], "!1 RuleTooLong\n"),
-        (&[(b" ", 4097)], "!1 RuleTooLong\n"),
-        (
-            &[(b"\n", 1), (b" ", 4096), (b"\r\n", 1)],
-            "!2 RuleTooLong\n",
-        ),
-        // too long before open, and the earlier line before the later; a NUL byte before both
-        (&[(b"[", 4097)], "!1 RuleTooLong\n"),
-        (&[(b"[\n", 1), (b"a", 4097)], "!1 OpenBracket\n"),
-        (&[(b"a", 4097), (b"\n[", 1)], "!1 RuleTooLong\n"),
-        (&[(b"a", 4097), (b"\n[\n\0", 1)], "!3 NulByte\n"),
-    ];
-    for (parts, want) in rows {
+    for (parts, want) in LIMITS.iter() {
         let text = repeated(alloc, parts)?;
         let lines = shown(alloc, &text)?;
-        assert_eq!(rt; lines.as_str(), want);
+        assert_eq!(rt; lines.as_bytes(), *want);
     }
     Ok(())
 }
