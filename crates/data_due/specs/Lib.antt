@@ -1,0 +1,4 @@
+pub mod Holding
+pub mod Stands
+pub mod Kept
+pub mod Moves
