@@ -11,3 +11,4 @@ pub mod Keeping
 pub mod Held
 pub mod Exact
 pub mod Once
+pub mod Whole

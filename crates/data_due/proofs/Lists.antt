@@ -1,5 +1,5 @@
 -- The lists of the data that are set, alone: the laws are proved over them first.
-use Rattle.std.proofs.Common.{◌≡◌, ℕ, List, ◌++◌, length, ap, subst, ◌∙◌}
+use Rattle.std.proofs.Common.{◌≡◌, ℕ, List, ◌++◌, length, ap, subst}
 use Rattle.std.specs.List.{AllByRecursion}
 use Rattle.data_cleanup.specs.Datum.{PlainDatum}
 use Rattle.data_cleanup.specs.DataList.{PlainDataList}
@@ -11,7 +11,7 @@ use Rattle.data_cleanup.specs.Due.{Event, due}
 use Rattle.data_cleanup.specs.declared.datum.Birth.{Birth}
 use Rattle.data_cleanup.specs.declared.receipt.Filed.{Filed}
 use Rattle.data_due.specs.Holding.{data_held}
-use Rattle.data_due.specs.Stands.{EachOnce, StandFor, births_of, receipts_in}
+use Rattle.data_due.specs.Stands.{EachOnce, births_of, receipts_in}
 use Rattle.data_due.specs.Kept.{IsOfHandle}
 
 pub record GrowsLive (note : Notes) (modules handle : ℕ) (old : List PlainDatum) (before : PlainLedger) (new : List PlainDatum) (after : PlainLedger) : Type 0 where
@@ -34,7 +34,7 @@ pub record HeldLive (modules limit : ℕ) (ledger : PlainLedger) (lists : ℕ �
   pub once : EachOnce limit ledger lists
   pub each : (handle : ℕ) → AllByRecursion (IsOfHandle modules handle ledger.births) (lists handle)
 
-pub grows_live : (note : Notes) (modules handle : ℕ) (old new : PlainDataList) (before after : PlainLedger) → old.handle ≡ handle → Grows note modules old before new after → GrowsLive note modules handle old.live before new.live after
+abbrev pub grows_live : (note : Notes) (modules handle : ℕ) (old new : PlainDataList) (before after : PlainLedger) → old.handle ≡ handle → Grows note modules old before new after → GrowsLive note modules handle old.live before new.live after
 grows_live note modules handle old new before after own g = record {
   added = g.added;
   receipts = g.receipts;
