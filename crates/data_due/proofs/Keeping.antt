@@ -9,6 +9,7 @@ use Rattle.data_cleanup.specs.Grows.{IsOf, replacements, with_births}
 use Rattle.data_cleanup.specs.Due.{Event, birth, due, ends, since_end}
 use Rattle.data_cleanup.specs.declared.datum.Birth.{Birth}
 use Rattle.data_cleanup.specs.declared.receipt.Filed.{Filed}
+use Rattle.data_due.specs.Latest.{IsLatest}
 use Rattle.data_due.specs.Holding.{births_since, data_held, receipts, replaced_data}
 use Rattle.data_due.specs.Stands.{receipts_in, times_filed, times_held}
 use Rattle.data_due.proofs.Lists.{GrowsLive, StandLive}
@@ -16,7 +17,7 @@ use Rattle.data_due.proofs.Naming.{by_test}
 use Rattle.data_due.proofs.Looking.{reverse_front, since_own, since_ended, with_births-append, law_births, law_end}
 use Rattle.data_due.proofs.Every.{every, every-append, every-reverse}
 use Rattle.data_due.proofs.Counting.{numbered-back, none_held}
-use Rattle.data_due.proofs.Standing.{held_latest, births_of-births, births_of-end, IsLatest}
+use Rattle.data_due.proofs.Standing.{held_latest, births_of-births, births_of-end}
 use Rattle.data_due.proofs.OnceMore.{nothing_below, once_growth, once_end}
 use Rattle.data_due.proofs.Sound.{distinct, at_most_one, replaced_later, swept_low, swept_within}
 use Rattle.data_due.proofs.Tidying.{numbered_late, all_tidy_more, growth_tidy, end_tidy, swept_receipts, tidied_receipts}

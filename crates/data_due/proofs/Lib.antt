@@ -12,3 +12,4 @@ pub mod Held
 pub mod Exact
 pub mod Once
 pub mod Whole
+pub mod Orderly

@@ -9,6 +9,7 @@ use Rattle.data_cleanup.specs.Ledger.{AreNumbered}
 use Rattle.data_cleanup.specs.Due.{Event, birth, ends, since_end}
 use Rattle.data_cleanup.specs.declared.datum.Birth.{Birth}
 use Rattle.data_due.specs.Holding.{data_held}
+use Rattle.data_due.specs.Latest.{IsLatest}
 use Rattle.data_due.specs.Stands.{births_of}
 use Rattle.data_due.proofs.Naming.{by_test, name_is, name_same, Apart, has}
 use Rattle.data_due.proofs.Looking.{hold_back, apart_back, with_births-reverse}
@@ -23,12 +24,6 @@ births_back (ends h status ∷ past) = births_back past
 abbrev pub NumberedBack : List Birth → Type 0
 NumberedBack [] = Unit {0}
 NumberedBack (b ∷ before) = (b.id ≡ length before) × NumberedBack before
-
--- a datum of a handle: its birth, which no later one of its name replacements
-pub record IsLatest (handle : ℕ) (births : List Birth) (d : PlainDatum) : Type 0 where
-  pub below : d.id < length births
-  pub is : AllByRecursion (λ (b : Birth). b.id ≡ d.id → (datum_of b ≡ d) × (b.handle ≡ handle)) births
-  pub latest : AllByRecursion (λ (c : Birth). d.id < c.id → c.handle ≡ handle → c.name ≡ d.name → ⊥) births
 
 pub ids_below : (births : List Birth) → NumberedBack births → AllByRecursion (λ (b : Birth). b.id < length births) births
 ids_below [] is = tt

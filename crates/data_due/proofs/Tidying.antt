@@ -11,11 +11,11 @@ use Rattle.data_cleanup.specs.Tidy.{IsReceiptOf, IsTidy}
 use Rattle.data_cleanup.specs.declared.datum.Birth.{Birth}
 use Rattle.data_cleanup.specs.declared.receipt.Filed.{Filed}
 use Rattle.data_cleanup.specs.declared.receipt.Receipt.{Receipt}
+use Rattle.data_due.specs.Latest.{IsLatest}
 use Rattle.data_due.specs.Holding.{receipts}
 use Rattle.data_due.specs.Stands.{receipts_in}
 use Rattle.data_due.proofs.Naming.{by_test}
 use Rattle.data_due.proofs.Every.{every, both, every-append, every-back}
-use Rattle.data_due.proofs.Standing.{IsLatest}
 
 always : {A : Type 0} (P : A → Type 0) → ((x : A) → P x) → (xs : List A) → AllByRecursion P xs
 always P f [] = tt

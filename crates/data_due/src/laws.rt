@@ -1,13 +1,16 @@
 ghost use Rattle.std.specs.Prelude.{◌≡◌, ◌<◌, ◌+◌, ◌↔◌, ℕ, nat_eq, nat_lt, if◌then◌else◌, false, true, length, List, [], ◌∷◌, ◌++◌, map, reverse};
 ghost use Rattle.std.specs.List.{AllByRecursion};
 ghost use Rattle.data_cleanup.specs.Datum.{PlainDatum};
-ghost use Rattle.data_cleanup.specs.Ledger.{AreNumbered, IsOutstanding, PlainLedger, is_filed};
+ghost use Rattle.data_cleanup.specs.DataList.{PlainDataList};
+ghost use Rattle.data_cleanup.specs.Ledger.{AreNumbered, IsOutstanding, IsSound, PlainLedger, is_filed};
 ghost use Rattle.data_cleanup.specs.Cleanup.{AwaitCleanup, Notes, data_replace, ledger_after, times};
 ghost use Rattle.data_cleanup.specs.Grows.{Grows};
+ghost use Rattle.data_cleanup.specs.Tidy.{Tidy};
 ghost use Rattle.data_cleanup.specs.Due.{Event, birth, due, ends};
 ghost use Rattle.data_cleanup.specs.declared.datum.Birth.{Birth};
 ghost use Rattle.data_due.specs.Holding.{births_since, data_held, receipts, replaced_data};
 ghost use Rattle.data_due.specs.Stands.{AreBelow, EachOnce, Lists, StandFor, births_of, clean_list, times_filed, times_held};
+ghost use Rattle.data_due.specs.Latest.{AreLatest};
 ghost use Rattle.data_due.specs.Kept.{AreHeld};
 ghost use Rattle.data_due.specs.Moves.{Moves};
 
@@ -86,6 +89,26 @@ pub fn end_moves()
 pub fn nothing_moves()
     ensures { (note : Notes) (limit : ℕ) (before after : PlainLedger) (lists next : Lists) →
       after ≡ before → ((h : ℕ) → next h ≡ lists h) → Moves note limit [] before lists after next }
+{}
+
+/// What a transaction holds of what stands for some events is the latest of its names.
+pub fn held_data_are_latest()
+    ensures { (note : Notes) (limit handle : ℕ) (ledger : PlainLedger) (lists : Lists) (events : List Event) →
+      StandFor note limit ledger lists events → AreLatest ledger.births (lists handle) }
+{}
+
+/// A ledger in order stays so when a list grows.
+pub fn growth_keeps_tidy()
+    ensures { (note : Notes) (modules : ℕ) (old new : PlainDataList) (before after : PlainLedger) →
+      Tidy note before → AreLatest before.births old → Grows note modules old before new after →
+      IsSound after.births after.filed → AreNumbered 0 after.births → Tidy note after }
+{}
+
+/// A ledger in order stays so when the data of a list are cleaned up at its end.
+pub fn end_keeps_tidy()
+    ensures { (note : Notes) (status : ℕ) (list : PlainDataList) (before after : PlainLedger) →
+      Tidy note before → AreLatest before.births list → after ≡ ledger_after note status (reverse list.live) before →
+      IsSound after.births after.filed → Tidy note after }
 {}
 
 /// At first nothing is held.

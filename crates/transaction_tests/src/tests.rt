@@ -1,1 +1,2 @@
+mod conversations;
 mod delays;
