@@ -60,90 +60,87 @@ fn told(alloc: Global, answer: &Result<Replies, ConvFault>) -> Result<Vec<u8>, A
     Ok(text)
 }
 
-#[test]
-fn each_prompt_takes_the_next_reply(rt: HostRuntime) -> Result<(), Fail> {
-    let alloc = rt.alloc();
-    let mut queue = QueueConv::new(alloc);
-    offer_to(&mut queue, alloc, b"joe")?;
-    offer_to(&mut queue, alloc, b"Hello world!")?;
-    let text = talk_with(&mut queue, alloc, &one(alloc, Style::ErrorMsg, b"no")?);
-    assert_eq!(rt; told(alloc, &text)?.as_slice(), b"|".as_slice());
-    let both = talk_with(&mut queue, alloc, &login(alloc)?);
-    assert_eq!(rt; told(alloc, &both)?.as_slice(), b"|joe|Hello world!|".as_slice());
-    Ok(())
+// Whether an exchange comes to this.
+fn gives(
+    conv: &mut dyn Conv,
+    alloc: Global,
+    messages: &Messages,
+    want: &[u8],
+) -> Result<bool, AllocError>
+    requires { IsExchange messages.now }
+{
+    let answer = talk_with(conv, alloc, messages);
+    Ok(told(alloc, &answer)?.as_slice() == want)
+}
+
+// The length of the first reply.
+fn reply_length(conv: &mut dyn Conv, alloc: Global, messages: &Messages) -> Option<usize>
+    requires { IsExchange messages.now }
+{
+    let replies = talk_with(conv, alloc, messages).ok()?;
+    Some(replies.items().first()?.text.len())
 }
 
 #[test]
-fn too_few_replies_are_gone_and_none_is_taken(rt: HostRuntime) -> Result<(), Fail> {
+fn each_prompt_takes_the_next_reply_and_too_few_are_gone(rt: HostRuntime) -> Result<(), Fail> {
     let alloc = rt.alloc();
+    let login = login(alloc)?;
     let mut queue = QueueConv::new(alloc);
     offer_to(&mut queue, alloc, b"joe")?;
-    let few = talk_with(&mut queue, alloc, &login(alloc)?);
-    assert_eq!(rt; told(alloc, &few)?.as_slice(), b"Gone".as_slice());
+    assert!(rt; gives(&mut queue, alloc, &login, b"Gone")?);
     offer_to(&mut queue, alloc, b"")?;
-    let enough = talk_with(&mut queue, alloc, &login(alloc)?);
-    assert_eq!(rt; told(alloc, &enough)?.as_slice(), b"|joe||".as_slice());
+    assert!(rt; gives(&mut queue, alloc, &login, b"|joe||")?);
     Ok(())
 }
 
 #[test]
 fn a_mark_in_front_puts_off_one_exchange_with_a_prompt(rt: HostRuntime) -> Result<(), Fail> {
     let alloc = rt.alloc();
+    let login = login(alloc)?;
     let mut queue = QueueConv::new(alloc);
     offer_to(&mut queue, alloc, b"\\later")?;
     offer_to(&mut queue, alloc, b"\\Later")?;
     offer_to(&mut queue, alloc, b"\\later")?;
-    let text = talk_with(&mut queue, alloc, &one(alloc, Style::TextInfo, b"hi")?);
-    assert_eq!(rt; told(alloc, &text)?.as_slice(), b"|".as_slice());
-    let off = talk_with(&mut queue, alloc, &login(alloc)?);
-    assert_eq!(rt; told(alloc, &off)?.as_slice(), b"Again".as_slice());
-    let behind = talk_with(&mut queue, alloc, &login(alloc)?);
-    assert_eq!(rt; told(alloc, &behind)?.as_slice(), b"Gone".as_slice());
-    let reply = talk_with(&mut queue, alloc, &one(alloc, Style::EchoOn, b"login: ")?);
-    assert_eq!(rt; told(alloc, &reply)?.as_slice(), b"\\Later|".as_slice());
-    let off = talk_with(&mut queue, alloc, &one(alloc, Style::EchoOff, b"Password: ")?);
-    assert_eq!(rt; told(alloc, &off)?.as_slice(), b"Again".as_slice());
+    let text = one(alloc, Style::ErrorMsg, b"no")?;
+    assert!(rt; gives(&mut queue, alloc, &text, b"|")?);
+    assert!(rt; gives(&mut queue, alloc, &login, b"Again")?);
+    assert!(rt; gives(&mut queue, alloc, &login, b"Gone")?);
+    let prompt = one(alloc, Style::EchoOn, b"Code:")?;
+    assert!(rt; gives(&mut queue, alloc, &prompt, b"\\Later|")?);
+    assert!(rt; gives(&mut queue, alloc, &prompt, b"Again")?);
     Ok(())
 }
 
 #[test]
 fn a_terminal_shows_texts_and_reads_lines(rt: HostRuntime) -> Result<(), Fail> {
     let alloc = rt.alloc();
+    let login = login(alloc)?;
+    let prompt = one(alloc, Style::EchoOn, b"Code:")?;
     let mut shown = Vec::new(alloc);
     let mut term = TermConv::new(b"joe\n\nlast".as_slice(), &mut shown);
-    let both = term.talk(alloc, &login(alloc)?);
-    assert_eq!(rt; told(alloc, &both)?.as_slice(), b"|joe||".as_slice());
-    term.offer(alloc, b"\\later")?;
-    let last = term.talk(alloc, &one(alloc, Style::EchoOn, b"Code:")?);
-    assert_eq!(rt; told(alloc, &last)?.as_slice(), b"last|".as_slice());
-    let end = term.talk(alloc, &one(alloc, Style::EchoOff, b"more")?);
-    assert_eq!(rt; told(alloc, &end)?.as_slice(), b"Gone".as_slice());
-    let text = term.talk(alloc, &one(alloc, Style::ErrorMsg, b"no")?);
-    assert_eq!(rt; told(alloc, &text)?.as_slice(), b"|".as_slice());
-    assert_eq!(rt; shown.as_slice(), b"hi\nlogin: Password: Code:moreno\n".as_slice());
+    assert!(rt; gives(&mut term, alloc, &login, b"|joe||")?);
+    offer_to(&mut term, alloc, b"more")?;
+    assert!(rt; gives(&mut term, alloc, &prompt, b"last|")?);
+    assert!(rt; gives(&mut term, alloc, &prompt, b"Gone")?);
+    assert_eq!(rt; shown.as_slice(), b"hi\nlogin: Password: Code:Code:".as_slice());
     Ok(())
 }
 
 #[test]
 fn a_reply_has_at_most_512_bytes_and_leaves_the_rest(rt: HostRuntime) -> Result<(), Fail> {
     let alloc = rt.alloc();
-    let full = vec![in alloc; b'a'; 512]?;
+    let prompt = one(alloc, Style::EchoOff, b"?")?;
     let mut typed = vec![in alloc; b'a'; 512]?;
-    typed.extend_from_slice(b"\n")?;
-    typed.extend_from_slice(full.as_slice())?;
-    typed.extend_from_slice(b"b\n")?;
+    typed.push(b'\n').map_err(|_| AllocError)?;
+    let line = vec![in alloc; b'a'; 513]?;
+    typed.extend_from_slice(line.as_slice())?;
     let mut shown = Vec::new(alloc);
     let mut term = TermConv::new(typed.as_slice(), &mut shown);
-    let prompt = one(alloc, Style::EchoOff, b"?")?;
-    for (bytes, rest) in [(512, b"".as_slice()), (0, b""), (512, b""), (0, b"b")] {
-        let answer = term.talk(alloc, &prompt);
-        let text = told(alloc, &answer)?;
-        let mut want = Vec::new(alloc);
-        want.extend_from_slice(&full[..bytes])?;
-        want.extend_from_slice(rest)?;
-        want.extend_from_slice(b"|")?;
-        assert_eq!(rt; text.as_slice(), want.as_slice());
-    }
+    assert_eq!(rt; reply_length(&mut term, alloc, &prompt), Some(512));
+    assert_eq!(rt; reply_length(&mut term, alloc, &prompt), Some(0));
+    assert_eq!(rt; reply_length(&mut term, alloc, &prompt), Some(512));
+    assert_eq!(rt; reply_length(&mut term, alloc, &prompt), Some(1));
+    assert_eq!(rt; reply_length(&mut term, alloc, &prompt), None);
     Ok(())
 }
 
@@ -170,34 +167,31 @@ impl Read for Broken {
 }
 
 #[test]
-fn an_error_of_the_terminal_is_gone(rt: HostRuntime) -> Result<(), Fail> {
+fn an_error_of_reader_or_writer_is_gone(rt: HostRuntime) -> Result<(), Fail> {
     let alloc = rt.alloc();
+    let prompt = one(alloc, Style::EchoOn, b"login: ")?;
     let mut shown = Vec::new(alloc);
     let mut term = TermConv::new(Broken { failed: false }, &mut shown);
-    let read = term.talk(alloc, &one(alloc, Style::EchoOn, b"login: ")?);
-    assert_eq!(rt; told(alloc, &read)?.as_slice(), b"Gone".as_slice());
+    assert!(rt; gives(&mut term, alloc, &prompt, b"Gone")?);
     let mut room = [0u8; 3];
     let mut term = TermConv::new(b"joe\n".as_slice(), room.as_mut_slice());
-    let written = term.talk(alloc, &one(alloc, Style::EchoOn, b"login: ")?);
-    assert_eq!(rt; told(alloc, &written)?.as_slice(), b"Gone".as_slice());
+    assert!(rt; gives(&mut term, alloc, &prompt, b"Gone")?);
     Ok(())
 }
 
 #[test]
-fn a_pipe_is_a_terminal(rt: HostRuntime) -> Result<(), Fail> {
+fn two_pipes_are_a_terminal(rt: HostRuntime) -> Result<(), Fail> {
     let alloc = rt.alloc();
+    let login = login(alloc)?;
     let (keyboard, mut typing) = io::pipe(&rt)?;
     let (mut screen, showing) = io::pipe(&rt)?;
     typing.write_all(b"joe\nHello world!")?;
     drop(typing);
     let mut term = TermConv::new(keyboard, showing);
-    let both = term.talk(alloc, &login(alloc)?);
-    assert_eq!(rt; told(alloc, &both)?.as_slice(), b"|joe|Hello world!|".as_slice());
-    let end = term.talk(alloc, &one(alloc, Style::EchoOn, b"more")?);
-    assert_eq!(rt; told(alloc, &end)?.as_slice(), b"Gone".as_slice());
+    assert!(rt; gives(&mut term, alloc, &login, b"|joe|Hello world!|")?);
     drop(term);
     let mut shown = Vec::new(alloc);
     screen.read_to_end(&mut shown)?;
-    assert_eq!(rt; shown.as_slice(), b"hi\nlogin: Password: more".as_slice());
+    assert_eq!(rt; shown.as_slice(), b"hi\nlogin: Password: ".as_slice());
     Ok(())
 }
