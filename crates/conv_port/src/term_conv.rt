@@ -64,11 +64,11 @@ impl<R: Read + Drop, W: Write + Drop> Conv for TermConv<R, W> {
         ensures told { IsTrue (⟦<TermConv<R, W> as Conv>⟧.conv_tells self.old) → Talks result messages.now (⟦<TermConv<R, W> as Conv>⟧.conv_holds self.old) (⟦<TermConv<R, W> as Conv>⟧.conv_holds self.new) }
         ensures faults { ⟦<TermConv<R, W> as Conv>⟧.conv_faults self.old ≤ ⟦<TermConv<R, W> as Conv>⟧.conv_faults self.new }
         ensures gone { result ≡ Err ConvFault.Gone → Rose (⟦<TermConv<R, W> as Conv>⟧.conv_faults self.old) (⟦<TermConv<R, W> as Conv>⟧.conv_faults self.new) }
-        ensures not_gone { result ≢ Err ConvFault.Gone → ⟦<TermConv<R, W> as Conv>⟧.conv_faults self.new ≡ ⟦<TermConv<R, W> as Conv>⟧.conv_faults self.old }
+        ensures no_fault { result ≢ Err ConvFault.Gone → ⟦<TermConv<R, W> as Conv>⟧.conv_faults self.new ≡ ⟦<TermConv<R, W> as Conv>⟧.conv_faults self.old }
         ensures deferrals { ⟦<TermConv<R, W> as Conv>⟧.conv_deferrals self.old ≤ ⟦<TermConv<R, W> as Conv>⟧.conv_deferrals self.new }
         ensures again { result ≡ Err ConvFault.Again → Rose (⟦<TermConv<R, W> as Conv>⟧.conv_deferrals self.old) (⟦<TermConv<R, W> as Conv>⟧.conv_deferrals self.new) }
         ensures prompt { result ≡ Err ConvFault.Again → HasPrompt messages.now }
-        ensures not_again { result ≢ Err ConvFault.Again → ⟦<TermConv<R, W> as Conv>⟧.conv_deferrals self.new ≡ ⟦<TermConv<R, W> as Conv>⟧.conv_deferrals self.old }
+        ensures no_deferral { result ≢ Err ConvFault.Again → ⟦<TermConv<R, W> as Conv>⟧.conv_deferrals self.new ≡ ⟦<TermConv<R, W> as Conv>⟧.conv_deferrals self.old }
         ensures never_again { result ≢ Err ConvFault.Again }
         ensures one_fault { result ≡ Err ConvFault.Gone → self.new.faults ≡ next_count self.old.faults }
         ensures shown { OnOk result (Appends (W.contents self.old.writer) (W.contents self.new.writer) (all_shown messages.now)) }
