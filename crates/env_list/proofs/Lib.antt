@@ -1,3 +1,4 @@
+mod Rows
 mod Names
 mod Texts
 mod Variables

@@ -1,6 +1,6 @@
 ghost use Rattle.std.specs.Prelude.{◌≡◌, ◌≢◌, ◌↔◌, ◌==◌, ◌||◌, not, false, [], map, length, None, Err, IfOk, OnOk, OnErr, IsTrue};
 ghost use Rattle.std.specs.Option.{option_copied};
-ghost use Rattle.env_list.specs.Environment.{is_set, value_of, with_value, without, is_deletion, is_refused, after_put, variable_text, bad_item};
+ghost use Rattle.env_list.specs.Environment.{HaveDifferentNames, is_set, value_of, with_value, without, is_deletion, is_refused, after_put, variable_text, bad_item};
 
 use indexmap::IndexMap;
 use pam_base::{BadItem, NoMemory, Refuse, Text, Texts, first_place};
@@ -66,9 +66,10 @@ impl EnvList {
         self.value(name).map(|value| value.bytes())
     }
 
-    /// The number of variables.
+    /// The number of variables; no two of them have one name.
     pub fn len(&self) -> usize
-        ensures { result ≡ length self.now }
+        ensures length { result ≡ length self.now }
+        ensures names { HaveDifferentNames self.now }
     {
         self.variables.len()
     }

@@ -1,1 +1,3 @@
 mod delays;
+mod environment;
+mod items;
