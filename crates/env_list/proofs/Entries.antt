@@ -1,5 +1,5 @@
 -- What the map's calls do to the variables.
-use Rattle.std.proofs.Common.{◌≡◌, ℕ, Bool, true, false, List, [], ◌∷◌, ◌++◌, map, not, Some, None, Vec, refl, sym, ap, append_assoc, is_some, if◌then◌else◌}
+use Rattle.std.proofs.Common.{◌≡◌, ℕ, Bool, true, false, List, [], ◌∷◌, ◌++◌, map, Some, Vec, refl, sym, ap, append_assoc, is_some, if◌then◌else◌}
 use Rattle.std.specs.Global.{Global}
 use Rattle.std.specs.List.{find, AllByRecursion, IsDistinct}
 use Rattle.std.specs.Map.{keys_of, lookup, remove_entry}
@@ -34,7 +34,7 @@ looked_up name [] = refl
 looked_up name (entry ∷ entries) =
     let rest = looked_up name entries in
     elim (bytes_eq name entry.0.items) as (λ c. (if c then Some entry.1 else lookup (λ key. bytes_eq name key.items) entries)
-        ≡ option_map (λ v. v.value) (if c then Some (variable_of entry) else find (is_named name) (variables_of entries))) [ true ↦ refl | false ↦ rest ]
+    ≡ option_map (λ v. v.value) (if c then Some (variable_of entry) else find (is_named name) (variables_of entries))) [ true ↦ refl | false ↦ rest ]
 
 pub found : (name : List ℕ) (entries : List Entry) → is_some (lookup (λ key. bytes_eq name key.items) entries) ≡ is_set name (variables_of entries)
 found name [] = refl

@@ -1,9 +1,8 @@
 -- What is set after a name was put or deleted.
-use Rattle.std.proofs.Common.{◌≡◌, ◌≢◌, ℕ, Bool, true, false, not, cond, List, [], ◌∷◌, ◌++◌, map, filter, Some, None, refl, sym, ap, ◌∙◌, arith, if◌then◌else◌}
+use Rattle.std.proofs.Common.{◌≡◌, ◌≢◌, ℕ, Bool, true, false, List, [], ◌∷◌, ◌++◌, map, Some, None, refl, sym, ap, ◌∙◌, if◌then◌else◌}
 use Rattle.std.specs.List.{find, AllByRecursion, IsDistinct}
 use Rattle.std.specs.Option.{option_map}
 use Rattle.std.specs.Str.{bytes_eq}
-use Rattle.std.proofs.lemmas.Grind.{common_steps}
 use Rattle.env_list.specs.Environment.{Variable, is_named, is_set, value_of, with_value, without, HaveDifferentNames}
 use Rattle.env_list.proofs.Names.{same_name, own_name, other_name, none_of_parts}
 
@@ -50,14 +49,14 @@ changed_others name other value (variable ∷ variables) differ = by (is_named n
     by false e rest =
         rw e
         (elim (is_named other variable) as (λ c. option_map (λ v. v.value) (if c then Some variable else find (is_named other) (map (changed name value) variables))
-            ≡ option_map (λ v. v.value) (if c then Some variable else find (is_named other) variables)) [ true ↦ refl | false ↦ rest ])
+        ≡ option_map (λ v. v.value) (if c then Some variable else find (is_named other) variables)) [ true ↦ refl | false ↦ rest ])
 
 added_others : (name other value : List ℕ) (variables : List Variable) → other ≢ name → value_of other (variables ++ added name value ∷ []) ≡ value_of other variables
 added_others name other value [] differ = rw (other_name other name differ) refl
 added_others name other value (variable ∷ variables) differ =
     let rest = added_others name other value variables differ in
     elim (is_named other variable) as (λ c. option_map (λ v. v.value) (if c then Some variable else find (is_named other) (variables ++ added name value ∷ []))
-        ≡ option_map (λ v. v.value) (if c then Some variable else find (is_named other) variables)) [ true ↦ refl | false ↦ rest ]
+    ≡ option_map (λ v. v.value) (if c then Some variable else find (is_named other) variables)) [ true ↦ refl | false ↦ rest ]
 
 pub put_others : (name other value : List ℕ) (variables : List Variable) → other ≢ name → value_of other (with_value name value variables) ≡ value_of other variables
 put_others name other value variables differ = by (is_set name variables) refl
@@ -72,7 +71,7 @@ changed_names name value [] = refl
 changed_names name value (variable ∷ variables) =
     let rest = changed_names name value variables in
     elim (is_named name variable) as (λ c. (if c then record variable { value = value } else variable).name ∷ map (λ v. v.name) (map (changed name value) variables)
-        ≡ variable.name ∷ map (λ v. v.name) variables) [ true ↦ ap (λ (ns : List (List ℕ)). variable.name ∷ ns) rest | false ↦ ap (λ (ns : List (List ℕ)). variable.name ∷ ns) rest ]
+    ≡ variable.name ∷ map (λ v. v.name) variables) [ true ↦ ap (λ (ns : List (List ℕ)). variable.name ∷ ns) rest | false ↦ ap (λ (ns : List (List ℕ)). variable.name ∷ ns) rest ]
 
 pub put_names : (name value : List ℕ) (variables : List Variable) → is_set name variables ≡ true → map (λ v. v.name) (with_value name value variables) ≡ map (λ v. v.name) variables
 put_names name value variables there = rw there (changed_names name value variables)
@@ -98,7 +97,7 @@ deleted_others name other (variable ∷ variables) differ = by (is_named name va
     by false e rest =
         rw e
         (elim (is_named other variable) as (λ c. option_map (λ v. v.value) (if c then Some variable else find (is_named other) (without name variables))
-            ≡ option_map (λ v. v.value) (if c then Some variable else find (is_named other) variables)) [ true ↦ refl | false ↦ rest ])
+        ≡ option_map (λ v. v.value) (if c then Some variable else find (is_named other) variables)) [ true ↦ refl | false ↦ rest ])
 
 -- variables of which none has the name
 abbrev pub NoneNamed : List ℕ → List Variable → Type 0

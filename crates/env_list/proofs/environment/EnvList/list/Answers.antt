@@ -1,4 +1,3 @@
-use Rattle.std.proofs.Common.{◌∷◌, sym, subst, ap, ◌∙◌}
 use Rattle.env_list.proofs.Entries.{listed}
 use Rattle.env_list.proofs.environment.EnvList.list.Goals as goal
 
