@@ -1,5 +1,5 @@
 -- The longest of some requests.
-use Rattle.std.proofs.Common.{◌≡◌, ℕ, zero, suc, ◌+◌, ◌<◌, ◌≤◌, List, [], ◌∷◌, All, Any, refl, sym, ◌∙◌, inl, inr, arith}
+use Rattle.std.proofs.Common.{◌≡◌, ℕ, zero, suc, ◌<◌, ◌≤◌, List, [], ◌∷◌, All, Any, refl, sym, ◌∙◌, inl, inr, arith}
 use Rattle.std.proofs.lemmas.Bool.{cases_lt}
 use Rattle.std.proofs.Math.Nat.{max-eq_left, max-eq_right, le_of_lt}
 use Rattle.fail_delay.specs.Delay.{counted_request, longest_of}
@@ -17,7 +17,7 @@ pub one_of_them : (requests : List ℕ) → 0 < longest_of requests → Any (λ 
 one_of_them [] some = absurd (omega arith)
 one_of_them (micros ∷ requests) some =
     elim (cases_lt (counted_request micros) (longest_of requests)) [
-        inl lt ↦ let rest = one_of_them requests (omega arith) in
-        (suc rest.0, rest.1, omega arith, rest.3, rest.4 ∙ sym (max-eq_right (le_of_lt lt)))
-        | inr le ↦ (0, micros, omega arith, refl, sym (max-eq_left le))
+      | inl lt ↦ let rest = one_of_them requests (omega arith) in
+          (suc rest.0, rest.1, omega arith, rest.3, rest.4 ∙ sym (max-eq_right (le_of_lt lt)))
+      | inr le ↦ (0, micros, omega arith, refl, sym (max-eq_left le))
     ]

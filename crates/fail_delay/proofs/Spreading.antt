@@ -1,5 +1,5 @@
 -- The asked delay, within half of the longest request.
-use Rattle.std.proofs.Common.{◌≡◌, ℕ, ◌+◌, ◌-◌, ◌*◌, ◌/◌, ◌%◌, ◌<◌, ◌≤◌, refl, sym, ◌∙◌, ap, inl, inr, arith}
+use Rattle.std.proofs.Common.{◌≡◌, ℕ, ◌+◌, ◌-◌, ◌*◌, ◌/◌, ◌%◌, ◌<◌, ◌≤◌, refl, inl, inr, arith}
 use Rattle.std.proofs.lemmas.Bool.{cases_lt}
 use Rattle.std.proofs.Math.Nat.{mod-eq_of_lt}
 use Rattle.std.proofs.lemmas.Grind.{common_steps}
@@ -9,8 +9,8 @@ use Rattle.fail_delay.specs.Delay.{spread, asked_delay}
 remainder_for : (longest half delay : ℕ) → half ≤ longest → longest - half ≤ delay → delay ≤ longest + half → (r : ℕ) × (r < 2 * half + 1) × (spread longest half r ≡ delay)
 remainder_for longest half delay small low high =
     elim (cases_lt delay longest) [
-        inl lt ↦ (half + (longest - delay), omega arith, grind (arith, common_steps))
-        | inr le ↦ (delay - longest, omega arith, grind (arith, common_steps))
+      | inl lt ↦ (half + (longest - delay), omega arith, grind (arith, common_steps))
+      | inr le ↦ (delay - longest, omega arith, grind (arith, common_steps))
     ]
 
 asked_at : (longest half remainder delay : ℕ) → half ≡ longest / 2 → remainder < 2 * half + 1 → longest - half ≤ delay → delay ≤ longest + half

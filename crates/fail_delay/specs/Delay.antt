@@ -1,6 +1,6 @@
--- The delay that is asked for, pam_fail_delay(3): the longest of the requests, spread at random by up to half of it. The page
--- leaves the spread open ("up to 25%" there is another one); the bounds and this spread are this project's own.
-use Rattle.std.specs.Prelude.{ℕ, ◌+◌, ◌-◌, ◌*◌, ◌/◌, ◌%◌, List, [], ◌∷◌, fold, max, min, nat_le, ◌==◌, if◌then◌else◌}
+-- The delay that is asked for, pam_fail_delay(3): the longest of the requests, spread at random about it. The bounds, and
+-- how far and by which word it is spread, are this project's own.
+use Rattle.std.specs.Prelude.{ℕ, ◌+◌, ◌-◌, ◌*◌, ◌/◌, ◌%◌, List, [], ◌∷◌, max, min, nat_le, ◌==◌, if◌then◌else◌}
 
 -- a request counts as at most 60 seconds, in microseconds
 abbrev pub counted_request : ℕ → ℕ

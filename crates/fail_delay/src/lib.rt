@@ -2,13 +2,11 @@
 //! what is waited, with and without an application's own delay function.
 #![tactic(auto)]
 
-
 mod delay;
 mod delay_fn;
 mod laws;
 mod spread;
 mod waiting;
-
 
 pub use delay::{Delay, LONGEST_REQUEST};
 pub use delay_fn::{DelayFn, DelayRule, DelayTold, LONGEST_ASKED};

@@ -1,3 +1,5 @@
 mod conversations;
 mod data;
 mod delays;
+mod environment;
+mod items;

@@ -1,0 +1,5 @@
+mod Rows
+mod Names
+mod Texts
+mod Variables
+mod Entries
