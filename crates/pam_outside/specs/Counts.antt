@@ -1,5 +1,5 @@
 -- Counts of calls and of faults (this project's own). Both are kept in 64 bits, and stand still at their end.
-use Rattle.std.specs.Prelude.{ℕ, ◌+◌, ◌-◌, ◌≤◌, ◌^◌, ◌==◌, if◌then◌else◌, min, Bool, List, nat_lt, nat_eq, ◌&&◌}
+use Rattle.std.specs.Prelude.{◌≡◌, ℕ, ◌+◌, ◌-◌, ◌≤◌, ◌^◌, ◌==◌, if◌then◌else◌, min, Bool, true, false, List, nat_lt, nat_eq, ◌&&◌}
 use Rattle.std.specs.List.{list_any}
 
 -- a count after one more
@@ -9,6 +9,11 @@ next_count n = min (n + 1) (2 ^ 64 - 1)
 -- a count that rose
 abbrev pub Rose : ℕ → ℕ → Type 0
 Rose before now = next_count before ≤ now
+
+-- a count that rose where something failed, and is as before where nothing did
+abbrev pub RisesIf : Bool → ℕ → ℕ → Type 0
+RisesIf true before now = Rose before now
+RisesIf false before now = now ≡ before
 
 -- whether the call after so many is among those that are to fail, which are numbered from 1;
 -- where the count stands still, no further call is
