@@ -23,7 +23,8 @@ const USAGE: &str = "usage: pamsess run ROOT\n";
 ///
 /// It answers the program's status: 0, the script was run to its end; 2, the words are others, so only a line
 /// on the usage is written; 4, memory ran out; 5, the script's source failed; 6, the sink failed; 7, a line of
-/// the script was refused. Nothing more is written after a failure of memory, source or sink.
+/// the script was refused, and nothing was read once it was taken. With 4 and 6 what is written is a front of a
+/// report, with 5 the report of the lines that were read whole.
 pub fn pamsess<S: Source, K: Sink>(
     alloc: Global,
     words: &[String],
