@@ -7,6 +7,7 @@ use std::process::Abort;
 use std::test::Fail;
 
 /// A command line: the words behind the program's name.
+#[derive(Clone, Copy)]
 struct CommandLine<'a> {
     words: &'a [&'a [u8]],
 }
