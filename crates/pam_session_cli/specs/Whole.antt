@@ -91,8 +91,8 @@ pub record IsDone (start : State) (w : VaultState) (x y : SourceState) (p q : Si
   pub vault : (run_of start x.left true).last.vault ≡ w
   pub read_out : y.left ≡ []
 
--- a run up to the line that the whole script is refused for: the report of those before it, and why, is written; of
--- the bytes taken, those before the last read, which took at most 512, hold no line that is refused
+-- a run up to the line that the whole script is refused for: the report of those before it, and why, is written; and
+-- of the bytes taken, all but at most the last 512 (those of the last read) hold no line that is refused
 pub record IsRefused (start : State) (x y : SourceState) (p q : SinkState) : Type 0 where
   pub kind : ScriptKind
   pub refused : (run_of start x.left true).refused ≡ Some kind

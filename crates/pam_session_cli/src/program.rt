@@ -23,8 +23,8 @@ const USAGE: &str = "usage: pamsess run ROOT\n";
 ///
 /// It answers the program's status: 0, the script was run to its end; 2, the words are others, so only a line
 /// on the usage is written; 4, memory ran out; 5, the script's source failed; 6, the sink failed; 7, a line of
-/// the script was refused, and nothing was read once it was taken. With 4 and 6 what is written is a front of a
-/// report, with 5 the report of the lines that were read whole.
+/// the script was refused. With 4 and 6 what is written is a front of a report, with 5 the report of the lines that
+/// were read whole.
 pub fn pamsess<S: Source, K: Sink>(
     alloc: Global,
     words: &[String],
@@ -40,8 +40,8 @@ pub fn pamsess<S: Source, K: Sink>(
         IsDone (opening root (vault_holds vault.old)) (vault_holds vault.new)
         (S.source_holds script.old) (S.source_holds script.new)
         (K.sink_holds out.old) (K.sink_holds out.new) }
-    // With status 7 the whole script is refused for the line that the report ends with, and nothing was read once
-    // that line was taken.
+    // With status 7 the whole script is refused for the line that the report ends with. At most a buffer was taken
+    // with that line: the bytes taken before it hold no line that is refused.
     ensures refused { (root : List ℕ) → root_of_words words.now ≡ Some root →
         IsTrue (S.source_tells script.old) → IsTrue (K.sink_tells out.old) →
         IsTrue (vault_tells vault.old) → result ≡ 7 →
