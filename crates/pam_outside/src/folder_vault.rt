@@ -82,7 +82,7 @@ impl<R: Files + Drop> Vault for FolderVault<R> {
         ensures stays { result ≢ Err ReplaceFault.Failed → self.new ≡ self.old }
         ensures not_text { ¬ (IsUtf8 path.now) → result ≡ Err ReplaceFault.Failed }
     {
-        let result = is_folder(&self.rt, path);
+        let result = names_folder(&self.rt, path);
         if let Err(ReplaceFault::Failed) = result {
             self.faults = self.faults.saturating_add(1);
         }
@@ -132,7 +132,7 @@ fn opening_fault(kind: ErrorKind) -> VaultFault
     }
 }
 
-fn is_folder<R: Files>(rt: &R, path: &[u8]) -> Result<bool, ReplaceFault>
+fn names_folder<R: Files>(rt: &R, path: &[u8]) -> Result<bool, ReplaceFault>
     ensures { ¬ (IsUtf8 path.now) → result ≡ Err ReplaceFault.Failed }
 {
     let path = str::from_utf8(path).map_err(|_| ReplaceFault::Failed)?;

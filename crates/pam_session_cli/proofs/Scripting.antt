@@ -1,5 +1,5 @@
 -- A whole run: what was driven, and its last words.
-use Rattle.std.proofs.Common.{[], ◌≡◌, ℕ, Bool, true, false, List, ◌++◌, Option, Some, None, Ok, Err, refl, sym, ap, ◌∙◌, append_assoc, length-append, arith}
+use Rattle.std.proofs.Common.{[], ◌≡◌, ℕ, ◌⊎◌, inl, inr, Bool, true, false, List, ◌++◌, Option, Some, None, Ok, Err, refl, sym, ap, ◌∙◌, append_assoc, length-append, arith}
 use Rattle.std.proofs.lemmas.List.{append-nil}
 use Rattle.pam_base.specs.declared.fault.ScriptKind.{ScriptKind}
 use Rattle.pam_outside.specs.Files.{VaultState}
@@ -9,9 +9,10 @@ use Rattle.pam_session_cli.specs.declared.drive.Ending.TheVariants.{Done, ReadFa
 use Rattle.pam_session_cli.specs.declared.drive.Stop.{Stop}
 use Rattle.pam_session_cli.specs.State.{State}
 use Rattle.pam_session_cli.specs.Run.{Run, run_of, opening}
-use Rattle.pam_session_cli.specs.Turns.{Ends, Drives}
+use Rattle.pam_session_cli.specs.Turns.{Ends, LastRead, Drives}
 use Rattle.pam_session_cli.specs.Whole.{ending_text, full_text, Scripts, Finishes, IsWhole, IsReadOut}
 use Rattle.pam_session_cli.proofs.Refusing.{run-stays}
+use Rattle.pam_session_cli.proofs.Running.{run-none}
 
 -- each run has an ending
 ending_for : (r : Run) (ended : Bool) (o : Option ScriptKind) → r.refused ≡ o → (e : Ending) × Ends e ended r
@@ -38,6 +39,17 @@ module _ (start : State) where
   read_out_for ReadFault ended left taken end ends = tt
   read_out_for (Refused k) ended left taken end ends = tt
 
+-- the last read of a run
+last_of_run : (start : State) (got : List ℕ) → (got ≡ []) ⊎ LastRead start [] got → LastRead start [] got
+last_of_run start got (inr l) = l
+last_of_run start got (inl none) = record {
+  early = [];
+  late = [];
+  parts = none;
+  room = omega arith;
+  accepted = ap (λ (r : Run). r.refused) (run-none start false);
+}
+
 -- what is written after the lines
 with_words : (e : Ending) (d : State) (r : Run) (text : List ℕ) → r.text ≡ text → r.last ≡ d → full_text e r ≡ text ++ ending_text e d
 with_words e d r text t l = ap (λ (u : List ℕ). u ++ ending_text e r.last) t ∙ ap (λ (c : State). text ++ ending_text e c) l
@@ -55,7 +67,9 @@ no_script stop root v w x p =
       report = (false, λ h. absurd cc, e.0, e.1, full_text e.0 r, refl);
       whole = tt;
       read_out = tt;
+      last = last_of_run (opening root v) [] (inl refl);
       reads = omega arith;
+      ends = omega arith;
       writes = omega arith;
     }
 
@@ -73,7 +87,9 @@ module _ (root : List ℕ) (v : VaultState) (d : State) (x y : SourceState) (p q
         report = (t.0, t.1, e.0, e.1, t.2 ++ ending_text e.0 r.last, ap (λ (u : List ℕ). u ++ ending_text e.0 r.last) t.3 ∙ append_assoc a.all.text t.2 (ending_text e.0 r.last));
         whole = tt;
         read_out = tt;
+        last = last_of_run (opening root v) a.all.got a.all.last;
         reads = a.all.reads;
+        ends = a.all.ends;
         writes = a.all.calls;
       }
 
@@ -88,7 +104,9 @@ module _ (root : List ℕ) (v : VaultState) (d : State) (x y : SourceState) (p q
         report = (t.0, t.1, e, t.2, f.back, with_words e d (run_of (opening root v) a.all.got t.0) a.all.text t.3 t.4 ∙ ap (λ (u : List ℕ). a.all.text ++ u) f.parts ∙ sym (append_assoc a.all.text f.front f.back));
         whole = tt;
         read_out = tt;
+        last = last_of_run (opening root v) a.all.got a.all.last;
         reads = a.all.reads;
+        ends = a.all.ends;
         writes = omega (arith, f.calls, a.all.calls_ok, length-append a.all.text f.front);
       }
 
@@ -104,7 +122,9 @@ module _ (root : List ℕ) (v : VaultState) (d : State) (x y : SourceState) (p q
         report = (t.0, t.1, t.2, full, ap (λ (c : State). c.vault) t.4);
         whole = whole_for (opening root v) e t.0 a.all.got y.left x.left (a.all.text ++ f.front) a.all.source t.1 t.2 full;
         read_out = read_out_for (opening root v) e t.0 y.left a.all.got t.1 t.2;
+        last = last_of_run (opening root v) a.all.got a.all.last;
         reads = a.all.reads;
+        ends = a.all.ends;
         writes = omega (arith, f.calls, a.all.calls_ok, length-append a.all.text f.front);
       }
 

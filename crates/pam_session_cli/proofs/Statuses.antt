@@ -19,5 +19,14 @@ module _ (root : List ℕ) (v w : VaultState) (x y : SourceState) (p q : SinkSta
         read_out = s.read_out;
       }
 
-  pub refused_whole : (kind : ScriptKind) → Scripts (Ok (Refused kind)) root v w x y p q → IsRefused (opening root v) x p q
-  refused_whole kind s = record { kind = kind; refused = s.whole.0; written = s.sink ∙ ap (λ (t : List ℕ). p.written ++ t) s.whole.1 }
+  pub refused_whole : (kind : ScriptKind) → Scripts (Ok (Refused kind)) root v w x y p q → IsRefused (opening root v) x y p q
+  refused_whole kind s = record {
+    kind = kind;
+    refused = s.whole.0;
+    written = s.sink ∙ ap (λ (t : List ℕ). p.written ++ t) s.whole.1;
+    early = s.last.early;
+    late = s.last.late;
+    taken = s.source ∙ ap (λ (t : List ℕ). t ++ y.left) s.last.parts;
+    room = s.last.room;
+    not_before = s.last.accepted;
+  }

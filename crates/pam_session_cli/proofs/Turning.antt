@@ -15,8 +15,8 @@ use Rattle.pam_session_cli.specs.declared.drive.Stop.{Stop}
 use Rattle.pam_session_cli.specs.Looked.{looked}
 use Rattle.pam_session_cli.specs.State.{State, step_of}
 use Rattle.pam_session_cli.specs.Run.{Run, with_text, after, run_lines, run_of}
-use Rattle.pam_session_cli.specs.Taking.{Finds, IsFound}
-use Rattle.pam_session_cli.specs.Turns.{IsCut, ServesTold, Ends, Tells, Turns, Drives, IsLimit}
+use Rattle.pam_session_cli.specs.Taking.{Finds, IsFound, LastGot}
+use Rattle.pam_session_cli.specs.Turns.{IsCut, ServesTold, Ends, Tells, LastRead, Turns, Drives, IsLimit}
 use Rattle.pam_session_cli.proofs.Running.{run-line, run-last, run-partial, run-none, run-served, served-fits, finished}
 
 cut_none : (r : Result (State × List ℕ) ScriptKind) → IsCut [] r
@@ -32,9 +32,12 @@ pub by_serving : (result : Result (Option Ending) Stop) (found : Result Found Fa
     → Tells result c d held rest y.left s.text
     → (result ≡ Ok None → y.calls ≤ x.calls + length f.got)
     → y.calls ≤ x.calls + length f.got + 1
+    → (result ≡ Ok None → y.reads_at_end ≤ x.reads_at_end)
+    → y.reads_at_end ≤ x.reads_at_end + 1
+    → (f.got ≡ []) ⊎ LastRead c before f.got
     → OnOk result (q.calls ≤ p.calls + length s.text)
     → Turns result c d before rest x y p q
-by_serving result found limit before held rest c d x y p q o line f s w on reads ok = record {
+by_serving result found limit before held rest c d x y p q o line f s w on reads ends_on ends last ok = record {
   got = f.got;
   text = s.text;
   source = f.source;
@@ -42,6 +45,9 @@ by_serving result found limit before held rest c d x y p q o line f s w on reads
   writes = subst (λ (met : List ℕ). Tells result c d met rest y.left s.text) f.held_is w;
   reads = reads;
   reads_on = on;
+  ends = ends;
+  ends_on = ends_on;
+  last = last;
   calls = s.calls;
   calls_ok = ok;
 }
@@ -65,6 +71,17 @@ run-held : (limit : ℕ) (c : State) (held : List ℕ) → IsLimit limit c.lines
 run-held limit c held (inl h) le e = run-partial c held e (within c held h.1 (omega (arith, h.0)))
 run-held limit c held (inr h) le e = rw (nil_from_length held (omega (arith, h.0))) (run-none c false)
 
+-- before the last read of a turn nothing was refused
+last_of : (limit : ℕ) (c : State) (before got : List ℕ) → IsLimit limit c.lines → (got ≡ []) ⊎ LastGot limit before got → (got ≡ []) ⊎ LastRead c before got
+last_of limit c before got lim (inl none) = inl none
+last_of limit c before got lim (inr l) = inr (record {
+  early = l.early;
+  late = l.late;
+  parts = l.parts;
+  room = l.room;
+  accepted = ap (λ (r : Run). r.refused) (run-held limit c (before ++ l.early) lim l.within l.open_line);
+})
+
 cut_after : (c : State) (r : Result (State × List ℕ) ScriptKind) (next : State → Run) (written : List ℕ) → IsCut written r → (more : List ℕ) × ((after c r next).text ≡ written ++ more)
 cut_after c (Ok x) next written cut = (cut.0 ++ (next x.0).text, ap (λ (t : List ℕ). t ++ (next x.0).text) cut.1 ∙ append_assoc written cut.0 (next x.0).text)
 cut_after c (Err k) next written e = ([], rw e refl)
@@ -81,12 +98,15 @@ turn_fault limit before held e c x y p lim found f =
           (false, λ e. absurd cc, (refl, ap (λ (z : Run). z.refused) r), ap (λ (z : Run). z.text) r, ap (λ (z : Run). z.last) r);
       reads = f.calls;
       reads_on = λ e. absurd cc;
+      ends = f.ends;
+      ends_on = λ e. absurd cc;
+      last = last_of limit c before f.got lim f.last;
       calls = omega arith;
       calls_ok = omega arith;
     }
 
-pub turn_end : (limit : ℕ) (before held : List ℕ) (c : State) (x y : SourceState) (p : SinkState) → held ≡ [] → Finds (Ok End) limit before held x y → Turns (Ok (Some Done)) c c before held x y p p
-turn_end limit before held c x y p none f =
+pub turn_end : (limit : ℕ) (before held : List ℕ) (c : State) (x y : SourceState) (p : SinkState) → IsLimit limit c.lines → held ≡ [] → Finds (Ok End) limit before held x y → Turns (Ok (Some Done)) c c before held x y p p
+turn_end limit before held c x y p lim none f =
     let r : run_of c held true ≡ finished c = rw none (run-none c true) in
     record {
       got = f.got;
@@ -97,19 +117,28 @@ turn_end limit before held c x y p none f =
           (true, λ e. f.ended, (refl, ap (λ (z : Run). z.refused) r), ap (λ (z : Run). z.text) r, ap (λ (z : Run). z.last) r);
       reads = f.calls;
       reads_on = λ e. absurd cc;
+      ends = f.ends;
+      ends_on = λ e. absurd cc;
+      last = last_of limit c before f.got lim f.last;
       calls = omega arith;
       calls_ok = omega arith;
     }
 
-module _ (limit n : ℕ) (before held : List ℕ) (c d : State) (x y : SourceState) (p q : SinkState) (found : IsFound (Ok (Line n)) limit held) (f : Finds (Ok (Line n)) limit before held x y) where
+module _ (limit n : ℕ) (before held : List ℕ) (c d : State) (x y : SourceState) (p q : SinkState) (lim : IsLimit limit c.lines) (found : IsFound (Ok (Line n)) limit held) (f : Finds (Ok (Line n)) limit before held x y) where
   reads_one : y.calls ≤ x.calls + length f.got
   reads_one = omega (arith, f.calls)
+
+  ends_none : y.reads_at_end ≤ x.reads_at_end
+  ends_none = omega (arith, f.ends)
+
+  last : (f.got ≡ []) ⊎ LastRead c before f.got
+  last = last_of limit c before f.got lim f.last
 
   pub turn_served : d.lines ≡ c.lines + 1 → ServesTold (Ok None) (take n held) c d p q → Turns (Ok None) c d before (drop (n + 1) held) x y p q
   turn_served lines s = by_serving (Ok None) _ limit before held (drop (n + 1) held) c d x y p q _ _ f s
       (λ more ended. ap (λ (t : List ℕ). run_of c t ended) (ap (λ (t : List ℕ). t ++ more) found.2 ∙ append_assoc (take n held) (10 ∷ drop (n + 1) held) more)
       ∙ run-served c d (take n held) (drop (n + 1) held ++ more) s.text ended found.1 s.served lines)
-      (λ e. reads_one) (omega (arith, reads_one)) s.calls_ok
+      (λ e. reads_one) (omega (arith, reads_one)) (λ e. ends_none) (omega (arith, ends_none)) last s.calls_ok
 
   whole : run_of c held false ≡ after c (step_of c (take n held)) (λ e. run_lines e (looked (c.lines + 1) (drop (n + 1) held) false))
   whole = ap (λ (t : List ℕ). run_of c t false) found.2 ∙ run-line c (take n held) (drop (n + 1) held) false found.1
@@ -119,14 +148,14 @@ module _ (limit n : ℕ) (before held : List ℕ) (c d : State) (x y : SourceSta
       let r = rw s.served.0 at whole in
       by_serving (Ok (Some (Refused k))) _ limit before held rest c d x y p q _ _ f s
       (false, λ e. absurd cc, ap (λ (z : Run). z.refused) r, ap (λ (z : Run). z.text) r ∙ sym s.served.1, ap (λ (z : Run). z.last) r ∙ sym s.served.2)
-      (λ e. absurd cc) (omega (arith, reads_one)) s.calls_ok
+      (λ e. absurd cc) (omega (arith, reads_one)) (λ e. absurd cc) (omega (arith, ends_none)) last s.calls_ok
 
   pub turn_stopped : (stop : Stop) (rest : List ℕ) → ServesTold (Err stop) (take n held) c d p q → Turns (Err stop) c d before rest x y p q
   turn_stopped stop rest s =
       let m = cut_after c (step_of c (take n held)) (λ e. run_lines e (looked (c.lines + 1) (drop (n + 1) held) false)) s.text s.served in
       by_serving (Err stop) _ limit before held rest c d x y p q _ _ f s
       (false, λ e. absurd cc, m.0, ap (λ (z : Run). z.text) whole ∙ m.1)
-      (λ e. absurd cc) (omega (arith, reads_one)) tt
+      (λ e. absurd cc) (omega (arith, reads_one)) (λ e. absurd cc) (omega (arith, ends_none)) last tt
 
 -- how the last line came to be looked at
 record IsLast (c : State) (held left : List ℕ) : Type 0 where
@@ -141,6 +170,9 @@ last_how limit c held left lim (inl done) = record { ended = true; at_end = λ e
 last_how limit c held left lim (inr lt) = let o = over limit c held lim lt in record { ended = false; at_end = λ e. absurd cc; seen = o; fits = λ e. absurd cc }
 
 module _ (limit : ℕ) (before held : List ℕ) (c d : State) (x y : SourceState) (p q : SinkState) (lim : IsLimit limit c.lines) (found : IsFound (Ok Rest) limit held) (f : Finds (Ok Rest) limit before held x y) where
+  last_rest : (f.got ≡ []) ⊎ LastRead c before f.got
+  last_rest = last_of limit c before f.got lim f.last
+
   how : IsLast c held y.left
   how = last_how limit c held y.left lim f.ended
 
@@ -152,21 +184,21 @@ module _ (limit : ℕ) (before held : List ℕ) (c d : State) (x y : SourceState
       let r = rw s.served at all in
       by_serving (Ok (Some Done)) _ limit before held rest c d x y p q _ _ f s
       (how.ended, how.at_end, (how.fits (served-fits c held _ s.served), ap (λ (z : Run). z.refused) r), ap (λ (z : Run). z.text) r ∙ append-nil s.text, ap (λ (z : Run). z.last) r)
-      (λ e. absurd cc) f.calls s.calls_ok
+      (λ e. absurd cc) f.calls (λ e. absurd cc) f.ends last_rest s.calls_ok
 
   pub rest_refused : (k : ScriptKind) (rest : List ℕ) → ServesTold (Ok (Some k)) held c d p q → Turns (Ok (Some (Refused k))) c d before rest x y p q
   rest_refused k rest s =
       let r = rw s.served.0 at all in
       by_serving (Ok (Some (Refused k))) _ limit before held rest c d x y p q _ _ f s
       (how.ended, how.at_end, ap (λ (z : Run). z.refused) r, ap (λ (z : Run). z.text) r ∙ sym s.served.1, ap (λ (z : Run). z.last) r ∙ sym s.served.2)
-      (λ e. absurd cc) f.calls s.calls_ok
+      (λ e. absurd cc) f.calls (λ e. absurd cc) f.ends last_rest s.calls_ok
 
   pub rest_stopped : (stop : Stop) (rest : List ℕ) → ServesTold (Err stop) held c d p q → Turns (Err stop) c d before rest x y p q
   rest_stopped stop rest s =
       let m = cut_after c (step_of c held) finished s.text s.served in
       by_serving (Err stop) _ limit before held rest c d x y p q _ _ f s
       (how.ended, how.at_end, m.0, ap (λ (z : Run). z.text) all ∙ m.1)
-      (λ e. absurd cc) f.calls tt
+      (λ e. absurd cc) f.calls (λ e. absurd cc) f.ends last_rest tt
 
 -- before the first line
 pub no_turn : (c : State) (x : SourceState) (p : SinkState) → Turns (Ok None) c c [] [] x x p p
@@ -178,6 +210,9 @@ no_turn c x p = record {
   writes = λ more ended. refl;
   reads = omega arith;
   reads_on = λ e. omega arith;
+  ends = omega arith;
+  ends_on = λ e. omega arith;
+  last = inl refl;
   calls = omega arith;
   calls_ok = omega arith;
 }
@@ -212,6 +247,24 @@ goes_on c d e met held got rest left text more_text (Err stop) a b =
     let r = a got b.0 in
     (b.0, b.1, b.2, ap (λ (z : Run). z.text) r ∙ ap (λ (t : List ℕ). text ++ t) b.3 ∙ sym (append_assoc text more_text b.2))
 
+-- the last read of two stretches is that of the second, where it read
+last_both : (c d : State) (got held more left text : List ℕ) → Tells (Ok None) c d got held left text → (got ≡ []) ⊎ LastRead c [] got → (more ≡ []) ⊎ LastRead d held more → (got ++ more ≡ []) ⊎ LastRead c [] (got ++ more)
+last_both c d got held more left text tells first (inr l) = inr (record {
+  early = got ++ l.early;
+  late = l.late;
+  parts = ap (λ (t : List ℕ). got ++ t) l.parts ∙ sym (append_assoc got l.early l.late);
+  room = l.room;
+  accepted = ap (λ (r : Run). r.refused) (tells l.early false) ∙ l.accepted;
+})
+last_both c d got held more left text tells (inl none) (inl no_more) = inl (rw (none, no_more) refl)
+last_both c d got held more left text tells (inr l) (inl no_more) = inr (record {
+  early = l.early;
+  late = l.late;
+  parts = rw no_more (append-nil got ∙ l.parts);
+  room = l.room;
+  accepted = l.accepted;
+})
+
 pub turns_then : (r : Result (Option Ending) Stop) (c d e : State) (held rest : List ℕ) (x y z : SourceState) (p q s : SinkState)
     → Turns (Ok None) c d [] held x y p q → Turns r d e held rest y z q s → Turns r c e [] rest x z p s
 turns_then r c d e held rest x y z p q s a b = record {
@@ -222,6 +275,9 @@ turns_then r c d e held rest x y z p q s a b = record {
   writes = goes_on c d e a.got held b.got rest z.left a.text b.text r a.writes b.writes;
   reads = omega (arith, a.reads_on refl, b.reads, length-append a.got b.got);
   reads_on = λ h. let on = b.reads_on h in omega (arith, a.reads_on refl, on, length-append a.got b.got);
+  ends = omega (arith, a.ends_on refl, b.ends);
+  ends_on = λ h. let on = b.ends_on h in omega (arith, a.ends_on refl, on);
+  last = last_both c d a.got held b.got y.left a.text a.writes a.last b.last;
   calls = omega (arith, a.calls_ok, b.calls, length-append a.text b.text);
   calls_ok = calls_both r p.calls q.calls s.calls a.text b.text a.calls_ok b.calls_ok;
 }
@@ -237,6 +293,9 @@ no_drive stop c x p = record {
     writes = (false, λ e. absurd cc, (run_of c [] false).text, refl);
     reads = omega arith;
     reads_on = λ e. omega arith;
+    ends = omega arith;
+    ends_on = λ e. omega arith;
+    last = inl refl;
     calls = omega arith;
     calls_ok = tt;
   };

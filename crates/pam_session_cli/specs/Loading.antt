@@ -1,10 +1,10 @@
 -- What a reader of a service's file may answer; want of memory is always free.
-use Rattle.std.specs.Prelude.{◌≡◌, ℕ, List, Result, Ok, Err}
+use Rattle.std.specs.Prelude.{◌≡◌, ℕ, Bool, true, false, List, Result, Ok, Err}
 use Rattle.pam_base.specs.declared.fault.Refuse.{Refuse}
 use Rattle.pam_base.specs.declared.fault.Refuse.TheVariants.{NoMemory, Named}
 use Rattle.pam_base.specs.Lines.{lines_of}
+use Rattle.pam_base.specs.declared.fault.FaultKind.{FaultKind}
 use Rattle.pam_base.specs.declared.fault.FaultKind.TheVariants.{ReadFailed}
-use Rattle.pam_outside.specs.Counts.{Rose}
 use Rattle.pam_outside.specs.Files.{VaultState}
 use Rattle.control_words.specs.declared.nodes.Nodes.{Nodes}
 use Rattle.control_words.specs.Stack.{stack_of}
@@ -28,7 +28,11 @@ abbrev pub IfCalled : Result Nodes (Refuse LoadFault) → Type 0 → Type 0
 IfCalled (Err NoMemory) fact = Unit {0}
 IfCalled result fact = fact
 
--- ReadFailed comes only where a count rose
-abbrev pub HasReadCause : Result Nodes (Refuse LoadFault) → ℕ → ℕ → Type 0
-HasReadCause (Err (Named fault)) before now = fault.kind ≡ ReadFailed → Rose before now
-HasReadCause result before now = Unit {0}
+abbrev pub is_read_failure : FaultKind → Bool
+is_read_failure ReadFailed = true
+is_read_failure kind = false
+
+-- whether the vault failed
+abbrev pub has_read_failure : Result Nodes (Refuse LoadFault) → Bool
+has_read_failure (Err (Named fault)) = is_read_failure fault.kind
+has_read_failure result = false

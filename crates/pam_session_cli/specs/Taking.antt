@@ -17,7 +17,10 @@ pub record Fills (result : Result ℕ Failed) (before held : List ℕ) (old new 
   pub source : old.left ≡ got ++ new.left
   pub calls : new.calls ≤ old.calls + 1
   pub count : IfOk result (λ n. length got ≡ n)
+  pub room : length got ≤ 512
   pub end : result ≡ Ok 0 → new.left ≡ []
+  pub ends : new.reads_at_end ≤ old.reads_at_end + 1
+  pub ends_on : IfOk result (λ n. 0 < n → new.reads_at_end ≤ old.reads_at_end)
 
 -- what stands at the front of what is held
 abbrev pub IsFound : Result Found Failed → ℕ → List ℕ → Type 0
@@ -38,10 +41,22 @@ abbrev pub more_calls : Result Found Failed → ℕ
 more_calls (Ok (Line n)) = 0
 more_calls r = 1
 
+-- the last read, by what was got: it took at most a buffer, and before it neither a newline was held nor more than
+-- the limit
+pub record LastGot (limit : ℕ) (before got : List ℕ) : Type 0 where
+  pub early : List ℕ
+  pub late : List ℕ
+  pub parts : got ≡ early ++ late
+  pub room : length late ≤ 512
+  pub within : length (before ++ early) ≤ limit
+  pub open_line : has_byte 10 (before ++ early) ≡ false
+
 -- the bytes taken until a line is whole, or until the limit is passed
 pub record Finds (result : Result Found Failed) (limit : ℕ) (before held : List ℕ) (old new : SourceState) : Type 0 where
   pub got : List ℕ
   pub held_is : held ≡ before ++ got
   pub source : old.left ≡ got ++ new.left
   pub calls : new.calls ≤ old.calls + length got + more_calls result
+  pub ends : new.reads_at_end ≤ old.reads_at_end + more_calls result
+  pub last : (got ≡ []) ⊎ LastGot limit before got
   pub ended : Ended result limit held new.left

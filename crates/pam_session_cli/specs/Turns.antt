@@ -5,6 +5,7 @@ use Rattle.pam_outside.specs.Streams.{SourceState, SinkState}
 use Rattle.pam_session_cli.specs.declared.drive.Ending.{Ending}
 use Rattle.pam_session_cli.specs.declared.drive.Ending.TheVariants.{Done, ReadFault, Refused}
 use Rattle.pam_session_cli.specs.declared.drive.Stop.{Stop}
+use Rattle.pam_session_cli.specs.declared.drive.Stop.TheVariants.{NoMemory, WriteFault}
 use Rattle.pam_session_cli.specs.State.{State, step_of}
 use Rattle.pam_session_cli.specs.Run.{Run, with_text, run_of}
 
@@ -39,6 +40,15 @@ Tells (Ok None) c d met held left text = (more : List ℕ) (ended : Bool) → ru
 Tells (Ok (Some e)) c d met held left text = (ended : Bool) × (ended ≡ true → left ≡ []) × Ends e ended (run_of c met ended) × ((run_of c met ended).text ≡ text) × ((run_of c met ended).last ≡ d)
 Tells (Err stop) c d met held left text = (ended : Bool) × (ended ≡ true → left ≡ []) × (more : List ℕ) × ((run_of c met ended).text ≡ text ++ more)
 
+-- the last read, by what was got behind other bytes: it took at most a buffer, and nothing that was there before it
+-- was refused
+pub record LastRead (c : State) (before got : List ℕ) : Type 0 where
+  pub early : List ℕ
+  pub late : List ℕ
+  pub parts : got ≡ early ++ late
+  pub room : length late ≤ 512
+  pub accepted : (run_of c (before ++ early) false).refused ≡ None
+
 -- what was taken and written, by one turn or by many
 pub record Turns (result : Result (Option Ending) Stop) (c d : State) (before held : List ℕ) (x y : SourceState) (p q : SinkState) : Type 0 where
   pub got : List ℕ
@@ -48,8 +58,20 @@ pub record Turns (result : Result (Option Ending) Stop) (c d : State) (before he
   pub writes : Tells result c d (before ++ got) held y.left text
   pub reads : y.calls ≤ x.calls + length got + 1
   pub reads_on : result ≡ Ok None → y.calls ≤ x.calls + length got
+  pub ends : y.reads_at_end ≤ x.reads_at_end + 1
+  pub ends_on : result ≡ Ok None → y.reads_at_end ≤ x.reads_at_end
+  pub last : (got ≡ []) ⊎ LastRead c before got
   pub calls : q.calls ≤ p.calls + length text + 1
   pub calls_ok : OnOk result (q.calls ≤ p.calls + length text)
+
+-- whether reading, or writing, failed
+abbrev pub has_read_fault : Result (Option Ending) Stop → Bool
+has_read_fault (Ok (Some ReadFault)) = true
+has_read_fault result = false
+
+abbrev pub has_write_fault : {T : Type 0} → Result T Stop → Bool
+has_write_fault (Err WriteFault) = true
+has_write_fault result = false
 
 -- the limit for a line: none may begin where there are too many
 abbrev pub IsLimit : ℕ → ℕ → Type 0

@@ -1,5 +1,5 @@
 -- A whole run: the report by how it ends.
-use Rattle.std.specs.Prelude.{◌≡◌, ◌⊎◌, ℕ, ◌+◌, ◌≤◌, Bool, true, List, [], ◌++◌, length, Option, Some, None, Result, Ok, Err, OnOk}
+use Rattle.std.specs.Prelude.{◌≡◌, ◌⊎◌, ℕ, ◌+◌, ◌≤◌, Bool, true, false, List, [], ◌++◌, length, Option, Some, None, Result, Ok, Err, OnOk}
 use Rattle.pam_base.specs.declared.code.Code.{Code}
 use Rattle.pam_base.specs.declared.code.Code.TheVariants.{Success, Abort}
 use Rattle.pam_base.specs.declared.fault.ScriptKind.{ScriptKind}
@@ -13,7 +13,7 @@ use Rattle.pam_session_cli.specs.declared.drive.Stop.TheVariants.{NoMemory, Writ
 use Rattle.pam_session_cli.specs.Report.{closed_text, script_text}
 use Rattle.pam_session_cli.specs.State.{State}
 use Rattle.pam_session_cli.specs.Run.{Run, run_of, opening}
-use Rattle.pam_session_cli.specs.Turns.{Ends}
+use Rattle.pam_session_cli.specs.Turns.{Ends, LastRead}
 
 -- the lines of the transactions that the program ends
 abbrev pub closings : Option Stack → Code → List ℕ
@@ -56,7 +56,9 @@ pub record Scripts (result : Result Ending Stop) (root : List ℕ) (v w : VaultS
   pub report : Reports result (opening root v) taken y.left text w
   pub whole : IsWhole result (opening root v) x.left text
   pub read_out : IsReadOut result y.left
+  pub last : LastRead (opening root v) [] taken
   pub reads : y.calls ≤ x.calls + length taken + 1
+  pub ends : y.reads_at_end ≤ x.reads_at_end + 1
   pub writes : q.calls ≤ p.calls + length text + 1
 
 -- a text is written, or a front of it
@@ -89,11 +91,17 @@ pub record IsDone (start : State) (w : VaultState) (x y : SourceState) (p q : Si
   pub vault : (run_of start x.left true).last.vault ≡ w
   pub read_out : y.left ≡ []
 
--- a run up to the line that the whole script is refused for: the report of those before it, and why, is written
-pub record IsRefused (start : State) (x : SourceState) (p q : SinkState) : Type 0 where
+-- a run up to the line that the whole script is refused for: the report of those before it, and why, is written; and
+-- of the bytes taken, all but at most the last 512 (those of the last read) hold no line that is refused
+pub record IsRefused (start : State) (x y : SourceState) (p q : SinkState) : Type 0 where
   pub kind : ScriptKind
   pub refused : (run_of start x.left true).refused ≡ Some kind
   pub written : q.written ≡ p.written ++ full_text (Refused kind) (run_of start x.left true)
+  pub early : List ℕ
+  pub late : List ℕ
+  pub taken : x.left ≡ early ++ late ++ y.left
+  pub room : length late ≤ 512
+  pub not_before : (run_of start early false).refused ≡ None
 
 abbrev pub IsStatus : ℕ → Type 0
 IsStatus n = (result : Result Ending Stop) × (n ≡ status_of result)

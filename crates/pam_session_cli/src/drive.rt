@@ -1,7 +1,7 @@
-ghost use Rattle.std.specs.Prelude.{◌≡◌, ◌≤◌, ◌+◌, None, Some, Ok, Err, OnErr, IsTrue};
-ghost use Rattle.pam_outside.specs.Counts.{Rose};
+ghost use Rattle.std.specs.Prelude.{◌≡◌, ◌≤◌, ◌+◌, None, Ok, IsTrue};
+ghost use Rattle.pam_outside.specs.Counts.{RisesIf};
 ghost use Rattle.pam_session_cli.specs.State.{session_state};
-ghost use Rattle.pam_session_cli.specs.Turns.{ServesTold, Turns, Drives, IsLimit};
+ghost use Rattle.pam_session_cli.specs.Turns.{ServesTold, Turns, Drives, IsLimit, at_last, has_read_fault, has_write_fault};
 
 use crate::reader::{Found, LineReader};
 use crate::session::{MAX_LINES, Session};
@@ -44,12 +44,10 @@ pub fn drive<S: Source, K: Sink>(
         (S.source_holds source.old) (S.source_holds source.new)
         (K.sink_holds sink.old) (K.sink_holds sink.new) }
     ensures lines { session.new.lines ≤ 65536 }
-    ensures source_faults { S.source_faults source.old ≤ S.source_faults source.new }
-    ensures sink_faults { K.sink_faults sink.old ≤ K.sink_faults sink.new }
-    ensures read_fault { result ≡ Ok Ending.ReadFault →
-        Rose (S.source_faults source.old) (S.source_faults source.new) }
-    ensures write_fault { result ≡ Err Stop.WriteFault →
-        Rose (K.sink_faults sink.old) (K.sink_faults sink.new) }
+    ensures source_faults { RisesIf (has_read_fault (at_last result))
+        (S.source_faults source.old) (S.source_faults source.new) }
+    ensures sink_faults { RisesIf (has_write_fault result)
+        (K.sink_faults sink.old) (K.sink_faults sink.new) }
 {
     let mut reader = match LineReader::new(alloc) {
         Ok(reader) => reader,
@@ -86,12 +84,10 @@ fn turn<S: Source, K: Sink>(
         (K.sink_holds sink.old) (K.sink_holds sink.new) }
     ensures lines { session.new.lines ≤ 65536 }
     ensures next { result ≡ Ok None → session.new.lines ≡ session.old.lines + 1 }
-    ensures source_faults { S.source_faults source.old ≤ S.source_faults source.new }
-    ensures sink_faults { K.sink_faults sink.old ≤ K.sink_faults sink.new }
-    ensures read_fault { result ≡ Ok (Some Ending.ReadFault) →
-        Rose (S.source_faults source.old) (S.source_faults source.new) }
-    ensures write_fault { result ≡ Err Stop.WriteFault →
-        Rose (K.sink_faults sink.old) (K.sink_faults sink.new) }
+    ensures source_faults { RisesIf (has_read_fault result)
+        (S.source_faults source.old) (S.source_faults source.new) }
+    ensures sink_faults { RisesIf (has_write_fault result)
+        (K.sink_faults sink.old) (K.sink_faults sink.new) }
 {
     let limit = limit_of(session.lines);
     match reader.find(source, limit) {
@@ -138,9 +134,8 @@ fn serve<K: Sink>(
         (K.sink_holds sink.old) (K.sink_holds sink.new) }
     ensures lines { session.new.lines ≤ 65536 }
     ensures next { result ≡ Ok None → session.new.lines ≡ session.old.lines + 1 }
-    ensures faults { K.sink_faults sink.old ≤ K.sink_faults sink.new }
-    ensures fault { result ≡ Err Stop.WriteFault →
-        Rose (K.sink_faults sink.old) (K.sink_faults sink.new) }
+    ensures faults { RisesIf (has_write_fault result)
+        (K.sink_faults sink.old) (K.sink_faults sink.new) }
 {
     match session.step(alloc, line, vault) {
         Err(Refuse::NoMemory) => Err(Stop::NoMemory),

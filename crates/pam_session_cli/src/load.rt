@@ -2,9 +2,10 @@ ghost use Rattle.std.specs.Prelude.{◌≡◌, ◌≤◌, ◌<◌, ◌++◌, ◌
 ghost use Rattle.std.specs.Str.{str_to_ascii_lowercase};
 ghost use Rattle.control_words.specs.Stack.{stack_of, count};
 ghost use Rattle.dispatch_core.specs.Pass.{is_plain_stack};
+ghost use Rattle.pam_outside.specs.Counts.{RisesIf};
 ghost use Rattle.pam_outside.specs.Files.{counted};
 ghost use Rattle.pam_session_cli.specs.Service.{root_before, service_file, service_path};
-ghost use Rattle.pam_session_cli.specs.Loading.{Loads, IfCalled, HasReadCause};
+ghost use Rattle.pam_session_cli.specs.Loading.{Loads, IfCalled, has_read_failure};
 
 use crate::service_file::stack_in;
 use control_words::Nodes;
@@ -28,7 +29,7 @@ const MAX_FILE: u32 = 65536;
 /// The stack of a service (`pam.d(5)`): that of the file `/etc/pam.d/SERVICE` under the root, the service
 /// folded to lower case.
 ///
-/// ReadFailed comes only where the vault's count of faults rose.
+/// ReadFailed comes only where the vault's count of faults rose, and the count rises with no other answer.
 pub fn load(
     alloc: Global,
     vault: &mut dyn Vault,
@@ -42,8 +43,8 @@ pub fn load(
         IfCalled result (vault_holds vault.new ≡ counted (vault_holds vault.old)) }
     ensures plain { IfOk result (λ nodes. is_plain_stack (stack_of nodes.vec.items) ≡ true) }
     ensures few { IfOk result (λ nodes. count (stack_of nodes.vec.items) ≤ 65536) }
-    ensures faults { vault_faults vault.old ≤ vault_faults vault.new }
-    ensures cause { HasReadCause result (vault_faults vault.old) (vault_faults vault.new) }
+    ensures faults { RisesIf (has_read_failure result)
+        (vault_faults vault.old) (vault_faults vault.new) }
 {
     let file = service_file(alloc, service)?;
     let path = service_path(alloc, root, &file)?;

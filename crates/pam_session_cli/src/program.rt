@@ -1,9 +1,10 @@
-ghost use Rattle.std.specs.Prelude.{◌≡◌, ◌⊎◌, ◌≤◌, ℕ, List, None, Some, Ok, Err, IfOk, IsTrue, IsSome, string_bytes};
-ghost use Rattle.pam_outside.specs.Counts.{Rose};
+ghost use Rattle.std.specs.Prelude.{◌≡◌, ◌≢◌, ◌⊎◌, ◌≤◌, ◌+◌, ℕ, List, None, Some, Ok, Err, IfOk, IsTrue, IsSome, string_bytes};
+ghost use Rattle.pam_outside.specs.Counts.{Rose, RisesIf};
 ghost use Rattle.pam_outside.specs.Files.{VaultState};
 ghost use Rattle.pam_session_cli.specs.Command.{root_of_words, Usage};
 ghost use Rattle.pam_session_cli.specs.Run.{opening};
 ghost use Rattle.pam_session_cli.specs.State.{slot_of, session_state};
+ghost use Rattle.pam_session_cli.specs.Turns.{has_read_fault, has_write_fault};
 ghost use Rattle.pam_session_cli.specs.Whole.{closings, ending_text, Scripts, Finishes, Runs, IsDone, IsRefused, IsStatus, Completes};
 
 use crate::command::root_of;
@@ -22,7 +23,8 @@ const USAGE: &str = "usage: pamsess run ROOT\n";
 ///
 /// It answers the program's status: 0, the script was run to its end; 2, the words are others, so only a line
 /// on the usage is written; 4, memory ran out; 5, the script's source failed; 6, the sink failed; 7, a line of
-/// the script was refused. Nothing more is written after a failure of memory, source or sink.
+/// the script was refused. With 4 and 6 what is written is a front of a report, with 5 the report of the lines that
+/// were read whole.
 pub fn pamsess<S: Source, K: Sink>(
     alloc: Global,
     words: &[String],
@@ -38,11 +40,13 @@ pub fn pamsess<S: Source, K: Sink>(
         IsDone (opening root (vault_holds vault.old)) (vault_holds vault.new)
         (S.source_holds script.old) (S.source_holds script.new)
         (K.sink_holds out.old) (K.sink_holds out.new) }
-    // With status 7 the whole script is refused for the line that the report ends with.
+    // With status 7 the whole script is refused for the line that the report ends with. At most a buffer was taken
+    // with that line: the bytes taken before it hold no line that is refused.
     ensures refused { (root : List ℕ) → root_of_words words.now ≡ Some root →
         IsTrue (S.source_tells script.old) → IsTrue (K.sink_tells out.old) →
         IsTrue (vault_tells vault.old) → result ≡ 7 →
-        IsRefused (opening root (vault_holds vault.old)) (S.source_holds script.old)
+        IsRefused (opening root (vault_holds vault.old))
+        (S.source_holds script.old) (S.source_holds script.new)
         (K.sink_holds out.old) (K.sink_holds out.new) }
     // By any status: what was read and written, and how often.
     ensures told { (root : List ℕ) → root_of_words words.now ≡ Some root →
@@ -51,6 +55,11 @@ pub fn pamsess<S: Source, K: Sink>(
         (vault_holds vault.old) (vault_holds vault.new)
         (S.source_holds script.old) (S.source_holds script.new)
         (K.sink_holds out.old) (K.sink_holds out.new) }
+    // The source isn't read again once it has answered that it ended.
+    ensures end_once { (root : List ℕ) → root_of_words words.now ≡ Some root →
+        IsTrue (S.source_tells script.old) → IsTrue (K.sink_tells out.old) →
+        IsTrue (vault_tells vault.old) → (S.source_holds script.new).reads_at_end
+        ≤ (S.source_holds script.old).reads_at_end + 1 }
     ensures statuses { IsSome (root_of_words words.now) → IsStatus result }
 
     // No run gives up by itself.
@@ -72,7 +81,15 @@ pub fn pamsess<S: Source, K: Sink>(
     ensures words_only { result ≡ 2 → root_of_words words.now ≡ None }
     ensures read_fault { result ≡ 5 →
         Rose (S.source_faults script.old) (S.source_faults script.new) }
+    ensures no_read_fault { (result ≡ 0) ⊎ (result ≡ 7) →
+        S.source_faults script.new ≡ S.source_faults script.old }
     ensures write_fault { result ≡ 6 → Rose (K.sink_faults out.old) (K.sink_faults out.new) }
+    ensures no_write_fault { result ≢ 6 → K.sink_faults out.new ≡ K.sink_faults out.old }
+
+    // What tells before the run tells after it.
+    ensures source_tells { S.source_tells script.new ≡ S.source_tells script.old }
+    ensures sink_tells { K.sink_tells out.new ≡ K.sink_tells out.old }
+    ensures vault_tells { vault_tells vault.new ≡ vault_tells vault.old }
 {
     let Some(root) = root_of(words) else {
         return match write_all(out, USAGE.as_bytes()) {
@@ -102,10 +119,13 @@ fn run_script<S: Source, K: Sink>(
         (vault_holds vault.old) (vault_holds vault.new)
         (S.source_holds script.old) (S.source_holds script.new)
         (K.sink_holds out.old) (K.sink_holds out.new) }
-    ensures read_fault { result ≡ Ok Ending.ReadFault →
-        Rose (S.source_faults script.old) (S.source_faults script.new) }
-    ensures write_fault { result ≡ Err Stop.WriteFault →
-        Rose (K.sink_faults out.old) (K.sink_faults out.new) }
+    ensures source_tells { S.source_tells script.new ≡ S.source_tells script.old }
+    ensures sink_tells { K.sink_tells out.new ≡ K.sink_tells out.old }
+    ensures vault_tells { vault_tells vault.new ≡ vault_tells vault.old }
+    ensures source_faults { IfOk result (λ ending. RisesIf (has_read_fault (Ok (Some ending)))
+        (S.source_faults script.old) (S.source_faults script.new)) }
+    ensures sink_faults { RisesIf (has_write_fault result)
+        (K.sink_faults out.old) (K.sink_faults out.new) }
 {
     let mut session = match Text::from_bytes(alloc, root) {
         Ok(root) => Session {
@@ -135,9 +155,9 @@ fn finish<K: Sink>(
     ensures told { (vault : VaultState) → IsTrue (K.sink_tells out.old) →
         Finishes result (ending_text ending (session_state session.now vault))
         (K.sink_holds out.old) (K.sink_holds out.new) }
-    ensures faults { K.sink_faults out.old ≤ K.sink_faults out.new }
-    ensures fault { result ≡ Err Stop.WriteFault →
-        Rose (K.sink_faults out.old) (K.sink_faults out.new) }
+    ensures tells { K.sink_tells out.new ≡ K.sink_tells out.old }
+    ensures faults { RisesIf (has_write_fault result)
+        (K.sink_faults out.old) (K.sink_faults out.new) }
 {
     match last_words(alloc, ending, session) {
         Err(NoMemory) => Err(Stop::NoMemory),

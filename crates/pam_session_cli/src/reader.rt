@@ -1,5 +1,5 @@
-ghost use Rattle.std.specs.Prelude.{◌≡◌, ◌≤◌, ◌<◌, ◌+◌, ◌==◌, if◌then◌else◌, [], drop, length, List, ℕ, IsTrue, IfOk, OnErr};
-ghost use Rattle.pam_outside.specs.Counts.{Rose};
+ghost use Rattle.std.specs.Prelude.{◌≡◌, ◌≤◌, ◌<◌, ◌+◌, ◌==◌, if◌then◌else◌, [], drop, length, List, ℕ, IsTrue, IfOk, OnErr, is_err};
+ghost use Rattle.pam_outside.specs.Counts.{RisesIf};
 ghost use Rattle.pam_session_cli.specs.Taking.{Adds, Fills, Finds, IsFound};
 
 use pam_base::{Failed, NoMemory, first_place};
@@ -73,8 +73,7 @@ impl LineReader {
         ensures told { IsTrue (S.source_tells source.old) →
             Finds result limit self.old self.new
             (S.source_holds source.old) (S.source_holds source.new) }
-        ensures faults { S.source_faults source.old ≤ S.source_faults source.new }
-        ensures failed { OnErr result (Rose (S.source_faults source.old) (S.source_faults source.new)) }
+        ensures faults { RisesIf (is_err result) (S.source_faults source.old) (S.source_faults source.new) }
     {
         loop {
             if let Some(n) = first_place(b'\n', self.bytes()) {
@@ -108,8 +107,7 @@ impl LineReader {
         ensures tells { S.source_tells source.new ≡ S.source_tells source.old }
         ensures told { IsTrue (S.source_tells source.old) →
             Fills result self.old self.new (S.source_holds source.old) (S.source_holds source.new) }
-        ensures faults { S.source_faults source.old ≤ S.source_faults source.new }
-        ensures failed { OnErr result (Rose (S.source_faults source.old) (S.source_faults source.new)) }
+        ensures faults { RisesIf (is_err result) (S.source_faults source.old) (S.source_faults source.new) }
     {
         let mut chunk = [0u8; CHUNK];
         let n = source.read(&mut chunk)?;

@@ -2,14 +2,43 @@ use super::*;
 use pam_base::{Numbers, Text};
 use pam_outside::{MemSink, MemSource, MemVault};
 use std::alloc::Global;
+use std::env::FillError;
 use std::process::Abort;
 use std::test::Fail;
+
+/// A command line: the words behind the program's name.
+#[derive(Clone, Copy)]
+struct CommandLine<'a> {
+    words: &'a [&'a [u8]],
+}
+
+impl Env for CommandLine<'_> {
+    fn arg(&self, i: usize, buf: &mut [u8]) -> Result<usize, FillError> {
+        let word = match i.checked_sub(1) {
+            None => b"pamsess".as_slice(),
+            Some(place) => self.words.get(place).ok_or(FillError::NotPresent)?,
+        };
+        if buf.len() < word.len() {
+            return Err(FillError::TooLong);
+        }
+        buf[..word.len()].copy_from_slice(word);
+        Ok(word.len())
+    }
+
+    fn var(&self, _name: &str, _buf: &mut [u8]) -> Result<usize, FillError> {
+        Err(FillError::NotPresent)
+    }
+
+    fn var_at(&self, _i: usize, _buf: &mut [u8]) -> Result<usize, FillError> {
+        Err(FillError::NotPresent)
+    }
+}
 
 /// What a run is given: the service file `/r/etc/pam.d/t`, the script, and the numbers of the calls of source,
 /// sink and vault that are to fail.
 #[derive(Clone, Copy)]
 struct Input<'a> {
-    words: &'a [&'a str],
+    words: &'a [&'a [u8]],
     file: &'a [u8],
     script: &'a [u8],
     failing_reads: &'a [u64],
@@ -30,7 +59,7 @@ const LOGIN: &[u8] = b"start 1 t joe\nauthenticate 1\nend 1 0\n";
 
 fn input_of<'a>(file: &'a [u8], script: &'a [u8]) -> Input<'a> {
     Input {
-        words: &["run", "/r"],
+        words: &[b"run", b"/r"],
         file,
         script,
         failing_reads: &[],
@@ -44,10 +73,8 @@ fn numbers(alloc: Global, all: &[u64]) -> Result<Numbers, Fail> {
 }
 
 fn run(alloc: Global, given: Input) -> Result<Ran, Fail> {
-    let mut words = Vec::new(alloc);
-    for word in given.words {
-        words.push(String::from_str(alloc, word)?)?;
-    }
+    let line = CommandLine { words: given.words };
+    let words = words(&(line, alloc))?;
     let text = Text::from_bytes(alloc, given.script)?;
     let mut script = MemSource::new(text, numbers(alloc, given.failing_reads)?);
     let mut out = MemSink::new(alloc, 1_048_576, numbers(alloc, given.failing_writes)?)?;
@@ -156,13 +183,15 @@ fn steps_answer_by_their_rows(rt: HostRuntime) -> Result<(), Fail> {
 
 #[test]
 fn other_words_write_the_usage_line(rt: HostRuntime) -> Result<(), Fail> {
-    let rows: [&[&str]; 6] = [
+    let rows: [&[&[u8]]; 8] = [
         &[],
-        &["run"],
-        &["run", ""],
-        &["run", "-r"],
-        &["Run", "/r"],
-        &["run", "/r", "t"],
+        &[b"run"],
+        &[b"run", b""],
+        &[b"run", b"-r"],
+        &[b"Run", b"/r"],
+        &[b"run", b"/r", b"t"],
+        &[b"run", b"/\xff"],
+        &[b"\xff", b"/r"],
     ];
     for words in rows {
         let given = Input {

@@ -14,8 +14,8 @@ invariant-loop-ending g l =
       told : g.S.Source.source_tells l.fn.source ≡ true → g.K.Sink.sink_tells l.fn.sink ≡ true → start.vault_tells l.fn.vault.now.1 ≡ true →
           Turns (Ok None) (session_state l.fn.session (start.vault_holds l.fn.vault.now.1)) (session_state l.session (now.vault_holds l.vault.now.1)) [] l.reader
           (g.S.Source.source_holds l.fn.source) (g.S.Source.source_holds l.source) (g.K.Sink.sink_holds l.fn.sink) (g.K.Sink.sink_holds l.sink);
-      source_faults : g.S.Source.source_faults l.fn.source ≤ g.S.Source.source_faults l.source;
-      sink_faults : g.K.Sink.sink_faults l.fn.sink ≤ g.K.Sink.sink_faults l.sink;
+      source_faults : g.S.Source.source_faults l.source ≡ g.S.Source.source_faults l.fn.source;
+      sink_faults : g.K.Sink.sink_faults l.sink ≡ g.K.Sink.sink_faults l.fn.sink;
       lines : l.session.lines ≤ 65536;
     }
 
