@@ -1,7 +1,23 @@
 use pam_base::{AppCall, Refuse, ScriptKind, Step, Text, quoted};
 use script_lang::{Line, call_word, parse};
 use std::alloc::Global;
+use std::process::Abort;
 use std::test::Fail;
+
+pub const WORD: &str = "BadWord 1";
+
+pub const NUMERAL: &str = "BadNumeral 2";
+
+pub const LONG: &str = "LineTooLong 3";
+
+/// Each line of the table is read as it says.
+pub fn expect(rt: &impl Abort, alloc: Global, table: &[(&[u8], &str)]) -> Result<(), Fail> {
+    for (line, want) in table {
+        let found = shown(alloc, line)?;
+        assert_eq!(rt; found.as_str(), *want, "at {line:?}");
+    }
+    Ok(())
+}
 
 /// What a line is read as: a step as its number, its call's word and what it hands in, texts in brackets.
 pub fn shown(alloc: Global, line: &[u8]) -> Result<String, Fail> {
