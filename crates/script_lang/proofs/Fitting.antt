@@ -1,6 +1,6 @@
 -- What is read from a line may be asked.
-use Rattle.std.proofs.Common.{◌≡◌, ℕ, zero, suc, ◌+◌, ◌<◌, ◌≤◌, Bool, true, false, ◌&&◌, List, [], ◌∷◌, ◌++◌, length, drop, get_or, slice_get, Option, Some, None, Result, Ok, Err, IsTrue, IfOk, nat_lt, nat_le, cond, refl, sym, ap, subst, ◌∙◌, arith, length-append}
-use Rattle.std.proofs.lemmas.Bool.{ltb-true, le-leb}
+use Rattle.std.proofs.Common.{◌≡◌, ℕ, zero, suc, ◌≤◌, Bool, true, false, List, [], ◌∷◌, length, drop, get_or, Option, Some, None, Result, Ok, Err, IfOk, nat_lt, nat_le, cond, refl, ap, subst, arith, length-append}
+use Rattle.std.proofs.lemmas.Bool.{ltb-true, le-leb, and_parts}
 use Rattle.std.proofs.lemmas.Option.{slice_get-get_or}
 use Rattle.std.specs.List.{join_with_byte}
 use Rattle.std.specs.Option.{ok_or}
@@ -11,22 +11,16 @@ use Rattle.pam_base.specs.Words.{words_of}
 use Rattle.script_lang.specs.declared.command.Command.{Command}
 use Rattle.script_lang.specs.declared.command.Command.TheVariants as commands
 use Rattle.script_lang.specs.declared.line.Line.{Line}
-use Rattle.script_lang.specs.declared.line.Line.TheVariants as lines
 use Rattle.script_lang.specs.declared.place.Form.TheVariants as forms
-use Rattle.script_lang.specs.declared.place.Place.{Place}
 use Rattle.script_lang.specs.declared.place.Place.TheVariants.{Wanted}
 use Rattle.script_lang.specs.Call.{line_made}
 use Rattle.script_lang.specs.Command.{row_of, command_of_word}
-use Rattle.script_lang.specs.Cut.{first_word, has_its_words, word_at}
-use Rattle.script_lang.specs.Fit.{IsFit, is_fit}
+use Rattle.script_lang.specs.Cut.{first_word, has_its_words}
+use Rattle.script_lang.specs.Fit.{IsFit}
 use Rattle.script_lang.specs.Line.{command_line, line_of_command, line_or_fault}
 use Rattle.script_lang.specs.ServiceName.{is_service_name}
 use Rattle.script_lang.specs.Value.{Meaning, Meanings, bytes, bytes_of, meaning_at, meanings_at, all_of}
 use Rattle.script_lang.proofs.Words.{join-words_of}
-
-parts : (a b : Bool) → (a && b) ≡ true → (a ≡ true) × (b ≡ true)
-parts true b e = (refl, e)
-parts false b e = absurd cc
 
 drop-nil : (n : ℕ) → drop {A = List ℕ} n [] ≡ []
 drop-nil zero = refl
@@ -71,9 +65,9 @@ reply_short words m lt e short =
 
 made_fit : (command : Command) (words : List (List ℕ)) (said : Meanings) → length (join_with_byte 32 words) ≤ 512 → has_its_words (row_of command).places words ≡ true → meanings_at (row_of command).places words ≡ Ok said → IsFit (line_made command said)
 made_fit commands.Start words said short has e =
-    service_named words said.second (parts (nat_lt 2 (length words)) _ has).0 (all_of-second _ _ _ said e)
+    service_named words said.second (and_parts (nat_lt 2 (length words)) _ has).0 (all_of-second _ _ _ said e)
 made_fit commands.Reply words said short has e =
-    reply_short words said.second (parts (nat_lt 2 (length words)) _ has).0 (all_of-second _ _ _ said e) short
+    reply_short words said.second (and_parts (nat_lt 2 (length words)) _ has).0 (all_of-second _ _ _ said e) short
 made_fit commands.End words said short has e = refl
 made_fit commands.Authenticate words said short has e = refl
 made_fit commands.SetCred words said short has e = refl
