@@ -1,11 +1,11 @@
 -- A number written in decimal digits is read as itself.
-use Rattle.std.proofs.Common.{◌≡◌, ℕ, zero, suc, ◌+◌, ◌-◌, ◌*◌, ◌/◌, ◌%◌, ◌^◌, ◌<◌, ◌≤◌, Bool, true, false, ◌&&◌, ◌||◌, cond, List, [], ◌∷◌, ◌++◌, length, fold, option_map, Option, Some, None, decimal, refl, sym, ap, ◌∙◌, arith, eqb}
-use Rattle.std.proofs.lemmas.Bool.{lt-ltb, le-ltb, le-leb, ltb-true, eqb-true, ne_eqb}
+use Rattle.std.proofs.Common.{◌≡◌, ℕ, ◌+◌, ◌*◌, ◌/◌, ◌%◌, ◌^◌, ◌<◌, ◌≤◌, Bool, true, false, List, [], ◌∷◌, ◌++◌, length, Some, decimal, refl, sym, ap, ◌∙◌, arith, eqb}
+use Rattle.std.proofs.lemmas.Bool.{lt-ltb, le-ltb, le-leb, ne_eqb, and_parts, and_right}
 use Rattle.std.proofs.lemmas.Fmt.{decimal_by_steps, decimal_nonempty, length-decimal-le}
 use Rattle.std.proofs.lemmas.List.Folds.{list_all-append}
 use Rattle.std.proofs.lemmas.List.Sums.{fold-append}
 use Rattle.std.specs.Char.{digit_value, is_digit}
-use Rattle.std.specs.List.{list_all, list_any}
+use Rattle.std.specs.List.{list_all}
 use Rattle.pam_base.specs.Bytes.{has_byte}
 use Rattle.script_lang.specs.Number.{value_of_digits, number_of_digits, is_hexadecimal, number_of_word}
 
@@ -47,16 +47,12 @@ writes n lt = decimal_by_steps Writes one_digit one_more n lt
 digit_not : (byte x : ℕ) → is_digit x 10 ≡ true → is_digit byte 10 ≡ false → eqb x byte ≡ false
 digit_not byte x one none = ne_eqb x byte (λ e. let both : ◌≡◌ {A = Bool} true false = sym one ∙ ap (λ (b : ℕ). is_digit b 10) e ∙ none in cc)
 
-parts : (a b : Bool) → (a && b) ≡ true → (a ≡ true) × (b ≡ true)
-parts true b e = (refl, e)
-parts false b e = absurd cc
-
 -- digits hold no other byte
 lacks_byte : (byte : ℕ) (digits : List ℕ) → is_digit byte 10 ≡ false → are_digits digits ≡ true → has_byte byte digits ≡ false
 unfolding are_digits
 lacks_byte byte [] none e = refl
 lacks_byte byte (d ∷ ds) none e =
-    let both = parts (is_digit d 10) (are_digits ds) e in
+    let both = and_parts (is_digit d 10) (are_digits ds) e in
     rw (digit_not byte d both.0 none) (lacks_byte byte ds none both.1)
 
 not_hexadecimal : (digits : List ℕ) → are_digits digits ≡ true → is_hexadecimal digits ≡ false
@@ -64,12 +60,8 @@ unfolding are_digits
 not_hexadecimal [] e = refl
 not_hexadecimal (a ∷ []) e = refl
 not_hexadecimal (a ∷ b ∷ ds) e =
-    let both = parts (is_digit b 10) (are_digits ds) (parts (is_digit a 10) (are_digits (b ∷ ds)) e).1 in
-    rw (digit_not 120 b both.0 refl) (and-false (eqb a 48))
-  where
-    and-false : (x : Bool) → (x && false) ≡ false
-    and-false true = refl
-    and-false false = refl
+    let both = and_parts (is_digit b 10) (are_digits ds) (and_parts (is_digit a 10) (are_digits (b ∷ ds)) e).1 in
+    and_right (eqb a 48) (eqb b 120) (digit_not 120 b both.0 refl)
 
 module _ (n : ℕ) (small : n < 2 ^ 32) where
   written : Writes n (decimal n)

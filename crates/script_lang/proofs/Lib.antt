@@ -1,5 +1,6 @@
 pub mod Decimals
 pub mod Digits
+pub mod Fitting
 pub mod Reading
 pub mod Rows
 pub mod Words

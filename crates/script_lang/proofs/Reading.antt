@@ -1,9 +1,8 @@
 -- A step, written as a line, is read as itself.
-use Rattle.std.proofs.Common.{◌≡◌, ℕ, zero, suc, ◌+◌, ◌-◌, ◌^◌, ◌<◌, ◌≤◌, Bool, true, false, ◌&&◌, ◌||◌, not, List, [], ◌∷◌, ◌++◌, length, take, drop, slice_get, option_map, Option, Some, None, Result, Ok, Err, codes, decimal, nat_eq, nat_lt, nat_le, refl, sym, ap, ◌∙◌, arith, eqb, length-append}
+use Rattle.std.proofs.Common.{◌≡◌, ℕ, suc, ◌-◌, ◌^◌, ◌<◌, ◌≤◌, Bool, true, false, ◌&&◌, not, List, [], ◌∷◌, ◌++◌, length, Some, None, Result, Ok, codes, decimal, nat_lt, nat_le, refl, sym, ap, ◌∙◌, arith, eqb, length-append}
 use Rattle.std.proofs.Math.Seq.{take-append_seam, drop-append_seam}
-use Rattle.std.proofs.lemmas.Bool.{lt-ltb, le-ltb, ltb-true, leb-true, ne_eqb, eqb-true}
-use Rattle.std.specs.List.{join_with_byte, list_all, list_any}
-use Rattle.std.specs.Option.{unwrap_or}
+use Rattle.std.proofs.lemmas.Bool.{lt-ltb, le-ltb, ltb-true, leb-true, ne_eqb, and_parts, not-true}
+use Rattle.std.specs.List.{join_with_byte, list_all}
 use Rattle.pam_base.specs.declared.call.AppCall.{AppCall}
 use Rattle.pam_base.specs.declared.call.AppCall.TheVariants as calls
 use Rattle.pam_base.specs.declared.call.Step.{Step}
@@ -21,7 +20,7 @@ use Rattle.script_lang.specs.Command.{command_of_word, word_of_call}
 use Rattle.script_lang.specs.Line.{parsed, is_blank, line_of_command, without_return}
 use Rattle.script_lang.specs.Number.{number_of_word}
 use Rattle.script_lang.specs.ServiceName.{is_name_byte, is_service_name}
-use Rattle.script_lang.specs.Written.{arguments_of, text_of_step, line_of, is_name, is_number, is_sound, is_writable, switch_word}
+use Rattle.script_lang.specs.Written.{text_of_step, line_of, is_name, is_number, is_sound, is_writable, switch_word}
 use Rattle.script_lang.proofs.Decimals.{decimal-space, number_of_word-decimal}
 use Rattle.script_lang.proofs.Words.{words_of-word, words_of-alone, join-words_of, has_word}
 
@@ -32,11 +31,9 @@ are_plain : List (List ℕ) → Bool
 are_plain words = list_all (λ word. not (has_byte 32 word)) words
 
 lacks_space : (word : List ℕ) (rest : Bool) → (not (has_byte 32 word) && rest) ≡ true → (has_byte 32 word ≡ false) × (rest ≡ true)
-lacks_space word rest e = by_cases (has_byte 32 word) rest e
-  where
-    by_cases : (a b : Bool) → (not a && b) ≡ true → (a ≡ false) × (b ≡ true)
-    by_cases true b e = absurd cc
-    by_cases false b e = (refl, e)
+lacks_space word rest e =
+    let both = and_parts (not (has_byte 32 word)) rest e in
+    (not-true (has_byte 32 word) both.0, both.1)
 
 -- words in front of a text, which may be of many words
 words_of-join : (words : List (List ℕ)) (text : List ℕ) → are_plain words ≡ true → words_of (join_with_byte 32 (words ++ text ∷ [])) ≡ words ++ words_of text
@@ -61,32 +58,24 @@ read_by_words text word command words is named plain short =
 
 -- ---- the words that a step is written in have no space, and are read as they were meant
 
-parts : (a b : Bool) → (a && b) ≡ true → (a ≡ true) × (b ≡ true)
-parts true b e = (refl, e)
-parts false b e = absurd cc
-
 name_byte : (b : ℕ) → is_name_byte b ≡ true → eqb b 32 ≡ false
 name_byte b e = ne_eqb b 32 (λ is. let both : ◌≡◌ {A = Bool} true false = sym e ∙ ap is_name_byte is in cc)
 
 name_bytes : (name : List ℕ) → list_all is_name_byte name ≡ true → has_byte 32 name ≡ false
 name_bytes [] e = refl
 name_bytes (b ∷ bs) e =
-    let both = parts (is_name_byte b) (list_all is_name_byte bs) e in
+    let both = and_parts (is_name_byte b) (list_all is_name_byte bs) e in
     rw (name_byte b both.0) (name_bytes bs both.1)
 
 service-space : (service : List ℕ) → is_service_name service ≡ true → has_byte 32 service ≡ false
 service-space service e =
-    let a = parts _ _ e in
-    let b = parts _ _ a.0 in
-    let c = parts _ _ b.0 in
+    let a = and_parts _ _ e in
+    let b = and_parts _ _ a.0 in
+    let c = and_parts _ _ b.0 in
     name_bytes service c.1
 
-is_false : (a : Bool) → not a ≡ true → a ≡ false
-is_false true e = absurd cc
-is_false false e = refl
-
 name-space : (name : List ℕ) → is_name name ≡ true → has_byte 32 name ≡ false
-name-space name e = is_false (has_byte 32 name) (parts (nat_lt 0 (length name)) (not (has_byte 32 name)) e).1
+name-space name e = not-true (has_byte 32 name) (and_parts (nat_lt 0 (length name)) (not (has_byte 32 name)) e).1
 
 item-space : (item : ItemName) → has_byte 32 (item_word item) ≡ false
 item-space items.Service = refl
@@ -254,9 +243,9 @@ module _ (n : ℕ) (small : n < 2 ^ 32) where
   reads_itself (calls.Start service None) e =
       by_words _ commands.Start _ (written_three (codes "start") n refl small service (service-space service e)) refl refl (start (decimal n) n number-reads service e)
   reads_itself (calls.Start service (Some user)) e =
-      let both = parts (is_service_name service) (is_name user) e in
+      let both = and_parts (is_service_name service) (is_name user) e in
       by_words _ commands.Start _ (written_four (codes "start") n refl small service user (service-space service both.0) (name-space user both.1)) refl refl
-      (start_user (decimal n) n number-reads service user both.0 (parts (nat_lt 0 (length user)) (not (has_byte 32 user)) both.1).0)
+      (start_user (decimal n) n number-reads service user both.0 (and_parts (nat_lt 0 (length user)) (not (has_byte 32 user)) both.1).0)
   reads_itself (calls.End status) e =
       let fits = ltb-true status (2 ^ 32) e in
       by_words _ commands.End _ (written_three (codes "end") n refl small (decimal status) (decimal-space status fits)) refl refl (end (decimal n) n number-reads (decimal status) status (number_of_word-decimal status fits))
@@ -290,7 +279,7 @@ module _ (n : ℕ) (small : n < 2 ^ 32) where
   reads_itself (calls.PutEnv text) e = by_words _ commands.PutEnv _ (written_text (codes "putenv") n refl small text) refl refl (putenv (decimal n) n number-reads text)
   reads_itself (calls.GetEnv name) e =
       by_words _ commands.GetEnv _ (written_three (codes "getenv") n refl small name (name-space name e)) refl refl
-      (getenv (decimal n) n number-reads name (parts (nat_lt 0 (length name)) (not (has_byte 32 name)) e).0)
+      (getenv (decimal n) n number-reads name (and_parts (nat_lt 0 (length name)) (not (has_byte 32 name)) e).0)
   reads_itself calls.EnvList e = by_words _ commands.EnvList _ (written_two (codes "envlist") n refl small) refl refl (envlist (decimal n) n number-reads)
   reads_itself (calls.DelayFn true) e = by_words _ commands.DelayFn _ (written_three (codes "delay") n refl small (codes "on") refl) refl refl (delay (decimal n) n number-reads true)
   reads_itself (calls.DelayFn false) e = by_words _ commands.DelayFn _ (written_three (codes "delay") n refl small (codes "off") refl) refl refl (delay (decimal n) n number-reads false)
@@ -299,6 +288,6 @@ module _ (n : ℕ) (small : n < 2 ^ 32) where
 pub written_is_read : (s : Step) → is_writable s ≡ true → parsed (line_of s) ≡ Ok (lines.Step s)
 unfolding ReadsItself
 written_is_read s e =
-    let both = parts (is_number s.number && is_sound s.call) (nat_le (length (text_of_step s)) 512) e in
-    let sound = parts (is_number s.number) (is_sound s.call) both.0 in
+    let both = and_parts (is_number s.number && is_sound s.call) (nat_le (length (text_of_step s)) 512) e in
+    let sound = and_parts (is_number s.number) (is_sound s.call) both.0 in
     reads_itself s.number (ltb-true s.number (2 ^ 32) sound.0) s.call sound.1 (leb-true (length (text_of_step s)) 512 both.1)

@@ -1,5 +1,5 @@
 -- The definition computed on lines.
-use Rattle.std.proofs.Common.{◌≡◌, ℕ, true, List, [], ◌∷◌, ◌++◌, replicate, Some, None, Ok, Err, codes, refl}
+use Rattle.std.proofs.Common.{◌≡◌, ℕ, [], ◌++◌, replicate, Some, None, Ok, Err, codes, refl}
 use Rattle.std.specs.Fmt.{digits}
 use Rattle.pam_base.specs.declared.call.AppCall.{AppCall}
 use Rattle.pam_base.specs.declared.call.AppCall.TheVariants as calls

@@ -1,6 +1,7 @@
 pub mod Call
 pub mod Command
 pub mod Cut
+pub mod Fit
 pub mod Line
 pub mod Number
 pub mod Place

@@ -1,5 +1,5 @@
 -- A step, written as a line of the script (this project's own).
-use Rattle.std.specs.Prelude.{◌≡◌, ℕ, ◌^◌, Bool, true, false, List, [], ◌∷◌, ◌++◌, length, Option, Some, None, codes, decimal, nat_le, nat_lt, not, ◌&&◌}
+use Rattle.std.specs.Prelude.{ℕ, ◌^◌, Bool, true, false, List, [], ◌∷◌, ◌++◌, length, Some, None, codes, decimal, nat_le, nat_lt, not, ◌&&◌}
 use Rattle.std.specs.List.{join_with_byte}
 use Rattle.pam_base.specs.declared.call.AppCall.{AppCall}
 use Rattle.pam_base.specs.declared.call.AppCall.TheVariants as calls

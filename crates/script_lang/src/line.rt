@@ -1,4 +1,5 @@
 ghost use Rattle.std.specs.Prelude.{◌≡◌, IfOk, IfErr};
+ghost use Rattle.script_lang.specs.Fit.{IsFit};
 ghost use Rattle.script_lang.specs.Line.{parsed, command_line, is_blank, without_return, IsRefusal};
 
 use crate::call::line_made;
@@ -34,6 +35,9 @@ pub enum Line {
 pub fn parse(alloc: Global, line: &[u8]) -> Result<Line, Refuse<ScriptKind>>
     ensures ok { IfOk result (λ found. parsed line.now ≡ Ok found) }
     ensures err { IfErr result (λ refusal. IsRefusal refusal (parsed line.now)) }
+
+    // A start names a service, and a reply has at most 512 bytes.
+    ensures fit { IfOk result IsFit }
 {
     let text = without_return(line);
     if text.len() > MAX_LINE {

@@ -37,6 +37,7 @@ pub(crate) fn values_at(places: [Place; 3], line: &[u8]) -> Result<Values<'_>, S
     let first = value_at(places[0], 1, line);
     let second = value_at(places[1], 2, line);
     let third = value_at(places[2], 3, line);
+    // In this order, so that the leftmost fault is the answer.
     Ok(Values {
         first: first?,
         second: second?,

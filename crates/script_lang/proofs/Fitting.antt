@@ -1,0 +1,106 @@
+-- What is read from a line may be asked.
+use Rattle.std.proofs.Common.{◌≡◌, ℕ, zero, suc, ◌≤◌, Bool, true, false, List, [], ◌∷◌, length, drop, get_or, Option, Some, None, Result, Ok, Err, IfOk, nat_lt, nat_le, cond, refl, ap, subst, arith, length-append}
+use Rattle.std.proofs.lemmas.Bool.{ltb-true, le-leb, and_parts}
+use Rattle.std.proofs.lemmas.Option.{slice_get-get_or}
+use Rattle.std.specs.List.{join_with_byte}
+use Rattle.std.specs.Option.{ok_or}
+use Rattle.pam_base.specs.declared.fault.Refuse.{Refuse}
+use Rattle.pam_base.specs.declared.fault.ScriptKind.{ScriptKind}
+use Rattle.pam_base.specs.declared.fault.ScriptKind.TheVariants.{BadWord}
+use Rattle.pam_base.specs.Words.{words_of}
+use Rattle.script_lang.specs.declared.command.Command.{Command}
+use Rattle.script_lang.specs.declared.command.Command.TheVariants as commands
+use Rattle.script_lang.specs.declared.line.Line.{Line}
+use Rattle.script_lang.specs.declared.place.Form.TheVariants as forms
+use Rattle.script_lang.specs.declared.place.Place.TheVariants.{Wanted}
+use Rattle.script_lang.specs.Call.{line_made}
+use Rattle.script_lang.specs.Command.{row_of, command_of_word}
+use Rattle.script_lang.specs.Cut.{first_word, has_its_words}
+use Rattle.script_lang.specs.Fit.{IsFit}
+use Rattle.script_lang.specs.Line.{command_line, line_of_command, line_or_fault}
+use Rattle.script_lang.specs.ServiceName.{is_service_name}
+use Rattle.script_lang.specs.Value.{Meaning, Meanings, bytes, bytes_of, meaning_at, meanings_at, all_of}
+use Rattle.script_lang.proofs.Words.{join-words_of}
+
+drop-nil : (n : ℕ) → drop {A = List ℕ} n [] ≡ []
+drop-nil zero = refl
+drop-nil (suc n) = refl
+
+-- the words from one on are no longer than all, with the spaces between them
+length-join-drop : (n : ℕ) (words : List (List ℕ)) → length (join_with_byte 32 (drop n words)) ≤ length (join_with_byte 32 words)
+length-join-drop zero words = omega arith
+length-join-drop (suc n) [] = omega arith
+length-join-drop (suc n) (w ∷ []) = omega (arith, ap (λ (words : List (List ℕ)). length (join_with_byte 32 words)) (drop-nil n))
+length-join-drop (suc n) (w ∷ v ∷ ws) =
+    omega (arith, length-join-drop n (v ∷ ws), length-append w (32 ∷ join_with_byte 32 (v ∷ ws)))
+
+-- the second of three meanings
+all_of-second : (first second third : Result Meaning ScriptKind) (said : Meanings) → all_of first second third ≡ Ok said → second ≡ Ok said.second
+all_of-second (Err f) second third said e = absurd cc
+all_of-second (Ok a) (Err f) third said e = absurd cc
+all_of-second (Ok a) (Ok b) (Err f) said e = absurd cc
+all_of-second (Ok a) (Ok b) (Ok c) said e =
+    let same : ◌≡◌ {A = Meanings} (record { first = a; second = b; third = c }) said = cc in
+    ap (λ (m : Meanings). Ok m.second) same
+
+-- a service's name
+named : (word : List ℕ) (m : Meaning) → ok_or (cond (is_service_name word) (Some (bytes word)) None) BadWord ≡ Ok m → is_service_name (bytes_of m) ≡ true
+named word m e = by_cases (is_service_name word) refl e
+  where
+    by_cases : (b : Bool) → is_service_name word ≡ b → ok_or (cond b (Some (bytes word)) None) BadWord ≡ Ok m → is_service_name (bytes_of m) ≡ true
+    by_cases true is e = let same : bytes word ≡ m = cc in rw (← same) is
+    by_cases false is e = absurd cc
+
+service_named : (words : List (List ℕ)) (m : Meaning) → nat_lt 2 (length words) ≡ true → meaning_at (Wanted forms.Service) 2 words ≡ Ok m → is_service_name (bytes_of m) ≡ true
+service_named words m lt e =
+    named (get_or words 2 []) m (rw (slice_get-get_or words 2 [] (ltb-true 2 (length words) lt)) at e)
+
+reply_short : (words : List (List ℕ)) (m : Meaning) → nat_lt 2 (length words) ≡ true → meaning_at (Wanted forms.Text) 2 words ≡ Ok m → length (join_with_byte 32 words) ≤ 512 → nat_le (length (bytes_of m)) 512 ≡ true
+reply_short words m lt e short =
+    let is = rw lt at e in
+    let same : bytes (join_with_byte 32 (drop 2 words)) ≡ m = cc in
+    rw (← same) (le-leb _ 512 (omega (arith, length-join-drop 2 words, short)))
+
+-- ---- a command's line
+
+made_fit : (command : Command) (words : List (List ℕ)) (said : Meanings) → length (join_with_byte 32 words) ≤ 512 → has_its_words (row_of command).places words ≡ true → meanings_at (row_of command).places words ≡ Ok said → IsFit (line_made command said)
+made_fit commands.Start words said short has e =
+    service_named words said.second (and_parts (nat_lt 2 (length words)) _ has).0 (all_of-second _ _ _ said e)
+made_fit commands.Reply words said short has e =
+    reply_short words said.second (and_parts (nat_lt 2 (length words)) _ has).0 (all_of-second _ _ _ said e) short
+made_fit commands.End words said short has e = refl
+made_fit commands.Authenticate words said short has e = refl
+made_fit commands.SetCred words said short has e = refl
+made_fit commands.AcctMgmt words said short has e = refl
+made_fit commands.OpenSession words said short has e = refl
+made_fit commands.CloseSession words said short has e = refl
+made_fit commands.ChAuthTok words said short has e = refl
+made_fit commands.SetItem words said short has e = refl
+made_fit commands.GetItem words said short has e = refl
+made_fit commands.PutEnv words said short has e = refl
+made_fit commands.GetEnv words said short has e = refl
+made_fit commands.EnvList words said short has e = refl
+made_fit commands.FailDelay words said short has e = refl
+made_fit commands.DelayFn words said short has e = refl
+made_fit commands.At words said short has e = tt
+made_fit commands.Random words said short has e = tt
+made_fit commands.Caller words said short has e = tt
+
+answer_fit : (command : Command) (words : List (List ℕ)) (line : Line) → length (join_with_byte 32 words) ≤ 512 → has_its_words (row_of command).places words ≡ true → (answer : Result Meanings ScriptKind) → meanings_at (row_of command).places words ≡ answer → line_or_fault command answer ≡ Ok line → IsFit line
+answer_fit command words line short has (Err fault) is e = absurd cc
+answer_fit command words line short has (Ok said) is e =
+    let same : line_made command said ≡ line = cc in
+    subst IsFit same (made_fit command words said short has is)
+
+command_fit : (command : Command) (words : List (List ℕ)) (line : Line) → length (join_with_byte 32 words) ≤ 512 → (b : Bool) → has_its_words (row_of command).places words ≡ b → cond b (line_or_fault command (meanings_at (row_of command).places words)) (Err BadWord) ≡ Ok line → IsFit line
+command_fit command words line short true has e = answer_fit command words line short has _ refl e
+command_fit command words line short false has e = absurd cc
+
+named_fit : (o : Option Command) (words : List (List ℕ)) (line : Line) → length (join_with_byte 32 words) ≤ 512 → line_of_command o words ≡ Ok line → IsFit line
+named_fit None words line short e = absurd cc
+named_fit (Some command) words line short e = command_fit command words line short _ refl e
+
+-- what a command's line is read as may be asked
+pub read_fit : (text : List ℕ) (r : Result Line (Refuse ScriptKind)) → length text ≤ 512 → IfOk r (λ line. command_line text ≡ Ok line) → IfOk r IsFit
+read_fit text (Ok line) short e = named_fit (command_of_word (first_word text)) (words_of text) line (rw (join-words_of text) short) e
+read_fit text (Err refusal) short e = tt

@@ -1,0 +1,5 @@
+//! Tests of the script's language.
+#![tactic(auto)]
+
+#[cfg(test)]
+mod tests;

@@ -1,0 +1,5 @@
+mod commands;
+mod lines;
+mod numbers;
+mod shown;
+mod words;
