@@ -1,5 +1,5 @@
 -- The lines of a stack in written order, each with where it stands (pam.conf(5): substacks and jumps).
-use Rattle.std.specs.Prelude.{ℕ, zero, suc, ◌+◌, Bool, false, if◌then◌else◌, nat_le, Option, Some, None, List, [], ◌∷◌, ◌++◌, map, max, get_or}
+use Rattle.std.specs.Prelude.{ℕ, zero, suc, ◌+◌, false, if◌then◌else◌, nat_le, Option, Some, None, List, [], ◌∷◌, ◌++◌, map, max, get_or}
 use Rattle.std.specs.Str.{bytes_eq}
 use Rattle.control_words.specs.declared.nodes.Rule.{Rule}
 use Rattle.control_words.specs.Module.{name_of_module}
