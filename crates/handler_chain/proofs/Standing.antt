@@ -1,7 +1,7 @@
 -- The lines of a stack, one by one.
 use Rattle.std.proofs.Common.{◌≡◌, ℕ, zero, suc, ◌+◌, ◌<◌, ◌≤◌, max, List, [], ◌∷◌, ◌++◌, length, get_or, drop, map, refl, ◌∙◌, ap, length-append, arith}
 use Rattle.control_words.specs.Stack.{Stack, none, line, sub, lines_in}
-use Rattle.handler_chain.specs.FlatLines.{FlatLine, flat_lines, pending, depth, at_line}
+use Rattle.handler_chain.specs.FlatLines.{FlatLine, flat_lines, pending, depth, at_line, of_first}
 
 pub flat_lines-count : (t : Stack) (level opens : ℕ) → length (flat_lines level opens t) ≡ lines_in t
 flat_lines-count none level opens = refl
@@ -9,30 +9,9 @@ flat_lines-count (line rule rest) level opens = omega (arith, flat_lines-count r
 flat_lines-count (sub inner rest) level opens =
     omega (arith, length-append (flat_lines (level + 1) (opens + 1) inner) (flat_lines level (pending (lines_in inner) opens) rest), flat_lines-count inner (level + 1) (opens + 1), flat_lines-count rest level (pending (lines_in inner) opens))
 
--- what stands at an index, and what follows it
-pub record StandsAt (stack : Stack) (i : ℕ) : Type 0 where
-  pub flat_line : FlatLine
-  pub stands : drop i (flat_lines 0 0 stack) ≡ flat_line ∷ drop (i + 1) (flat_lines 0 0 stack)
-
-pub split_at : {A : Type 0} (xs : List A) (i : ℕ) → i < length xs → (x : A) × (drop i xs ≡ x ∷ drop (i + 1) xs)
-split_at [] i within = absurd (omega (arith, within))
-split_at {A} (x ∷ xs) zero within = (x, refl)
-split_at {A} (x ∷ xs) (suc i) within = let rest = split_at xs i (omega arith) in (rest.0, rest.1 ∙ ap (λ n. rest.0 ∷ drop n (x ∷ xs)) (let e : suc (i + 1) ≡ suc i + 1 = omega arith in e))
-
-pub standing : (stack : Stack) (i : ℕ) → i < lines_in stack → StandsAt stack i
-standing stack i within =
-    let at = split_at (flat_lines 0 0 stack) i (omega (arith, within, flat_lines-count stack 0 0)) in
-    record { flat_line = at.0; stands = at.1 }
-
-at_drop : {A B : Type 0} (of : A → B) (other : B) (xs rest : List A) (x : A) (i : ℕ) → drop i xs ≡ x ∷ rest → get_or (map of xs) i other ≡ of x
-at_drop of other [] rest x zero is = cc
-at_drop of other [] rest x (suc i) is = cc
-at_drop {A} {B} of other (y ∷ ys) rest x zero is = ap (λ (zs : List A). get_or (map of zs) 0 (of x)) is
-at_drop of other (y ∷ ys) rest x (suc i) is = at_drop of other ys rest x i is
-
 -- what is said of the line of an index is said of the line that stands there
 pub at_line-stands : {A : Type 0} (other : A) (of : FlatLine → A) (stack : Stack) (i : ℕ) (s : FlatLine) (rest : List FlatLine) → drop i (flat_lines 0 0 stack) ≡ s ∷ rest → at_line other of stack i ≡ of s
-at_line-stands other of stack i s rest stands = at_drop of other (flat_lines 0 0 stack) rest s i stands
+at_line-stands other of stack i s rest stands = ap (of_first other of) stands
 
 -- levels are bounded, and no line opens more substacks than are round it
 abbrev AreWithin : ℕ → List FlatLine → Type 0

@@ -1,5 +1,5 @@
 -- The lines of a stack in written order, each with where it stands (pam.conf(5): substacks and jumps).
-use Rattle.std.specs.Prelude.{ℕ, zero, suc, ◌+◌, false, if◌then◌else◌, nat_le, Option, Some, None, List, [], ◌∷◌, ◌++◌, map, max, get_or}
+use Rattle.std.specs.Prelude.{ℕ, zero, suc, ◌+◌, false, if◌then◌else◌, nat_le, Option, Some, None, List, [], ◌∷◌, ◌++◌, max, drop}
 use Rattle.std.specs.Str.{bytes_eq}
 use Rattle.control_words.specs.declared.nodes.Rule.{Rule}
 use Rattle.control_words.specs.Module.{name_of_module}
@@ -39,9 +39,14 @@ depth none = 0
 depth (line rule rest) = depth rest
 depth (sub inner rest) = max (depth inner + 1) (depth rest)
 
+-- what is said of the first of several lines, where there is one
+abbrev pub of_first : {A : Type 0} → A → (FlatLine → A) → List FlatLine → A
+of_first other of [] = other
+of_first other of (l ∷ ls) = of l
+
 -- what is said of the line of an index, where there is one
 abbrev pub at_line : {A : Type 0} → A → (FlatLine → A) → Stack → ℕ → A
-at_line other of stack i = get_or (map of (flat_lines 0 0 stack)) i other
+at_line other of stack i = of_first other of (drop i (flat_lines 0 0 stack))
 
 -- stands for the rule of a line that isn't there
 abbrev pub no_rule : Rule
