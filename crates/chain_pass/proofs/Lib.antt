@@ -3,3 +3,7 @@ pub mod Entering
 pub mod Walking
 pub mod Turning
 pub mod Giving
+pub mod Keeping
+pub mod Taking
+pub mod Progress
+pub mod Ending

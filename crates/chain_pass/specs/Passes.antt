@@ -9,14 +9,14 @@ use Rattle.stack_walk.specs.declared.pass_kind.PassKind.{PassKind}
 use Rattle.stack_walk.specs.declared.pass_kind.PassKind.TheVariants as kinds
 use Rattle.stack_walk.specs.Opinion.{verdict}
 use Rattle.stack_walk.specs.Walk.{Serving, Walked, halted, code_of}
-use Rattle.stack_walk.specs.Route.{Kept}
+use Rattle.stack_walk.specs.Route.{KeptAnswers}
 use Rattle.stack_walk.specs.Pass.{PassState, Visit, visit, kept_in, answers_of}
 use Rattle.chain_pass.specs.declared.walker.Walker.{Walker}
 use Rattle.chain_pass.specs.Given.{GivenView}
 use Rattle.chain_pass.specs.Index.{walk_on}
 
 -- kept answers by the places of lines, which count from 1
-abbrev pub by_place : Answers → Kept
+abbrev pub by_place : Answers → KeptAnswers
 by_place kept zero = None
 by_place kept (suc i) = answer_at kept i
 
@@ -57,6 +57,10 @@ end_of w = if w.stopped then None else Some (verdict w.opinion)
 abbrev pub Keeps : Answers → List Visit → Type 0
 Keeps kept visits = (place : ℕ) → by_place kept place ≡ kept_in visits place
 
+-- cells are open, and have the answers of visits
+abbrev pub KeepsAll : Answers → List Visit → Type 0
+KeepsAll kept visits = (is_some kept ≡ true) × Keeps kept visits
+
 -- what a walk over all lines gave, kept and took is that of a walk
 pub record WalksAs {State : Type 0} (w : Walked (PassState State)) (ended : Option Code) (kept : Answers) (given : GivenView) (state : State) : Type 0 where
   pub end_is : ended ≡ end_of w
@@ -64,9 +68,20 @@ pub record WalksAs {State : Type 0} (w : Walked (PassState State)) (ended : Opti
   pub taken_is : given.taken ≡ answers_of w.state.visits
   pub state_is : state ≡ w.state.state
 
+-- the answers to go on after, where a pass was put off
+abbrev pub paused_after : {State : Type 0} → Walked (PassState State) → Option (List Code)
+paused_after w = if w.stopped then Some (answers_of w.state.visits) else None
+
+-- a code, the answers kept in a pass that keeps, what is paused and a state are those of a walk
+pub record PassesAs {State : Type 0} (kind : PassKind) (w : Walked (PassState State)) (code : Code) (kept : Answers) (paused : Option (List Code)) (state : State) : Type 0 where
+  pub code_is : code ≡ code_of w
+  pub kept_is : kind ≡ kinds.Keep → KeepsAll kept w.state.visits
+  pub paused_is : paused ≡ paused_after w
+  pub state_is : state ≡ w.state.state
+
 -- what is kept behind a pass: the answers of its visits, what was kept before, nothing
 abbrev pub KeepsAfter : PassKind → List Visit → Answers → Answers → Type 0
-KeepsAfter kinds.Keep visits old new = (is_some new ≡ true) × Keeps new visits
+KeepsAfter kinds.Keep visits old new = KeepsAll new visits
 KeepsAfter kinds.Follow visits old new = new ≡ old
 KeepsAfter kinds.Loose visits old new = new ≡ None
 
@@ -75,9 +90,11 @@ abbrev pub kept_failed : PassKind → Answers → Answers
 kept_failed kinds.Keep old = None
 kept_failed kind old = old
 
--- the answers to go on after, where a pass was put off
-abbrev pub paused_after : {State : Type 0} → Walked (PassState State) → Option (List Code)
-paused_after w = if w.stopped then Some (answers_of w.state.visits) else None
+-- what is kept behind a pass that has answered or not, where `keeps` are its own answers
+abbrev pub kept_behind : PassKind → Bool → Answers → Answers → Answers
+kept_behind kinds.Keep answered keeps old = if answered then keeps else None
+kept_behind kinds.Follow answered keeps old = old
+kept_behind kinds.Loose answered keeps old = if answered then None else old
 
 -- a code, what is kept, what is paused and a state are those of a pass
 pub record LeavesAs {State : Type 0} (kind : PassKind) (w : Walked (PassState State)) (before : Answers) (code : Code) (kept : Answers) (paused : Option (List Code)) (state : State) : Type 0 where

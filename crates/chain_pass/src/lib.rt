@@ -5,14 +5,15 @@
 mod ask;
 mod entry_states;
 mod given;
-
+mod pass;
 mod paused;
 mod step;
+mod turn;
 mod walker;
 
 pub use ask::Ask;
 pub use entry_states::EntryStates;
 pub use given::Given;
-
+pub use pass::run_pass;
 pub use paused::Paused;
 pub use walker::Walker;

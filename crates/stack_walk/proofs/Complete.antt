@@ -7,7 +7,7 @@ use Rattle.pam_base.specs.declared.code.Code.{Code}
 use Rattle.control_words.specs.Control.{action_at}
 use Rattle.control_words.specs.Stack.{Stack, none, line, sub, count, lines_in}
 use Rattle.stack_walk.specs.Walk.{Next, after, stop}
-use Rattle.stack_walk.specs.Route.{Kept, next_by, negative_behind, Met, met, behind, onto, met_at, route_from}
+use Rattle.stack_walk.specs.Route.{KeptAnswers, next_by, negative_behind, Met, met, behind, onto, met_at, route_from}
 
 abbrev pub IsOn : ℕ → List ℕ → Type 0
 IsOn place places = list_any (nat_eq place) places ≡ true
@@ -18,7 +18,7 @@ on_first place xs ys is = list_any-append (nat_eq place) xs ys ∙ or_left (list
 pub on_second : (place : ℕ) (xs ys : List ℕ) → IsOn place ys → IsOn place (xs ++ ys)
 on_second place xs ys is = list_any-append (nat_eq place) xs ys ∙ or_right (list_any (nat_eq place) xs) _ is
 
-module _ (kept : Kept) where
+module _ (kept : KeptAnswers) where
   abbrev All_kept : Met → Type 0
   All_kept m = (place : ℕ) → IsOn place m.places → is_some (kept place) ≡ true
 

@@ -9,7 +9,7 @@ use Rattle.stack_walk.specs.declared.opinion.Opinion.{Opinion}
 use Rattle.stack_walk.specs.declared.pass_kind.PassKind.{PassKind}
 use Rattle.stack_walk.specs.Opinion.{acted}
 use Rattle.stack_walk.specs.Walk.{Serving, Served, Walked, walked, halted, Next, after, stop, next_of, settled, onward, walk}
-use Rattle.stack_walk.specs.Route.{Kept, negative_after, next_by, negative_behind, Met, met, behind, onto, met_at, route_from}
+use Rattle.stack_walk.specs.Route.{KeptAnswers, negative_after, next_by, negative_behind, Met, met, behind, onto, met_at, route_from}
 use Rattle.stack_walk.proofs.Negativity.{negative_opinion, acted_negative, next_of-is, settled_negative}
 
 module _ (State : Type 0) where
@@ -47,7 +47,7 @@ module _ (State : Type 0) (kind : PassKind) (serve : Serving State) where
 
 -- What is known of a serving: which places a state has seen, and, where a walk ends in a state that is Ok, that a line
 -- visited acts by its kept answer. Low tells what holds before a place.
-pub record Tells (State : Type 0) (serve : Serving State) (kept : Kept) (seen : State → List ℕ) (Low : ℕ → State → Type 0) (Ok : State → Type 0) : Type 0 where
+pub record Tells (State : Type 0) (serve : Serving State) (kept : KeptAnswers) (seen : State → List ℕ) (Low : ℕ → State → Type 0) (Ok : State → Type 0) : Type 0 where
   pub on : (rule : Rule) (at : ℕ) (s : State) → (serve rule at s).stopped ≡ false → seen (serve rule at s).state ≡ seen s ++ at ∷ []
   pub off : (rule : Rule) (at : ℕ) (s : State) → (serve rule at s).stopped ≡ true → seen (serve rule at s).state ≡ seen s
   pub low : (rule : Rule) (at : ℕ) (s : State) → Low at s → Low (at + 1) (serve rule at s).state
@@ -56,7 +56,7 @@ pub record Tells (State : Type 0) (serve : Serving State) (kept : Kept) (seen : 
   pub agrees : (rule : Rule) (at : ℕ) (s : State) (k : Code) → Low at s → Ok (serve rule at s).state → (serve rule at s).stopped ≡ false → kept at ≡ Some k → (serve rule at s).deciding ≡ k
 
 -- each line visited has a kept answer
-abbrev pub Finds : (State : Type 0) (serve : Serving State) (kept : Kept) (Low : ℕ → State → Type 0) (Ok : State → Type 0) → Type 0
+abbrev pub Finds : (State : Type 0) (serve : Serving State) (kept : KeptAnswers) (Low : ℕ → State → Type 0) (Ok : State → Type 0) → Type 0
 Finds State serve kept Low Ok = (rule : Rule) (at : ℕ) (s : State) → Low at s → Ok (serve rule at s).state → (serve rule at s).stopped ≡ false → kept at ≡ None → ⊥
 
 -- A walk goes along: what it saw is a front of what is met, and once it has ended, all of it.
@@ -77,7 +77,7 @@ met_some : (at : ℕ) (answer : Option Code) (now : Bool) (on : Code → Met) �
 met_some at None now on = omega arith
 met_some at (Some k) now on = omega arith
 
-module _ (State : Type 0) (kind : PassKind) (serve : Serving State) (kept : Kept) (seen : State → List ℕ) (Low : ℕ → State → Type 0) (Ok : State → Type 0) (tells : Tells State serve kept seen Low Ok) where
+module _ (State : Type 0) (kind : PassKind) (serve : Serving State) (kept : KeptAnswers) (seen : State → List ℕ) (Low : ℕ → State → Type 0) (Ok : State → Type 0) (tells : Tells State serve kept seen Low Ok) where
   abbrev Sure : Met → Type 0
   Sure m = (m.lacks ≡ false) ⊎ Finds State serve kept Low Ok
 

@@ -4,7 +4,7 @@ use Rattle.std.specs.List.{list_any}
 use Rattle.stack_walk.specs.declared.pass_kind.PassKind.TheVariants as kinds
 use Rattle.stack_walk.specs.Opinion.{opening}
 use Rattle.stack_walk.specs.Walk.{Walked}
-use Rattle.stack_walk.specs.Route.{Kept, route_from, route}
+use Rattle.stack_walk.specs.Route.{KeptAnswers, route_from, route}
 use Rattle.stack_walk.specs.Pass.{PassState, serving, pass_state, kept_in, places_of, pass_after}
 use Rattle.stack_walk.specs.PathLaw.{KeepsComplete, KeepsRoute, Follows, FollowsKeep, FollowsRoute, FindsKept}
 use Rattle.stack_walk.proofs.Following.{Goes, along}
@@ -15,7 +15,7 @@ use Rattle.stack_walk.proofs.Serving.{seen, Any_at, Any, Below, Agrees, follow_t
 pub keeps_route : (State : Type 0) → KeepsRoute State
 keeps_route State before answering stack past s = λ runs.
     let w : Walked (PassState State) = pass_after kinds.Keep before answering stack past s in
-    let kept : Kept = kept_in w.state.visits in
+    let kept : KeptAnswers = kept_in w.state.visits in
     let goes : Goes (PassState State) seen [] (route_from kept 0 stack 1 false false) w =
     along (PassState State) kinds.Keep (serving kinds.Keep before answering) kept seen (Below State) (Agrees State kept) (keep_tells State kept before answering)
     stack 0 1 opening opening (pass_state past [] s) false false refl refl (λ place le. refl) (λ place k is. is) (inr (keep_finds State kept before answering)) in

@@ -9,7 +9,7 @@ use Rattle.stack_walk.specs.declared.opinion.Opinion.{Opinion}
 use Rattle.stack_walk.specs.declared.pass_kind.PassKind.{PassKind}
 use Rattle.stack_walk.specs.Opinion.{acted, opening}
 use Rattle.stack_walk.specs.Walk.{Served, Walked, walked, halted, Next, after, stop, next_of, settled, onward, walk}
-use Rattle.stack_walk.specs.Route.{Kept}
+use Rattle.stack_walk.specs.Route.{KeptAnswers}
 use Rattle.stack_walk.specs.Pass.{Visit, Answering, visit, PassState, pass_state, answers_of, decides, served_past, serving, pass_after}
 use Rattle.stack_walk.specs.PathLaw.{GoesOn}
 use Rattle.stack_walk.proofs.Following.{state_if, state_onward, walk_keeps}
@@ -29,7 +29,7 @@ answers-append : (vs ws : List Visit) (rest : List Code) → answers_of (vs ++ w
 answers-append [] ws rest = refl
 answers-append (v ∷ vs) ws rest = ap (λ (cs : List Code). v.answer ∷ cs) (answers-append vs ws rest)
 
-module _ (State : Type 0) (kind : PassKind) (kept : Kept) where
+module _ (State : Type 0) (kind : PassKind) (kept : KeptAnswers) where
   abbrev walk_by : Answering State → ℕ → Stack → ℕ → Opinion → Opinion → PassState State → Walked (PassState State)
   walk_by answering = walk kind (serving kind kept answering)
 

@@ -4,7 +4,7 @@ use Rattle.pam_base.specs.declared.code.Code.{Code}
 use Rattle.control_words.specs.declared.nodes.Rule.{Rule}
 use Rattle.stack_walk.specs.declared.pass_kind.PassKind.{PassKind}
 use Rattle.stack_walk.specs.declared.pass_kind.PassKind.TheVariants as kinds
-use Rattle.stack_walk.specs.Route.{Kept}
+use Rattle.stack_walk.specs.Route.{KeptAnswers}
 use Rattle.stack_walk.specs.Pass.{Visit, Answering, is_incomplete, visit, PassState, kept_in, places_of, served_past, serving}
 use Rattle.stack_walk.proofs.Following.{Tells, Finds}
 use Rattle.stack_walk.proofs.Keeping.{places-add, kept-still, kept-add, kept-past}
@@ -17,7 +17,7 @@ if_true : (b : Bool) (x y : List Visit) → b ≡ true → (if b then x else y) 
 if_true true x y is = refl
 if_true false x y is = absurd (true≢false (sym is))
 
-module _ (State : Type 0) (kind : PassKind) (kept : Kept) (answering : Answering State) where
+module _ (State : Type 0) (kind : PassKind) (kept : KeptAnswers) (answering : Answering State) where
   -- a line that doesn't put off is a visit, with its present answer; one that does is none
   pub visited : (rule : Rule) (at : ℕ) (past : List Code) (vs : List Visit) (s : State) → (served_past kind kept answering rule at past vs s).stopped ≡ false
       → (served_past kind kept answering rule at past vs s).state.visits ≡ vs ++ visit at (served_past kind kept answering rule at past vs s).answer ∷ []
@@ -45,15 +45,15 @@ abbrev pub Below : (State : Type 0) → ℕ → PassState State → Type 0
 Below State at g = (place : ℕ) → at ≤ place → kept_in g.visits place ≡ None
 
 -- what was visited is kept
-abbrev pub Agrees : (State : Type 0) → Kept → PassState State → Type 0
+abbrev pub Agrees : (State : Type 0) → KeptAnswers → PassState State → Type 0
 Agrees State kept g = (place : ℕ) (k : Code) → kept_in g.visits place ≡ Some k → kept place ≡ Some k
 
-decides_kept : (State : Type 0) (kept : Kept) (answering : Answering State) (rule : Rule) (at : ℕ) (past : List Code) (vs : List Visit) (s : State) (k : Code)
+decides_kept : (State : Type 0) (kept : KeptAnswers) (answering : Answering State) (rule : Rule) (at : ℕ) (past : List Code) (vs : List Visit) (s : State) (k : Code)
     → kept at ≡ Some k → (served_past kinds.Follow kept answering rule at past vs s).deciding ≡ k
 decides_kept State kept answering rule at [] vs s k is = ap (λ (o : Option Code). unwrap_or o (answering rule at s).answer) is
 decides_kept State kept answering rule at (p ∷ past) vs s k is = ap (λ (o : Option Code). unwrap_or o p) is
 
-pub follow_tells : (State : Type 0) (kept : Kept) (answering : Answering State) → Tells (PassState State) (serving kinds.Follow kept answering) kept seen (Any_at State) (Any State)
+pub follow_tells : (State : Type 0) (kept : KeptAnswers) (answering : Answering State) → Tells (PassState State) (serving kinds.Follow kept answering) kept seen (Any_at State) (Any State)
 follow_tells State kept answering = record {
   on = λ rule at g is. ap places_of (visited State kinds.Follow kept answering rule at g.past g.visits g.state is) ∙ places-add g.visits at _;
   off = λ rule at g is. ap places_of (unvisited State kinds.Follow kept answering rule at g.past g.visits g.state is);
@@ -64,7 +64,7 @@ follow_tells State kept answering = record {
 }
 
 -- a pass that keeps, of which `kept` is what it will have visited
-decides_present : (State : Type 0) (before : Kept) (answering : Answering State) (rule : Rule) (at : ℕ) (past : List Code) (vs : List Visit) (s : State)
+decides_present : (State : Type 0) (before : KeptAnswers) (answering : Answering State) (rule : Rule) (at : ℕ) (past : List Code) (vs : List Visit) (s : State)
     → (served_past kinds.Keep before answering rule at past vs s).deciding ≡ (served_past kinds.Keep before answering rule at past vs s).answer
 decides_present State before answering rule at [] vs s = refl
 decides_present State before answering rule at (p ∷ past) vs s = refl
@@ -73,7 +73,7 @@ visits_past : (b : Bool) (vs : List Visit) (at : ℕ) (p : Code) (place : ℕ) �
 visits_past true vs at p place le is = is
 visits_past false vs at p place le is = kept-past vs at place p le is
 
-served_below : (State : Type 0) (before : Kept) (answering : Answering State) (rule : Rule) (at : ℕ) (past : List Code) (vs : List Visit) (s : State) (place : ℕ)
+served_below : (State : Type 0) (before : KeptAnswers) (answering : Answering State) (rule : Rule) (at : ℕ) (past : List Code) (vs : List Visit) (s : State) (place : ℕ)
     → at + 1 ≤ place → kept_in vs place ≡ None → kept_in (served_past kinds.Keep before answering rule at past vs s).state.visits place ≡ None
 served_below State before answering rule at [] vs s place le is = visits_past (is_incomplete (answering rule at s).answer) vs at _ place le is
 served_below State before answering rule at (p ∷ past) vs s place le is = kept-past vs at place p le is
@@ -82,12 +82,12 @@ visits_still : (b : Bool) (vs ws : List Visit) (place : ℕ) (k : Code) → kept
 visits_still true vs ws place k is = is
 visits_still false vs ws place k is = kept-still vs ws place k is
 
-served_still : (State : Type 0) (before : Kept) (answering : Answering State) (rule : Rule) (at : ℕ) (past : List Code) (vs : List Visit) (s : State) (place : ℕ) (k : Code)
+served_still : (State : Type 0) (before : KeptAnswers) (answering : Answering State) (rule : Rule) (at : ℕ) (past : List Code) (vs : List Visit) (s : State) (place : ℕ) (k : Code)
     → kept_in vs place ≡ Some k → kept_in (served_past kinds.Keep before answering rule at past vs s).state.visits place ≡ Some k
 served_still State before answering rule at [] vs s place k is = visits_still (is_incomplete (answering rule at s).answer) vs _ place k is
 served_still State before answering rule at (p ∷ past) vs s place k is = kept-still vs _ place k is
 
-module _ (State : Type 0) (kept before : Kept) (answering : Answering State) where
+module _ (State : Type 0) (kept before : KeptAnswers) (answering : Answering State) where
   kept_here : (rule : Rule) (at : ℕ) (g : PassState State) → Below State at g → Agrees State kept (serving kinds.Keep before answering rule at g).state → (serving kinds.Keep before answering rule at g).stopped ≡ false
       → kept at ≡ Some (serving kinds.Keep before answering rule at g).deciding
   kept_here rule at g low ok runs =

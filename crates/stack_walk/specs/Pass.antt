@@ -8,7 +8,7 @@ use Rattle.control_words.specs.Stack.{Stack}
 use Rattle.stack_walk.specs.declared.pass_kind.PassKind.{PassKind}
 use Rattle.stack_walk.specs.declared.pass_kind.PassKind.TheVariants as kinds
 use Rattle.stack_walk.specs.Walk.{Served, Serving, Walked, pass}
-use Rattle.stack_walk.specs.Route.{Kept}
+use Rattle.stack_walk.specs.Route.{KeptAnswers}
 
 -- what a line answers when it is asked, and the state of all that it can change
 pub record Answered (State : Type 0) : Type 0 where
@@ -46,12 +46,12 @@ answers_of [] = []
 answers_of (v ∷ vs) = v.answer ∷ answers_of vs
 
 -- visits, as answers kept for their places: that of a place's first visit
-abbrev pub kept_in : List Visit → Kept
+abbrev pub kept_in : List Visit → KeptAnswers
 kept_in [] place = None
 kept_in (v ∷ vs) place = if nat_eq place v.place then Some v.answer else kept_in vs place
 
 -- the deciding answer: the kept one in a pass that follows, else the present one
-abbrev pub decides : PassKind → Kept → ℕ → Code → Code
+abbrev pub decides : PassKind → KeptAnswers → ℕ → Code → Code
 decides kinds.Follow kept place answer = unwrap_or (kept place) answer
 decides kind kept place answer = answer
 
@@ -65,7 +65,7 @@ abbrev pub pass_state : {State : Type 0} → List Code → List Visit → State 
 pass_state past visits state = record { past = past; visits = visits; state = state }
 
 -- a line that was asked; one that puts the pass off is no visit
-abbrev pub served_now : {State : Type 0} → PassKind → Kept → ℕ → List Visit → Answered State → Served (PassState State)
+abbrev pub served_now : {State : Type 0} → PassKind → KeptAnswers → ℕ → List Visit → Answered State → Served (PassState State)
 served_now kind kept at visits a = record {
   answer = a.answer;
   deciding = decides kind kept at a.answer;
@@ -74,7 +74,7 @@ served_now kind kept at visits a = record {
 }
 
 -- the next answer is the first of those given already, if one is left, and nothing else changes; else the line is asked
-abbrev pub served_past : {State : Type 0} → PassKind → Kept → Answering State → Rule → ℕ → List Code → List Visit → State → Served (PassState State)
+abbrev pub served_past : {State : Type 0} → PassKind → KeptAnswers → Answering State → Rule → ℕ → List Code → List Visit → State → Served (PassState State)
 served_past kind kept answering rule at [] visits state = served_now kind kept at visits (answering rule at state)
 served_past kind kept answering rule at (p ∷ past) visits state = record {
   answer = p;
@@ -83,9 +83,9 @@ served_past kind kept answering rule at (p ∷ past) visits state = record {
   state = pass_state past (visits ++ visit at p ∷ []) state;
 }
 
-abbrev pub serving : {State : Type 0} → PassKind → Kept → Answering State → Serving (PassState State)
+abbrev pub serving : {State : Type 0} → PassKind → KeptAnswers → Answering State → Serving (PassState State)
 serving kind kept answering rule at s = served_past kind kept answering rule at s.past s.visits s.state
 
 -- the pass over a whole stack, after answers given in its earlier calls
-abbrev pub pass_after : {State : Type 0} → PassKind → Kept → Answering State → Stack → List Code → State → Walked (PassState State)
+abbrev pub pass_after : {State : Type 0} → PassKind → KeptAnswers → Answering State → Stack → List Code → State → Walked (PassState State)
 pass_after kind kept answering stack past state = pass kind (serving kind kept answering) stack (pass_state past [] state)

@@ -9,8 +9,8 @@ use Rattle.control_words.specs.Stack.{Stack, none, line, sub, count, lines_in}
 use Rattle.stack_walk.specs.Walk.{Next, after, stop}
 
 -- the answers kept for places
-abbrev pub Kept : Type 0
-Kept = ℕ → Option Code
+abbrev pub KeptAnswers : Type 0
+KeptAnswers = ℕ → Option Code
 
 -- whether the opinion is negative behind an action, of whether it was at the list's entry and before the line
 abbrev pub negative_after : Action → Bool → Bool → Bool
@@ -58,7 +58,7 @@ met_at at (Some answer) negative on = behind (at ∷ []) (on answer)
 
 -- What is met of a stack whose first line has the place `at`, with so many nodes at its front passed over. Only
 -- whether the opinion is negative is followed, and each line acts by its kept answer. A place without one is the last.
-abbrev pub route_from : Kept → ℕ → Stack → ℕ → Bool → Bool → Met
+abbrev pub route_from : KeptAnswers → ℕ → Stack → ℕ → Bool → Bool → Met
 route_from kept skip none at entry now = met now
 route_from kept (suc skip) (line rule rest) at entry now = route_from kept skip rest (at + 1) entry now
 route_from kept (suc skip) (sub inner rest) at entry now = route_from kept skip rest (at + lines_in inner) entry now
@@ -71,9 +71,9 @@ route_from kept zero (sub inner rest) at entry now =
     if inside.lacks then inside else behind inside.places (route_from kept zero rest (at + lines_in inner) entry inside.negative)
 
 -- the places that a whole stack's pass meets, in order
-abbrev pub route : Stack → Kept → List ℕ
+abbrev pub route : Stack → KeptAnswers → List ℕ
 route stack kept = (route_from kept 0 stack 1 false false).places
 
 -- the places with a kept answer are exactly those that are met
-abbrev pub Complete : Stack → Kept → Type 0
+abbrev pub Complete : Stack → KeptAnswers → Type 0
 Complete stack kept = (place : ℕ) → is_some (kept place) ≡ list_any (nat_eq place) (route stack kept)
