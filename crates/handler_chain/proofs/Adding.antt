@@ -1,8 +1,8 @@
 -- Entries and positions, as the lines of a list are added one node at a time.
 use Rattle.std.proofs.Common.{◌≡◌, ℕ, zero, suc, ◌+◌, ◌-◌, ◌<◌, ◌≤◌, List, [], ◌∷◌, ◌++◌, length, get_or, refl, sym, ◌∙◌, ap, subst, append_assoc, append-nil, length-append, add-zero, zero-add, arith}
-use Rattle.control_words.specs.Stack.{Stack, none, line, sub, count, lines_in}
+use Rattle.control_words.specs.Stack.{Stack, none, line, sub, count, lines_in, depth}
 use Rattle.handler_chain.specs.declared.chain_line.ChainLine.{ChainLine}
-use Rattle.handler_chain.specs.FlatLines.{FlatLine, module_of, flat_lines, pending, lines_in_first, depth}
+use Rattle.handler_chain.specs.FlatLines.{FlatLine, module_of, flat_lines, pending, lines_in_first}
 use Rattle.handler_chain.specs.Flat.{IsBlock, AreLines, AddsList, positions_behind}
 
 get_or-before : (xs ys : List ℕ) (i : ℕ) → i < length xs → get_or (xs ++ ys) i 0 ≡ get_or xs i 0

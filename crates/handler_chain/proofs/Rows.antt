@@ -1,8 +1,8 @@
 -- The worked example: a line, a substack with an empty one inside, an empty one, a substack of one line, a line.
 use Rattle.std.proofs.Common.{◌≡◌, Some, None, [], ◌∷◌, refl, map}
 use Rattle.control_words.specs.declared.nodes.Rule.{Rule}
-use Rattle.control_words.specs.Stack.{Stack, none, line, sub}
-use Rattle.handler_chain.specs.FlatLines.{level_at, opens_at, end_at, target_at, depth}
+use Rattle.control_words.specs.Stack.{Stack, none, line, sub, depth}
+use Rattle.handler_chain.specs.FlatLines.{level_at, opens_at, end_at, target_at}
 
 module _ (r : Rule) where
   abbrev row : Stack

@@ -1,7 +1,7 @@
 -- The lines of a stack, one by one.
 use Rattle.std.proofs.Common.{◌≡◌, ℕ, zero, suc, ◌+◌, ◌<◌, ◌≤◌, max, List, [], ◌∷◌, ◌++◌, length, get_or, drop, map, refl, ◌∙◌, ap, length-append, arith}
-use Rattle.control_words.specs.Stack.{Stack, none, line, sub, lines_in}
-use Rattle.handler_chain.specs.FlatLines.{FlatLine, flat_lines, pending, depth, at_line, of_first}
+use Rattle.control_words.specs.Stack.{Stack, none, line, sub, lines_in, depth}
+use Rattle.handler_chain.specs.FlatLines.{FlatLine, flat_lines, pending, at_line, of_first}
 
 pub flat_lines-count : (t : Stack) (level opens : ℕ) → length (flat_lines level opens t) ≡ lines_in t
 flat_lines-count none level opens = refl

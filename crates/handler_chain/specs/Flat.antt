@@ -1,8 +1,8 @@
 -- Lines and positions of a chain that stand for the lines of a stack.
 use Rattle.std.specs.Prelude.{◌≡◌, ℕ, ◌+◌, ◌<◌, ◌≤◌, List, [], ◌∷◌, ◌++◌, length, get_or}
-use Rattle.control_words.specs.Stack.{Stack, none, line, sub, count, lines_in}
+use Rattle.control_words.specs.Stack.{Stack, none, line, sub, count, lines_in, depth}
 use Rattle.handler_chain.specs.declared.chain_line.ChainLine.{ChainLine}
-use Rattle.handler_chain.specs.FlatLines.{FlatLine, module_of, flat_lines, lines_in_first, depth}
+use Rattle.handler_chain.specs.FlatLines.{FlatLine, module_of, flat_lines, lines_in_first}
 
 -- from an index on, positions hold the positions between the nodes of a list whose first line has the index `first`
 pub record IsBlock (positions : List ℕ) (start first : ℕ) (stack : Stack) : Type 0 where

@@ -33,12 +33,6 @@ lines_in_first (suc n) none = 0
 lines_in_first (suc n) (line rule rest) = lines_in_first n rest + 1
 lines_in_first (suc n) (sub inner rest) = lines_in inner + lines_in_first n rest
 
--- how deep substacks are nested
-abbrev pub depth : Stack → ℕ
-depth none = 0
-depth (line rule rest) = depth rest
-depth (sub inner rest) = max (depth inner + 1) (depth rest)
-
 -- what is said of the first of several lines, where there is one
 abbrev pub of_first : {A : Type 0} → A → (FlatLine → A) → List FlatLine → A
 of_first other of [] = other

@@ -1,6 +1,6 @@
 ghost use Rattle.std.specs.Prelude.{◌≡◌, ◌≤◌, ◌+◌, ◌∷◌, ◌++◌, ◌<◌, ◌^◌, length, OnOk, IfOk};
-ghost use Rattle.control_words.specs.Stack.{stack_of, lines_in};
-ghost use Rattle.handler_chain.specs.FlatLines.{depth, number_of_name};
+ghost use Rattle.control_words.specs.Stack.{stack_of, lines_in, depth};
+ghost use Rattle.handler_chain.specs.FlatLines.{number_of_name};
 ghost use Rattle.handler_chain.specs.Flat.{positions_behind, AddsList};
 
 use crate::chain_line::ChainLine;

@@ -1,6 +1,6 @@
 ghost use Rattle.std.specs.Prelude.{◌≡◌, ◌<◌, ◌≤◌, ◌^◌, length, IfOk};
-ghost use Rattle.control_words.specs.Stack.{lines_in, stack_of};
-ghost use Rattle.handler_chain.specs.FlatLines.{depth, end_at, level_at, module_at, opens_at, rule_at, target_at};
+ghost use Rattle.control_words.specs.Stack.{lines_in, stack_of, depth};
+ghost use Rattle.handler_chain.specs.FlatLines.{end_at, level_at, module_at, opens_at, rule_at, target_at};
 ghost use Rattle.handler_chain.specs.Chain.{fresh_chain, looked};
 
 use crate::add_list::add_list;

@@ -5,3 +5,7 @@ pub mod Lines
 pub mod Words
 pub mod Number
 pub mod Quote
+pub mod Item
+pub mod Style
+pub mod White
+pub mod Counts

@@ -30,8 +30,7 @@ pub enum Refuse<F> {
     Named(F),
 }
 
-/// What is wrong with a configuration. The numbers are printed; those that are missing here come with
-/// the parts of the configuration that they speak of.
+/// What is wrong with a configuration. The numbers are printed.
 #[derive(Clone, Copy, Debug, PartialEq, Eq)]
 pub enum FaultKind {
     /// The configuration holds what this version doesn't read yet.
@@ -51,6 +50,20 @@ pub enum FaultKind {
     BadAction = 7,
     /// A jump over no node.
     ZeroJump = 8,
+    /// The first field of a rule is no type (`auth account password session`).
+    BadType = 9,
+    /// A rule ends before its next field.
+    MissingField = 10,
+    /// A file that a rule includes isn't there.
+    IncludeAbsent = 11,
+    /// A file would be the seventeenth that is included inside one another.
+    TooDeep = 12,
+    /// A stack would have more than 4,096 lines.
+    TooManyLines = 13,
+    /// More than 256 files would be opened.
+    TooManyFiles = 14,
+    /// Neither the service nor `other` is configured.
+    NoService = 15,
     /// A file of the configuration couldn't be read.
     ReadFailed = 16,
 }
@@ -60,6 +73,14 @@ pub enum FaultKind {
 pub enum ScriptKind {
     /// The line has none of the forms that this version reads.
     NotBuilt = 0,
+    /// A word isn't of its form, or there are too few or too many.
+    BadWord = 1,
+    /// A number isn't of its form.
+    BadNumeral = 2,
+    /// The line has more than 512 bytes.
+    LineTooLong = 3,
+    /// The script has more than 65,536 lines.
+    TooManyLines = 4,
 }
 
 impl From<AllocError> for NoMemory {
@@ -108,6 +129,13 @@ impl FaultKind {
             FaultKind::BadReturnName => "BadReturnName",
             FaultKind::BadAction => "BadAction",
             FaultKind::ZeroJump => "ZeroJump",
+            FaultKind::BadType => "BadType",
+            FaultKind::MissingField => "MissingField",
+            FaultKind::IncludeAbsent => "IncludeAbsent",
+            FaultKind::TooDeep => "TooDeep",
+            FaultKind::TooManyLines => "TooManyLines",
+            FaultKind::TooManyFiles => "TooManyFiles",
+            FaultKind::NoService => "NoService",
             FaultKind::ReadFailed => "ReadFailed",
         }
     }
@@ -127,6 +155,10 @@ impl ScriptKind {
     {
         match self {
             ScriptKind::NotBuilt => "NotBuilt",
+            ScriptKind::BadWord => "BadWord",
+            ScriptKind::BadNumeral => "BadNumeral",
+            ScriptKind::LineTooLong => "LineTooLong",
+            ScriptKind::TooManyLines => "TooManyLines",
         }
     }
 }

@@ -12,18 +12,18 @@ mod number;
 mod quote;
 mod sequence;
 mod style;
-#[cfg(test)]
-mod tests;
+mod white;
 mod words;
 
 pub use bytes::first_place;
 pub use call::{AppCall, Func, Step};
 pub use code::{ALL_CODES, Code, code_name, code_named, code_number, code_of};
 pub use fault::{BadItem, ConvErr, Failed, FaultKind, NoMemory, NoModuleData, Refuse, ScriptKind};
-pub use item::ItemName;
+pub use item::{ALL_ITEMS, ItemName, item_named};
 pub use lines::Lines;
-pub use number::number_in;
+pub use number::{are_digits, number_in};
 pub use quote::quoted;
 pub use sequence::{Numbers, Sequence, Text, Texts};
 pub use style::Style;
+pub use white::is_white;
 pub use words::Words;

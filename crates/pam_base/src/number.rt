@@ -27,7 +27,8 @@ fn is_numeral(word: &[u8]) -> bool
     !word.is_empty() && word.len() <= MAX_DIGITS && are_digits(word)
 }
 
-fn are_digits(word: &[u8]) -> bool
+/// Whether all bytes of the word are decimal digits; those of an empty word are.
+pub fn are_digits(word: &[u8]) -> bool
     ensures { result ≡ list_all is_ascii_digit word.now }
 {
     word.iter().all(|byte| byte.is_ascii_digit())

@@ -1,8 +1,8 @@
 use Rattle.std.proofs.Common.{ℕ, List, rules, arith, ◌≡◌, ◌≤◌, ◌<◌, length, drop, ap, ◌∙◌, sym, refl, drop_of_length-le, length-drop}
-use Rattle.control_words.specs.Stack.{stack_of, lines_in, count}
+use Rattle.control_words.specs.Stack.{stack_of, lines_in, count, depth}
 use Rattle.control_words.specs.declared.nodes.Node.{Line}
 use Rattle.handler_chain.proofs.Listing.{count-stack_of}
-use Rattle.handler_chain.specs.FlatLines.{depth, module_of, number_of_name}
+use Rattle.handler_chain.specs.FlatLines.{module_of, number_of_name}
 use Rattle.control_words.specs.Module.{name_of_module}
 use Rattle.control_words.specs.declared.nodes.Rule.{Rule}
 use Rattle.handler_chain.proofs.Peeling.{peeled_line, peeled_sub}

@@ -1,6 +1,5 @@
 use Rattle.std.proofs.Common.{drop}
-use Rattle.control_words.specs.Stack.{stack_of}
-use Rattle.handler_chain.specs.FlatLines.{depth}
+use Rattle.control_words.specs.Stack.{stack_of, depth}
 use Rattle.handler_chain.proofs.Adding.{IsAdding}
 use Rattle.handler_chain.proofs.add_list.+add_list.Given as goal
 

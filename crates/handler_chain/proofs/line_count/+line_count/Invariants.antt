@@ -1,6 +1,5 @@
 use Rattle.std.proofs.Common.{◌≡◌, ◌≤◌, ◌+◌, drop}
-use Rattle.control_words.specs.Stack.{stack_of, lines_in}
-use Rattle.handler_chain.specs.FlatLines.{depth}
+use Rattle.control_words.specs.Stack.{stack_of, lines_in, depth}
 use Rattle.handler_chain.proofs.line_count.+line_count.Given as goal
 
 abbrev pub decreases-line_count : goal.decreases-line_count
