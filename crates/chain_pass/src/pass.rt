@@ -39,7 +39,8 @@ fn walk<A: Ask>(
 {
     let mut walker = Walker::new();
     while walker.at < chain.len() {
-        let Some(_answer) = take_turn(chain, kind, follows, keeps, given, lines, &mut walker)? else {
+        let Some(_answer) = take_turn(chain, kind, follows, keeps, given, lines, &mut walker)?
+        else {
             return Ok(None);
         };
     }

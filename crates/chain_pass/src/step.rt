@@ -27,16 +27,25 @@ pub fn step_behind(chain: &mut Chain, i: usize, action: Action, new: Opinion) ->
     if let Action::Jump(n) = action {
         return match chain.target(i, n) {
             Some(next) => Step { opinion: new, next },
-            None => Step {
-                opinion: Opinion::overrun(),
-                next: chain.end(i),
-            },
+            None => {
+                let denied = Opinion::overrun();
+                let end = chain.end(i);
+                Step {
+                    opinion: denied,
+                    next: end,
+                }
+            }
         };
     }
-    let next = if new.ends(action) {
-        chain.end(i)
-    } else {
-        i + 1
-    };
-    Step { opinion: new, next }
+    if new.ends(action) {
+        let behind = chain.end(i);
+        return Step {
+            opinion: new,
+            next: behind,
+        };
+    }
+    Step {
+        opinion: new,
+        next: i + 1,
+    }
 }

@@ -28,8 +28,9 @@ pub fn puts_off(answer: Code) -> bool
 pub fn decide(kind: PassKind, kept: &Kept, i: usize, answer: Code) -> Code
     ensures { result ≡ decides kind (by_place kept.now) (i + 1) answer }
 {
+    let kept_answer = kept.at(i).unwrap_or(answer);
     match kind {
-        PassKind::Follow => kept.at(i).unwrap_or(answer),
+        PassKind::Follow => kept_answer,
         PassKind::Keep | PassKind::Loose => answer,
     }
 }

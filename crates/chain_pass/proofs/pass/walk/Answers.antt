@@ -38,8 +38,8 @@ returns-in_default-clause-told g c = λ told.
     (c.in_ok-_answer.ensures.taken ∙ ap (taken_with c.loop-walker.given.taken) c.in_default.is ∙ sofar.progress.taken_is)
     (subst (λ (k : Answers). is_some k ≡ true → Keeps k visits) (sym kept) sofar.progress.kept_is)
     (turn_more c.args.kind serve c.loop-walker.chain.nodes c.args.chain.now.nodes c.loop-walker.walker _ _ c.in_ok-_answer.field-0 None
-        (λ stack o. turned c.args.kind serve stack o c.loop-walker.walker.opinion c.take_turn.new.walker (pass_state c.take_turn.new.given.past (visits_with visits (c.loop-walker.walker.at + 1) o) (g.A.Ask.ask_holds c.take_turn.new.lines)))
-        sofar.nodes (c.in_ok-_answer.ensures.told now visits) c.in_default.is (sofar.goes told))
+    (λ stack o. turned c.args.kind serve stack o c.loop-walker.walker.opinion c.take_turn.new.walker (pass_state c.take_turn.new.given.past (visits_with visits (c.loop-walker.walker.at + 1) o) (g.A.Ask.ask_holds c.take_turn.new.lines)))
+    sofar.nodes (c.in_ok-_answer.ensures.told now visits) c.in_default.is (sofar.goes told))
 
 pub loop-walker-preserved : goal.loop-walker-preserved
 loop-walker-preserved g c =
@@ -52,8 +52,7 @@ loop-walker-preserved g c =
     let held : is_some c.take_turn.new.keeps ≡ is_some c.loop-walker.keeps = ap is_some kept ∙ held-more c.loop-walker.keeps at answer in
     let taken : c.take_turn.new.given.taken ≡ c.loop-walker.given.taken ++ answer ∷ [] = c.in_ok-_answer.ensures.taken ∙ ap (taken_with c.loop-walker.given.taken) c.in-Some.is in
     let ahead : at < c.take_turn.new.walker.at = subst (λ (o : Option Code). IsAhead o c.loop-walker.walker c.take_turn.new.walker) c.in-Some.is c.in_ok-_answer.ensures.ahead in
-    let within : at < lines_in c.loop-walker.chain.nodes = omega (arith, c.loop-walker-test.true, c.len.ensures.counted) in
-    (
+    let within : at < lines_in c.loop-walker.chain.nodes = omega (arith, c.loop-walker-test.true, c.len.ensures.counted) in (
       visits ++ visit (at + 1) answer ∷ [],
       record {
         goes = λ told.

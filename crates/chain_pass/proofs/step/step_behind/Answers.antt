@@ -12,20 +12,20 @@ returns-in-Some-clause-ahead c =
 
 pub returns-in-None-clause-leads : goal.returns-in-None-clause-leads
 returns-in-None-clause-leads c = λ s stands.
-    let end : c.end.result ≡ end_at c.args.chain.now.nodes c.args.i = c.end.ensures.value ∙ ap (λ seen. end_at seen.nodes c.args.i) c.target.ensures.looked in
-    jumped_far c.args.chain.now.nodes _ _ _ _ c.args.new _ s c.in-Jump.is c.in-None.ensures.value c.overrun.ensures end stands
+    let end : c.end-end.result ≡ end_at c.args.chain.now.nodes c.args.i = c.end-end.ensures.value ∙ ap (λ seen. end_at seen.nodes c.args.i) c.target.ensures.looked in
+    jumped_far c.args.chain.now.nodes _ _ _ _ c.args.new _ s c.in-Jump.is c.in-None.ensures.value c.overrun-denied.ensures end stands
 
 pub returns-in-None-clause-ahead : goal.returns-in-None-clause-ahead
 returns-in-None-clause-ahead c =
-    let end : c.end.result ≡ end_at c.args.chain.now.nodes c.args.i = c.end.ensures.value ∙ ap (λ seen. end_at seen.nodes c.args.i) c.target.ensures.looked in
+    let end : c.end-end.result ≡ end_at c.args.chain.now.nodes c.args.i = c.end-end.ensures.value ∙ ap (λ seen. end_at seen.nodes c.args.i) c.target.ensures.looked in
     goes_ahead c.args.chain.now.nodes _ _ _ c.args.new _ c.requires.within
-    (λ s stands. jumped_far c.args.chain.now.nodes _ _ _ _ c.args.new _ s c.in-Jump.is c.in-None.ensures.value c.overrun.ensures end stands)
+    (λ s stands. jumped_far c.args.chain.now.nodes _ _ _ _ c.args.new _ s c.in-Jump.is c.in-None.ensures.value c.overrun-denied.ensures end stands)
 
 pub returns-then-ends-clause-leads : goal.returns-then-ends-clause-leads
 returns-then-ends-clause-leads c = λ s stands.
-    ended_at c.args.chain.now.nodes _ _ _ _ s (sym c.if-ends.ensures) c.end-next.ensures.value stands
+    ended_at c.args.chain.now.nodes _ _ _ _ s (sym c.if-ends.ensures) c.end-behind.ensures.value stands
 
 pub returns-then-ends-clause-ahead : goal.returns-then-ends-clause-ahead
 returns-then-ends-clause-ahead c =
     goes_ahead c.args.chain.now.nodes c.args.action _ _ c.args.new _ c.requires.within
-    (λ s stands. ended_at c.args.chain.now.nodes _ _ _ _ s (sym c.if-ends.ensures) c.end-next.ensures.value stands)
+    (λ s stands. ended_at c.args.chain.now.nodes _ _ _ _ s (sym c.if-ends.ensures) c.end-behind.ensures.value stands)

@@ -8,5 +8,5 @@ use Rattle.chain_pass.proofs.turn.decide.Goals as goal
 
 pub returns-in-Follow : goal.returns-in-Follow
 returns-in-Follow c =
-    c.unwrap_or.ensures ∙ ap (λ (o : Option Code). unwrap_or o c.args.answer) (c.at.ensures ∙ sym (by_place-next c.args.kept.now c.args.i))
+    c.unwrap_or-kept_answer.ensures ∙ ap (λ (o : Option Code). unwrap_or o c.args.answer) (c.at.ensures ∙ sym (by_place-next c.args.kept.now c.args.i))
     ∙ sym (ap (λ (k : PassKind). decides k (by_place c.args.kept.now) (c.args.i + 1) c.args.answer) c.in-Follow.is)

@@ -19,5 +19,5 @@ returns-clause-told g c = λ told visits.
     (pass_state c.args.given.now.past visits (g.A.Ask.ask_holds c.args.lines.now)) c.next_answer.new.given.past visits (g.A.Ask.ask_holds c.next_answer.new.lines)
     c.in_ok-answer.field-0 c.in-Some.answer _ _ c.requires.within (c.in_ok-answer.ensures.told told c.args.kind (by_place c.args.follows.now) visits) c.in-Some.is
     (λ l stands.
-        subst (λ (k : Code). GoesOn c.args.kind l c.in-Some.answer k c.args.walker.now c.go_on.new.self)
-        (c.decide-deciding.ensures ∙ ap (λ (o : Option Code). decides c.args.kind (by_place c.args.follows.now) (c.args.walker.now.at + 1) (answer_in o)) (sym c.in-Some.is)) (c.go_on.ensures.goes l stands))
+    subst (λ (k : Code). GoesOn c.args.kind l c.in-Some.answer k c.args.walker.now c.go_on.new.self)
+    (c.decide-deciding.ensures ∙ ap (λ (o : Option Code). decides c.args.kind (by_place c.args.follows.now) (c.args.walker.now.at + 1) (answer_in o)) (sym c.in-Some.is)) (c.go_on.ensures.goes l stands))
