@@ -18,7 +18,7 @@ pub enum Action {
 
 /// A control: one action for each of the 32 codes. Contracts see the list of the actions, in the order of
 /// the codes' numbers.
-#[derive(Debug, Drop)]
+#[derive(Clone, Copy, Debug)]
 pub struct Control {
     actions: [Action; 32],
 }
@@ -30,6 +30,8 @@ impl Model for Control {
     ghost Value = { List Action };
 
     ghost view = { λ c. c.actions };
+
+    ghost inverse = { λ actions. record { actions = actions } };
 }
 
 impl Control {

@@ -1,0 +1,4 @@
+pub mod EntryStates
+pub mod Index
+pub mod Given
+pub mod Passes

@@ -1,0 +1,4 @@
+pub mod FlatLines
+pub mod Flat
+pub mod Coding
+pub mod Chain

@@ -1,0 +1,111 @@
+ghost use Rattle.std.specs.Prelude.{◌≡◌, ◌≤◌, ◌+◌, ◌∷◌, ◌++◌, ◌<◌, ◌^◌, length, OnOk, IfOk};
+ghost use Rattle.control_words.specs.Stack.{stack_of, lines_in, depth};
+ghost use Rattle.handler_chain.specs.FlatLines.{number_of_name};
+ghost use Rattle.handler_chain.specs.Flat.{positions_behind, AddsList};
+
+use crate::chain_line::ChainLine;
+use crate::line_count::line_count;
+use control_words::{Node, Nodes, Rule, module_name};
+use pam_base::{NoMemory, Text, Texts};
+use std::alloc::Global;
+
+fn copy_of_texts(alloc: Global, texts: &Texts) -> Result<Texts, NoMemory>
+    ensures { IfOk result (λ copy. copy ≡ texts.now) }
+{
+    let mut copy = Texts::new(alloc);
+    for text in texts.items() {
+        copy.push(Text::from_bytes(alloc, text.bytes())?)?;
+    }
+    Ok(copy)
+}
+
+fn copy_of(alloc: Global, rule: &Rule) -> Result<Rule, NoMemory>
+    ensures { IfOk result (λ copy. copy ≡ rule.now) }
+{
+    Ok(Rule {
+        silent: rule.silent,
+        control: rule.control,
+        path: Text::from_bytes(alloc, rule.path.bytes())?,
+        args: copy_of_texts(alloc, &rule.args)?,
+    })
+}
+
+// The number of the first of several names that is this one.
+fn number_of(names: &Texts, wanted: &[u8]) -> Option<u32>
+    requires { length names.now < 2 ^ 32 }
+    ensures { result ≡ number_of_name wanted.now 0 names.now }
+{
+    for (i, name) in names.items().iter().enumerate() {
+        if name.bytes() == wanted {
+            return Some(i as u32);
+        }
+    }
+    None
+}
+
+// Adds the positions between the nodes of a list, whose first line has the index `first`.
+fn add_positions(positions: &mut Vec<usize>, nodes: &Nodes, first: usize) -> Result<(), NoMemory>
+    requires few { first + lines_in (stack_of nodes.now.vec.items) ≤ 4096 }
+    ensures { OnOk result (positions.new.items ≡ positions.old.items ++ first ∷ positions_behind first (stack_of nodes.now.vec.items)) }
+{
+    positions.push(first)?;
+    let mut position = first;
+    for node in &nodes.vec {
+        position += match node {
+            Node::Line(_) => 1,
+            Node::Sub(inner) => line_count(inner),
+        };
+        positions.push(position)?;
+    }
+    Ok(())
+}
+
+/// Adds the lines of a list at a level, before whose first line so many substacks were opened since the last line.
+pub fn add_list(
+    alloc: Global,
+    nodes: &Nodes,
+    names: &Texts,
+    level: u32,
+    opens: u32,
+    lines: &mut Vec<ChainLine>,
+    positions: &mut Vec<usize>,
+) -> Result<(), NoMemory>
+    requires few { length lines.old.items + lines_in (stack_of nodes.now.vec.items) ≤ 4096 }
+    requires numbered { length names.now < 2 ^ 32 }
+    requires shallow { level + depth (stack_of nodes.now.vec.items) ≤ 16 }
+    requires opens { opens ≤ level }
+    ensures added { OnOk result (AddsList names.now level opens (stack_of nodes.now.vec.items) lines.old.items lines.new.items positions.old.items positions.new.items) }
+    ensures counted { OnOk result (length lines.new.items ≡ length lines.old.items + lines_in (stack_of nodes.now.vec.items)) }
+{
+    let mut behind = positions.len();
+    add_positions(positions, nodes, lines.len())?;
+    let mut opens = opens;
+    let mut left = nodes.vec.len();
+    for node in &nodes.vec {
+        behind += 1;
+        left -= 1;
+        match node {
+            Node::Line(rule) => {
+                let module_number = number_of(names, module_name(rule.path.bytes()));
+                let rule = copy_of(alloc, rule)?;
+                lines.push(ChainLine {
+                    rule,
+                    module_number,
+                    level,
+                    opens,
+                    left,
+                    behind,
+                })?;
+                opens = 0;
+            }
+            Node::Sub(inner) => {
+                let before = lines.len();
+                add_list(alloc, inner, names, level + 1, opens + 1, lines, positions)?;
+                if lines.len() > before {
+                    opens = 0;
+                }
+            }
+        }
+    }
+    Ok(())
+}

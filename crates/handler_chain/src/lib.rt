@@ -1,0 +1,10 @@
+//! A stack laid flat: its lines in written order, each with where the walk goes on behind it
+//! (`pam.conf(5)`: jumps, substacks, and the end of a list). Contracts see the nested list that it was made from.
+#![tactic(auto)]
+
+mod add_list;
+mod chain;
+mod chain_line;
+mod line_count;
+
+pub use chain::{Chain, flatten};

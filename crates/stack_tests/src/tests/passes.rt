@@ -1,0 +1,268 @@
+ghost use Rattle.std.specs.Prelude.{◌≡◌, ◌≤◌, ◌+◌, IfOk};
+ghost use Rattle.control_words.specs.Stack.{lines_in, depth, stack_of};
+
+use crate::tests::build::{Around, add_line, add_sub, chain_of, rule};
+use crate::tests::script::Script;
+use chain_pass::{Paused, run_pass};
+use control_words::Nodes;
+use frozen_chain::Kept;
+use handler_chain::flatten;
+use pam_base::{Code, Numbers, Texts};
+use stack_walk::PassKind;
+use std::alloc::Global;
+use std::test::Fail;
+
+const NONE: &[&[u8]] = &[];
+
+const FAILED: Code = Code::AuthErr;
+
+const GOOD: Code = Code::Success;
+
+// A stack, the answers of its lines by their places, the code of a pass that keeps, and the places that it visits.
+#[derive(Clone, Copy)]
+struct Row {
+    stack: Around,
+    answers: &'static [Code],
+    code: Code,
+    places: &'static [u64],
+}
+
+fn script(alloc: Global, answers: &'static [Code]) -> Script {
+    Script {
+        answers,
+        later: None,
+        asked: Numbers::new(alloc),
+    }
+}
+
+#[test]
+fn a_pass_visits_the_lines_of_its_way(rt: HostRuntime) -> Result<(), Fail> {
+    let alloc = rt.alloc();
+    let rows = [
+        // the first failure stands
+        Row {
+            stack: Around {
+                before: &[b"required", b"sufficient", b"required"],
+                inner: NONE,
+                behind: NONE,
+            },
+            answers: &[FAILED, GOOD, Code::MaxTries],
+            code: FAILED,
+            places: &[1, 2, 3],
+        },
+        // a substack is one node for a jump
+        Row {
+            stack: Around {
+                before: &[b"success=1 default=ignore"],
+                inner: &[b"required", b"required", b"required"],
+                behind: &[b"required"],
+            },
+            answers: &[GOOD, FAILED, FAILED, FAILED, GOOD],
+            code: GOOD,
+            places: &[1, 5],
+        },
+        // a jump past the end denies
+        Row {
+            stack: Around {
+                before: &[b"required", b"success=2 default=ignore"],
+                inner: &[b"required"],
+                behind: NONE,
+            },
+            answers: &[FAILED, GOOD, GOOD],
+            code: Code::PermDenied,
+            places: &[1, 2],
+        },
+        // die in a substack ends only the substack
+        Row {
+            stack: Around {
+                before: NONE,
+                inner: &[b"requisite", b"required"],
+                behind: &[b"required"],
+            },
+            answers: &[FAILED, GOOD, GOOD],
+            code: FAILED,
+            places: &[1, 3],
+        },
+        // a reset goes back to the opinion at the substack's entry
+        Row {
+            stack: Around {
+                before: &[b"required"],
+                inner: &[b"required", b"default=reset"],
+                behind: &[b"optional"],
+            },
+            answers: &[GOOD, FAILED, GOOD, FAILED],
+            code: GOOD,
+            places: &[1, 2, 3, 4],
+        },
+        // no line, no grant
+        Row {
+            stack: Around {
+                before: NONE,
+                inner: NONE,
+                behind: NONE,
+            },
+            answers: &[],
+            code: Code::PermDenied,
+            places: &[],
+        },
+    ];
+    for row in rows {
+        let mut chain = chain_of(alloc, &row.stack)?;
+        let mut lines = script(alloc, row.answers);
+        let mut kept = Kept::none();
+        let mut paused = Paused::none();
+        let code = run_pass(
+            alloc,
+            &mut chain,
+            PassKind::Keep,
+            &mut kept,
+            &mut paused,
+            &mut lines,
+        )?;
+        assert_eq!(rt; code, row.code, "at {:?}", row.places);
+        assert_eq!(rt; lines.asked.items(), row.places);
+        assert!(rt; kept.held() && paused.is_none());
+    }
+    Ok(())
+}
+
+// Controls, the answers that a pass keeps and those of the pass that follows it, its code and its places.
+#[derive(Clone, Copy)]
+struct Followed {
+    controls: &'static [&'static [u8]],
+    first: &'static [Code],
+    later: &'static [Code],
+    code: Code,
+    places: &'static [u64],
+}
+
+#[test]
+fn a_pass_that_follows_takes_the_way_of_the_one_that_kept(rt: HostRuntime) -> Result<(), Fail> {
+    let alloc = rt.alloc();
+    let rows = [
+        Followed {
+            controls: &[b"sufficient", b"required"],
+            first: &[GOOD, GOOD],
+            later: &[Code::CredErr, GOOD],
+            code: Code::CredErr,
+            places: &[1],
+        },
+        Followed {
+            controls: &[b"sufficient", b"required"],
+            first: &[GOOD, GOOD],
+            later: &[Code::Ignore, GOOD],
+            code: Code::PermDenied,
+            places: &[1],
+        },
+        Followed {
+            controls: &[b"success=1 default=ignore", b"required", b"required"],
+            first: &[GOOD, GOOD, GOOD],
+            later: &[Code::CredErr, GOOD, GOOD],
+            code: Code::CredErr,
+            places: &[1, 3],
+        },
+        Followed {
+            controls: &[b"optional"],
+            first: &[GOOD],
+            later: &[Code::SessionErr],
+            code: Code::SessionErr,
+            places: &[1],
+        },
+    ];
+    for row in rows {
+        let stack = Around {
+            before: row.controls,
+            inner: NONE,
+            behind: NONE,
+        };
+        let mut chain = chain_of(alloc, &stack)?;
+        let mut kept = Kept::none();
+        let mut paused = Paused::none();
+        let mut first = script(alloc, row.first);
+        let keep = PassKind::Keep;
+        run_pass(alloc, &mut chain, keep, &mut kept, &mut paused, &mut first)?;
+        let mut later = script(alloc, row.later);
+        let follow = PassKind::Follow;
+        let code = run_pass(alloc, &mut chain, follow, &mut kept, &mut paused, &mut later)?;
+        assert_eq!(rt; code, row.code, "at {:?}", row.later);
+        assert_eq!(rt; later.asked.items(), row.places);
+        assert!(rt; kept.held());
+    }
+    Ok(())
+}
+
+#[test]
+fn a_loose_pass_decides_by_its_own_answers_and_leaves_none(rt: HostRuntime) -> Result<(), Fail> {
+    let alloc = rt.alloc();
+    let stack = Around {
+        before: &[b"optional"],
+        inner: NONE,
+        behind: NONE,
+    };
+    let mut chain = chain_of(alloc, &stack)?;
+    let mut kept = Kept::none();
+    kept.open(alloc, 1)?;
+    let mut paused = Paused::none();
+    let mut lines = script(alloc, &[Code::SessionErr]);
+    let loose = PassKind::Loose;
+    let code = run_pass(alloc, &mut chain, loose, &mut kept, &mut paused, &mut lines)?;
+    assert_eq!(rt; code, Code::PermDenied);
+    assert!(rt; !kept.held());
+    Ok(())
+}
+
+#[test]
+fn a_pass_that_was_put_off_goes_on_at_its_line(rt: HostRuntime) -> Result<(), Fail> {
+    let alloc = rt.alloc();
+    let stack = Around {
+        before: &[b"required"],
+        inner: &[b"required", b"required", b"default=reset"],
+        behind: NONE,
+    };
+    let mut chain = chain_of(alloc, &stack)?;
+    let mut kept = Kept::none();
+    let mut paused = Paused::none();
+    let mut lines = script(alloc, &[GOOD, FAILED, GOOD, GOOD]);
+    lines.later = Some(3);
+    let keep = PassKind::Keep;
+    let code = run_pass(alloc, &mut chain, keep, &mut kept, &mut paused, &mut lines)?;
+    assert_eq!(rt; code, Code::Incomplete);
+    assert!(rt; !paused.is_none());
+    let code = run_pass(alloc, &mut chain, keep, &mut kept, &mut paused, &mut lines)?;
+    assert_eq!(rt; code, GOOD);
+    assert!(rt; paused.is_none());
+    assert_eq!(rt; lines.asked.items(), [1u64, 2, 3, 3, 4].as_slice());
+    assert_eq!(rt; kept.at(1), Some(FAILED));
+    Ok(())
+}
+
+// A line that denies and ends, and so many substacks of one line.
+fn denied(alloc: Global, substacks: usize) -> Result<Nodes, Fail>
+    requires { substacks ≤ 1000 }
+    ensures lines { IfOk result (λ nodes. lines_in (stack_of nodes.vec.items) ≡ substacks + 1) }
+    ensures depth { IfOk result (λ nodes. depth (stack_of nodes.vec.items) ≤ 1) }
+{
+    let mut nodes = Nodes::new(alloc);
+    add_line(&mut nodes, rule(alloc, b"requisite", b"pam_deny.so")?)?;
+    for _ in 0..substacks {
+        let mut inner = Nodes::new(alloc);
+        add_line(&mut inner, rule(alloc, b"required", b"pam_permit.so")?)?;
+        add_sub(&mut nodes, inner)?;
+    }
+    Ok(nodes)
+}
+
+#[test]
+fn a_walk_that_ends_early_looks_at_little(rt: HostRuntime) -> Result<(), Fail> {
+    let alloc = rt.alloc();
+    let mut chain = flatten(alloc, &denied(alloc, 1000)?, &Texts::new(alloc))?;
+    let mut kept = Kept::none();
+    let mut paused = Paused::none();
+    let mut lines = script(alloc, &[FAILED]);
+    let keep = PassKind::Keep;
+    let code = run_pass(alloc, &mut chain, keep, &mut kept, &mut paused, &mut lines)?;
+    assert_eq!(rt; code, FAILED);
+    assert_eq!(rt; lines.asked.items(), [1u64].as_slice());
+    assert!(rt; chain.looks() <= 4);
+    Ok(())
+}

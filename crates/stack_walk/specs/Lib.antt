@@ -1,0 +1,5 @@
+pub mod Opinion
+pub mod Walk
+pub mod Route
+pub mod Pass
+pub mod PathLaw
