@@ -1,5 +1,5 @@
 -- Counts of calls and of faults (this project's own). Both are kept in 64 bits, and stand still at their end.
-use Rattle.std.specs.Prelude.{ℕ, ◌+◌, ◌-◌, ◌≤◌, ◌^◌, min, Bool, List, nat_lt, nat_eq, ◌&&◌}
+use Rattle.std.specs.Prelude.{ℕ, ◌+◌, ◌-◌, ◌≤◌, ◌^◌, ◌==◌, if◌then◌else◌, min, Bool, List, nat_lt, nat_eq, ◌&&◌}
 use Rattle.std.specs.List.{list_any}
 
 -- a count after one more
@@ -14,3 +14,7 @@ Rose before now = next_count before ≤ now
 -- where the count stands still, no further call is
 abbrev pub fails_next : ℕ → List ℕ → Bool
 fails_next calls fails = nat_lt calls (2 ^ 64 - 1) && list_any (λ n. nat_eq n (calls + 1)) fails
+
+-- a count of reads at the end, after one read more with so many bytes left
+abbrev pub next_at_end : ℕ → ℕ → ℕ
+next_at_end count left = if left == 0 then next_count count else count

@@ -1,9 +1,12 @@
 -- What a vault may tell, and what its calls answer (this project's own).
-use Rattle.std.specs.Prelude.{◌≡◌, ℕ, ◌≤◌, ◌<◌, Bool, true, false, if◌then◌else◌, Option, Some, None, List, [], ◌∷◌, length, Result, Ok, Err, IsSomeAnd}
+use Rattle.std.specs.Prelude.{◌≡◌, ℕ, ◌≤◌, ◌<◌, Bool, true, false, if◌then◌else◌, Option, Some, None, List, [], ◌∷◌, ◌++◌, length, codes, nat_eq, Result, Ok, Err, IsSomeAnd}
+use Rattle.std.specs.List.{list_any, starts_with}
 use Rattle.std.specs.Str.{bytes_eq}
 use Rattle.pam_outside.specs.Counts.{next_count, fails_next}
 use Rattle.pam_outside.specs.declared.vault.VaultFault.{VaultFault}
-use Rattle.pam_outside.specs.declared.vault.VaultFault.TheVariants.{NoMemory, Absent, TooLong, Failed}
+use Rattle.pam_outside.specs.declared.vault.VaultFault.TheVariants as read_faults
+use Rattle.pam_outside.specs.declared.vault.ReplaceFault.{ReplaceFault}
+use Rattle.pam_outside.specs.declared.vault.ReplaceFault.TheVariants as replace_faults
 
 pub record File : Type 0 where
   pub path : List ℕ
@@ -33,10 +36,31 @@ abbrev pub file_put : List ℕ → List ℕ → List File → List File
 file_put path bytes [] = record { path = path; bytes = bytes } ∷ []
 file_put path bytes (f ∷ fs) = if bytes_eq f.path path then record { path = path; bytes = bytes } ∷ fs else f ∷ file_put path bytes fs
 
--- what a read of a file may answer; want of memory is always free
+-- whether a path begins with this one and a slash
+abbrev pub is_below : List ℕ → List ℕ → Bool
+is_below folder path = starts_with nat_eq path (folder ++ codes "/")
+
+-- whether a file lies below this path
+abbrev pub is_folder : List ℕ → List File → Bool
+is_folder path files = list_any (λ f. is_below path f.path) files
+
+-- what a read of a file may answer: a call that is to fail answers Failed and nothing else, and want of memory is
+-- free at every other
 abbrev pub ReadsFile : Result (List ℕ) VaultFault → List ℕ → ℕ → VaultState → Type 0
 ReadsFile (Ok bytes) path limit s = (is_failing s ≡ false) × (file_at path s.files ≡ Some bytes) × (length bytes ≤ limit)
-ReadsFile (Err Absent) path limit s = (is_failing s ≡ false) × (file_at path s.files ≡ None)
-ReadsFile (Err TooLong) path limit s = (is_failing s ≡ false) × IsSomeAnd (file_at path s.files) (λ bytes. limit < length bytes)
-ReadsFile (Err Failed) path limit s = is_failing s ≡ true
-ReadsFile (Err NoMemory) path limit s = Unit {0}
+ReadsFile (Err read_faults.Absent) path limit s = (is_failing s ≡ false) × (file_at path s.files ≡ None)
+ReadsFile (Err read_faults.TooLong) path limit s = (is_failing s ≡ false) × IsSomeAnd (file_at path s.files) (λ bytes. limit < length bytes)
+ReadsFile (Err read_faults.Failed) path limit s = is_failing s ≡ true
+ReadsFile (Err read_faults.NoMemory) path limit s = is_failing s ≡ false
+
+-- what the question whether a path is a folder may answer
+abbrev pub TellsFolder : Result Bool ReplaceFault → List ℕ → VaultState → Type 0
+TellsFolder (Ok found) path s = (is_failing s ≡ false) × (found ≡ is_folder path s.files)
+TellsFolder (Err replace_faults.Failed) path s = is_failing s ≡ true
+TellsFolder (Err replace_faults.NoMemory) path s = is_failing s ≡ false
+
+-- what setting a file whole may answer, and what is told after it: where it is refused, the files are as before
+abbrev pub Replaces : {T : Type 0} → Result T ReplaceFault → List ℕ → List ℕ → VaultState → VaultState → Type 0
+Replaces (Ok done) path bytes old new = (is_failing old ≡ false) × (new ≡ counted (record old { files = file_put path bytes old.files }))
+Replaces (Err replace_faults.Failed) path bytes old new = (is_failing old ≡ true) × (new ≡ counted old)
+Replaces (Err replace_faults.NoMemory) path bytes old new = (is_failing old ≡ false) × (new ≡ counted old)

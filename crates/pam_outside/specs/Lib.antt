@@ -2,4 +2,5 @@ pub mod Counts
 pub mod Streams
 pub mod Files
 pub mod Memory
+pub mod Time
 pub mod Adapter

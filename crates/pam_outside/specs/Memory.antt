@@ -2,10 +2,12 @@
 use Rattle.std.specs.Prelude.{ℕ, List}
 use Rattle.pam_outside.specs.Files.{File}
 
--- a source: the bytes that are left, the calls and the faults so far, and the numbers of the calls that are to fail
+-- a source: the bytes that are left, the reads so far and those of them at the end, the faults, and the numbers of
+-- the calls that are to fail
 pub record SourceMemory : Type 0 where
   pub left : List ℕ
   pub calls : ℕ
+  pub reads_at_end : ℕ
   pub faults : ℕ
   pub fails : List ℕ
 

@@ -1,12 +1,13 @@
 -- What a source and a sink may tell, and what a call does to it (this project's own).
 use Rattle.std.specs.Prelude.{◌≡◌, ℕ, ◌+◌, ◌≤◌, List, [], ◌++◌, length, take, Result, Ok, IfOk, OnOk, OnErr}
 use Rattle.pam_base.specs.declared.fault.Failed.{Failed}
-use Rattle.pam_outside.specs.Counts.{next_count}
+use Rattle.pam_outside.specs.Counts.{next_count, next_at_end}
 
--- a source: the bytes that are left, and how often it was read
+-- a source: the bytes that are left, how often it was read, and how often of these where none was left
 pub record SourceState : Type 0 where
   pub left : List ℕ
   pub calls : ℕ
+  pub reads_at_end : ℕ
 
 -- a sink: the bytes that were written, and how often it was called
 pub record SinkState : Type 0 where
@@ -16,6 +17,7 @@ pub record SinkState : Type 0 where
 -- the next bytes are taken, none only at the end, and none where it fails
 pub record Reads (result : Result ℕ Failed) (into : List ℕ) (old new : SourceState) : Type 0 where
   pub calls : new.calls ≡ next_count old.calls
+  pub at_end : new.reads_at_end ≡ next_at_end old.reads_at_end (length old.left)
   pub taken : IfOk result (λ n. old.left ≡ take n into ++ new.left)
   pub end : result ≡ Ok 0 → new.left ≡ []
   pub none : OnErr result (new.left ≡ old.left)

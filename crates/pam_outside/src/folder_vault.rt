@@ -1,19 +1,22 @@
-ghost use Rattle.std.specs.Prelude.{IsTrue, ◌≡◌, ◌≢◌, ◌≤◌, ◌<◌, ◌↔◌, ◌+◌, [], false, length, take, IfOk, IfSome, Ok, Err, vec_len, Option, List, ℕ};
+ghost use Rattle.std.specs.Prelude.{IsTrue, ◌≡◌, ◌≢◌, ◌≤◌, ◌↔◌, [], Some, false, length, IfOk, OnOk, Err, List, ℕ};
 ghost use Rattle.std.specs.Str.{IsUtf8};
-ghost use Rattle.std.specs.Io.KnownBytes.{Consumes, IsAtEnd};
 ghost use Rattle.pam_outside.specs.Counts.{Rose, next_count};
-ghost use Rattle.pam_outside.specs.Files.{ReadsFile, counted};
+ghost use Rattle.pam_outside.specs.Files.{ReadsFile, TellsFolder, Replaces, counted, file_at};
 
-use crate::vault::{Vault, VaultFault};
+use crate::beside::replace_beside;
+use crate::limited::read_to_limit;
+use crate::reader_source::ReaderSource;
+use crate::vault::{ReplaceFault, Vault, VaultFault};
 use pam_base::Text;
 use std::alloc::Global;
 use std::fs;
-use std::io::{ErrorKind, Read};
+use std::io::ErrorKind;
 use std::marker::Model;
 use std::rt::Files;
 
 /// The files of a runtime, as `main` is given one, by their paths; a relative path begins at the working folder.
-/// It tells nothing but its faults.
+/// It tells nothing but its faults: each Failed counts one, and nothing else does. A path that isn't UTF-8 is
+/// Failed.
 #[derive(Drop)]
 pub struct FolderVault<R: Files + Drop> {
     rt: R,
@@ -46,8 +49,7 @@ impl<R: Files + Drop> Vault for FolderVault<R> {
     ghost vault_faults = { λ v. v.faults };
 
     /// Absent comes where opening answers that there is no such file, or no folder on the way to it, and nowhere
-    /// else. A path that isn't UTF-8 or that the system refuses, a folder, and any other error are Failed. Each
-    /// Failed counts one fault, and nothing else counts one.
+    /// else. A path that the system refuses, a folder, and any other error are Failed.
     fn read(&mut self, alloc: Global, path: &[u8], limit: u32) -> Result<Text, VaultFault>
         ensures bound { IfOk result (λ text. length text ≤ limit) }
         ensures tells { ⟦<FolderVault<R> as Vault>⟧.vault_tells self.new ≡ ⟦<FolderVault<R> as Vault>⟧.vault_tells self.old }
@@ -55,12 +57,54 @@ impl<R: Files + Drop> Vault for FolderVault<R> {
         ensures counts { IsTrue (⟦<FolderVault<R> as Vault>⟧.vault_tells self.old) → ⟦<FolderVault<R> as Vault>⟧.vault_holds self.new ≡ counted (⟦<FolderVault<R> as Vault>⟧.vault_holds self.old) }
         ensures faults { ⟦<FolderVault<R> as Vault>⟧.vault_faults self.old ≤ ⟦<FolderVault<R> as Vault>⟧.vault_faults self.new }
         ensures failed { result ≡ Err VaultFault.Failed → Rose (⟦<FolderVault<R> as Vault>⟧.vault_faults self.old) (⟦<FolderVault<R> as Vault>⟧.vault_faults self.new) }
+        ensures no_fault { result ≢ Err VaultFault.Failed → ⟦<FolderVault<R> as Vault>⟧.vault_faults self.new ≡ ⟦<FolderVault<R> as Vault>⟧.vault_faults self.old }
         ensures fault { result ≡ Err VaultFault.Failed → self.new ≡ record self.old { faults = next_count self.old.faults } }
         ensures stays { result ≢ Err VaultFault.Failed → self.new ≡ self.old }
         ensures not_text { ¬ (IsUtf8 path.now) → result ≡ Err VaultFault.Failed }
     {
         let result = file_bytes(&self.rt, alloc, path, limit);
         if let Err(VaultFault::Failed) = result {
+            self.faults = self.faults.saturating_add(1);
+        }
+        result
+    }
+
+    /// Whether the path is a folder, be it empty or not: no, where there is a file or nothing. Any other error of
+    /// the system is Failed. It takes no memory.
+    fn folder(&mut self, _alloc: Global, path: &[u8]) -> Result<bool, ReplaceFault>
+        ensures tells { ⟦<FolderVault<R> as Vault>⟧.vault_tells self.new ≡ ⟦<FolderVault<R> as Vault>⟧.vault_tells self.old }
+        ensures told { IsTrue (⟦<FolderVault<R> as Vault>⟧.vault_tells self.old) → TellsFolder result path.now (⟦<FolderVault<R> as Vault>⟧.vault_holds self.old) }
+        ensures counts { IsTrue (⟦<FolderVault<R> as Vault>⟧.vault_tells self.old) → ⟦<FolderVault<R> as Vault>⟧.vault_holds self.new ≡ counted (⟦<FolderVault<R> as Vault>⟧.vault_holds self.old) }
+        ensures faults { ⟦<FolderVault<R> as Vault>⟧.vault_faults self.old ≤ ⟦<FolderVault<R> as Vault>⟧.vault_faults self.new }
+        ensures failed { result ≡ Err ReplaceFault.Failed → Rose (⟦<FolderVault<R> as Vault>⟧.vault_faults self.old) (⟦<FolderVault<R> as Vault>⟧.vault_faults self.new) }
+        ensures no_fault { result ≢ Err ReplaceFault.Failed → ⟦<FolderVault<R> as Vault>⟧.vault_faults self.new ≡ ⟦<FolderVault<R> as Vault>⟧.vault_faults self.old }
+        ensures fault { result ≡ Err ReplaceFault.Failed → self.new ≡ record self.old { faults = next_count self.old.faults } }
+        ensures stays { result ≢ Err ReplaceFault.Failed → self.new ≡ self.old }
+        ensures not_text { ¬ (IsUtf8 path.now) → result ≡ Err ReplaceFault.Failed }
+    {
+        let result = is_folder(&self.rt, path);
+        if let Err(ReplaceFault::Failed) = result {
+            self.faults = self.faults.saturating_add(1);
+        }
+        result
+    }
+
+    /// Writes a file beside, under the same name with `.new` behind it, and renames it to the path. What stood
+    /// there beside goes. It makes no folders.
+    fn replace(&mut self, alloc: Global, path: &[u8], bytes: &[u8]) -> Result<(), ReplaceFault>
+        ensures tells { ⟦<FolderVault<R> as Vault>⟧.vault_tells self.new ≡ ⟦<FolderVault<R> as Vault>⟧.vault_tells self.old }
+        ensures told { IsTrue (⟦<FolderVault<R> as Vault>⟧.vault_tells self.old) → Replaces result path.now bytes.now (⟦<FolderVault<R> as Vault>⟧.vault_holds self.old) (⟦<FolderVault<R> as Vault>⟧.vault_holds self.new) }
+        ensures found { IsTrue (⟦<FolderVault<R> as Vault>⟧.vault_tells self.old) → OnOk result (file_at path.now (⟦<FolderVault<R> as Vault>⟧.vault_holds self.new).files ≡ Some bytes.now) }
+        ensures others { IsTrue (⟦<FolderVault<R> as Vault>⟧.vault_tells self.old) → (other : List ℕ) → other ≢ path.now → file_at other (⟦<FolderVault<R> as Vault>⟧.vault_holds self.new).files ≡ file_at other (⟦<FolderVault<R> as Vault>⟧.vault_holds self.old).files }
+        ensures faults { ⟦<FolderVault<R> as Vault>⟧.vault_faults self.old ≤ ⟦<FolderVault<R> as Vault>⟧.vault_faults self.new }
+        ensures failed { result ≡ Err ReplaceFault.Failed → Rose (⟦<FolderVault<R> as Vault>⟧.vault_faults self.old) (⟦<FolderVault<R> as Vault>⟧.vault_faults self.new) }
+        ensures no_fault { result ≢ Err ReplaceFault.Failed → ⟦<FolderVault<R> as Vault>⟧.vault_faults self.new ≡ ⟦<FolderVault<R> as Vault>⟧.vault_faults self.old }
+        ensures fault { result ≡ Err ReplaceFault.Failed → self.new ≡ record self.old { faults = next_count self.old.faults } }
+        ensures stays { result ≢ Err ReplaceFault.Failed → self.new ≡ self.old }
+        ensures not_text { ¬ (IsUtf8 path.now) → result ≡ Err ReplaceFault.Failed }
+    {
+        let result = replace_beside(&self.rt, alloc, path, bytes);
+        if let Err(ReplaceFault::Failed) = result {
             self.faults = self.faults.saturating_add(1);
         }
         result
@@ -72,12 +116,8 @@ fn file_bytes<R: Files>(rt: &R, alloc: Global, path: &[u8], limit: u32) -> Resul
     ensures not_text { ¬ (IsUtf8 path.now) → result ≡ Err VaultFault.Failed }
 {
     let path = str::from_utf8(path).map_err(|_| VaultFault::Failed)?;
-    let mut file = fs::open(rt, path).map_err(|error| opening_fault(error.kind()))?;
-    let text = front(alloc, &mut file, limit as usize + 1)?;
-    if text.len() > limit as usize {
-        return Err(VaultFault::TooLong);
-    }
-    Ok(text)
+    let file = fs::open(rt, path).map_err(|error| opening_fault(error.kind()))?;
+    read_to_limit(alloc, &mut ReaderSource::new(file), limit)
 }
 
 // Why a file isn't opened.
@@ -91,35 +131,13 @@ fn opening_fault(kind: ErrorKind) -> VaultFault
     }
 }
 
-// The first bytes of a reader, all where it has at most so many.
-fn front<F: Read>(alloc: Global, reader: &mut F, most: usize) -> Result<Text, VaultFault>
-    ensures bound { IfOk result (λ text. length text ≤ most) }
-    ensures front { IfOk result (λ text. IfSome (F.remaining reader.old) (λ left. text ≡ take most left)) }
+fn is_folder<R: Files>(rt: &R, path: &[u8]) -> Result<bool, ReplaceFault>
+    ensures { ¬ (IsUtf8 path.now) → result ≡ Err ReplaceFault.Failed }
 {
-    let mut bytes = Vec::new(alloc);
-    while bytes.len() < most {
-        if read_more(reader, &mut bytes, most)? == 0 {
-            break;
-        }
+    let path = str::from_utf8(path).map_err(|_| ReplaceFault::Failed)?;
+    match rt.metadata(path) {
+        Ok(found) => Ok(found.is_dir()),
+        Err(error) if error.kind() == ErrorKind::NotFound => Ok(false),
+        Err(_) => Err(ReplaceFault::Failed),
     }
-    Ok(Text::from_vec(bytes))
-}
-
-// Reads once, and adds what it read to the bytes, at most so many in all.
-fn read_more<F: Read>(reader: &mut F, bytes: &mut Vec<u8>, most: usize) -> Result<usize, VaultFault>
-    requires { vec_len bytes.old < most }
-    ensures grows { IfOk result (λ n. vec_len bytes.new ≡ vec_len bytes.old + n) }
-    ensures bound { IfOk result (λ n. vec_len bytes.new ≤ most) }
-    ensures taken { IfOk result (λ n. (all : Option (List ℕ)) → Consumes all (F.remaining reader.old) bytes.old.items → Consumes all (F.remaining reader.new) bytes.new.items) }
-    ensures end { result ≡ Ok 0 → IsAtEnd (F.remaining reader.new) }
-{
-    let mut piece = [0u8; 4096];
-    let room = (most - bytes.len()).min(4096);
-    let n = reader
-        .read(&mut piece[..room])
-        .map_err(|_| VaultFault::Failed)?;
-    bytes
-        .extend_from_slice(&piece[..n])
-        .map_err(|_| VaultFault::NoMemory)?;
-    Ok(n)
 }

@@ -68,6 +68,7 @@ impl Sink for MemSink {
         ensures faults { ⟦<MemSink as Sink>⟧.sink_faults self.old ≤ ⟦<MemSink as Sink>⟧.sink_faults self.new }
         ensures failed { OnErr result (Rose (⟦<MemSink as Sink>⟧.sink_faults self.old) (⟦<MemSink as Sink>⟧.sink_faults self.new)) }
         ensures nothing { result ≡ Ok 0 → Rose (⟦<MemSink as Sink>⟧.sink_faults self.old) (⟦<MemSink as Sink>⟧.sink_faults self.new) }
+        ensures no_fault { IfOk result (λ n. 0 < n → ⟦<MemSink as Sink>⟧.sink_faults self.new ≡ ⟦<MemSink as Sink>⟧.sink_faults self.old) }
         ensures fails_exactly { IsErr result ↔ IsTrue (fails_next self.old.calls self.old.fails || nat_lt self.old.room (length piece.now)) }
         ensures amount { IfOk result (λ n. n ≡ length piece.now) }
         ensures written { OnOk result (self.new ≡ record self.old { written = self.old.written ++ piece.now; room = self.old.room - length piece.now; calls = next_count self.old.calls }) }

@@ -1,5 +1,5 @@
-ghost use Rattle.std.specs.Prelude.{◌≡◌, ◌<◌, ◌≤◌, IsTrue, length, min, take, drop, ◌++◌, IfOk, OnErr, IsErr, ◌↔◌};
-ghost use Rattle.pam_outside.specs.Counts.{next_count, fails_next, Rose};
+ghost use Rattle.std.specs.Prelude.{◌≡◌, ◌<◌, ◌≤◌, IsTrue, length, min, take, drop, ◌++◌, IfOk, OnOk, OnErr, IsErr, ◌↔◌, ◌==◌, if◌then◌else◌};
+ghost use Rattle.pam_outside.specs.Counts.{next_count, next_at_end, fails_next, Rose};
 ghost use Rattle.pam_outside.specs.Streams.{Reads};
 
 use crate::calls::Calls;
@@ -12,6 +12,7 @@ use std::marker::Model;
 pub struct MemSource {
     bytes: Text,
     at: usize,
+    reads_at_end: u64,
     calls: Calls,
 }
 
@@ -21,7 +22,7 @@ impl Model for MemSource {
 
     ghost Value = { SourceMemory };
 
-    ghost view = { λ s. record { left = drop s.at s.bytes; calls = s.calls.made; faults = s.calls.faults; fails = s.calls.fails } };
+    ghost view = { λ s. record { left = drop s.at s.bytes; calls = s.calls.made; reads_at_end = s.reads_at_end; faults = s.calls.faults; fails = s.calls.fails } };
 
     ghost invariant = { λ s. s.at ≤ length s.bytes };
 }
@@ -29,13 +30,25 @@ impl Model for MemSource {
 impl MemSource {
     /// A source of these bytes. `fails` has the numbers, from 1, of the reads that are to fail.
     pub fn new(bytes: Text, fails: Numbers) -> MemSource
-        ensures { result ≡ record { left = bytes; calls = 0; faults = 0; fails = fails } }
+        ensures { result ≡ record { left = bytes; calls = 0; reads_at_end = 0; faults = 0; fails = fails } }
     {
         MemSource {
             bytes,
             at: 0,
+            reads_at_end: 0,
             calls: Calls::new(fails),
         }
+    }
+}
+
+// A count of reads at the end, after one more with so many bytes left.
+fn next_at_end(count: u64, left: usize) -> u64
+    ensures { result ≡ next_at_end count left }
+{
+    if left == 0 {
+        count.saturating_add(1)
+    } else {
+        count
     }
 }
 
@@ -44,7 +57,7 @@ impl Source for MemSource {
 
     ghost source_tells = { λ s. true };
 
-    ghost source_holds = { λ s. record { left = s.left; calls = s.calls } };
+    ghost source_holds = { λ s. record { left = s.left; calls = s.calls; reads_at_end = s.reads_at_end } };
 
     ghost source_faults = { λ s. s.faults };
 
@@ -57,18 +70,20 @@ impl Source for MemSource {
         ensures told { IsTrue (⟦<MemSource as Source>⟧.source_tells self.old) → Reads result into.new (⟦<MemSource as Source>⟧.source_holds self.old) (⟦<MemSource as Source>⟧.source_holds self.new) }
         ensures faults { ⟦<MemSource as Source>⟧.source_faults self.old ≤ ⟦<MemSource as Source>⟧.source_faults self.new }
         ensures failed { OnErr result (Rose (⟦<MemSource as Source>⟧.source_faults self.old) (⟦<MemSource as Source>⟧.source_faults self.new)) }
+        ensures no_fault { OnOk result (⟦<MemSource as Source>⟧.source_faults self.new ≡ ⟦<MemSource as Source>⟧.source_faults self.old) }
         ensures fails_exactly { IsErr result ↔ IsTrue (fails_next self.old.calls self.old.fails) }
         ensures amount { IfOk result (λ n. n ≡ min (length into.old) (length self.old.left)) }
         ensures buffer { IfOk result (λ n. into.new ≡ take n self.old.left ++ drop n into.old) }
-        ensures taken { IfOk result (λ n. self.new ≡ record self.old { left = drop n self.old.left; calls = next_count self.old.calls }) }
-        ensures fault { OnErr result (self.new ≡ record self.old { calls = next_count self.old.calls; faults = next_count self.old.faults }) }
+        ensures taken { IfOk result (λ n. self.new ≡ record self.old { left = drop n self.old.left; calls = next_count self.old.calls; reads_at_end = next_at_end self.old.reads_at_end (length self.old.left) }) }
+        ensures fault { OnErr result (self.new ≡ record self.old { calls = next_count self.old.calls; reads_at_end = next_at_end self.old.reads_at_end (length self.old.left); faults = next_count self.old.faults }) }
         ensures buffer_stays { OnErr result (into.new ≡ into.old) }
     {
+        let rest = &self.bytes.bytes()[self.at..];
+        self.reads_at_end = next_at_end(self.reads_at_end, rest.len());
         if self.calls.next_fails() {
             self.calls.count_fault();
             return Err(Failed);
         }
-        let rest = &self.bytes.bytes()[self.at..];
         let n = rest.len().min(into.len());
         into[..n].copy_from_slice(&rest[..n]);
         self.at += n;

@@ -1,11 +1,10 @@
-ghost use Rattle.std.specs.Prelude.{◌≡◌, ◌≢◌, ◌≤◌, ℕ, List, [], Some, true, if◌then◌else◌, length, IsTrue, IfOk, OnOk, OnErr, Err, option_map};
+ghost use Rattle.std.specs.Prelude.{◌≡◌, ◌≢◌, ℕ, List, [], Some, OnOk, OnErr, option_map};
 ghost use Rattle.std.specs.List.{position};
 ghost use Rattle.std.specs.Str.{bytes_eq};
-ghost use Rattle.pam_outside.specs.Counts.{Rose, next_count, fails_next};
-ghost use Rattle.pam_outside.specs.Files.{ReadsFile, counted, file_at, file_put};
+ghost use Rattle.pam_outside.specs.Files.{file_at, file_put, is_below, is_folder};
 
 use crate::calls::Calls;
-use crate::vault::{Vault, VaultFault};
+use crate::vault::{ReplaceFault, Vault, VaultFault};
 use pam_base::{NoMemory, Numbers, Text};
 use std::alloc::Global;
 use std::marker::Model;
@@ -25,7 +24,8 @@ impl Model for StoredFile {
     ghost view = { λ f. record { path = f.path; bytes = f.bytes } };
 }
 
-/// Files in memory, which can be told to fail. It tells what it holds.
+/// Files in memory, by any paths. It tells what it holds: each call fails exactly where its number is among those
+/// that it was given.
 #[derive(Drop)]
 pub struct MemVault {
     files: Vec<StoredFile>,
@@ -41,7 +41,7 @@ impl Model for MemVault {
 }
 
 impl MemVault {
-    /// A vault without files. `fails` has the numbers, from 1, of the reads that are to fail. It takes no memory.
+    /// A vault without files. `fails` has the numbers, from 1, of the calls that are to fail. It takes no memory.
     pub fn new(alloc: Global, fails: Numbers) -> MemVault
         ensures { result ≡ record { files = []; calls = 0; faults = 0; fails = fails } }
     {
@@ -90,6 +90,23 @@ fn bytes_at<'a>(path: &[u8], files: &'a [StoredFile]) -> Option<&'a [u8]>
     None
 }
 
+// Whether a file lies below this path.
+fn has_file_below(folder: &[u8], files: &[StoredFile]) -> bool
+    ensures { result ≡ is_folder folder.now files.now }
+{
+    files.iter().any(|file| is_below(folder, file.path.bytes()))
+}
+
+// Whether a path begins with this one and a slash.
+fn is_below(folder: &[u8], path: &[u8]) -> bool
+    ensures { result ≡ is_below folder.now path.now }
+{
+    match path.strip_prefix(folder) {
+        Some(rest) => rest.starts_with(b"/"),
+        None => false,
+    }
+}
+
 impl Vault for MemVault {
     ghost use Rattle.std.specs.Prelude.{true};
 
@@ -99,18 +116,7 @@ impl Vault for MemVault {
 
     ghost vault_faults = { λ v. v.faults };
 
-    /// Failed comes exactly at the reads whose numbers were given, before every other answer, NoMemory too, and
-    /// counts one fault; no other read counts one.
-    fn read(&mut self, alloc: Global, path: &[u8], limit: u32) -> Result<Text, VaultFault>
-        ensures bound { IfOk result (λ text. length text ≤ limit) }
-        ensures tells { ⟦<MemVault as Vault>⟧.vault_tells self.new ≡ ⟦<MemVault as Vault>⟧.vault_tells self.old }
-        ensures told { IsTrue (⟦<MemVault as Vault>⟧.vault_tells self.old) → ReadsFile result path.now limit (⟦<MemVault as Vault>⟧.vault_holds self.old) }
-        ensures counts { IsTrue (⟦<MemVault as Vault>⟧.vault_tells self.old) → ⟦<MemVault as Vault>⟧.vault_holds self.new ≡ counted (⟦<MemVault as Vault>⟧.vault_holds self.old) }
-        ensures faults { ⟦<MemVault as Vault>⟧.vault_faults self.old ≤ ⟦<MemVault as Vault>⟧.vault_faults self.new }
-        ensures failed { result ≡ Err VaultFault.Failed → Rose (⟦<MemVault as Vault>⟧.vault_faults self.old) (⟦<MemVault as Vault>⟧.vault_faults self.new) }
-        ensures fails_first { IsTrue (fails_next self.old.calls self.old.fails) → result ≡ Err VaultFault.Failed }
-        ensures stays { self.new ≡ record self.old { calls = next_count self.old.calls; faults = if fails_next self.old.calls self.old.fails then next_count self.old.faults else self.old.faults } }
-    {
+    fn read(&mut self, alloc: Global, path: &[u8], limit: u32) -> Result<Text, VaultFault> {
         if self.calls.next_fails() {
             self.calls.count_fault();
             return Err(VaultFault::Failed);
@@ -122,5 +128,25 @@ impl Vault for MemVault {
             return Err(VaultFault::TooLong);
         }
         Text::from_bytes(alloc, bytes).map_err(|_| VaultFault::NoMemory)
+    }
+
+    /// It takes no memory.
+    fn folder(&mut self, _alloc: Global, path: &[u8]) -> Result<bool, ReplaceFault> {
+        if self.calls.next_fails() {
+            self.calls.count_fault();
+            return Err(ReplaceFault::Failed);
+        }
+        Ok(has_file_below(path, &self.files))
+    }
+
+    fn replace(&mut self, alloc: Global, path: &[u8], bytes: &[u8]) -> Result<(), ReplaceFault> {
+        if self.calls.next_fails() {
+            self.calls.count_fault();
+            return Err(ReplaceFault::Failed);
+        }
+        match self.put(alloc, path, bytes) {
+            Ok(()) => Ok(()),
+            Err(NoMemory) => Err(ReplaceFault::NoMemory),
+        }
     }
 }

@@ -36,7 +36,7 @@ impl<R: Read + Drop> Source for ReaderSource<R> {
     ghost source_tells = { λ s. false };
 
     // never told
-    ghost source_holds = { λ s. record { left = []; calls = 0 } };
+    ghost source_holds = { λ s. record { left = []; calls = 0; reads_at_end = 0 } };
 
     ghost source_faults = { λ s. s.faults };
 
@@ -48,8 +48,8 @@ impl<R: Read + Drop> Source for ReaderSource<R> {
         ensures told { IsTrue (⟦<ReaderSource<R> as Source>⟧.source_tells self.old) → Reads result into.new (⟦<ReaderSource<R> as Source>⟧.source_holds self.old) (⟦<ReaderSource<R> as Source>⟧.source_holds self.new) }
         ensures faults { ⟦<ReaderSource<R> as Source>⟧.source_faults self.old ≤ ⟦<ReaderSource<R> as Source>⟧.source_faults self.new }
         ensures failed { OnErr result (Rose (⟦<ReaderSource<R> as Source>⟧.source_faults self.old) (⟦<ReaderSource<R> as Source>⟧.source_faults self.new)) }
+        ensures no_fault { OnOk result (⟦<ReaderSource<R> as Source>⟧.source_faults self.new ≡ ⟦<ReaderSource<R> as Source>⟧.source_faults self.old) }
         ensures given { ReadConsumes (R.remaining self.old.inner) (R.remaining self.new.inner) result into.new }
-        ensures no_fault { OnOk result (self.new.faults ≡ self.old.faults) }
         ensures fault { OnErr result (self.new.faults ≡ next_count self.old.faults) }
     {
         match self.inner.read(into) {

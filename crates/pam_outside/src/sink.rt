@@ -16,7 +16,7 @@ pub trait Sink {
     ghost sink_faults: { Self → ℕ };
 
     /// Writes bytes of the piece's front and answers how many. Failed writes none. Failed, and the answer 0,
-    /// come only where the count of faults rose.
+    /// come only where the count of faults rose; the count rises with no other answer.
     fn write(&mut self, piece: &[u8]) -> Result<usize, Failed>
         requires { 0 < length piece.now }
         ensures bound { IfOk result (λ n. n ≤ length piece.now) }
@@ -24,5 +24,6 @@ pub trait Sink {
         ensures told { IsTrue (sink_tells self.old) → Writes result piece.now (sink_holds self.old) (sink_holds self.new) }
         ensures faults { sink_faults self.old ≤ sink_faults self.new }
         ensures failed { OnErr result (Rose (sink_faults self.old) (sink_faults self.new)) }
-        ensures nothing { result ≡ Ok 0 → Rose (sink_faults self.old) (sink_faults self.new) };
+        ensures nothing { result ≡ Ok 0 → Rose (sink_faults self.old) (sink_faults self.new) }
+        ensures no_fault { IfOk result (λ n. 0 < n → sink_faults self.new ≡ sink_faults self.old) };
 }

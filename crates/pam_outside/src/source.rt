@@ -1,4 +1,4 @@
-ghost use Rattle.std.specs.Prelude.{◌≡◌, ◌<◌, ◌≤◌, ℕ, Bool, length, IsTrue, IfOk, OnErr};
+ghost use Rattle.std.specs.Prelude.{◌≡◌, ◌<◌, ◌≤◌, ℕ, Bool, length, IsTrue, IfOk, OnOk, OnErr};
 ghost use Rattle.pam_outside.specs.Counts.{Rose};
 ghost use Rattle.pam_outside.specs.Streams.{SourceState, Reads};
 
@@ -9,19 +9,21 @@ pub trait Source {
     /// Whether it tells what it holds. It does so for ever or never.
     ghost source_tells: { Self → Bool };
 
-    /// The bytes that are left and how often it was read, where it tells.
+    /// The bytes that are left, how often it was read, and how often of these at its end, where it tells.
     ghost source_holds: { Self → SourceState };
 
     /// How often it has failed. The count never falls, and stands still at 2^64 - 1.
     ghost source_faults: { Self → ℕ };
 
     /// Takes the next bytes into the front of the buffer and answers how many, at most the buffer's length.
-    /// 0 comes exactly at the end. Failed takes none, and comes only where the count of faults rose.
+    /// 0 comes exactly at the end. Failed takes none, and comes only where the count of faults rose; the count
+    /// rises with no other answer.
     fn read(&mut self, into: &mut [u8]) -> Result<usize, Failed>
         requires { 0 < length into.old }
         ensures bound { IfOk result (λ n. n ≤ length into.new) }
         ensures tells { source_tells self.new ≡ source_tells self.old }
         ensures told { IsTrue (source_tells self.old) → Reads result into.new (source_holds self.old) (source_holds self.new) }
         ensures faults { source_faults self.old ≤ source_faults self.new }
-        ensures failed { OnErr result (Rose (source_faults self.old) (source_faults self.new)) };
+        ensures failed { OnErr result (Rose (source_faults self.old) (source_faults self.new)) }
+        ensures no_fault { OnOk result (source_faults self.new ≡ source_faults self.old) };
 }

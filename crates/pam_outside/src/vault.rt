@@ -1,6 +1,6 @@
-ghost use Rattle.std.specs.Prelude.{◌≡◌, ◌≤◌, ℕ, Bool, length, IsTrue, IfOk, Err};
+ghost use Rattle.std.specs.Prelude.{◌≡◌, ◌≢◌, ◌≤◌, ℕ, List, Some, Bool, length, IsTrue, IfOk, OnOk, Err};
 ghost use Rattle.pam_outside.specs.Counts.{Rose};
-ghost use Rattle.pam_outside.specs.Files.{VaultState, ReadsFile, counted};
+ghost use Rattle.pam_outside.specs.Files.{VaultState, ReadsFile, TellsFolder, Replaces, counted, file_at};
 
 use pam_base::Text;
 use std::alloc::Global;
@@ -17,7 +17,19 @@ pub enum VaultFault {
     Failed,
 }
 
+/// Why a file isn't replaced, or a folder not looked for.
+#[derive(Clone, Copy, Debug, PartialEq, Eq)]
+pub enum ReplaceFault {
+    NoMemory,
+    /// The outside failed.
+    Failed,
+}
+
 /// Files by their paths, as a folder has them.
+///
+/// Each call counts one call, and leaves the numbers of the calls that are to fail. Where the vault tells, Failed
+/// comes exactly at these calls, before every other answer, NoMemory too. In any world Failed comes only where the
+/// count of faults rose, and the count rises with no other answer.
 pub trait Vault: Drop {
     /// Whether it tells what it holds. It does so for ever or never.
     ghost vault_tells: { Self → Bool };
@@ -29,15 +41,35 @@ pub trait Vault: Drop {
     ghost vault_faults: { Self → ℕ };
 
     /// The bytes of the file, where they are at most `limit`. Absent comes exactly where there is no such file,
-    /// TooLong exactly where it has more bytes, and Failed only where the count of faults rose; where the vault
-    /// tells, Failed comes exactly at the calls that are to fail, before every other answer. The files stay.
+    /// and TooLong exactly where it has more bytes. The files stay.
     fn read(&mut self, alloc: Global, path: &[u8], limit: u32) -> Result<Text, VaultFault>
         ensures bound { IfOk result (λ text. length text ≤ limit) }
         ensures tells { vault_tells self.new ≡ vault_tells self.old }
         ensures told { IsTrue (vault_tells self.old) → ReadsFile result path.now limit (vault_holds self.old) }
         ensures counts { IsTrue (vault_tells self.old) → vault_holds self.new ≡ counted (vault_holds self.old) }
         ensures faults { vault_faults self.old ≤ vault_faults self.new }
-        ensures failed { result ≡ Err VaultFault.Failed → Rose (vault_faults self.old) (vault_faults self.new) };
+        ensures failed { result ≡ Err VaultFault.Failed → Rose (vault_faults self.old) (vault_faults self.new) }
+        ensures no_fault { result ≢ Err VaultFault.Failed → vault_faults self.new ≡ vault_faults self.old };
+
+    /// Whether a file lies below this path: whether the path of one begins with it and a slash. The files stay.
+    fn folder(&mut self, alloc: Global, path: &[u8]) -> Result<bool, ReplaceFault>
+        ensures tells { vault_tells self.new ≡ vault_tells self.old }
+        ensures told { IsTrue (vault_tells self.old) → TellsFolder result path.now (vault_holds self.old) }
+        ensures counts { IsTrue (vault_tells self.old) → vault_holds self.new ≡ counted (vault_holds self.old) }
+        ensures faults { vault_faults self.old ≤ vault_faults self.new }
+        ensures failed { result ≡ Err ReplaceFault.Failed → Rose (vault_faults self.old) (vault_faults self.new) }
+        ensures no_fault { result ≢ Err ReplaceFault.Failed → vault_faults self.new ≡ vault_faults self.old };
+
+    /// Sets the file whole, whether it was there or not. Where it is refused, the files are as before; every other
+    /// file always stays.
+    fn replace(&mut self, alloc: Global, path: &[u8], bytes: &[u8]) -> Result<(), ReplaceFault>
+        ensures tells { vault_tells self.new ≡ vault_tells self.old }
+        ensures told { IsTrue (vault_tells self.old) → Replaces result path.now bytes.now (vault_holds self.old) (vault_holds self.new) }
+        ensures found { IsTrue (vault_tells self.old) → OnOk result (file_at path.now (vault_holds self.new).files ≡ Some bytes.now) }
+        ensures others { IsTrue (vault_tells self.old) → (other : List ℕ) → other ≢ path.now → file_at other (vault_holds self.new).files ≡ file_at other (vault_holds self.old).files }
+        ensures faults { vault_faults self.old ≤ vault_faults self.new }
+        ensures failed { result ≡ Err ReplaceFault.Failed → Rose (vault_faults self.old) (vault_faults self.new) }
+        ensures no_fault { result ≢ Err ReplaceFault.Failed → vault_faults self.new ≡ vault_faults self.old };
 }
 
 /// `Vault::read` of a vault that is lent.
@@ -53,6 +85,37 @@ pub fn read_file(
     ensures counts { IsTrue (vault_tells vault.old) → vault_holds vault.new ≡ counted (vault_holds vault.old) }
     ensures faults { vault_faults vault.old ≤ vault_faults vault.new }
     ensures failed { result ≡ Err VaultFault.Failed → Rose (vault_faults vault.old) (vault_faults vault.new) }
+    ensures no_fault { result ≢ Err VaultFault.Failed → vault_faults vault.new ≡ vault_faults vault.old }
 {
     vault.read(alloc, path, limit)
+}
+
+/// `Vault::folder` of a vault that is lent.
+pub fn is_folder(vault: &mut dyn Vault, alloc: Global, path: &[u8]) -> Result<bool, ReplaceFault>
+    ensures tells { vault_tells vault.new ≡ vault_tells vault.old }
+    ensures told { IsTrue (vault_tells vault.old) → TellsFolder result path.now (vault_holds vault.old) }
+    ensures counts { IsTrue (vault_tells vault.old) → vault_holds vault.new ≡ counted (vault_holds vault.old) }
+    ensures faults { vault_faults vault.old ≤ vault_faults vault.new }
+    ensures failed { result ≡ Err ReplaceFault.Failed → Rose (vault_faults vault.old) (vault_faults vault.new) }
+    ensures no_fault { result ≢ Err ReplaceFault.Failed → vault_faults vault.new ≡ vault_faults vault.old }
+{
+    vault.folder(alloc, path)
+}
+
+/// `Vault::replace` of a vault that is lent.
+pub fn replace_file(
+    vault: &mut dyn Vault,
+    alloc: Global,
+    path: &[u8],
+    bytes: &[u8],
+) -> Result<(), ReplaceFault>
+    ensures tells { vault_tells vault.new ≡ vault_tells vault.old }
+    ensures told { IsTrue (vault_tells vault.old) → Replaces result path.now bytes.now (vault_holds vault.old) (vault_holds vault.new) }
+    ensures found { IsTrue (vault_tells vault.old) → OnOk result (file_at path.now (vault_holds vault.new).files ≡ Some bytes.now) }
+    ensures others { IsTrue (vault_tells vault.old) → (other : List ℕ) → other ≢ path.now → file_at other (vault_holds vault.new).files ≡ file_at other (vault_holds vault.old).files }
+    ensures faults { vault_faults vault.old ≤ vault_faults vault.new }
+    ensures failed { result ≡ Err ReplaceFault.Failed → Rose (vault_faults vault.old) (vault_faults vault.new) }
+    ensures no_fault { result ≢ Err ReplaceFault.Failed → vault_faults vault.new ≡ vault_faults vault.old }
+{
+    vault.replace(alloc, path, bytes)
 }

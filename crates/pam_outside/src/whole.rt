@@ -1,4 +1,4 @@
-ghost use Rattle.std.specs.Prelude.{◌≡◌, ◌≤◌, IsTrue, OnErr};
+ghost use Rattle.std.specs.Prelude.{◌≡◌, ◌≤◌, IsTrue, OnOk, OnErr};
 ghost use Rattle.pam_outside.specs.Counts.{Rose};
 ghost use Rattle.pam_outside.specs.Streams.{WritesWhole};
 
@@ -6,12 +6,14 @@ use crate::sink::Sink;
 use pam_base::Failed;
 
 /// Writes all of the text, in as many calls as it takes, each for at least one byte. Failed comes only where the
-/// count of faults rose, and leaves a front of the text written. An empty text makes no call.
+/// count of faults rose, leaves a front of the text written, and no write goes on behind it: where all is written
+/// the count is as before. An empty text makes no call.
 pub fn write_all<K: Sink>(sink: &mut K, text: &[u8]) -> Result<(), Failed>
     ensures tells { K.sink_tells sink.new ≡ K.sink_tells sink.old }
     ensures told { IsTrue (K.sink_tells sink.old) → WritesWhole result text.now (K.sink_holds sink.old) (K.sink_holds sink.new) }
     ensures faults { K.sink_faults sink.old ≤ K.sink_faults sink.new }
     ensures failed { OnErr result (Rose (K.sink_faults sink.old) (K.sink_faults sink.new)) }
+    ensures no_fault { OnOk result (K.sink_faults sink.new ≡ K.sink_faults sink.old) }
 {
     let mut rest = text;
     while !rest.is_empty() {

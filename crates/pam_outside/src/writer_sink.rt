@@ -50,8 +50,9 @@ impl<W: Write + Drop> Sink for WriterSink<W> {
         ensures faults { ⟦<WriterSink<W> as Sink>⟧.sink_faults self.old ≤ ⟦<WriterSink<W> as Sink>⟧.sink_faults self.new }
         ensures failed { OnErr result (Rose (⟦<WriterSink<W> as Sink>⟧.sink_faults self.old) (⟦<WriterSink<W> as Sink>⟧.sink_faults self.new)) }
         ensures nothing { result ≡ Ok 0 → Rose (⟦<WriterSink<W> as Sink>⟧.sink_faults self.old) (⟦<WriterSink<W> as Sink>⟧.sink_faults self.new) }
+        ensures no_fault { IfOk result (λ n. 0 < n → ⟦<WriterSink<W> as Sink>⟧.sink_faults self.new ≡ ⟦<WriterSink<W> as Sink>⟧.sink_faults self.old) }
         ensures given { WriteAppends (W.contents self.old.inner) (W.contents self.new.inner) result piece.now }
-        ensures no_fault { IfOk result (λ n. self.new.faults ≡ (if n == 0 then next_count self.old.faults else self.old.faults)) }
+        ensures counted { IfOk result (λ n. self.new.faults ≡ (if n == 0 then next_count self.old.faults else self.old.faults)) }
         ensures fault { OnErr result (self.new.faults ≡ next_count self.old.faults) }
     {
         match self.inner.write(piece) {

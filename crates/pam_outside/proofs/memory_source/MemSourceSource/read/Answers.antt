@@ -12,6 +12,7 @@ returns-clause-told c =
     let left : c.args.self.now.left ≡ drop c.self.inside.at c.self.inside.bytes = sym (ap (λ (v : SourceMemory). v.left) c.self.view_is) in
     λ e. record {
       calls = search rules;
+      at_end = rw left (search rules);
       taken = rw (left, ← drop-drop) (taken (drop c.self.inside.at c.self.inside.bytes) c.args.into.now _ c.min-n.result within copied);
       end = λ z. rw (← drop-drop) (at_end (drop c.self.inside.at c.self.inside.bytes) c.min-n.result (length c.args.into.now) amount c.requires (ok_number _ _ z));
       none = tt;

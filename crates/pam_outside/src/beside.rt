@@ -1,0 +1,42 @@
+ghost use Rattle.std.specs.Prelude.{◌≡◌, Err};
+ghost use Rattle.std.specs.Str.{IsUtf8};
+
+use crate::vault::ReplaceFault;
+use std::alloc::Global;
+use std::fs::OpenOptions;
+use std::io::{self, Write};
+use std::rt::Files;
+
+/// Writes a file beside and renames it to the path, so that the path never names a file that is written in part.
+pub fn replace_beside<R: Files>(
+    rt: &R,
+    alloc: Global,
+    path: &[u8],
+    bytes: &[u8],
+) -> Result<(), ReplaceFault>
+    ensures { ¬ (IsUtf8 path.now) → result ≡ Err ReplaceFault.Failed }
+{
+    let path = str::from_utf8(path).map_err(|_| ReplaceFault::Failed)?;
+    let beside = format!(in alloc; "{path}.new").map_err(|_| ReplaceFault::NoMemory)?;
+    match write_and_rename(rt, beside.as_str(), path, bytes) {
+        Ok(()) => Ok(()),
+        Err(_) => {
+            let _ = rt.remove_file(beside.as_str());
+            Err(ReplaceFault::Failed)
+        }
+    }
+}
+
+// A new file, which takes the place of what stood at the path.
+fn write_and_rename<R: Files>(rt: &R, beside: &str, path: &str, bytes: &[u8]) -> io::Result<()> {
+    let _ = rt.remove_file(beside);
+    let mut file = OpenOptions::new()
+        .write(true)
+        .create_new(true)
+        .open(rt, beside)?;
+    if let Ok(old) = rt.metadata(path) {
+        rt.set_permissions(beside, old.permissions())?;
+    }
+    file.write_all(bytes)?;
+    rt.rename(beside, path)
+}

@@ -1,0 +1,63 @@
+ghost use Rattle.std.specs.Prelude.{◌≡◌, ◌≢◌, ◌≤◌, ◌<◌, ◌+◌, ◌^◌, length, IfOk, IfSome, OnErr, Ok, Err, vec_len, Option, List, ℕ};
+ghost use Rattle.std.specs.Io.KnownBytes.{Consumes, IsAtEnd};
+ghost use Rattle.pam_outside.specs.Counts.{next_count};
+
+use crate::reader_source::ReaderSource;
+use crate::source::Source;
+use crate::vault::VaultFault;
+use pam_base::Text;
+use std::alloc::Global;
+use std::io::Read;
+
+const CHUNK: usize = 4096;
+
+/// All that a reader has left, where it is at most so many bytes. TooLong comes only where it is more, Failed only
+/// where the reader gave an error, and Absent never.
+pub fn read_to_limit<F: Read + Drop>(
+    alloc: Global,
+    source: &mut ReaderSource<F>,
+    limit: u32,
+) -> Result<Text, VaultFault>
+    ensures bound { IfOk result (λ text. length text ≤ limit) }
+    ensures whole { IfOk result (λ text. IfSome (F.remaining source.old.inner) (λ left. text ≡ left)) }
+    ensures too_long { result ≡ Err VaultFault.TooLong → IfSome (F.remaining source.old.inner) (λ left. limit < length left) }
+    ensures not_absent { result ≢ Err VaultFault.Absent }
+    ensures failed { result ≡ Err VaultFault.Failed → source.new.faults ≡ next_count source.old.faults }
+    ensures no_fault { result ≢ Err VaultFault.Failed → source.new.faults ≡ source.old.faults }
+{
+    let mut bytes = Vec::new(alloc);
+    let most = limit as usize + 1;
+    while bytes.len() < most {
+        if read_more(source, &mut bytes, most)? == 0 {
+            return Ok(Text::from_vec(bytes));
+        }
+    }
+    Err(VaultFault::TooLong)
+}
+
+// Reads once, and adds what it read to the bytes, at most so many in all.
+fn read_more<F: Read + Drop>(
+    source: &mut ReaderSource<F>,
+    bytes: &mut Vec<u8>,
+    most: usize,
+) -> Result<usize, VaultFault>
+    requires { vec_len bytes.old < most }
+    ensures grows { IfOk result (λ n. vec_len bytes.new ≡ vec_len bytes.old + n) }
+    ensures bound { IfOk result (λ n. vec_len bytes.new ≤ most) }
+    ensures taken { IfOk result (λ n. (all : Option (List ℕ)) → Consumes all (F.remaining source.old.inner) bytes.old.items → Consumes all (F.remaining source.new.inner) bytes.new.items) }
+    ensures end { result ≡ Ok 0 → IsAtEnd (F.remaining source.new.inner) }
+    ensures causes { result ≢ Err VaultFault.Absent }
+    ensures not_long { result ≢ Err VaultFault.TooLong }
+    ensures failed { result ≡ Err VaultFault.Failed → source.new.faults ≡ next_count source.old.faults }
+    ensures no_fault { result ≢ Err VaultFault.Failed → source.new.faults ≡ source.old.faults }
+{
+    let mut piece = [0u8; CHUNK];
+    let room = (most - bytes.len()).min(CHUNK);
+    let n = source
+        .read(&mut piece[..room])
+        .map_err(|_| VaultFault::Failed)?;
+    bytes
+        .extend_from_slice(&piece[..n])
+        .map_err(|_| VaultFault::NoMemory)?;
+    Ok(n)
+}

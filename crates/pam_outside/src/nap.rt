@@ -1,0 +1,24 @@
+ghost use Rattle.std.specs.Prelude.{◌≡◌, Bool, IsTrue};
+ghost use Rattle.pam_outside.specs.Time.{NapState, rested};
+
+/// How the program waits.
+pub trait Nap: Drop {
+    /// Whether it tells what it holds. It does so for ever or never.
+    ghost nap_tells: { Self → Bool };
+
+    /// How often it waited, and the sum of the waits in microseconds, where it tells.
+    ghost nap_holds: { Self → NapState };
+
+    /// Waits so many microseconds. It can't fail, and takes no memory.
+    fn rest(&mut self, micros: u32)
+        ensures tells { nap_tells self.new ≡ nap_tells self.old }
+        ensures told { IsTrue (nap_tells self.old) → nap_holds self.new ≡ rested (nap_holds self.old) micros };
+}
+
+/// `Nap::rest` of a nap that is lent.
+pub fn rest(nap: &mut dyn Nap, micros: u32)
+    ensures tells { nap_tells nap.new ≡ nap_tells nap.old }
+    ensures told { IsTrue (nap_tells nap.old) → nap_holds nap.new ≡ rested (nap_holds nap.old) micros }
+{
+    nap.rest(micros)
+}

@@ -1,0 +1,29 @@
+ghost use Rattle.std.specs.Prelude.{false};
+
+use crate::nap::Nap;
+use std::rt::Clock as SystemClock;
+use std::thread;
+use std::time::Duration;
+
+/// Waits by the clock of a runtime, as `main` is given one. It tells nothing.
+#[derive(Drop)]
+pub struct SleepNap<R: SystemClock + Drop> {
+    rt: R,
+}
+
+impl<R: SystemClock + Drop> SleepNap<R> {
+    pub fn new(rt: R) -> Self {
+        SleepNap { rt }
+    }
+}
+
+impl<R: SystemClock + Drop> Nap for SleepNap<R> {
+    ghost nap_tells = { λ n. false };
+
+    // never told
+    ghost nap_holds = { λ n. record { waits = 0; sum = 0 } };
+
+    fn rest(&mut self, micros: u32) {
+        thread::sleep(&self.rt, Duration::from_micros(u64::from(micros)))
+    }
+}
