@@ -1,0 +1,4 @@
+mod Rows
+pub mod Ready
+pub mod Taking
+pub mod Fitting

@@ -1,0 +1,3 @@
+pub mod Message
+pub mod Conv
+pub mod Queue
