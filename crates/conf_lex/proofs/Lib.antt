@@ -6,3 +6,4 @@ pub mod TakingPieces
 pub mod Moving
 pub mod Answering
 pub mod Deciding
+pub mod Answered

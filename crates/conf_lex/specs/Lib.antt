@@ -2,3 +2,4 @@ pub mod Piece
 pub mod Rules
 pub mod Reading
 pub mod Lexing
+pub mod Answer

@@ -5,6 +5,7 @@ ghost use Rattle.conf_lex.specs.declared.token.LexFault.{LexFault};
 ghost use Rattle.conf_lex.specs.declared.token.RawRule.{RawRule};
 ghost use Rattle.conf_lex.specs.Rules.{Spells, HasNoFault, IsFirstFault, HasNul};
 ghost use Rattle.conf_lex.specs.Lexing.{Gives, IfNamed};
+ghost use Rattle.conf_lex.specs.Answer.{answer_to};
 
 use crate::lexer::Lexer;
 use crate::token::{LexFault, RawRules};
@@ -34,6 +35,7 @@ pub fn rules(alloc: Global, text: &[u8]) -> Result<RawRules, Refuse<LexFault>>
     ensures fault { IfNamed result (λ fault. IsFirstFault text.now fault) }
     // A first fault is the answer, unless memory runs out.
     ensures first { (fault : LexFault) → IsFirstFault text.now fault → Gives result (Err fault) }
+    ensures whole { Gives result (answer_to text.now) }
     ensures file_too_long { (result ≡ Err (refusals.Named (record { line = 0; kind = kinds.FileTooLong }))) ↔
         (65536 < length text.now) }
     ensures nul_byte { (line : ℕ) →
@@ -51,7 +53,7 @@ pub fn rules(alloc: Global, text: &[u8]) -> Result<RawRules, Refuse<LexFault>>
         line: 1,
     };
     let answer = lexer.rules(alloc);
-    match lexer.nul() {
+    match lexer.nul_line() {
         Some(line) => Err(Refuse::Named(LexFault {
             line,
             kind: FaultKind::NulByte,

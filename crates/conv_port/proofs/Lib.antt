@@ -2,3 +2,5 @@ mod Rows
 pub mod Ready
 pub mod Taking
 pub mod Fitting
+pub mod Typing
+pub mod Conversing

@@ -1,11 +1,12 @@
 -- Exchanges computed on their definition, before any code stands on it.
-use Rattle.std.proofs.Common.{◌≡◌, ℕ, true, false, List, [], ◌∷◌, Ok, Err, codes, refl}
+use Rattle.std.proofs.Common.{◌≡◌, ℕ, true, false, List, [], ◌∷◌, Ok, Err, codes, ◌++◌, replicate, refl}
 use Rattle.pam_base.specs.declared.style.Style.TheVariants.{EchoOff, EchoOn, TextInfo}
 use Rattle.conv_port.specs.declared.conv.ConvFault.TheVariants.{Gone, Again}
 use Rattle.conv_port.specs.declared.message.Message.{Message}
 use Rattle.conv_port.specs.declared.message.Reply.{Reply}
 use Rattle.conv_port.specs.declared.offer.Offer.{Offer}
 use Rattle.conv_port.specs.declared.offer.Offer.TheVariants.{Answer, Later}
+use Rattle.conv_port.specs.Terminal.{all_shown, behind_line, behind_replies, has_lines, typed_line, typed_replies}
 use Rattle.conv_port.specs.Conv.{ConvState, answer_to, state_after, offer_taken}
 
 abbrev ready : List Offer → ConvState
@@ -71,3 +72,51 @@ no_mark = refl
 
 never_a_mark : offer_taken true (codes "\\later") ≡ Answer (codes "\\later")
 never_a_mark = refl
+
+-- ---- a terminal
+
+-- a line, and what is behind its newline
+a_line : typed_line (codes "joe\nx\n") ≡ codes "joe"
+a_line = refl
+
+behind_it : behind_line (codes "joe\nx\n") ≡ codes "x\n"
+behind_it = refl
+
+-- an empty line is a reply
+empty_line : typed_line (codes "\nx") ≡ []
+empty_line = refl
+
+behind_empty : behind_line (codes "\nx") ≡ codes "x"
+behind_empty = refl
+
+-- the last line may lack its newline
+last_line : typed_line (codes "joe") ≡ codes "joe"
+last_line = refl
+
+behind_last : behind_line (codes "joe") ≡ []
+behind_last = refl
+
+-- 512 bytes are a reply, and leave their newline
+full_line : typed_line (replicate 512 97 ++ codes "\nx") ≡ replicate 512 97
+full_line = refl
+
+behind_full : behind_line (replicate 512 97 ++ codes "\nx") ≡ codes "\nx"
+behind_full = refl
+
+-- 513 bytes are two replies
+over_full : behind_line (replicate 513 97 ++ codes "\nx") ≡ codes "a\nx"
+over_full = refl
+
+-- an exchange, with what is shown, and what is left
+exchange : typed_replies two_prompts (codes "joe\nx\ny") ≡ a_reply [] ∷ a_reply (codes "joe") ∷ a_reply (codes "x") ∷ []
+exchange = refl
+
+left : behind_replies two_prompts (codes "joe\nx\ny") ≡ codes "y"
+left = refl
+
+seen : all_shown two_prompts ≡ codes "hi\nlogin: Password: "
+seen = refl
+
+-- the second prompt finds nothing
+no_reply : has_lines two_prompts (codes "joe\n") ≡ false
+no_reply = refl

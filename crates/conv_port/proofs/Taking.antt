@@ -1,5 +1,6 @@
 -- Each prompt of an exchange takes the reply in front.
-use Rattle.std.proofs.Common.{◌≡◌, ℕ, suc, ◌+◌, ◌<◌, ◌≤◌, Bool, true, false, List, [], ◌∷◌, ◌++◌, length, drop, refl, sym, ap, ◌∙◌, append_assoc, get_or, drop-cons, arith}
+use Rattle.std.proofs.Common.{◌≡◌, ℕ, suc, ◌+◌, ◌<◌, ◌≤◌, Bool, true, false, List, [], ◌∷◌, ◌++◌, length, drop, refl, sym, ap, ◌∙◌, append_assoc, get_or, drop-cons, length-drop, arith}
+use Rattle.std.proofs.lemmas.List.{nil_from_length}
 use Rattle.conv_port.specs.declared.message.Message.{Message}
 use Rattle.conv_port.specs.declared.message.Reply.{Reply}
 use Rattle.conv_port.specs.declared.offer.Offer.{Offer}
@@ -64,3 +65,6 @@ pub next_of : (messages : List Message) (i : ℕ) (m : Message) → i < length m
 next_of messages i m lt is =
     let e : suc i ≡ i + 1 = omega arith in
     drop-cons messages i m lt ∙ ap (λ (x : Message). x ∷ drop (suc i) messages) (sym is) ∙ ap (λ k. m ∷ drop k messages) e
+
+pub none_after : (messages : List Message) (i : ℕ) → length messages ≤ i → drop i messages ≡ []
+none_after messages i le = nil_from_length (drop i messages) (omega (arith, length-drop i messages, le))

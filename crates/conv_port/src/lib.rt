@@ -6,8 +6,10 @@ mod conv;
 mod message;
 mod offer;
 mod queue_conv;
+mod term_conv;
 
 pub use conv::{Conv, ConvFault, offer_to, talk_with};
 pub use message::{Message, Messages, Replies, Reply};
 pub use offer::Offer;
 pub use queue_conv::QueueConv;
+pub use term_conv::TermConv;

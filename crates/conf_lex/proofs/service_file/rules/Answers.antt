@@ -2,6 +2,7 @@ use Rattle.std.proofs.Common.{refl, ◌∙◌}
 use Rattle.pam_base.specs.declared.fault.FaultKind.TheVariants.{FileTooLong, NulByte}
 use Rattle.conf_lex.proofs.Moving.{nul_none, before_whole, nul_place}
 use Rattle.conf_lex.proofs.Deciding.{nul_here, nul_given, nul_first, gives_read, gives_tokens, gives_spelled, gives_fault, gives_first, gives_long, gives_nul}
+use Rattle.conf_lex.proofs.Answered.{answer_long, answer_nul, answer_lines}
 use Rattle.conf_lex.proofs.service_file.rules.Goals as goal
 
 pub returns-then-text-gt-MAX_TEXT-clause-spelled : goal.returns-then-text-gt-MAX_TEXT-clause-spelled
@@ -39,3 +40,12 @@ returns-in-None-clause-nul_byte c = let no_nul = nul_none 1 c.args.text.now (c.i
 
 pub returns-in-None-clause-tokens : goal.returns-in-None-clause-tokens
 returns-in-None-clause-tokens c = let no_nul = nul_none 1 c.args.text.now (c.in-None.ensures ∙ c.rules-answer.ensures.moves.nul) in gives_tokens _ _ (gives_read c.args.text.now c.if-text-gt-MAX_TEXT.false no_nul _ (rw (before_whole c.args.text.now no_nul) at c.rules-answer.ensures.given))
+
+pub returns-then-text-gt-MAX_TEXT-clause-whole : goal.returns-then-text-gt-MAX_TEXT-clause-whole
+returns-then-text-gt-MAX_TEXT-clause-whole c = answer_long c.args.text.now c.if-text-gt-MAX_TEXT.true
+
+pub returns-in-Some-clause-whole : goal.returns-in-Some-clause-whole
+returns-in-Some-clause-whole c = answer_nul c.args.text.now c.in-Some.line c.if-text-gt-MAX_TEXT.false (c.in-Some.ensures ∙ c.rules-answer.ensures.moves.nul)
+
+pub returns-in-None-clause-whole : goal.returns-in-None-clause-whole
+returns-in-None-clause-whole c = answer_lines c.args.text.now _ c.if-text-gt-MAX_TEXT.false (c.in-None.ensures ∙ c.rules-answer.ensures.moves.nul) c.rules-answer.ensures.given

@@ -1,0 +1,26 @@
+-- What calls answer that may be short of memory (this project's own).
+use Rattle.std.specs.Prelude.{◌≡◌, List, ◌++◌, Result, Ok, Err}
+use Rattle.pam_base.specs.declared.fault.Refuse.{Refuse}
+use Rattle.pam_base.specs.declared.fault.Refuse.TheVariants.{NoMemory, Named}
+
+-- unless memory ran out, what was returned is the answer
+abbrev pub Answers : {A F : Type 0} → Result A (Refuse F) → Result A F → Type 0
+Answers (Ok x) answer = answer ≡ Ok x
+Answers (Err (Named f)) answer = answer ≡ Err f
+Answers (Err NoMemory) answer = Unit {0}
+
+-- what a call answers whose answer is made of another's
+abbrev pub result_map : {A B F : Type 0} → (A → B) → Result A F → Result B F
+result_map f (Ok x) = Ok (f x)
+result_map f (Err e) = Err e
+
+-- what was there stands before what another call gives
+abbrev pub with_front : {A F : Type 0} → List A → Result (List A) F → Result (List A) F
+with_front front (Ok more) = Ok (front ++ more)
+with_front front (Err f) = Err f
+
+-- unless memory ran out, these were added to a list, or there is this fault
+abbrev pub AddsTo : {T A F : Type 0} → Result T (Refuse F) → List A → List A → Result (List A) F → Type 0
+AddsTo (Ok x) old new more = with_front old more ≡ Ok new
+AddsTo (Err (Named f)) old new more = more ≡ Err f
+AddsTo (Err NoMemory) old new more = Unit {0}

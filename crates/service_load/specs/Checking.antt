@@ -1,0 +1,31 @@
+-- The check of a file's rules, one after another (this project's own).
+use Rattle.std.specs.Prelude.{◌≡◌, ℕ, Bool, List, [], ◌∷◌, Option, Some, None, Result, Ok, Err}
+use Rattle.pam_base.specs.declared.fault.FaultKind.{FaultKind}
+use Rattle.conf_lex.specs.declared.token.Token.{Token}
+use Rattle.conf_lex.specs.declared.token.RawRule.{RawRule}
+use Rattle.conf_lex.specs.declared.token.LexFault.{LexFault}
+use Rattle.service_load.specs.declared.entry.Entry.{Entry}
+use Rattle.service_load.specs.Answers.{result_map}
+use Rattle.service_load.specs.Entry.{entry_of}
+use Rattle.service_load.specs.Files.{Held, absent, faulty, holds}
+
+-- an entry in front of those of the rules behind it, or the fault of the rule in this line
+abbrev pub with_entry : ℕ → Result Entry FaultKind → Result (List Entry) LexFault → Result (List Entry) LexFault
+with_entry line (Ok entry) more = result_map (λ es. entry ∷ es) more
+with_entry line (Err kind) more = Err (record { line = line; kind = kind })
+
+-- what some rules say, or the fault of the first that has one
+abbrev pub checked_entries : Bool → List RawRule → Result (List Entry) LexFault
+checked_entries in_folder [] = Ok []
+checked_entries in_folder (r ∷ rs) = with_entry r.line (entry_of in_folder r) (checked_entries in_folder rs)
+
+-- what the rules of a file say, if it is there, or its first fault
+abbrev pub entries_held : Bool → Held → Result (Option (List Entry)) LexFault
+entries_held in_folder absent = Ok None
+entries_held in_folder (faulty fault) = Err fault
+entries_held in_folder (holds rules) = result_map Some (checked_entries in_folder rules)
+
+-- the fields of a rule that is meant, which begins in this line
+abbrev pub GivesFields : Option (List Token) → ℕ → List RawRule → Type 0
+GivesFields None line own = own ≡ []
+GivesFields (Some tokens) line own = own ≡ record { line = line; tokens = tokens } ∷ []

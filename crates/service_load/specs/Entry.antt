@@ -1,0 +1,68 @@
+-- What a rule says (pam.conf(5), pam.d(5)): its fields from left to right, or the first field that is at fault.
+use Rattle.std.specs.Prelude.{ℕ, Bool, true, false, List, [], ◌∷◌, ◌++◌, map, Option, Some, None, Result, Ok, Err, codes, ◌==◌, if◌then◌else◌}
+use Rattle.pam_base.specs.declared.fault.FaultKind.{FaultKind}
+use Rattle.pam_base.specs.declared.fault.FaultKind.TheVariants.{BadType, MissingField}
+use Rattle.conf_lex.specs.declared.token.Token.{Token}
+use Rattle.conf_lex.specs.declared.token.RawRule.{RawRule}
+use Rattle.control_words.specs.declared.control.Action.{Action}
+use Rattle.control_words.specs.declared.nodes.Rule.{Rule}
+use Rattle.control_words.specs.declared.bracket.ControlFault.{ControlFault}
+use Rattle.control_words.specs.Bracket.{control_of}
+use Rattle.service_load.specs.declared.entry.Content.{Content}
+use Rattle.service_load.specs.declared.entry.Content.TheVariants.{Line, Include, Substack}
+use Rattle.service_load.specs.declared.entry.Entry.{Entry}
+use Rattle.service_load.specs.declared.rule_type.RuleType.{RuleType}
+use Rattle.service_load.specs.declared.type_field.TypeField.{TypeField}
+use Rattle.service_load.specs.Answers.{result_map}
+use Rattle.service_load.specs.RuleType.{is_word, type_field_of}
+
+-- the folder of the service files (pam.d(5))
+abbrev pub folder_name : List ℕ
+folder_name = codes "/etc/pam.d"
+
+-- the name of a file that a rule names (pam.conf(5)): one that doesn't begin with a slash lies in the folder
+abbrev pub named_file : List ℕ → List ℕ
+named_file [] = codes "/etc/pam.d/"
+named_file (b ∷ bs) = if b == 47 then b ∷ bs else codes "/etc/pam.d/" ++ b ∷ bs
+
+-- the field that names a file; later ones are ignored (this project's own)
+abbrev pub file_field : List Token → Result (List ℕ) FaultKind
+file_field [] = Err MissingField
+file_field (t ∷ ts) = Ok (named_file t.text)
+
+-- the module's path and its arguments
+abbrev pub rule_of : Bool → List Action → List Token → Result Rule FaultKind
+rule_of silent control [] = Err MissingField
+rule_of silent control (t ∷ ts) = Ok (record { silent = silent; control = control; path = t.text; args = map (λ a. a.text) ts })
+
+-- a control and what follows it
+abbrev pub with_control : Bool → Result (List Action) ControlFault → List Token → Result Content FaultKind
+with_control silent (Ok control) tokens = result_map Line (rule_of silent control tokens)
+with_control silent (Err fault) tokens = Err fault.kind
+
+-- what follows the type: `include` or `substack` with a file, or a control with a module
+abbrev pub behind_type : Bool → List Token → Result Content FaultKind
+behind_type silent [] = Err MissingField
+behind_type silent (t ∷ ts) =
+    if is_word (codes "include") t then result_map Include (file_field ts)
+    else if is_word (codes "substack") t then result_map Substack (file_field ts)
+    else with_control silent (control_of t.bracketed t.text) ts
+
+-- an entry in this line, for one type or for all
+abbrev pub entry_at : ℕ → Option RuleType → Result Content FaultKind → Result Entry FaultKind
+entry_at line rule_type content = result_map (λ c. record { line = line; rule_type = rule_type; content = c }) content
+
+-- a rule with this type field
+abbrev pub with_type : ℕ → Option TypeField → List Token → Result Entry FaultKind
+with_type line None tokens = Err BadType
+with_type line (Some field) tokens = entry_at line (Some field.rule_type) (behind_type field.silent tokens)
+
+-- what a rule of these tokens says; `@include`, Debian's addition, stands in files of the folder's form alone
+abbrev pub entry_of_tokens : ℕ → Bool → List Token → Result Entry FaultKind
+entry_of_tokens line in_folder [] = Err MissingField
+entry_of_tokens line true (t ∷ ts) = if is_word (codes "@include") t then entry_at line None (result_map Include (file_field ts)) else with_type line (type_field_of t) ts
+entry_of_tokens line false (t ∷ ts) = with_type line (type_field_of t) ts
+
+-- what a rule says, in a file of the folder's form or in pam.conf behind its service
+unfoldable pub entry_of : Bool → RawRule → Result Entry FaultKind
+entry_of in_folder rule = entry_of_tokens rule.line in_folder rule.tokens

@@ -1,0 +1,9 @@
+pub mod RuleType
+pub mod Entry
+pub mod Files
+pub mod Tree
+pub mod Order
+pub mod FirstFault
+pub mod Names
+pub mod Answers
+pub mod Checking

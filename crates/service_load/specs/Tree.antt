@@ -1,0 +1,42 @@
+-- The stack of a service for a type (pam.conf(5), pam.d(5)): a recursion on the files, without counts, limits or reads.
+use Rattle.std.specs.Prelude.{ℕ, zero, suc, Bool, true, List, [], ◌∷◌, Option, Some, None, codes, ◌==◌, if◌then◌else◌}
+use Rattle.control_words.specs.Stack.{Stack, none, line, sub, joined, count}
+use Rattle.service_load.specs.declared.entry.Content.{Content}
+use Rattle.service_load.specs.declared.entry.Content.TheVariants.{Line, Include, Substack}
+use Rattle.service_load.specs.declared.entry.Entry.{Entry}
+use Rattle.service_load.specs.declared.rule_file.RuleFile.{RuleFile}
+use Rattle.service_load.specs.declared.rule_type.RuleType.{RuleType}
+use Rattle.service_load.specs.Files.{plain_file, service_file, held, rules_held, entries_of, is_in_folder}
+use Rattle.service_load.specs.RuleType.{same_type}
+
+-- whether an entry serves a type
+abbrev pub serves : RuleType → Option RuleType → Bool
+serves type None = true
+serves type (Some own) = same_type type own
+
+-- what an entry brings, where `deeper` gives the nodes of a file: a line, the nodes of a file, or a substack of them
+abbrev pub content_nodes : (List ℕ → Stack) → Content → Stack
+content_nodes deeper (Line rule) = line rule none
+content_nodes deeper (Include file) = deeper file
+content_nodes deeper (Substack file) = sub (deeper file) none
+
+abbrev pub entry_nodes : (List ℕ → Stack) → RuleType → Entry → Stack
+entry_nodes deeper type entry = if serves type entry.rule_type then content_nodes deeper entry.content else none
+
+-- what some entries bring, in order
+abbrev pub nodes_of : (List ℕ → Stack) → RuleType → List Entry → Stack
+nodes_of deeper type [] = none
+nodes_of deeper type (e ∷ es) = joined (entry_nodes deeper type e) (nodes_of deeper type es)
+
+module _ (texts : List ℕ → Option (List ℕ)) where
+  -- the nodes of a file for a type, where so many levels of files may open: none above the last
+  unfoldable pub nodes : ℕ → RuleType → RuleFile → Stack
+  nodes zero type file = none
+  nodes (suc levels) type file = nodes_of (λ name. nodes levels type (plain_file name)) type (entries_of (is_in_folder file) (rules_held (held texts file)))
+
+  -- the tree of a service for a type: the service's nodes, at level 0 of 16, or those of `other` where it has none
+  abbrev pub tree_of : Stack → Stack → Stack
+  tree_of own other = if count own == 0 then other else own
+
+  abbrev pub tree : Bool → List ℕ → RuleType → Stack
+  tree is_folder service type = tree_of (nodes 17 type (service_file is_folder service)) (nodes 17 type (service_file is_folder (codes "other")))

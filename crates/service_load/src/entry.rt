@@ -1,0 +1,147 @@
+ghost use Rattle.std.specs.Prelude.{◌≡◌, IfOk, map};
+ghost use Rattle.service_load.specs.Answers.{Answers};
+ghost use Rattle.service_load.specs.Entry.{entry_of_tokens, behind_type, file_field, rule_of, named_file};
+ghost use Rattle.service_load.specs.Tree.{serves};
+
+use crate::names::joined;
+use crate::rule_type::RuleType;
+use crate::type_field::{TypeField, is_word};
+use conf_lex::Token;
+use control_words::{Control, Rule, control_of};
+use pam_base::{FaultKind, NoMemory, Refuse, Sequence, Text, Texts};
+use std::alloc::Global;
+
+/// What a rule brings to a stack.
+#[derive(Debug, Drop)]
+pub(crate) enum Content {
+    /// A line of its own.
+    Line(Rule),
+    /// The nodes of the file with this name.
+    Include(Text),
+    /// The nodes of the file with this name, as a substack.
+    Substack(Text),
+}
+
+/// A rule as it is understood.
+#[derive(Debug, Drop)]
+pub(crate) struct Entry {
+    /// The number of its first physical line, from 1.
+    pub(crate) line: u32,
+    /// Its type; None where it serves all four, as `@include` does.
+    pub(crate) rule_type: Option<RuleType>,
+    pub(crate) content: Content,
+}
+
+/// What the rules of a file say, in order.
+pub(crate) type Entries = Sequence<Entry>;
+
+impl Entry {
+    /// What the tokens of a rule in this line say, in a file of the folder or, behind its service, in
+    /// `pam.conf(5)`; or what is wrong with the first field that isn't as it should be.
+    pub(crate) fn of(
+        alloc: Global,
+        line: u32,
+        in_folder: bool,
+        tokens: &[Token],
+    ) -> Result<Entry, Refuse<FaultKind>>
+        ensures { Answers result (entry_of_tokens line in_folder tokens.now) }
+    {
+        let [first, rest @ ..] = tokens else {
+            return Err(Refuse::Named(FaultKind::MissingField));
+        };
+        if in_folder && is_word(b"@include", first) {
+            let name = file_field(alloc, rest)?;
+            return Ok(Entry {
+                line,
+                rule_type: None,
+                content: Content::Include(name),
+            });
+        }
+        match TypeField::of(first) {
+            Some(field) => Ok(Entry {
+                line,
+                rule_type: Some(field.rule_type),
+                content: content_of(alloc, field.silent, rest)?,
+            }),
+            None => Err(Refuse::Named(FaultKind::BadType)),
+        }
+    }
+
+    /// Whether it says something of the stack of this type.
+    pub(crate) fn serves(&self, rule_type: RuleType) -> bool
+        ensures { result ≡ serves rule_type self.now.rule_type }
+    {
+        match self.rule_type {
+            Some(own) => own == rule_type,
+            None => true,
+        }
+    }
+}
+
+// What follows the type.
+fn content_of(alloc: Global, silent: bool, tokens: &[Token]) -> Result<Content, Refuse<FaultKind>>
+    ensures { Answers result (behind_type silent tokens.now) }
+{
+    let [first, rest @ ..] = tokens else {
+        return Err(Refuse::Named(FaultKind::MissingField));
+    };
+    if is_word(b"include", first) {
+        return Ok(Content::Include(file_field(alloc, rest)?));
+    }
+    if is_word(b"substack", first) {
+        return Ok(Content::Substack(file_field(alloc, rest)?));
+    }
+    match control_of(first) {
+        Ok(control) => Ok(Content::Line(rule_of(alloc, silent, control, rest)?)),
+        Err(fault) => Err(Refuse::Named(fault.kind)),
+    }
+}
+
+// The name of a file.
+fn file_field(alloc: Global, tokens: &[Token]) -> Result<Text, Refuse<FaultKind>>
+    ensures { Answers result (file_field tokens.now) }
+{
+    match tokens {
+        [] => Err(Refuse::Named(FaultKind::MissingField)),
+        [name, ..] => Ok(named_file(alloc, name.text.bytes())?),
+    }
+}
+
+fn named_file(alloc: Global, name: &[u8]) -> Result<Text, NoMemory>
+    ensures { IfOk result (λ file. file ≡ named_file name.now) }
+{
+    match name {
+        [b'/', ..] => Text::from_bytes(alloc, name),
+        _ => joined(alloc, b"/etc/pam.d/", name),
+    }
+}
+
+// The module's path and its arguments.
+fn rule_of(
+    alloc: Global,
+    silent: bool,
+    control: Control,
+    tokens: &[Token],
+) -> Result<Rule, Refuse<FaultKind>>
+    ensures { Answers result (rule_of silent control tokens.now) }
+{
+    let [path, args @ ..] = tokens else {
+        return Err(Refuse::Named(FaultKind::MissingField));
+    };
+    Ok(Rule {
+        silent,
+        control,
+        path: Text::from_bytes(alloc, path.text.bytes())?,
+        args: texts_of(alloc, args)?,
+    })
+}
+
+fn texts_of(alloc: Global, tokens: &[Token]) -> Result<Texts, NoMemory>
+    ensures { IfOk result (λ texts. texts ≡ map (λ t. t.text) tokens.now) }
+{
+    let mut texts = Texts::new(alloc);
+    for token in tokens {
+        texts.push(Text::from_bytes(alloc, token.text.bytes())?)?;
+    }
+    Ok(texts)
+}

@@ -1,0 +1,16 @@
+//! The configuration of a service: its files under `/etc/pam.d` or its lines of `pam.conf(5)`, with the files
+//! that they include, come to four stacks, or to the first fault.
+#![tactic(auto)]
+
+mod entry;
+mod file_rules;
+mod load_fault;
+mod names;
+mod rule_file;
+mod rule_type;
+mod trees;
+mod type_field;
+
+pub use load_fault::LoadFault;
+pub use rule_type::RuleType;
+pub use trees::Trees;

@@ -1,0 +1,45 @@
+ghost use Rattle.std.specs.Prelude.{◌≡◌, IfOk};
+ghost use Rattle.service_load.specs.Files.{service_file, is_in_folder};
+
+use crate::names::{joined, lowercase};
+use pam_base::{NoMemory, Text};
+use std::alloc::Global;
+
+/// A file of rules.
+#[derive(Debug, Drop)]
+pub(crate) struct RuleFile {
+    /// Its name, without the root that it lies under.
+    pub(crate) name: Text,
+    /// Where it has the form of `pam.conf(5)`, whose rules begin with their service, the service meant.
+    pub(crate) service: Option<Text>,
+}
+
+impl RuleFile {
+    /// The file of a service: one in `/etc/pam.d` where that is a folder, else `/etc/pam.conf`.
+    pub(crate) fn of_service(
+        alloc: Global,
+        is_folder: bool,
+        service: &[u8],
+    ) -> Result<RuleFile, NoMemory>
+        ensures { IfOk result (λ file. file ≡ service_file is_folder service.now) }
+    {
+        let service = lowercase(alloc, service)?;
+        if is_folder {
+            return Ok(RuleFile {
+                name: joined(alloc, b"/etc/pam.d/", service.bytes())?,
+                service: None,
+            });
+        }
+        Ok(RuleFile {
+            name: Text::from_bytes(alloc, b"/etc/pam.conf")?,
+            service: Some(service),
+        })
+    }
+
+    /// Whether it has the form of the files in `/etc/pam.d`.
+    pub(crate) fn is_in_folder(&self) -> bool
+        ensures { result ≡ is_in_folder self.now }
+    {
+        self.service.is_none()
+    }
+}

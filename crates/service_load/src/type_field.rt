@@ -1,0 +1,63 @@
+ghost use Rattle.std.specs.Prelude.{◌≡◌};
+ghost use Rattle.service_load.specs.RuleType.{is_word, type_field_of, type_field_of_word, type_of_word};
+
+use crate::rule_type::RuleType;
+use conf_lex::Token;
+
+/// The type field of a rule (`pam.conf(5)`).
+#[derive(Clone, Copy, Debug, PartialEq, Eq)]
+pub(crate) struct TypeField {
+    /// Whether a missing module is passed over in silence (a `-` before the type).
+    pub(crate) silent: bool,
+    pub(crate) rule_type: RuleType,
+}
+
+impl TypeField {
+    /// The type field that a token is, in any case; None exactly for every other token. It has no brackets.
+    pub(crate) fn of(token: &Token) -> Option<TypeField>
+        ensures { result ≡ type_field_of token.now }
+    {
+        if token.bracketed {
+            return None;
+        }
+        type_field_in(token.text.bytes())
+    }
+}
+
+/// Whether a token is this word, in any case and without brackets.
+pub(crate) fn is_word(word: &[u8], token: &Token) -> bool
+    ensures { result ≡ is_word word.now token.now }
+{
+    !token.bracketed && token.text.bytes().eq_ignore_ascii_case(word)
+}
+
+fn type_field_in(word: &[u8]) -> Option<TypeField>
+    ensures { result ≡ type_field_of_word word.now }
+{
+    match word {
+        [b'-', name @ ..] => Some(TypeField {
+            silent: true,
+            rule_type: type_named(name)?,
+        }),
+        _ => Some(TypeField {
+            silent: false,
+            rule_type: type_named(word)?,
+        }),
+    }
+}
+
+fn type_named(word: &[u8]) -> Option<RuleType>
+    ensures { result ≡ type_of_word word.now }
+{
+    if word.eq_ignore_ascii_case(b"auth") {
+        Some(RuleType::Auth)
+    } else if word.eq_ignore_ascii_case(b"account") {
+        Some(RuleType::Account)
+    } else if word.eq_ignore_ascii_case(b"password") {
+        Some(RuleType::Password)
+    } else if word.eq_ignore_ascii_case(b"session") {
+        Some(RuleType::Session)
+    } else {
+        None
+    }
+}
