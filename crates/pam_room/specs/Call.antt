@@ -12,6 +12,10 @@ pub record PlainCall : Type 0 where
 abbrev pub has_flag : ℕ → ℕ → Bool
 has_flag flags flag = nat_lt 0 (bit_and flags flag)
 
+-- PAM_PRELIM_CHECK, the flag of the first pass of a change of token (pam_chauthtok(3))
+abbrev pub prelim_check : ℕ
+prelim_check = 0x4000
+
 -- what stands behind a key at the front of an argument
 abbrev pub value_in : List ℕ → List ℕ → Option (List ℕ)
 value_in key arg = if starts_with nat_eq arg key then Some (drop (length key) arg) else None

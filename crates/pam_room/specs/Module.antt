@@ -51,6 +51,10 @@ pub record Played : Type 0 where
   pub files : List File
   pub calls : ℕ
 
+-- an answer that sets no data and leaves the files
+abbrev pub answered : Code → SeenRoom → Sight → Played
+answered code room sight = record { code = code; room = room; births = []; files = sight.files; calls = 0 }
+
 -- a module's calls, where all that it is lent tells
 abbrev pub Plays : Type 0
 Plays = PlainCall → SeenRoom → List NamedData → Sight → Played

@@ -46,6 +46,12 @@ Says (Ok replies) spoken new = (spoken.answer ≡ Ok replies) × (new ≡ spoken
 Says (Err (refusals.Named e)) spoken new = (is_ok spoken.answer ≡ false) × (new ≡ spoken.room)
 Says (Err refusals.NoMemory) spoken new = Unit {0}
 
+-- the same for one message
+abbrev pub Sends : Result Reply (Refuse ConvErr) → Spoken → SeenRoom → Type 0
+Sends (Ok reply) spoken new = (spoken.answer ≡ Ok (reply ∷ [])) × (new ≡ spoken.room)
+Sends (Err (refusals.Named e)) spoken new = (is_ok spoken.answer ≡ false) × (new ≡ spoken.room)
+Sends (Err refusals.NoMemory) spoken new = Unit {0}
+
 -- the counts of a conversation, and whether the transaction is put off
 pub record Signs : Type 0 where
   pub faults : ℕ

@@ -1,17 +1,17 @@
 ghost use Rattle.std.specs.Prelude.{◌≡◌, ◌≢◌, ◌≤◌, ◌⊎◌, ◌++◌, ◌∷◌, [], false, Some, None, Ok, IsOk, IsTrue, IfOk, OnOk, OnErr, length};
-ghost use Rattle.std.specs.Option.{option_copied};
 ghost use Rattle.item_store.specs.Items.{text_of, with_text};
 ghost use Rattle.item_store.specs.Access.{is_refused};
 ghost use Rattle.pam_room.specs.State.{room_of};
 ghost use Rattle.pam_room.specs.Module.{seen_of};
 ghost use Rattle.pam_room.specs.Say.{Asks, Shows, signs, ask_item, login_prompt, token_asked, token_of, user_asked};
 ghost use Rattle.pam_room.specs.Plain.{plain_transaction};
-ghost use Rattle.item_store.specs.declared.access.Access.TheVariants.{ModuleGets, ModuleSets};
+ghost use Rattle.item_store.specs.declared.access.Access.TheVariants.{ModuleSets};
 
 use crate::bytes::first_bytes;
-use crate::saying::say;
+use crate::item::{get_item, set_item};
+use crate::saying::send;
 use crate::transaction::Transaction;
-use conv_port::{Conv, Message, Messages};
+use conv_port::Conv;
 use item_store::Items;
 use pam_base::{ConvErr, ItemName, NoMemory, Refuse, Style, Text};
 use std::alloc::Global;
@@ -38,7 +38,7 @@ pub fn get_user(
         ⊎ (transaction.new.said ≡ transaction.old.said ++ record { style = Style.EchoOn; text = login_prompt transaction.old.items.user_prompt } ∷ []) }
     ensures others { transaction.new ≡ record transaction.old { items = transaction.new.items; said = transaction.new.said; put_off = transaction.new.put_off } }
 {
-    if module_text(&transaction.items, ItemName::User).is_some() {
+    if get_item(&transaction.items, ItemName::User).is_some() {
         return Ok(());
     }
     let prompt = prompt_for_login(alloc, &transaction.items)?;
@@ -109,46 +109,16 @@ fn ask(
         ⊎ (transaction.new.said ≡ transaction.old.said ++ record { style = style; text = prompt } ∷ []) }
     ensures others { transaction.new ≡ record transaction.old { items = transaction.new.items; said = transaction.new.said; put_off = transaction.new.put_off } }
 {
-    let mut messages = Messages::new(alloc);
-    messages.push(Message {
-        style,
-        text: prompt,
-    })?;
-    let replies = say(alloc, transaction, conv, &messages)?;
-    let reply = replies.at(0);
-    set_text(&mut transaction.items, item, reply.text.bytes())?;
+    let reply = send(alloc, transaction, conv, style, prompt)?;
+    set_item(&mut transaction.items, item, reply.text.bytes())?;
     Ok(())
-}
-
-// The text of an item that a module may read.
-fn module_text(items: &Items, item: ItemName) -> Option<&[u8]>
-    requires { is_refused ModuleGets item ≡ false }
-    ensures { option_copied result ≡ text_of items.now item }
-{
-    match items.get_mod(item) {
-        Ok(text) => text,
-        Err(_) => unreachable!(),
-    }
-}
-
-// Sets an item that a module may set.
-fn set_text(items: &mut Items, item: ItemName, text: &[u8]) -> Result<(), NoMemory>
-    requires { is_refused ModuleSets item ≡ false }
-    ensures ok { OnOk result (items.new ≡ with_text items.old item (Some text.now)) }
-    ensures err { OnErr result (items.new ≡ items.old) }
-{
-    match items.set_mod(item, Some(text)) {
-        Ok(()) => Ok(()),
-        Err(Refuse::NoMemory) => Err(NoMemory),
-        Err(Refuse::Named(_)) => unreachable!(),
-    }
 }
 
 // A copy of the prompt for a user's name.
 fn prompt_for_login(alloc: Global, items: &Items) -> Result<Text, NoMemory>
     ensures { IfOk result (λ prompt. prompt ≡ login_prompt items.now.user_prompt) }
 {
-    match module_text(items, ItemName::UserPrompt) {
+    match get_item(items, ItemName::UserPrompt) {
         Some(prompt) => Text::from_bytes(alloc, first_bytes(prompt, 512)),
         None => Text::from_bytes(alloc, b"login: "),
     }

@@ -6,6 +6,7 @@ mod ask;
 mod bytes;
 mod call;
 mod flags;
+mod item;
 mod laws;
 mod module;
 mod note;
@@ -22,6 +23,7 @@ pub use ask::{ask_token, get_user};
 pub use bytes::first_bytes;
 pub use call::{Call, value_in};
 pub use flags::PRELIM_CHECK;
+pub use item::{get_item, set_item};
 pub use laws::{
     nothing_is_set, parts_are_played, set_data_are_sets, setting_goes_on, staying_is_transitive,
 };
@@ -29,7 +31,7 @@ pub use module::Module;
 pub use note::spend_by_length;
 pub use process::Process;
 pub use room::{Room, RoomTold};
-pub use saying::say;
+pub use saying::{say, send};
 pub use serve::{StackLine, serve_line};
 pub use sweep::{DATA_REPLACE, end_data};
 pub use transaction::Transaction;

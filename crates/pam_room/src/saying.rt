@@ -1,13 +1,13 @@
-ghost use Rattle.std.specs.Prelude.{◌≡◌, ◌≢◌, ◌⊎◌, ◌++◌, Err, IsTrue, IfOk, OnOk, OnErr, length};
-ghost use Rattle.conv_port.specs.Message.{AreReplies, IsExchange};
+ghost use Rattle.std.specs.Prelude.{◌≡◌, ◌≢◌, ◌≤◌, ◌⊎◌, ◌++◌, ◌∷◌, [], Err, IsTrue, IfOk, OnOk, OnErr, length};
+ghost use Rattle.conv_port.specs.Message.{AreReplies, IsExchange, IsReply};
 ghost use Rattle.pam_room.specs.State.{room_of};
 ghost use Rattle.pam_room.specs.Module.{seen_of};
-ghost use Rattle.pam_room.specs.Say.{Says, Shows, signs, speak};
+ghost use Rattle.pam_room.specs.Say.{Says, Sends, Shows, signs, speak};
 ghost use Rattle.pam_room.specs.Plain.{plain_transaction};
 
 use crate::transaction::Transaction;
-use conv_port::{Conv, ConvFault, Message, Messages, Replies, talk_with};
-use pam_base::{ConvErr, NoMemory, Refuse, Text};
+use conv_port::{Conv, ConvFault, Message, Messages, Replies, Reply, talk_with};
+use pam_base::{ConvErr, NoMemory, Refuse, Style, Text};
 use std::alloc::Global;
 use std::mem;
 
@@ -44,6 +44,32 @@ pub fn say(
             Err(Refuse::Named(ConvErr))
         }
     }
+}
+
+/// Hands one message of at most 512 bytes to the user, as `say` does, and gives its reply.
+pub fn send(
+    alloc: Global,
+    transaction: &mut Transaction,
+    conv: &mut dyn Conv,
+    style: Style,
+    text: Text,
+) -> Result<Reply, Refuse<ConvErr>>
+    requires { length text ≤ 512 }
+    ensures tells { conv_tells conv.new ≡ conv_tells conv.old }
+    ensures told { IsTrue (conv_tells conv.old) →
+        Sends result (speak (record { style = style; text = text } ∷ []) (seen_of (room_of (plain_transaction transaction.old) (conv_holds conv.old))))
+        (seen_of (room_of (plain_transaction transaction.new) (conv_holds conv.new))) }
+    ensures shows { Shows result (signs (conv_faults conv.old) (conv_deferrals conv.old) transaction.old.put_off) (signs (conv_faults conv.new) (conv_deferrals conv.new) transaction.new.put_off) }
+    ensures reply { IfOk result (λ reply. IsReply (record { style = style; text = text }) reply) }
+    ensures said { result ≢ Err Refuse.NoMemory → transaction.new.said ≡ transaction.old.said ++ record { style = style; text = text } ∷ [] }
+    ensures all_or_none { (transaction.new.said ≡ transaction.old.said)
+        ⊎ (transaction.new.said ≡ transaction.old.said ++ record { style = style; text = text } ∷ []) }
+    ensures others { transaction.new ≡ record transaction.old { said = transaction.new.said; put_off = transaction.new.put_off } }
+{
+    let mut messages = Messages::new(alloc);
+    messages.push(Message { style, text })?;
+    let replies = say(alloc, transaction, conv, &messages)?;
+    Ok(replies.into_vec().pop().unwrap())
 }
 
 fn copies_of(alloc: Global, messages: &Messages) -> Result<Vec<Message>, NoMemory>
