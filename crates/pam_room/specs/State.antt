@@ -1,6 +1,6 @@
 -- Transactions and what they share as plain records, with what their objects tell (this project's own).
-use Rattle.std.specs.Prelude.{ℕ, Bool, List}
-use Rattle.item_store.specs.Items.{ItemTexts}
+use Rattle.std.specs.Prelude.{ℕ, Bool, false, List, []}
+use Rattle.item_store.specs.Items.{ItemTexts, no_texts}
 use Rattle.env_list.specs.Environment.{Variable}
 use Rattle.conv_port.specs.Conv.{ConvState}
 use Rattle.conv_port.specs.declared.message.Message.{Message}
@@ -21,6 +21,20 @@ pub record PlainTransaction : Type 0 where
   pub handle : ℕ
   pub serving : ℕ
   pub put_off : Bool
+
+-- one in which nothing is set, said or visited
+abbrev pub new_transaction : ℕ → PlainTransaction
+new_transaction handle = record {
+  items = no_texts;
+  env = [];
+  datums = record { handle = handle; live = []; gone = [] };
+  delay = 0;
+  said = [];
+  trail = [];
+  handle = handle;
+  serving = 0;
+  put_off = false;
+}
 
 -- a transaction, and what its conversation tells
 pub record PlainRoom : Type 0 where

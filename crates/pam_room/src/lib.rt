@@ -5,6 +5,7 @@
 mod ask;
 mod bytes;
 mod call;
+mod end;
 mod flags;
 mod item;
 mod laws;
@@ -22,6 +23,7 @@ mod world;
 pub use ask::{ask_token, get_user};
 pub use bytes::first_bytes;
 pub use call::{Call, value_in};
+pub use end::end_room;
 pub use flags::PRELIM_CHECK;
 pub use item::{get_item, set_item};
 pub use laws::{
@@ -33,7 +35,7 @@ pub use process::Process;
 pub use room::{Room, RoomTold};
 pub use saying::{say, send};
 pub use serve::{StackLine, serve_line};
-pub use sweep::{DATA_REPLACE, end_data};
+pub use sweep::DATA_REPLACE;
 pub use transaction::Transaction;
 pub use visits::{Visit, Visits};
 pub use world::{World, WorldTold};

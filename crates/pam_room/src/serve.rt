@@ -1,4 +1,4 @@
-ghost use Rattle.std.specs.Prelude.{◌≡◌, ◌<◌, ◌≤◌, ◌^◌, ◌+◌, ◌++◌, ◌∷◌, [], ℕ, length, map, slice_get, Some, IfOk, IfSome, OnErr, IsTrue, ◌&&◌};
+ghost use Rattle.std.specs.Prelude.{◌≡◌, ◌<◌, ◌≤◌, ◌^◌, ◌+◌, ◌++◌, ◌∷◌, [], ℕ, length, map, slice_get, Some, None, Ok, IfOk, IfSome, OnErr, IsTrue, ◌&&◌};
 ghost use Rattle.data_cleanup.specs.Grows.{Grows};
 ghost use Rattle.data_cleanup.specs.Sets.{Sets};
 ghost use Rattle.pam_room.specs.State.{scene_in, state_of};
@@ -53,6 +53,8 @@ pub fn serve_line(
         IfOk result (λ code. AnswersAs (serve_line (map (player_of label plays note) mods.now) line.module_number line.place line.path (plain_call call.now)
         (state_of (⟦<Room as RoomTold>⟧.plain room.old) (⟦<World as WorldTold>⟧.plain world.old)))
         code (state_of (⟦<Room as RoomTold>⟧.plain room.new) (⟦<World as WorldTold>⟧.plain world.new))) }
+    ensures unknown { line.module_number ≡ None → (result ≡ Ok Code.ModuleUnknown) × (world.new ≡ world.old) × (room.new.conv ≡ room.old.conv)
+        × (room.new.transaction ≡ record room.old.transaction { trail = room.new.transaction.trail }) }
     ensures visited { IfOk result (λ code. room.new.transaction.trail.visits ≡ room.old.transaction.trail.visits ++ record { place = line.place; path = line.path; answer = code } ∷ []) }
     ensures not_visited { OnErr result (room.new.transaction.trail.visits ≡ room.old.transaction.trail.visits) }
     ensures spare { room.old.transaction.trail.spare ≤ room.new.transaction.trail.spare + 1 }

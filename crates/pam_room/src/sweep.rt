@@ -11,9 +11,9 @@ use data_cleanup::{
 /// PAM_DATA_REPLACE, the status of a datum that was replaced (`pam_set_data(3)`).
 pub const DATA_REPLACE: u32 = 0x2000_0000;
 
-/// Has the owner of each datum that was replaced clean it up, the oldest first, and files the receipts. It takes
-/// no memory.
-pub fn sweep(mods: &[Box<dyn Module>], datums: &mut DataList, ledger: &mut Ledger)
+// Has the owner of each datum that was replaced clean it up, the oldest first, and files the receipts. It takes
+// no memory.
+pub(crate) fn sweep(mods: &[Box<dyn Module>], datums: &mut DataList, ledger: &mut Ledger)
     requires { AwaitCleanup (length mods.now) ledger.old (datums.old.gone ++ datums.old.live) }
     ensures datums { datums.new ≡ swept_list datums.old }
     ensures ledger { ledger.new ≡ swept_ledger (notes_of (map (player_of label plays note) mods.now)) datums.old ledger.old }
@@ -29,9 +29,9 @@ pub fn sweep(mods: &[Box<dyn Module>], datums: &mut DataList, ledger: &mut Ledge
     }
 }
 
-/// Ends a transaction's data: has the owner of each clean it up with this status, the last name first, and files
-/// the receipts (`pam_end(3)`). It takes no memory.
-pub fn end_data(mods: &[Box<dyn Module>], datums: DataList, ledger: &mut Ledger, status: u32)
+// Has the owner of each datum clean it up with this status, the last name first, and files the receipts. It takes
+// no memory.
+pub(crate) fn end_data(mods: &[Box<dyn Module>], datums: DataList, ledger: &mut Ledger, status: u32)
     requires none_gone { datums.gone ≡ [] }
     requires awaiting { AwaitCleanup (length mods.now) ledger.old datums.live }
     ensures { ledger.new ≡ ledger_after (notes_of (map (player_of label plays note) mods.now)) status (reverse datums.live) ledger.old }

@@ -30,6 +30,26 @@ pub struct Transaction {
 }
 
 impl Transaction {
+    ghost use Rattle.pam_room.specs.Plain.{plain_transaction};
+    ghost use Rattle.pam_room.specs.State.{new_transaction};
+
+    /// A transaction of this number in which nothing is set, said or visited. It takes no memory.
+    pub fn new(alloc: Global, handle: u32) -> Self
+        ensures { plain_transaction result ≡ new_transaction handle }
+    {
+        Transaction {
+            items: Items::new(alloc),
+            env: EnvList::new(alloc),
+            datums: DataList::new(alloc, handle),
+            delay: Delay::new(),
+            said: Messages::new(alloc),
+            trail: Visits::new(alloc),
+            handle,
+            serving: 0,
+            put_off: false,
+        }
+    }
+
     /// Sets a datum of the module at work (`pam_set_data(3)`), as `DataList::set` does. Without memory all stays as
     /// it was.
     pub fn set_data(
