@@ -1,0 +1,27 @@
+-- pam_debug(8): it answers what its arguments say. That it says nothing and asks for no user is this project's own.
+use Rattle.std.specs.Prelude.{ℕ, Bool, if◌then◌else◌, Option, Some, None, List, codes}
+use Rattle.std.specs.Option.{unwrap_or}
+use Rattle.pam_base.specs.Code.{code_of_word}
+use Rattle.pam_base.specs.declared.code.Code.{Code}
+use Rattle.pam_base.specs.declared.code.Code.TheVariants.{Success}
+use Rattle.pam_base.specs.declared.call.Func.{Func}
+use Rattle.pam_base.specs.declared.call.Func.TheVariants.{Authenticate, SetCred, AcctMgmt, OpenSession, CloseSession, ChAuthTok}
+use Rattle.pam_room.specs.Call.{has_flag, prelim_check, value_among}
+use Rattle.pam_room.specs.Module.{Plays, answered}
+
+-- the argument of a function; the two passes of chauthtok have one each
+abbrev pub debug_key : Func → Bool → List ℕ
+debug_key Authenticate first = codes "auth="
+debug_key SetCred first = codes "cred="
+debug_key AcctMgmt first = codes "acct="
+debug_key OpenSession first = codes "open_session="
+debug_key CloseSession first = codes "close_session="
+debug_key ChAuthTok first = if first then codes "prechauthtok=" else codes "chauthtok="
+
+-- the code of a word; SUCCESS where there is no word, or it is no code's
+abbrev pub code_or_success : Option (List ℕ) → Code
+code_or_success None = Success
+code_or_success (Some word) = unwrap_or (code_of_word word) Success
+
+abbrev pub debug_plays : Plays
+debug_plays call room held sight = answered (code_or_success (value_among (debug_key call.func (has_flag call.flags prelim_check)) call.args)) room sight

@@ -1,0 +1,136 @@
+ghost use Rattle.std.specs.Prelude.{◌≡◌, ◌≢◌, ◌≤◌, ◌++◌, Err, List, IsTrue, OnOk, OnErr, codes};
+ghost use Rattle.conv_port.specs.declared.message.Message.{Message};
+ghost use Rattle.pam_room.specs.State.{room_of};
+ghost use Rattle.pam_room.specs.Module.{HasSet, seen_of};
+ghost use Rattle.pam_room.specs.Plain.{plain_transaction};
+ghost use Rattle.mod_basic.specs.Request.{plain_request};
+ghost use Rattle.mod_basic.specs.Probe.{Probes, SetsFor, code_in, fixed_answer, probe_note, probe_plays};
+
+use crate::request::{Request, request_in};
+use conv_port::Conv;
+use data_cleanup::{Datum, Ledger, Receipt};
+use pam_base::{Code, ConvErr, NoMemory, Refuse, Text, Texts, code_named};
+use pam_outside::{Clock, Vault};
+use pam_room::{
+    Call, Module, Process, Transaction, nothing_is_set, parts_are_played, send, set_data_are_sets,
+    setting_goes_on, value_in,
+};
+use std::alloc::Global;
+
+/// pam_probe, this project's own, with which a stack is tried out. It does what its arguments ask for, in order:
+/// `set=NAME:PAYLOAD` sets a datum, `say=TEXT` shows a text, `ask=TEXT` asks and drops the reply, `delay=MICROSECONDS`
+/// requests a delay; where a message gets no reply it answers CONV_ERR at once. Else it answers the last
+/// `answer=WORD` whose word is a code's, or SUCCESS. Its note is 256 times the payload's length, and the status
+/// modulo 256, modulo 2^32.
+#[derive(Drop)]
+pub struct Probe;
+
+impl Module for Probe {
+    ghost label = { λ _. codes "pam_probe" };
+
+    ghost plays = { λ _. probe_plays };
+
+    ghost note = { λ _. probe_note };
+
+    fn name(&self) -> &[u8] {
+        b"pam_probe"
+    }
+
+    fn serve(
+        &self,
+        alloc: Global,
+        call: &Call,
+        transaction: &mut Transaction,
+        process: &mut Process,
+        conv: &mut dyn Conv,
+        _vault: &mut dyn Vault,
+        _clock: &mut dyn Clock,
+    ) -> Result<Code, NoMemory> {
+        nothing_is_set();
+        setting_goes_on();
+        set_data_are_sets();
+        parts_are_played();
+        for arg in call.args.items() {
+            let request = request_in(arg.bytes());
+            let done = do_request(alloc, request, transaction, &mut process.ledger, conv);
+            match done {
+                Ok(()) => {}
+                Err(Refuse::NoMemory) => return Err(NoMemory),
+                Err(Refuse::Named(ConvErr)) => return Ok(Code::ConvErr),
+            }
+        }
+        Ok(fixed_answer(call.args))
+    }
+
+    fn tidy(&self, datum: Datum, status: u32) -> Receipt {
+        let note = note_of(datum.payload(), status);
+        datum.spend(status, note)
+    }
+}
+
+// Does what one argument asks for.
+fn do_request(
+    alloc: Global,
+    request: Request,
+    transaction: &mut Transaction,
+    ledger: &mut Ledger,
+    conv: &mut dyn Conv,
+) -> Result<(), Refuse<ConvErr>>
+    ensures tells { conv_tells conv.new ≡ conv_tells conv.old }
+    ensures told { IsTrue (conv_tells conv.old) →
+        Probes result (plain_request request) (seen_of (room_of (plain_transaction transaction.old) (conv_holds conv.old)))
+        (seen_of (room_of (plain_transaction transaction.new) (conv_holds conv.new))) }
+    ensures sets { SetsFor result (plain_request request) transaction.old.serving transaction.old.datums ledger.old transaction.new.datums ledger.new }
+    ensures delay { transaction.old.delay ≤ transaction.new.delay }
+    ensures said { (more : List Message) × (transaction.new.said ≡ transaction.old.said ++ more) }
+    ensures others { transaction.new ≡ record transaction.old {
+      datums = transaction.new.datums;
+      delay = transaction.new.delay;
+      said = transaction.new.said;
+      put_off = transaction.new.put_off;
+    } }
+{
+    nothing_is_set();
+    match request {
+        Request::SetData { name, payload } => {
+            transaction.set_data(alloc, ledger, name, payload)?;
+        }
+        Request::Send { style, text } => {
+            let text = Text::from_bytes(alloc, text)?;
+            let _reply = send(alloc, transaction, conv, style, text)?;
+        }
+        Request::Delay { micros } => transaction.delay.request(micros),
+        Request::Nothing => {}
+    }
+    Ok(())
+}
+
+// The code of the last argument that fixes the answer.
+fn fixed_answer(args: &Texts) -> Code
+    ensures { result ≡ fixed_answer args.now }
+{
+    let mut found = None;
+    let mut rest = args.items();
+    while let [arg, after @ ..] = rest {
+        if let Some(code) = code_in(arg.bytes()) {
+            found = Some(code);
+        }
+        rest = after;
+    }
+    found.unwrap_or(Code::Success)
+}
+
+fn code_in(arg: &[u8]) -> Option<Code>
+    ensures { result ≡ code_in arg.now }
+{
+    match value_in(b"answer=", arg) {
+        Some(word) => code_named(word),
+        None => None,
+    }
+}
+
+fn note_of(payload: &[u8], status: u32) -> u32
+    ensures { result ≡ probe_note payload.now status }
+{
+    (payload.len() % 0x100_0000) as u32 * 256 + status % 256
+}

@@ -1,0 +1,6 @@
+mod Telling
+mod Notes
+mod Serving
+mod Prompts
+mod Setting
+mod Parts

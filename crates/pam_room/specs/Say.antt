@@ -1,0 +1,131 @@
+-- A module speaks with the user (pam_conv(3), pam_get_user(3); the prompts, and that a conversation may put a
+-- transaction off, are this project's own).
+use Rattle.std.specs.Prelude.{◌≡◌, ◌⊎◌, ℕ, Bool, true, false, Option, Some, None, List, [], ◌∷◌, ◌++◌, Result, Ok, Err, is_ok, take, codes}
+use Rattle.pam_base.specs.declared.fault.Refuse.{Refuse}
+use Rattle.pam_base.specs.declared.fault.Refuse.TheVariants as refusals
+use Rattle.pam_base.specs.declared.fault.ConvErr.{ConvErr}
+use Rattle.pam_base.specs.declared.item.ItemName.{ItemName}
+use Rattle.pam_base.specs.declared.item.ItemName.TheVariants.{User, AuthTok, OldAuthTok}
+use Rattle.pam_base.specs.declared.style.Style.{Style}
+use Rattle.pam_base.specs.declared.style.Style.TheVariants.{EchoOff, EchoOn}
+use Rattle.item_store.specs.Items.{with_text}
+use Rattle.pam_base.specs.Counts.{Rose}
+use Rattle.conv_port.specs.Conv.{answer_to, state_after}
+use Rattle.conv_port.specs.declared.conv.ConvFault.{ConvFault}
+use Rattle.conv_port.specs.declared.conv.ConvFault.TheVariants as faults
+use Rattle.conv_port.specs.declared.message.Message.{Message}
+use Rattle.conv_port.specs.declared.message.Reply.{Reply}
+use Rattle.pam_room.specs.Module.{SeenRoom}
+
+-- what the conversation answered, and the room after it
+pub record Spoken : Type 0 where
+  pub answer : Result (List Reply) ConvFault
+  pub room : SeenRoom
+
+-- whether the conversation asked to be called again later, or the transaction was put off before
+abbrev pub is_put_off : Result (List Reply) ConvFault → Bool → Bool
+is_put_off (Err faults.Again) before = true
+is_put_off (Err faults.Gone) before = before
+is_put_off (Err faults.NoMemory) before = before
+is_put_off (Ok replies) before = before
+
+-- messages are added to what was said, and then handed to the conversation
+abbrev pub speak : List Message → SeenRoom → Spoken
+speak messages room = record {
+  answer = answer_to room.conv messages;
+  room = record room {
+    said = room.said ++ messages;
+    conv = state_after room.conv messages;
+    put_off = is_put_off (answer_to room.conv messages) room.put_off;
+  };
+}
+
+-- the answer of `say`, where the conversation tells; without memory nothing is said of it
+abbrev pub Says : Result (List Reply) (Refuse ConvErr) → Spoken → SeenRoom → Type 0
+Says (Ok replies) spoken new = (spoken.answer ≡ Ok replies) × (new ≡ spoken.room)
+Says (Err (refusals.Named e)) spoken new = (is_ok spoken.answer ≡ false) × (new ≡ spoken.room)
+Says (Err refusals.NoMemory) spoken new = Unit {0}
+
+-- the same for one message
+abbrev pub Sends : Result Reply (Refuse ConvErr) → Spoken → SeenRoom → Type 0
+Sends (Ok reply) spoken new = (spoken.answer ≡ Ok (reply ∷ [])) × (new ≡ spoken.room)
+Sends (Err (refusals.Named e)) spoken new = (is_ok spoken.answer ≡ false) × (new ≡ spoken.room)
+Sends (Err refusals.NoMemory) spoken new = Unit {0}
+
+-- the counts of a conversation, and whether the transaction is put off
+pub record Signs : Type 0 where
+  pub faults : ℕ
+  pub deferrals : ℕ
+  pub put_off : Bool
+
+abbrev pub signs : ℕ → ℕ → Bool → Signs
+signs faults deferrals put_off = record { faults = faults; deferrals = deferrals; put_off = put_off }
+
+-- the conversation failed for good
+pub record Failed (old new : Signs) : Type 0 where
+  pub faults : Rose old.faults new.faults
+  pub deferrals : new.deferrals ≡ old.deferrals
+  pub put_off : new.put_off ≡ old.put_off
+
+-- it asked to be called again later
+pub record Deferred (old new : Signs) : Type 0 where
+  pub faults : new.faults ≡ old.faults
+  pub deferrals : Rose old.deferrals new.deferrals
+  pub put_off : new.put_off ≡ true
+
+-- In any world: CONV_ERR comes exactly where the conversation failed or deferred, and nothing else counts.
+abbrev pub Shows : {T : Type 0} → Result T (Refuse ConvErr) → Signs → Signs → Type 0
+Shows (Ok v) old new = new ≡ old
+Shows (Err refusals.NoMemory) old new = new ≡ old
+Shows (Err (refusals.Named e)) old new = Failed old new ⊎ Deferred old new
+
+-- ---- one prompt, whose reply becomes an item
+
+-- whether it ended by CONV_ERR, and the room after it
+pub record Asked : Type 0 where
+  pub refused : Bool
+  pub room : SeenRoom
+
+abbrev pub asked : Bool → SeenRoom → Asked
+asked refused room = record { refused = refused; room = room }
+
+abbrev pub with_reply : ItemName → List Reply → SeenRoom → SeenRoom
+with_reply item (reply ∷ replies) room = record room { items = with_text room.items item (Some reply.text) }
+with_reply item [] room = room
+
+abbrev pub asked_by : ItemName → Result (List Reply) ConvFault → SeenRoom → Asked
+asked_by item (Ok replies) room = asked false (with_reply item replies room)
+asked_by item (Err fault) room = asked true room
+
+-- one message is sent, and an item set to its reply
+abbrev pub ask_item : ItemName → Style → List ℕ → SeenRoom → Asked
+ask_item item style prompt room =
+    let spoken = speak (record { style = style; text = prompt } ∷ []) room in
+    asked_by item spoken.answer spoken.room
+
+-- the prompt for a user's name: USER_PROMPT, of which 512 bytes count, or the usual one
+abbrev pub login_prompt : Option (List ℕ) → List ℕ
+login_prompt (Some prompt) = take 512 prompt
+login_prompt None = codes "login: "
+
+abbrev pub user_or_ask : Option (List ℕ) → SeenRoom → Asked
+user_or_ask (Some user) room = asked false room
+user_or_ask None room = ask_item User EchoOn (login_prompt room.items.user_prompt) room
+
+-- pam_get_user(3): a user who is set is asked for nothing
+abbrev pub user_asked : SeenRoom → Asked
+user_asked room = user_or_ask room.items.user room
+
+abbrev pub token_of : Bool → ItemName
+token_of true = OldAuthTok
+token_of false = AuthTok
+
+-- a token is asked for, hidden, and set
+abbrev pub token_asked : Bool → List ℕ → SeenRoom → Asked
+token_asked old prompt room = ask_item (token_of old) EchoOff prompt room
+
+-- the answer of such a call, where the conversation tells; without memory nothing is said of it
+abbrev pub Asks : {T : Type 0} → Result T (Refuse ConvErr) → Asked → SeenRoom → Type 0
+Asks (Ok v) a new = (a.refused ≡ false) × (new ≡ a.room)
+Asks (Err (refusals.Named e)) a new = (a.refused ≡ true) × (new ≡ a.room)
+Asks (Err refusals.NoMemory) a new = Unit {0}

@@ -1,0 +1,69 @@
+-- How a line of a stack is served (pam.conf(5), Linux-PAM Module Writers' Guide; that a line may be put off, and
+-- when what was replaced is cleaned up, is this project's own).
+use Rattle.std.specs.Prelude.{◌≡◌, ℕ, Bool, true, false, if◌then◌else◌, Option, Some, None, List, [], ◌∷◌, ◌++◌, slice_get}
+use Rattle.pam_base.specs.declared.code.Code.{Code}
+use Rattle.pam_base.specs.declared.code.Code.TheVariants.{ModuleUnknown, Incomplete}
+use Rattle.data_cleanup.specs.Cleanup.{Notes, swept_list, swept_ledger}
+use Rattle.pam_room.specs.State.{State, scene_in, with_scene}
+use Rattle.pam_room.specs.Call.{PlainCall}
+use Rattle.pam_room.specs.Module.{Player, played_in, with_played, notes_of}
+
+-- an answer, and the state after it
+pub record Answered : Type 0 where
+  pub answer : Code
+  pub state : State
+
+-- before a module serves: its number is at work, and nothing is put off
+abbrev pub at_work : ℕ → State → State
+at_work number s = record s { room = record s.room { transaction = record s.room.transaction { put_off = false; serving = number } } }
+
+-- each datum that was replaced is cleaned up by its owner
+abbrev pub swept : Notes → State → State
+swept note s = record {
+  room = record s.room { transaction = record s.room.transaction { datums = swept_list s.room.transaction.datums } };
+  world = record s.world { process = record s.world.process { ledger = swept_ledger note s.room.transaction.datums s.world.process.ledger } };
+}
+
+-- where a module's conversation put the transaction off, its answer doesn't count
+abbrev pub answer_or_incomplete : Bool → Code → Code
+answer_or_incomplete put_off code = if put_off then Incomplete else code
+
+-- a player serves a call: it plays, and what it replaced is cleaned up
+abbrev pub played_by : List Player → Player → PlainCall → State → Answered
+played_by players player call s =
+    let p = played_in player.plays call (scene_in s) in
+    record { answer = answer_or_incomplete p.room.put_off p.code; state = swept (notes_of players) (with_scene (with_played p (scene_in s)) s) }
+
+-- a line whose module isn't there is answered MODULE_UNKNOWN, and changes nothing
+abbrev pub unknown : State → Answered
+unknown s = record { answer = ModuleUnknown; state = s }
+
+abbrev pub served_by : List Player → Option Player → ℕ → PlainCall → State → Answered
+served_by players (Some player) number call s = played_by players player call (at_work number s)
+served_by players None number call s = unknown s
+
+-- the module with this number serves a call, if there is one
+abbrev pub served : List Player → Option ℕ → PlainCall → State → Answered
+served players (Some number) call s = served_by players (slice_get players number) number call s
+served players None call s = unknown s
+
+-- a visit is added to the trail
+abbrev pub visited : ℕ → List ℕ → Answered → Answered
+visited place path a = record a {
+  state = record a.state {
+    room = record a.state.room {
+      transaction = record a.state.room.transaction {
+        trail = a.state.room.transaction.trail ++ record { place = place; path = path; answer = a.answer } ∷ [];
+      };
+    };
+  };
+}
+
+-- the line at a place, with this path, is served by the module with this number, if there is one
+abbrev pub serve_line : List Player → Option ℕ → ℕ → List ℕ → PlainCall → State → Answered
+serve_line players number place path call s = visited place path (served players number call s)
+
+-- a code and a state are those of an answer
+pub record AnswersAs (a : Answered) (code : Code) (state : State) : Type 0 where
+  pub answer_is : code ≡ a.answer
+  pub state_is : state ≡ a.state

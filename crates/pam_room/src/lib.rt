@@ -1,0 +1,41 @@
+//! What a module is lent when it serves, what it may do with it, and one served line: a transaction's room, the
+//! world that all transactions share, the interface of modules, and the cleanup of what they replace.
+#![tactic(auto)]
+
+mod ask;
+mod bytes;
+mod call;
+mod end;
+mod flags;
+mod item;
+mod laws;
+mod module;
+mod note;
+mod process;
+mod room;
+mod saying;
+mod serve;
+mod sweep;
+mod transaction;
+mod visits;
+mod world;
+
+pub use ask::{ask_token, get_user};
+pub use bytes::first_bytes;
+pub use call::{Call, value_in};
+pub use end::end_room;
+pub use flags::PRELIM_CHECK;
+pub use item::{get_item, set_item};
+pub use laws::{
+    nothing_is_set, parts_are_played, set_data_are_sets, setting_goes_on, staying_is_transitive,
+};
+pub use module::Module;
+pub use note::spend_by_length;
+pub use process::Process;
+pub use room::{Room, RoomTold};
+pub use saying::{say, send};
+pub use serve::{StackLine, serve_line};
+pub use sweep::DATA_REPLACE;
+pub use transaction::Transaction;
+pub use visits::{Visit, Visits};
+pub use world::{World, WorldTold};

@@ -1,0 +1,98 @@
+ghost use Rattle.std.specs.Prelude.{◌≡◌, ◌≢◌, ◌≤◌, ◌⊎◌, ◌++◌, ◌∷◌, [], Err, IsTrue, IfOk, OnOk, OnErr, length};
+ghost use Rattle.conv_port.specs.Message.{AreReplies, IsExchange, IsReply};
+ghost use Rattle.pam_room.specs.State.{room_of};
+ghost use Rattle.pam_room.specs.Module.{seen_of};
+ghost use Rattle.pam_room.specs.Say.{Says, Sends, Shows, signs, speak};
+ghost use Rattle.pam_room.specs.Plain.{plain_transaction};
+
+use crate::transaction::Transaction;
+use conv_port::{Conv, ConvFault, Message, Messages, Replies, Reply, talk_with};
+use pam_base::{ConvErr, NoMemory, Refuse, Style, Text};
+use std::alloc::Global;
+use std::mem;
+
+/// Hands messages to the user (`pam_conv(3)`), and gives one reply of at most 512 bytes for each, an empty one for a
+/// message that is no prompt. They are added to what was said first, all or none.
+///
+/// ConvErr comes exactly where the conversation answered Gone or Again in this call, and Again alone puts the
+/// transaction off. Without memory either nothing was said, or all of it and the conversation is as it was.
+pub fn say(
+    alloc: Global,
+    transaction: &mut Transaction,
+    conv: &mut dyn Conv,
+    messages: &Messages,
+) -> Result<Replies, Refuse<ConvErr>>
+    requires { IsExchange messages.now }
+    ensures tells { conv_tells conv.new ≡ conv_tells conv.old }
+    ensures told { IsTrue (conv_tells conv.old) →
+        Says result (speak messages.now (seen_of (room_of (plain_transaction transaction.old) (conv_holds conv.old))))
+        (seen_of (room_of (plain_transaction transaction.new) (conv_holds conv.new))) }
+    ensures shows { Shows result (signs (conv_faults conv.old) (conv_deferrals conv.old) transaction.old.put_off) (signs (conv_faults conv.new) (conv_deferrals conv.new) transaction.new.put_off) }
+    ensures replies { IfOk result (λ replies. AreReplies messages.now replies) }
+    ensures said { result ≢ Err Refuse.NoMemory → transaction.new.said ≡ transaction.old.said ++ messages.now }
+    ensures all_or_none { (transaction.new.said ≡ transaction.old.said) ⊎ (transaction.new.said ≡ transaction.old.said ++ messages.now) }
+    ensures others { transaction.new ≡ record transaction.old { said = transaction.new.said; put_off = transaction.new.put_off } }
+{
+    let copies = copies_of(alloc, messages)?;
+    append(alloc, &mut transaction.said, copies)?;
+    match talk_with(conv, alloc, messages) {
+        Ok(replies) => Ok(replies),
+        Err(ConvFault::NoMemory) => Err(Refuse::NoMemory),
+        Err(ConvFault::Gone) => Err(Refuse::Named(ConvErr)),
+        Err(ConvFault::Again) => {
+            transaction.put_off = true;
+            Err(Refuse::Named(ConvErr))
+        }
+    }
+}
+
+/// Hands one message of at most 512 bytes to the user, as `say` does, and gives its reply.
+pub fn send(
+    alloc: Global,
+    transaction: &mut Transaction,
+    conv: &mut dyn Conv,
+    style: Style,
+    text: Text,
+) -> Result<Reply, Refuse<ConvErr>>
+    requires { length text ≤ 512 }
+    ensures tells { conv_tells conv.new ≡ conv_tells conv.old }
+    ensures told { IsTrue (conv_tells conv.old) →
+        Sends result (speak (record { style = style; text = text } ∷ []) (seen_of (room_of (plain_transaction transaction.old) (conv_holds conv.old))))
+        (seen_of (room_of (plain_transaction transaction.new) (conv_holds conv.new))) }
+    ensures shows { Shows result (signs (conv_faults conv.old) (conv_deferrals conv.old) transaction.old.put_off) (signs (conv_faults conv.new) (conv_deferrals conv.new) transaction.new.put_off) }
+    ensures reply { IfOk result (λ reply. IsReply (record { style = style; text = text }) reply) }
+    ensures said { result ≢ Err Refuse.NoMemory → transaction.new.said ≡ transaction.old.said ++ record { style = style; text = text } ∷ [] }
+    ensures all_or_none { (transaction.new.said ≡ transaction.old.said)
+        ⊎ (transaction.new.said ≡ transaction.old.said ++ record { style = style; text = text } ∷ []) }
+    ensures others { transaction.new ≡ record transaction.old { said = transaction.new.said; put_off = transaction.new.put_off } }
+{
+    let mut messages = Messages::new(alloc);
+    messages.push(Message { style, text })?;
+    let replies = say(alloc, transaction, conv, &messages)?;
+    Ok(replies.into_vec().pop().unwrap())
+}
+
+fn copies_of(alloc: Global, messages: &Messages) -> Result<Vec<Message>, NoMemory>
+    ensures { IfOk result (λ copies. copies.items ≡ messages.now) }
+{
+    let mut copies = Vec::new(alloc);
+    for message in messages.items() {
+        copies.push(Message {
+            style: message.style,
+            text: Text::from_bytes(alloc, message.text.bytes())?,
+        })?;
+    }
+    Ok(copies)
+}
+
+// Adds messages at the end, all or none.
+fn append(alloc: Global, said: &mut Messages, mut more: Vec<Message>) -> Result<(), NoMemory>
+    ensures ok { OnOk result (said.new ≡ said.old ++ more.items) }
+    ensures err { OnErr result (said.new ≡ said.old) }
+{
+    let mut all = mem::replace(said, Messages::new(alloc)).into_vec();
+    let appended = all.append(&mut more);
+    *said = Messages::from_vec(all);
+    appended?;
+    Ok(())
+}

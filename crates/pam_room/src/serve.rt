@@ -1,0 +1,158 @@
+ghost use Rattle.std.specs.Prelude.{◌≡◌, ◌<◌, ◌≤◌, ◌^◌, ◌+◌, ◌++◌, ◌∷◌, [], ℕ, length, map, slice_get, Some, None, Ok, IfOk, IfSome, OnErr, IsTrue, ◌&&◌};
+ghost use Rattle.data_cleanup.specs.Grows.{Grows};
+ghost use Rattle.data_cleanup.specs.Sets.{Sets};
+ghost use Rattle.pam_room.specs.State.{scene_in, state_of};
+ghost use Rattle.pam_room.specs.Stays.{Stays, IsReady};
+ghost use Rattle.pam_room.specs.Module.{PlaysIn, notes_of, player_of};
+ghost use Rattle.pam_room.specs.Serve.{AnswersAs, answer_or_incomplete, serve_line, served};
+ghost use Rattle.pam_room.specs.Plain.{plain_call, plain_transaction, plain_process};
+
+use crate::call::Call;
+use crate::module::Module;
+use crate::room::{Room, RoomTold};
+use crate::sweep::sweep;
+use crate::visits::Visit;
+use crate::world::{World, WorldTold};
+use data_cleanup::{nothing_grows, set_data_await_cleanup, swept_setting_grows};
+use pam_base::{Code, NoMemory, Text};
+use std::alloc::Global;
+
+/// A line of a stack, as it is visited.
+#[derive(Debug, Drop)]
+pub struct StackLine {
+    /// Its place among the stack's lines, from 1.
+    pub place: u32,
+    /// The path of its module.
+    pub path: Text,
+    /// The number of its module, from 0; None where it isn't there.
+    pub module_number: Option<u32>,
+}
+
+/// Serves one line of a stack: its module serves the call, each datum that it replaced is cleaned up by its owner
+/// with `DATA_REPLACE`, and the visit is added to the trail. A line whose module isn't there is answered
+/// MODULE_UNKNOWN and changes nothing else. Where the module's conversation asked to be called again later, the
+/// answer is INCOMPLETE, whatever the module made of it.
+///
+/// With spare room in the trail it takes no memory of its own. Without memory of the module's nothing is visited,
+/// but what was replaced is cleaned up too.
+pub fn serve_line(
+    alloc: Global,
+    mods: &[Box<dyn Module>],
+    line: StackLine,
+    call: &Call,
+    room: &mut Room,
+    world: &mut World,
+) -> Result<Code, NoMemory>
+    requires there { IfSome line.module_number (λ number. number < length mods.now) }
+    requires few { length mods.now < 2 ^ 32 }
+    requires spare { 0 < room.old.transaction.trail.spare }
+    requires ready { IsReady (length mods.now) (plain_transaction room.old.transaction) (plain_process world.old.process) }
+    ensures room_tells { ⟦<Room as RoomTold>⟧.tells room.new ≡ ⟦<Room as RoomTold>⟧.tells room.old }
+    ensures world_tells { ⟦<World as WorldTold>⟧.tells world.new ≡ ⟦<World as WorldTold>⟧.tells world.old }
+    ensures told { IsTrue (⟦<Room as RoomTold>⟧.tells room.old && ⟦<World as WorldTold>⟧.tells world.old) →
+        IfOk result (λ code. AnswersAs (serve_line (map (player_of label plays note) mods.now) line.module_number line.place line.path (plain_call call.now)
+        (state_of (⟦<Room as RoomTold>⟧.plain room.old) (⟦<World as WorldTold>⟧.plain world.old)))
+        code (state_of (⟦<Room as RoomTold>⟧.plain room.new) (⟦<World as WorldTold>⟧.plain world.new))) }
+    ensures unknown { line.module_number ≡ None → (result ≡ Ok Code.ModuleUnknown) × (world.new ≡ world.old) × (room.new.conv ≡ room.old.conv)
+        × (room.new.transaction ≡ record room.old.transaction { trail = room.new.transaction.trail }) }
+    ensures visited { IfOk result (λ code. room.new.transaction.trail.visits ≡ room.old.transaction.trail.visits ++ record { place = line.place; path = line.path; answer = code } ∷ []) }
+    ensures not_visited { OnErr result (room.new.transaction.trail.visits ≡ room.old.transaction.trail.visits) }
+    ensures spare { room.old.transaction.trail.spare ≤ room.new.transaction.trail.spare + 1 }
+    ensures stays { Stays (plain_transaction room.old.transaction) (plain_transaction room.new.transaction) (plain_process world.old.process) (plain_process world.new.process) }
+    ensures grows { Grows (notes_of (map (player_of label plays note) mods.now)) (length mods.now)
+        room.old.transaction.datums world.old.process.ledger room.new.transaction.datums world.new.process.ledger }
+    ensures ready { IsReady (length mods.now) (plain_transaction room.new.transaction) (plain_process world.new.process) }
+{
+    nothing_grows();
+    let answer = match line.module_number {
+        None => Code::ModuleUnknown,
+        Some(number) => serve_by(alloc, mods, number, call, room, world)?,
+    };
+    let visit = Visit {
+        place: line.place,
+        path: line.path,
+        answer,
+    };
+    room.transaction.trail.push(visit).unwrap();
+    Ok(answer)
+}
+
+// The module with this number serves, and what it replaced is cleaned up.
+fn serve_by(
+    alloc: Global,
+    mods: &[Box<dyn Module>],
+    number: u32,
+    call: &Call,
+    room: &mut Room,
+    world: &mut World,
+) -> Result<Code, NoMemory>
+    requires there { number < length mods.now }
+    requires ready { IsReady (length mods.now) (plain_transaction room.old.transaction) (plain_process world.old.process) }
+    ensures room_tells { ⟦<Room as RoomTold>⟧.tells room.new ≡ ⟦<Room as RoomTold>⟧.tells room.old }
+    ensures world_tells { ⟦<World as WorldTold>⟧.tells world.new ≡ ⟦<World as WorldTold>⟧.tells world.old }
+    ensures told { IsTrue (⟦<Room as RoomTold>⟧.tells room.old && ⟦<World as WorldTold>⟧.tells world.old) →
+        IfOk result (λ code. AnswersAs (served (map (player_of label plays note) mods.now) (Some number) (plain_call call.now)
+        (state_of (⟦<Room as RoomTold>⟧.plain room.old) (⟦<World as WorldTold>⟧.plain world.old)))
+        code (state_of (⟦<Room as RoomTold>⟧.plain room.new) (⟦<World as WorldTold>⟧.plain world.new))) }
+    ensures trail { room.new.transaction.trail.visits ≡ room.old.transaction.trail.visits }
+    ensures spare { room.old.transaction.trail.spare ≤ room.new.transaction.trail.spare }
+    ensures stays { Stays (plain_transaction room.old.transaction) (plain_transaction room.new.transaction) (plain_process world.old.process) (plain_process world.new.process) }
+    ensures grows { Grows (notes_of (map (player_of label plays note) mods.now)) (length mods.now)
+        room.old.transaction.datums world.old.process.ledger room.new.transaction.datums world.new.process.ledger }
+    ensures ready { IsReady (length mods.now) (plain_transaction room.new.transaction) (plain_process world.new.process) }
+{
+    room.transaction.put_off = false;
+    room.transaction.serving = number;
+    world.process.ledger.sound();
+    let answer = play(&mods[number as usize], alloc, call, room, world);
+    world.process.ledger.sound();
+    set_data_await_cleanup();
+    swept_setting_grows();
+    sweep(
+        mods,
+        &mut room.transaction.datums,
+        &mut world.process.ledger,
+    );
+    let code = answer?;
+    Ok(unless_put_off(room.transaction.put_off, code))
+}
+
+// What a served line answers, by what its module did.
+fn unless_put_off(put_off: bool, code: Code) -> Code
+    ensures { result ≡ answer_or_incomplete put_off code }
+{
+    if put_off { Code::Incomplete } else { code }
+}
+
+// A module serves, on the parts of room and world.
+fn play(
+    handler: &Box<dyn Module>,
+    alloc: Global,
+    call: &Call,
+    room: &mut Room,
+    world: &mut World,
+) -> Result<Code, NoMemory>
+    requires { room.old.transaction.datums.handle ≡ room.old.transaction.handle }
+    ensures room_tells { ⟦<Room as RoomTold>⟧.tells room.new ≡ ⟦<Room as RoomTold>⟧.tells room.old }
+    ensures world_tells { ⟦<World as WorldTold>⟧.tells world.new ≡ ⟦<World as WorldTold>⟧.tells world.old }
+    ensures told { IsTrue (⟦<Room as RoomTold>⟧.tells room.old && ⟦<World as WorldTold>⟧.lent_tells world.old) →
+        IfOk result (λ code. PlaysIn (plays handler.now) (plain_call call.now)
+        (scene_in (state_of (⟦<Room as RoomTold>⟧.plain room.old) (⟦<World as WorldTold>⟧.plain world.old))) code
+        (scene_in (state_of (⟦<Room as RoomTold>⟧.plain room.new) (⟦<World as WorldTold>⟧.plain world.new)))) }
+    ensures nap { (⟦<World as WorldTold>⟧.plain world.new).nap ≡ (⟦<World as WorldTold>⟧.plain world.old).nap }
+    ensures stays { Stays (plain_transaction room.old.transaction) (plain_transaction room.new.transaction) (plain_process world.old.process) (plain_process world.new.process) }
+    ensures serving { room.new.transaction.serving ≡ room.old.transaction.serving }
+    ensures trail { room.new.transaction.trail.visits ≡ room.old.transaction.trail.visits }
+    ensures spare { room.old.transaction.trail.spare ≤ room.new.transaction.trail.spare }
+    ensures sets { Sets room.old.transaction.serving room.old.transaction.datums world.old.process.ledger room.new.transaction.datums world.new.process.ledger }
+{
+    handler.serve(
+        alloc,
+        call,
+        &mut room.transaction,
+        &mut world.process,
+        &mut *room.conv,
+        &mut *world.vault,
+        &mut *world.clock,
+    )
+}

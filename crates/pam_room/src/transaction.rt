@@ -1,0 +1,70 @@
+ghost use Rattle.std.specs.Prelude.{◌≡◌, [], ◌∷◌, OnOk, OnErr};
+ghost use Rattle.pam_room.specs.Module.{HasSet};
+
+use crate::visits::Visits;
+use conv_port::Messages;
+use data_cleanup::{DataList, Ledger};
+use env_list::EnvList;
+use fail_delay::Delay;
+use item_store::Items;
+use pam_base::NoMemory;
+use std::alloc::Global;
+
+/// A transaction (`pam_start(3)`), but for its conversation. It holds data, so it can't be dropped.
+pub struct Transaction {
+    pub items: Items,
+    pub env: EnvList,
+    pub datums: DataList,
+    /// The longest delay requested since it was last forgotten.
+    pub delay: Delay,
+    /// The messages that were handed to the conversation.
+    pub said: Messages,
+    /// The lines that were visited.
+    pub trail: Visits,
+    /// Its number.
+    pub handle: u32,
+    /// The number of the module at work.
+    pub serving: u32,
+    /// Whether the conversation asked the module at work to come again later.
+    pub put_off: bool,
+}
+
+impl Transaction {
+    ghost use Rattle.pam_room.specs.Plain.{plain_transaction};
+    ghost use Rattle.pam_room.specs.State.{new_transaction};
+
+    /// A transaction of this number in which nothing is set, said or visited. It takes no memory.
+    pub fn new(alloc: Global, handle: u32) -> Self
+        ensures { plain_transaction result ≡ new_transaction handle }
+    {
+        Transaction {
+            items: Items::new(alloc),
+            env: EnvList::new(alloc),
+            datums: DataList::new(alloc, handle),
+            delay: Delay::new(),
+            said: Messages::new(alloc),
+            trail: Visits::new(alloc),
+            handle,
+            serving: 0,
+            put_off: false,
+        }
+    }
+
+    /// Sets a datum of the module at work (`pam_set_data(3)`), as `DataList::set` does. Without memory all stays as
+    /// it was.
+    pub fn set_data(
+        &mut self,
+        alloc: Global,
+        ledger: &mut Ledger,
+        name: &[u8],
+        payload: &[u8],
+    ) -> Result<(), NoMemory>
+        ensures ok { OnOk result (HasSet self.old.serving (record { name = name.now; payload = payload.now } ∷ [])
+            self.old.datums ledger.old self.new.datums ledger.new) }
+        ensures err { OnErr result ((self.new.datums ≡ self.old.datums) × (ledger.new ≡ ledger.old)) }
+        ensures others { self.new ≡ record self.old { datums = self.new.datums } }
+    {
+        self.datums
+            .set(alloc, ledger, self.serving, name, payload)
+    }
+}
