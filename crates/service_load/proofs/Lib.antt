@@ -1,3 +1,5 @@
 mod Rows
 pub mod Roots
 pub mod CheckingLemmas
+pub mod KindLemmas
+pub mod Opening
