@@ -1,5 +1,5 @@
 -- A stack: the lines of a service and its substacks, nested, in the order in which they are written.
-use Rattle.std.specs.Prelude.{ℕ, ◌+◌, List, [], ◌∷◌}
+use Rattle.std.specs.Prelude.{ℕ, ◌+◌, max, List, [], ◌∷◌}
 use Rattle.control_words.specs.declared.nodes.Rule.{Rule}
 use Rattle.control_words.specs.declared.nodes.Node.{Node, Line, Sub', Row_of-Node, end_of-Node, more_of-Node}
 
@@ -26,6 +26,12 @@ abbrev pub lines_in : Stack → ℕ
 lines_in none = 0
 lines_in (line rule rest) = lines_in rest + 1
 lines_in (sub inner rest) = lines_in inner + lines_in rest
+
+-- how deep substacks are nested in it
+abbrev pub depth : Stack → ℕ
+depth none = 0
+depth (line rule rest) = depth rest
+depth (sub inner rest) = max (depth inner + 1) (depth rest)
 
 abbrev mutual
   -- the stack with a node in front of it

@@ -3,3 +3,5 @@ pub mod Roots
 pub mod CheckingLemmas
 pub mod KindLemmas
 pub mod Opening
+pub mod Listing
+pub mod Expanding

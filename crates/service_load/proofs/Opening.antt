@@ -187,7 +187,8 @@ module _ (texts : List ℕ → Option (List ℕ)) (fails : List ℕ) (file : Rul
       some_by false (holds rules) es low few same failing in_it e =
           let checks = rules_some es rules (checked_entries (is_in_folder file) rules) refl (as_lex (entries_held (is_in_folder file) (holds rules)) (Some es) e) in
           (look_rules rules es low few failing in_it checks ∙ ap (λ (c : Counts). look texts fails c (entries_items texts level type file.name es)) (sym same),
-           nodes_are low ∙ rw (in_it, entries_are rules es checks) refl)
+           nodes_are low ∙ rw (in_it, entries_are rules es checks) refl,
+           rw in_it refl)
 
       pub opens_some : (es : List Entry) → level ≤ 16 → was.openings < 256 → is ≡ asked was → opened_answer (fails_next was.calls fails) file.name (entries_held (is_in_folder file) (held texts file)) ≡ Ok (Some es) → Opens texts (Ok (Some es)) fails was is level type opener file
       opens_some es low few same e = some_by (fails_next was.calls fails) (held texts file) es low few same refl refl e
@@ -211,7 +212,7 @@ module _ (texts : List ℕ → Option (List ℕ)) (fails : List ℕ) (file : Rul
 
       pub opens_none : level ≤ 16 → was.openings < 256 → is ≡ asked was → opened_answer (fails_next was.calls fails) file.name (entries_held (is_in_folder file) (held texts file)) ≡ Ok None → absent_file (asked was) opener ≡ Ok (asked was) → Opens texts (Ok None) fails was is level type opener file
       unfolding look
-      opens_none low few same e passes = (looked_absent low few e ∙ passes ∙ ap Ok (sym same), nodes_are low ∙ rw (is_not_there e).1 refl)
+      opens_none low few same e passes = (looked_absent low few e ∙ passes ∙ ap Ok (sym same), nodes_are low ∙ rw (is_not_there e).1 refl, rw (is_not_there e).1 refl)
 
       pub opens_absent : (r : Refuse LoadFault) (f : LoadFault) → level ≤ 16 → was.openings < 256 → is ≡ asked was → opened_answer (fails_next was.calls fails) file.name (entries_held (is_in_folder file) (held texts file)) ≡ Ok None → absent_file (asked was) opener ≡ Err (record { fault = f; calls = (asked was).calls }) → IsRefusal r f → Opens texts (Err r) fails was is level type opener file
       opens_absent r f low few same e stops refused = stopped r f refused (looked_absent low few e ∙ stops ∙ rw same refl)

@@ -5,21 +5,22 @@ use Rattle.pam_base.specs.declared.fault.Refuse.TheVariants.{NoMemory, Named}
 use Rattle.pam_base.specs.declared.fault.FaultKind.TheVariants.{TooManyLines, ReadFailed}
 use Rattle.pam_outside.specs.Files.{VaultState}
 use Rattle.conf_lex.specs.declared.token.LexFault.{LexFault}
-use Rattle.control_words.specs.Stack.{Stack, none, line, joined, lines_in}
+use Rattle.control_words.specs.Stack.{Stack, none, line, joined, lines_in, depth}
 use Rattle.control_words.specs.declared.nodes.Rule.{Rule}
 use Rattle.service_load.specs.declared.entry.Entry.{Entry}
 use Rattle.service_load.specs.declared.load_fault.LoadFault.{LoadFault}
 use Rattle.service_load.specs.declared.loader.Loader.{Loader}
 use Rattle.service_load.specs.declared.rule_file.RuleFile.{RuleFile}
 use Rattle.service_load.specs.declared.rule_type.RuleType.{RuleType}
-use Rattle.service_load.specs.Files.{plain_file}
+use Rattle.std.specs.Option.{is_none}
+use Rattle.service_load.specs.Files.{plain_file, held, is_absent}
 use Rattle.service_load.specs.FirstFault.{Counts, Stop, fault_at, look}
 use Rattle.service_load.specs.Kinds.{KindCounts}
 use Rattle.service_load.specs.Names.{texts_under}
 use Rattle.service_load.specs.declared.opener.Opener.{Opener as Because}
 use Rattle.service_load.specs.declared.opener.Opener.TheVariants as openers
 use Rattle.service_load.specs.Order.{Item, Opener, as_service, as_other, as_last, by_rule, items, items_of}
-use Rattle.service_load.specs.Tree.{depth, nodes, nodes_of}
+use Rattle.service_load.specs.Tree.{nodes, nodes_of}
 
 -- the texts of the files that a vault tells of, under a root
 abbrev pub texts_of : List ℕ → VaultState → List ℕ → Option (List ℕ)
@@ -98,6 +99,7 @@ module _ (texts : List ℕ → Option (List ℕ)) where
   Opens (Ok entries) fails was is level type opener file =
       (look texts fails was (items_at level type opener file) ≡ look texts fails is (left_items level type file entries))
       × (nodes_at level type file ≡ left_nodes level type entries)
+      × (is_absent (held texts file) ≡ is_none entries)
   Opens (Err (Named f)) fails was is level type opener file = look texts fails was (items_at level type opener file) ≡ Err (record { fault = f; calls = is.calls })
   Opens (Err NoMemory) fails was is level type opener file = Unit {0}
 

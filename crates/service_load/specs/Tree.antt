@@ -1,5 +1,5 @@
 -- The stack of a service for a type (pam.conf(5), pam.d(5)): a recursion on the files, without counts, limits or reads.
-use Rattle.std.specs.Prelude.{ℕ, zero, suc, ◌+◌, max, Bool, true, List, [], ◌∷◌, Option, Some, None, codes, ◌==◌, if◌then◌else◌}
+use Rattle.std.specs.Prelude.{ℕ, zero, suc, Bool, true, List, [], ◌∷◌, Option, Some, None, codes, ◌==◌, if◌then◌else◌}
 use Rattle.control_words.specs.Stack.{Stack, none, line, sub, joined, count}
 use Rattle.service_load.specs.declared.entry.Content.{Content}
 use Rattle.service_load.specs.declared.entry.Content.TheVariants.{Line, Include, Substack}
@@ -8,12 +8,6 @@ use Rattle.service_load.specs.declared.rule_file.RuleFile.{RuleFile}
 use Rattle.service_load.specs.declared.rule_type.RuleType.{RuleType}
 use Rattle.service_load.specs.Files.{plain_file, service_file, held, rules_held, entries_of, is_in_folder}
 use Rattle.service_load.specs.RuleType.{same_type}
-
--- how deep the substacks of a stack are nested
-abbrev pub depth : Stack → ℕ
-depth none = 0
-depth (line rule rest) = depth rest
-depth (sub inner rest) = max (depth inner + 1) (depth rest)
 
 -- whether an entry serves a type
 abbrev pub serves : RuleType → Option RuleType → Bool
