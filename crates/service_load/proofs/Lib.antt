@@ -1,3 +1,7 @@
 mod Rows
 pub mod Roots
 pub mod CheckingLemmas
+pub mod KindLemmas
+pub mod Opening
+pub mod Listing
+pub mod Expanding

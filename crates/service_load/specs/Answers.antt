@@ -24,3 +24,8 @@ abbrev pub AddsTo : {T A F : Type 0} → Result T (Refuse F) → List A → List
 AddsTo (Ok x) old new more = with_front old more ≡ Ok new
 AddsTo (Err (Named f)) old new more = more ≡ Err f
 AddsTo (Err NoMemory) old new more = Unit {0}
+
+-- this fault, unless memory ran out
+abbrev pub IsRefusal : {F : Type 0} → Refuse F → F → Type 0
+IsRefusal (Named f) fault = f ≡ fault
+IsRefusal NoMemory fault = Unit {0}

@@ -28,9 +28,12 @@ abbrev pub stop : Counts → List ℕ → ℕ → FaultKind → Result Counts St
 stop counts file line kind = Err (record { fault = fault_at file line kind; calls = counts.calls })
 
 -- the fault of an opening that isn't asked for stands at the including rule, or at the file itself
+abbrev pub opening_fault : List ℕ → Opener → FaultKind → LoadFault
+opening_fault file (by_rule name line) kind = fault_at name line kind
+opening_fault file opener kind = fault_at file 0 kind
+
 abbrev pub refused_opening : Counts → RuleFile → Opener → FaultKind → Result Counts Stop
-refused_opening counts file (by_rule name line) kind = stop counts name line kind
-refused_opening counts file opener kind = stop counts file.name 0 kind
+refused_opening counts file opener kind = Err (record { fault = opening_fault file.name opener kind; calls = counts.calls })
 
 -- an absent file: one that a rule includes, and `other` where the service isn't there either
 abbrev pub absent_file : Counts → Opener → Result Counts Stop

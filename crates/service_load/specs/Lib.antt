@@ -7,3 +7,5 @@ pub mod FirstFault
 pub mod Names
 pub mod Answers
 pub mod Checking
+pub mod Kinds
+pub mod Loading

@@ -1,6 +1,7 @@
-ghost use Rattle.std.specs.Prelude.{◌≡◌, IfOk, map};
+ghost use Rattle.std.specs.Prelude.{◌≡◌, IfOk, false, map};
 ghost use Rattle.service_load.specs.Answers.{Answers};
 ghost use Rattle.service_load.specs.Entry.{entry_of_tokens, behind_type, file_field, rule_of, named_file};
+ghost use Rattle.service_load.specs.Kinds.{IfNamed, is_read_failed};
 ghost use Rattle.service_load.specs.Tree.{serves};
 
 use crate::names::joined;
@@ -44,7 +45,8 @@ impl Entry {
         in_folder: bool,
         tokens: &[Token],
     ) -> Result<Entry, Refuse<FaultKind>>
-        ensures { Answers result (entry_of_tokens line in_folder tokens.now) }
+        ensures answer { Answers result (entry_of_tokens line in_folder tokens.now) }
+        ensures kinds { IfNamed result (λ kind. is_read_failed kind ≡ false) }
     {
         let [first, rest @ ..] = tokens else {
             return Err(Refuse::Named(FaultKind::MissingField));
@@ -80,7 +82,8 @@ impl Entry {
 
 // What follows the type.
 fn content_of(alloc: Global, silent: bool, tokens: &[Token]) -> Result<Content, Refuse<FaultKind>>
-    ensures { Answers result (behind_type silent tokens.now) }
+    ensures answer { Answers result (behind_type silent tokens.now) }
+    ensures kinds { IfNamed result (λ kind. is_read_failed kind ≡ false) }
 {
     let [first, rest @ ..] = tokens else {
         return Err(Refuse::Named(FaultKind::MissingField));
@@ -99,7 +102,8 @@ fn content_of(alloc: Global, silent: bool, tokens: &[Token]) -> Result<Content, 
 
 // The name of a file.
 fn file_field(alloc: Global, tokens: &[Token]) -> Result<Text, Refuse<FaultKind>>
-    ensures { Answers result (file_field tokens.now) }
+    ensures answer { Answers result (file_field tokens.now) }
+    ensures kinds { IfNamed result (λ kind. is_read_failed kind ≡ false) }
 {
     match tokens {
         [] => Err(Refuse::Named(FaultKind::MissingField)),
@@ -123,7 +127,8 @@ fn rule_of(
     control: Control,
     tokens: &[Token],
 ) -> Result<Rule, Refuse<FaultKind>>
-    ensures { Answers result (rule_of silent control tokens.now) }
+    ensures answer { Answers result (rule_of silent control tokens.now) }
+    ensures kinds { IfNamed result (λ kind. is_read_failed kind ≡ false) }
 {
     let [path, args @ ..] = tokens else {
         return Err(Refuse::Named(FaultKind::MissingField));

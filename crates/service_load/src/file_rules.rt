@@ -1,6 +1,7 @@
-ghost use Rattle.std.specs.Prelude.{◌≡◌, IfSome, option_map, option_copied};
+ghost use Rattle.std.specs.Prelude.{◌≡◌, false, option_copied};
 ghost use Rattle.service_load.specs.Answers.{Answers, AddsTo};
 ghost use Rattle.service_load.specs.Files.{own_rule, held_text, is_in_folder};
+ghost use Rattle.service_load.specs.Kinds.{IfNamed, is_read_failed};
 ghost use Rattle.service_load.specs.Checking.{checked_entries, entries_held, GivesFields};
 
 use crate::entry::{Entries, Entry};
@@ -17,7 +18,8 @@ pub(crate) fn entries_in(
     file: &RuleFile,
     text: &[u8],
 ) -> Result<Option<Entries>, Refuse<LexFault>>
-    ensures { Answers result (entries_held (is_in_folder file.now) (held_text file.now.service (Some text.now))) }
+    ensures answer { Answers result (entries_held (is_in_folder file.now) (held_text file.now.service (Some text.now))) }
+    ensures kinds { IfNamed result (λ fault. is_read_failed fault.kind ≡ false) }
 {
     let rules = rules(alloc, text)?;
     let mut entries = Entries::new(alloc);
@@ -37,8 +39,9 @@ fn add_rule(
     rule: &RawRule,
     entries: &mut Entries,
 ) -> Result<(), Refuse<LexFault>>
-    ensures { AddsTo result entries.old entries.new
+    ensures added { AddsTo result entries.old entries.new
         (checked_entries (is_in_folder file.now) (own_rule file.now.service rule.now)) }
+    ensures kinds { IfNamed result (λ fault. is_read_failed fault.kind ≡ false) }
 {
     let Some(fields) = fields_of(file, rule) else {
         return Ok(());

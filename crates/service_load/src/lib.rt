@@ -5,7 +5,10 @@
 mod entry;
 mod file_rules;
 mod load_fault;
+mod loader;
 mod names;
+mod opener;
+mod position;
 mod rule_file;
 mod rule_type;
 mod trees;

@@ -1,6 +1,6 @@
 ghost use Rattle.std.specs.Prelude.{◌≡◌, ◌++◌, ◌<◌, length, IfOk, IfSome, IfNone};
 ghost use Rattle.std.specs.Str.{str_to_ascii_lowercase};
-ghost use Rattle.service_load.specs.Names.{root_before};
+ghost use Rattle.service_load.specs.Names.{path_of, root_before};
 
 use pam_base::{NoMemory, Text};
 use std::alloc::Global;
@@ -22,8 +22,15 @@ pub(crate) fn lowercase(alloc: Global, word: &[u8]) -> Result<Text, NoMemory>
     Ok(Text::from_vec(text))
 }
 
-/// A root without the slashes at its end.
-pub(crate) fn root_before(root: &[u8]) -> &[u8]
+/// The path of the file with this name under a root.
+pub(crate) fn path_of(alloc: Global, root: &[u8], name: &[u8]) -> Result<Text, NoMemory>
+    ensures { IfOk result (λ path. path ≡ path_of root.now name.now) }
+{
+    joined(alloc, root_before(root), name)
+}
+
+// A root without the slashes at its end.
+fn root_before(root: &[u8]) -> &[u8]
     ensures { result.now ≡ root_before root.now }
 {
     let mut rest = root;

@@ -1,5 +1,5 @@
 ghost use Rattle.std.specs.Prelude.{◌≡◌, IfOk};
-ghost use Rattle.service_load.specs.Files.{service_file, is_in_folder};
+ghost use Rattle.service_load.specs.Files.{service_file, plain_file, is_in_folder};
 
 use crate::names::{joined, lowercase};
 use pam_base::{NoMemory, Text};
@@ -15,6 +15,16 @@ pub(crate) struct RuleFile {
 }
 
 impl RuleFile {
+    /// The file with this name, in the form of those in `/etc/pam.d`.
+    pub(crate) fn plain(name: Text) -> RuleFile
+        ensures { result ≡ plain_file name }
+    {
+        RuleFile {
+            name,
+            service: None,
+        }
+    }
+
     /// The file of a service: one in `/etc/pam.d` where that is a folder, else `/etc/pam.conf`.
     pub(crate) fn of_service(
         alloc: Global,

@@ -1,0 +1,117 @@
+-- What the parts of a load give (this project's own).
+use Rattle.std.specs.Prelude.{◌≡◌, ℕ, ◌+◌, ◌-◌, ◌≤◌, ◌<◌, Bool, true, false, List, [], Option, Some, None, Result, Ok, Err, OnOk}
+use Rattle.pam_base.specs.declared.fault.Refuse.{Refuse}
+use Rattle.pam_base.specs.declared.fault.Refuse.TheVariants.{NoMemory, Named}
+use Rattle.pam_base.specs.declared.fault.FaultKind.TheVariants.{TooManyLines, ReadFailed}
+use Rattle.pam_outside.specs.Files.{VaultState}
+use Rattle.conf_lex.specs.declared.token.LexFault.{LexFault}
+use Rattle.control_words.specs.Stack.{Stack, none, line, joined, lines_in, depth}
+use Rattle.control_words.specs.declared.nodes.Rule.{Rule}
+use Rattle.service_load.specs.declared.entry.Entry.{Entry}
+use Rattle.service_load.specs.declared.load_fault.LoadFault.{LoadFault}
+use Rattle.service_load.specs.declared.loader.Loader.{Loader}
+use Rattle.service_load.specs.declared.rule_file.RuleFile.{RuleFile}
+use Rattle.service_load.specs.declared.rule_type.RuleType.{RuleType}
+use Rattle.std.specs.Option.{is_none}
+use Rattle.service_load.specs.Files.{plain_file, held, is_absent}
+use Rattle.service_load.specs.FirstFault.{Counts, Stop, fault_at, look}
+use Rattle.service_load.specs.Kinds.{KindCounts}
+use Rattle.service_load.specs.Names.{texts_under}
+use Rattle.service_load.specs.declared.opener.Opener.{Opener as Because}
+use Rattle.service_load.specs.declared.opener.Opener.TheVariants as openers
+use Rattle.service_load.specs.Order.{Item, Opener, as_service, as_other, as_last, by_rule, items, items_of}
+use Rattle.service_load.specs.Tree.{nodes, nodes_of}
+
+-- the texts of the files that a vault tells of, under a root
+abbrev pub texts_of : List ℕ → VaultState → List ℕ → Option (List ℕ)
+texts_of root vault = texts_under root vault.files
+
+-- why a file is opened
+abbrev pub opener_of : Because → Opener
+opener_of openers.Service = as_service
+opener_of openers.Other = as_other
+opener_of (openers.Last service) = as_last service.now
+opener_of (openers.Rule name number) = by_rule name.now number
+
+-- the counts of a load over a vault that tells
+abbrev pub counts_of : Loader → VaultState → Counts
+counts_of loader vault = record { calls = vault.calls; openings = loader.openings; lines = loader.lines }
+
+-- unless memory ran out, a look ends with these counts, or at this fault
+abbrev pub Looks : {A : Type 0} → Result A (Refuse LoadFault) → Result Counts Stop → Counts → Type 0
+Looks (Ok x) looked now = looked ≡ Ok now
+Looks (Err (Named f)) looked now = looked ≡ Err (record { fault = f; calls = now.calls })
+Looks (Err NoMemory) looked now = Unit {0}
+
+-- of what a vault tells only its number of calls has changed
+abbrev pub OnlyCalls : VaultState → VaultState → Type 0
+OnlyCalls old new = new ≡ record old { calls = new.calls }
+
+-- what an opened file comes to, by whether the vault's call is to fail
+abbrev pub opened_answer : {A : Type 0} → Bool → List ℕ → Result A LexFault → Result A LoadFault
+opened_answer true name found = Err (fault_at name 0 ReadFailed)
+opened_answer false name (Ok x) = Ok x
+opened_answer false name (Err fault) = Err (fault_at name fault.line fault.kind)
+
+-- a fact that holds with every answer but want of memory
+abbrev pub IfCalled : {A F : Type 0} → Result A (Refuse F) → Type 0 → Type 0
+IfCalled (Err NoMemory) fact = Unit {0}
+IfCalled result fact = fact
+
+-- it stays with Ok too; where memory ran out it has at most risen
+abbrev pub CountsFaults : {A : Type 0} → Result A (Refuse LoadFault) → ℕ → ℕ → Type 0
+CountsFaults (Ok x) before now = now ≡ before
+CountsFaults (Err (Named f)) before now = KindCounts f.kind before now
+CountsFaults (Err NoMemory) before now = before ≤ now
+
+-- a line was added to a stack, or is one too many
+abbrev pub AddsLine : {A : Type 0} → Result A (Refuse LoadFault) → Loader → Loader → Stack → Stack → List ℕ → ℕ → Rule → Type 0
+AddsLine (Ok x) was is before after name number rule = (was.lines < 4096) × (is ≡ record was { lines = was.lines + 1 }) × (after ≡ joined before (line rule none))
+AddsLine (Err (Named f)) was is before after name number rule = (4096 ≤ was.lines) × (is ≡ was) × (f ≡ fault_at name number TooManyLines)
+AddsLine (Err NoMemory) was is before after name number rule = Unit {0}
+
+module _ (texts : List ℕ → Option (List ℕ)) where
+  -- what a file that is opened at this level brings: what a load meets, and its nodes
+  abbrev pub items_at : ℕ → RuleType → Opener → RuleFile → List Item
+  items_at level type opener file = items texts (17 - level) type opener file
+
+  abbrev pub nodes_at : ℕ → RuleType → RuleFile → Stack
+  nodes_at level type file = nodes texts (17 - level) type file
+
+  -- what the entries of a file at this level bring
+  abbrev pub entries_items : ℕ → RuleType → List ℕ → List Entry → List Item
+  entries_items level type name entries = items_of (items_at (level + 1) type) type name entries
+
+  abbrev pub entries_nodes : ℕ → RuleType → List Entry → Stack
+  entries_nodes level type entries = nodes_of (λ name. nodes_at (level + 1) type (plain_file name)) type entries
+
+  -- what is left of a file once it was opened at this level: what its entries bring; an absent one brings nothing
+  abbrev pub left_items : ℕ → RuleType → RuleFile → Option (List Entry) → List Item
+  left_items level type file None = []
+  left_items level type file (Some entries) = entries_items level type file.name entries
+
+  abbrev pub left_nodes : ℕ → RuleType → Option (List Entry) → Stack
+  left_nodes level type None = none
+  left_nodes level type (Some entries) = entries_nodes level type entries
+
+  -- unless memory ran out, a file was opened, with the fault of that or with what it then brings
+  abbrev pub Opens : Result (Option (List Entry)) (Refuse LoadFault) → List ℕ → Counts → Counts → ℕ → RuleType → Opener → RuleFile → Type 0
+  Opens (Ok entries) fails was is level type opener file =
+      (look texts fails was (items_at level type opener file) ≡ look texts fails is (left_items level type file entries))
+      × (nodes_at level type file ≡ left_nodes level type entries)
+      × (is_absent (held texts file) ≡ is_none entries)
+  Opens (Err (Named f)) fails was is level type opener file = look texts fails was (items_at level type opener file) ≡ Err (record { fault = f; calls = is.calls })
+  Opens (Err NoMemory) fails was is level type opener file = Unit {0}
+
+-- over a vault that tells, a part of a load looked along these items, and added these nodes
+pub record Brings {A : Type 0} (result : Result A (Refuse LoadFault)) (texts : List ℕ → Option (List ℕ)) (old new : VaultState) (was is : Loader) (items : List Item) (before after added : Stack) : Type 0 where
+  pub looks : Looks result (look texts old.fails (counts_of was old) items) (counts_of is new)
+  pub nodes : OnOk result (after ≡ joined before added)
+  pub stays : OnlyCalls old new
+
+-- in any world a file at this level adds lines that are counted and few, nested no deeper than what is left up to level 16
+pub record Grows (level : ℕ) (was is : Loader) (before after : Stack) : Type 0 where
+  pub within : level ≤ 16
+  pub lines : lines_in after + was.lines ≡ lines_in before + is.lines
+  pub few : was.lines ≤ 4096 → is.lines ≤ 4096
+  pub deep : (n : ℕ) → depth before ≤ n → 16 ≤ level + n → depth after ≤ n

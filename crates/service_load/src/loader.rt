@@ -1,0 +1,202 @@
+ghost use Rattle.std.specs.Prelude.{◌≡◌, ◌+◌, ◌<◌, ◌≤◌, not, IsTrue, IfOk, OnOk};
+ghost use Rattle.pam_outside.specs.Counts.{fails_next};
+ghost use Rattle.pam_outside.specs.Files.{counted};
+ghost use Rattle.control_words.specs.Stack.{stack_of};
+ghost use Rattle.service_load.specs.Answers.{Answers, IsRefusal};
+ghost use Rattle.service_load.specs.FirstFault.{opening_fault};
+ghost use Rattle.service_load.specs.Checking.{entries_held};
+ghost use Rattle.service_load.specs.Files.{held, is_absent, is_in_folder};
+ghost use Rattle.service_load.specs.Loading.{AddsLine, Brings, CountsFaults, Grows, IfCalled, OnlyCalls, Opens, counts_of, items_at, nodes_at, opened_answer, opener_of, texts_of};
+
+use crate::entry::{Content, Entries, Entry};
+use crate::file_rules::entries_in;
+use crate::load_fault::{LoadFault, refused};
+use crate::names::path_of;
+use crate::opener::Opener;
+use crate::position::Position;
+use crate::rule_file::RuleFile;
+use control_words::{Node, Nodes, Rule};
+use pam_base::{FaultKind, Refuse};
+use pam_outside::{Vault, VaultFault, read_file};
+use std::alloc::Global;
+
+/// The most bytes of a file.
+const MAX_FILE: u32 = 65536;
+/// The highest level of a file.
+const MAX_LEVEL: u32 = 16;
+/// The most files that a load opens.
+const MAX_OPENINGS: u32 = 256;
+/// The most lines of a tree.
+const MAX_LINES: u32 = 4096;
+
+/// A load as far as it has come.
+#[derive(Drop)]
+pub(crate) struct Loader {
+    /// How many files were opened.
+    pub(crate) openings: u32,
+    /// How many lines the present tree has.
+    pub(crate) lines: u32,
+}
+
+impl Loader {
+    /// Reads a file, and checks all its rules; None where it isn't there.
+    fn read(
+        &mut self,
+        alloc: Global,
+        vault: &mut dyn Vault,
+        root: &[u8],
+        file: &RuleFile,
+    ) -> Result<Option<Entries>, Refuse<LoadFault>>
+        requires { self.old.openings < 256 }
+        ensures counted { self.new ≡ record self.old { openings = self.old.openings + 1 } }
+        ensures tells { vault_tells vault.new ≡ vault_tells vault.old }
+        ensures told { IsTrue (vault_tells vault.old) → Answers result
+            (opened_answer (fails_next (vault_holds vault.old).calls (vault_holds vault.old).fails) file.now.name
+                (entries_held (is_in_folder file.now) (held (texts_of root.now (vault_holds vault.old)) file.now))) }
+        ensures calls { IsTrue (vault_tells vault.old) →
+            IfCalled result (vault_holds vault.new ≡ counted (vault_holds vault.old)) }
+        ensures stays { IsTrue (vault_tells vault.old) → OnlyCalls (vault_holds vault.old) (vault_holds vault.new) }
+        ensures faults { CountsFaults result (vault_faults vault.old) (vault_faults vault.new) }
+    {
+        self.openings += 1;
+        let name = file.name.bytes();
+        let path = path_of(alloc, root, name)?;
+        match read_file(vault, alloc, path.bytes(), MAX_FILE) {
+            Ok(text) => match entries_in(alloc, file, text.bytes()) {
+                Ok(entries) => Ok(entries),
+                Err(Refuse::NoMemory) => Err(Refuse::NoMemory),
+                Err(Refuse::Named(fault)) => Err(refused(alloc, name, fault.line, fault.kind)),
+            },
+            Err(VaultFault::NoMemory) => Err(Refuse::NoMemory),
+            Err(VaultFault::Absent) => Ok(None),
+            Err(VaultFault::TooLong) => Err(refused(alloc, name, 0, FaultKind::FileTooLong)),
+            Err(VaultFault::Failed) => Err(refused(alloc, name, 0, FaultKind::ReadFailed)),
+        }
+    }
+
+    /// Opens a file, if the level and the number of openings let it; None where it isn't there and needn't be.
+    fn open(
+        &mut self,
+        alloc: Global,
+        vault: &mut dyn Vault,
+        at: Position,
+        opener: Opener,
+        file: &RuleFile,
+    ) -> Result<Option<Entries>, Refuse<LoadFault>>
+        requires { at.level ≤ 17 }
+        ensures lines { self.new.lines ≡ self.old.lines }
+        ensures level { OnOk result (at.entry.level ≤ 16) }
+        ensures tells { vault_tells vault.new ≡ vault_tells vault.old }
+        ensures told { IsTrue (vault_tells vault.old) → Opens (texts_of at.entry.root.now (vault_holds vault.old)) result
+            (vault_holds vault.old).fails (counts_of self.old (vault_holds vault.old))
+            (counts_of self.new (vault_holds vault.new)) at.entry.level at.entry.rule_type (opener_of opener.entry) file.now }
+        ensures stays { IsTrue (vault_tells vault.old) → OnlyCalls (vault_holds vault.old) (vault_holds vault.new) }
+        ensures faults { CountsFaults result (vault_faults vault.old) (vault_faults vault.new) }
+    {
+        if at.level > MAX_LEVEL {
+            return Err(refused_opening(alloc, opener, file, FaultKind::TooDeep));
+        }
+        if self.openings >= MAX_OPENINGS {
+            return Err(refused_opening(alloc, opener, file, FaultKind::TooManyFiles));
+        }
+        match self.read(alloc, vault, at.root, file)? {
+            Some(entries) => Ok(Some(entries)),
+            None => match opener {
+                Opener::Service | Opener::Other => Ok(None),
+                Opener::Last(service) => Err(refused(alloc, service, 0, FaultKind::NoService)),
+                Opener::Rule(name, line) => {
+                    Err(refused(alloc, name, line, FaultKind::IncludeAbsent))
+                }
+            },
+        }
+    }
+
+    /// Adds the line of a rule.
+    fn add_line(
+        &mut self,
+        alloc: Global,
+        name: &[u8],
+        line: u32,
+        rule: Rule,
+        nodes: &mut Nodes,
+    ) -> Result<(), Refuse<LoadFault>>
+        ensures { AddsLine result self.old self.new (stack_of nodes.old.vec.items) (stack_of nodes.new.vec.items)
+            name.now line rule }
+    {
+        if self.lines >= MAX_LINES {
+            return Err(refused(alloc, name, line, FaultKind::TooManyLines));
+        }
+        nodes.push(Node::Line(rule))?;
+        self.lines += 1;
+        Ok(())
+    }
+
+    /// Adds the nodes of a file, and answers whether it is there.
+    pub(crate) fn add_file(
+        &mut self,
+        alloc: Global,
+        vault: &mut dyn Vault,
+        at: Position,
+        opener: Opener,
+        file: &RuleFile,
+        nodes: &mut Nodes,
+    ) -> Result<bool, Refuse<LoadFault>>
+        requires { at.level ≤ 17 }
+        ensures tells { vault_tells vault.new ≡ vault_tells vault.old }
+        ensures told { IsTrue (vault_tells vault.old) → Brings result
+            (texts_of at.entry.root.now (vault_holds vault.old)) (vault_holds vault.old) (vault_holds vault.new)
+            self.old self.new
+            (items_at (texts_of at.entry.root.now (vault_holds vault.old)) at.entry.level at.entry.rule_type (opener_of opener.entry) file.now)
+            (stack_of nodes.old.vec.items) (stack_of nodes.new.vec.items)
+            (nodes_at (texts_of at.entry.root.now (vault_holds vault.old)) at.entry.level at.entry.rule_type file.now) }
+        ensures there { IsTrue (vault_tells vault.old) → IfOk result (λ there.
+            there ≡ not (is_absent (held (texts_of at.entry.root.now (vault_holds vault.old)) file.now))) }
+        ensures grows { OnOk result (Grows at.entry.level self.old self.new
+            (stack_of nodes.old.vec.items) (stack_of nodes.new.vec.items)) }
+        ensures faults { CountsFaults result (vault_faults vault.old) (vault_faults vault.new) }
+    {
+        let Some(entries) = self.open(alloc, vault, at, opener, file)? else {
+            return Ok(false);
+        };
+        let deeper = Position {
+            level: at.level + 1,
+            ..at
+        };
+        for entry in entries.into_vec() {
+            if !entry.serves(at.rule_type) {
+                continue;
+            }
+            let Entry { line, content, .. } = entry;
+            let by_rule = Opener::Rule(file.name.bytes(), line);
+            match content {
+                Content::Line(rule) => self.add_line(alloc, file.name.bytes(), line, rule, nodes)?,
+                Content::Include(name) => {
+                    let included = RuleFile::plain(name);
+                    self.add_file(alloc, vault, deeper, by_rule, &included, nodes)?;
+                }
+                Content::Substack(name) => {
+                    let included = RuleFile::plain(name);
+                    let mut inner = Nodes::new(alloc);
+                    self.add_file(alloc, vault, deeper, by_rule, &included, &mut inner)?;
+                    nodes.push(Node::Sub(inner))?;
+                }
+            }
+        }
+        Ok(true)
+    }
+}
+
+// The refusal to open a file: it stands at the rule that includes it, or at the file itself.
+fn refused_opening(
+    alloc: Global,
+    opener: Opener,
+    file: &RuleFile,
+    kind: FaultKind,
+) -> Refuse<LoadFault>
+    ensures { IsRefusal result (opening_fault file.now.name (opener_of opener.entry) kind) }
+{
+    match opener {
+        Opener::Rule(name, line) => refused(alloc, name, line, kind),
+        _ => refused(alloc, file.name.bytes(), 0, kind),
+    }
+}
