@@ -134,7 +134,10 @@ fn names(alloc: Global) -> Result<Texts, Fail>
 fn lines_name_the_first_module_of_their_path(rt: HostRuntime) -> Result<(), Fail> {
     let alloc = rt.alloc();
     let mut nodes = Nodes::new(alloc);
-    add_line(&mut nodes, rule(alloc, b"required", b"/lib/security/pam_x.so")?)?;
+    add_line(
+        &mut nodes,
+        rule(alloc, b"required", b"/lib/security/pam_x.so")?,
+    )?;
     add_line(&mut nodes, rule(alloc, b"required", b"pam_none.so")?)?;
     let chain = flatten(alloc, &nodes, &names(alloc)?)?;
     assert_eq!(rt; chain.module(0), Some(1));

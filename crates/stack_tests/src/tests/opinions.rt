@@ -5,7 +5,13 @@ use stack_walk::{Impression, Opinion, PassKind};
 #[test]
 fn the_first_failure_stands(rt: HostRuntime) {
     let opening = Opinion::opening();
-    let act = |opinion: Opinion, action, code| opinion.after(PassKind::Keep, action, code, code, opening);
+    let act = |opinion: Opinion, action, code| opinion.after(
+        PassKind::Keep,
+        action,
+        code,
+        code,
+        opening,
+    );
     assert_eq!(rt; opening.verdict(), Code::PermDenied);
     let passed = act(opening, Action::Ok, Code::Success);
     assert_eq!(rt; passed.verdict(), Code::Success);

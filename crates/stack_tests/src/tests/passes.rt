@@ -35,78 +35,79 @@ fn script(alloc: Global, answers: &'static [Code]) -> Script {
     }
 }
 
+const ROWS: &[Row] = &[
+    // the first failure stands
+    Row {
+        stack: Around {
+            before: &[b"required", b"sufficient", b"required"],
+            inner: NONE,
+            behind: NONE,
+        },
+        answers: &[FAILED, GOOD, Code::MaxTries],
+        code: FAILED,
+        places: &[1, 2, 3],
+    },
+    // a substack is one node for a jump
+    Row {
+        stack: Around {
+            before: &[b"success=1 default=ignore"],
+            inner: &[b"required", b"required", b"required"],
+            behind: &[b"required"],
+        },
+        answers: &[GOOD, FAILED, FAILED, FAILED, GOOD],
+        code: GOOD,
+        places: &[1, 5],
+    },
+    // a jump past the end denies
+    Row {
+        stack: Around {
+            before: &[b"required", b"success=2 default=ignore"],
+            inner: &[b"required"],
+            behind: NONE,
+        },
+        answers: &[FAILED, GOOD, GOOD],
+        code: Code::PermDenied,
+        places: &[1, 2],
+    },
+    // die in a substack ends only the substack
+    Row {
+        stack: Around {
+            before: NONE,
+            inner: &[b"requisite", b"required"],
+            behind: &[b"required"],
+        },
+        answers: &[FAILED, GOOD, GOOD],
+        code: FAILED,
+        places: &[1, 3],
+    },
+    // a reset goes back to the opinion at the substack's entry
+    Row {
+        stack: Around {
+            before: &[b"required"],
+            inner: &[b"required", b"default=reset"],
+            behind: &[b"optional"],
+        },
+        answers: &[GOOD, FAILED, GOOD, FAILED],
+        code: GOOD,
+        places: &[1, 2, 3, 4],
+    },
+    // no line, no grant
+    Row {
+        stack: Around {
+            before: NONE,
+            inner: NONE,
+            behind: NONE,
+        },
+        answers: &[],
+        code: Code::PermDenied,
+        places: &[],
+    },
+];
+
 #[test]
 fn a_pass_visits_the_lines_of_its_way(rt: HostRuntime) -> Result<(), Fail> {
     let alloc = rt.alloc();
-    let rows = [
-        // the first failure stands
-        Row {
-            stack: Around {
-                before: &[b"required", b"sufficient", b"required"],
-                inner: NONE,
-                behind: NONE,
-            },
-            answers: &[FAILED, GOOD, Code::MaxTries],
-            code: FAILED,
-            places: &[1, 2, 3],
-        },
-        // a substack is one node for a jump
-        Row {
-            stack: Around {
-                before: &[b"success=1 default=ignore"],
-                inner: &[b"required", b"required", b"required"],
-                behind: &[b"required"],
-            },
-            answers: &[GOOD, FAILED, FAILED, FAILED, GOOD],
-            code: GOOD,
-            places: &[1, 5],
-        },
-        // a jump past the end denies
-        Row {
-            stack: Around {
-                before: &[b"required", b"success=2 default=ignore"],
-                inner: &[b"required"],
-                behind: NONE,
-            },
-            answers: &[FAILED, GOOD, GOOD],
-            code: Code::PermDenied,
-            places: &[1, 2],
-        },
-        // die in a substack ends only the substack
-        Row {
-            stack: Around {
-                before: NONE,
-                inner: &[b"requisite", b"required"],
-                behind: &[b"required"],
-            },
-            answers: &[FAILED, GOOD, GOOD],
-            code: FAILED,
-            places: &[1, 3],
-        },
-        // a reset goes back to the opinion at the substack's entry
-        Row {
-            stack: Around {
-                before: &[b"required"],
-                inner: &[b"required", b"default=reset"],
-                behind: &[b"optional"],
-            },
-            answers: &[GOOD, FAILED, GOOD, FAILED],
-            code: GOOD,
-            places: &[1, 2, 3, 4],
-        },
-        // no line, no grant
-        Row {
-            stack: Around {
-                before: NONE,
-                inner: NONE,
-                behind: NONE,
-            },
-            answers: &[],
-            code: Code::PermDenied,
-            places: &[],
-        },
-    ];
-    for row in rows {
+    for row in ROWS {
         let mut chain = chain_of(alloc, &row.stack)?;
         let mut lines = script(alloc, row.answers);
         let mut kept = Kept::none();
@@ -120,7 +121,7 @@ fn a_pass_visits_the_lines_of_its_way(rt: HostRuntime) -> Result<(), Fail> {
             &mut lines,
         )?;
         assert_eq!(rt; code, row.code, "at {:?}", row.places);
-        assert_eq!(rt; lines.asked.items(), row.places);
+        assert!(rt; lines.has_asked(row.places), "at {:?}", row.places);
         assert!(rt; kept.held() && paused.is_none());
     }
     Ok(())
@@ -136,40 +137,41 @@ struct Followed {
     places: &'static [u64],
 }
 
+const FOLLOWED: &[Followed] = &[
+    Followed {
+        controls: &[b"sufficient", b"required"],
+        first: &[GOOD, GOOD],
+        later: &[Code::CredErr, GOOD],
+        code: Code::CredErr,
+        places: &[1],
+    },
+    Followed {
+        controls: &[b"sufficient", b"required"],
+        first: &[GOOD, GOOD],
+        later: &[Code::Ignore, GOOD],
+        code: Code::PermDenied,
+        places: &[1],
+    },
+    Followed {
+        controls: &[b"success=1 default=ignore", b"required", b"required"],
+        first: &[GOOD, GOOD, GOOD],
+        later: &[Code::CredErr, GOOD, GOOD],
+        code: Code::CredErr,
+        places: &[1, 3],
+    },
+    Followed {
+        controls: &[b"optional"],
+        first: &[GOOD],
+        later: &[Code::SessionErr],
+        code: Code::SessionErr,
+        places: &[1],
+    },
+];
+
 #[test]
 fn a_pass_that_follows_takes_the_way_of_the_one_that_kept(rt: HostRuntime) -> Result<(), Fail> {
     let alloc = rt.alloc();
-    let rows = [
-        Followed {
-            controls: &[b"sufficient", b"required"],
-            first: &[GOOD, GOOD],
-            later: &[Code::CredErr, GOOD],
-            code: Code::CredErr,
-            places: &[1],
-        },
-        Followed {
-            controls: &[b"sufficient", b"required"],
-            first: &[GOOD, GOOD],
-            later: &[Code::Ignore, GOOD],
-            code: Code::PermDenied,
-            places: &[1],
-        },
-        Followed {
-            controls: &[b"success=1 default=ignore", b"required", b"required"],
-            first: &[GOOD, GOOD, GOOD],
-            later: &[Code::CredErr, GOOD, GOOD],
-            code: Code::CredErr,
-            places: &[1, 3],
-        },
-        Followed {
-            controls: &[b"optional"],
-            first: &[GOOD],
-            later: &[Code::SessionErr],
-            code: Code::SessionErr,
-            places: &[1],
-        },
-    ];
-    for row in rows {
+    for row in FOLLOWED {
         let stack = Around {
             before: row.controls,
             inner: NONE,
@@ -183,9 +185,16 @@ fn a_pass_that_follows_takes_the_way_of_the_one_that_kept(rt: HostRuntime) -> Re
         run_pass(alloc, &mut chain, keep, &mut kept, &mut paused, &mut first)?;
         let mut later = script(alloc, row.later);
         let follow = PassKind::Follow;
-        let code = run_pass(alloc, &mut chain, follow, &mut kept, &mut paused, &mut later)?;
+        let code = run_pass(
+            alloc,
+            &mut chain,
+            follow,
+            &mut kept,
+            &mut paused,
+            &mut later,
+        )?;
         assert_eq!(rt; code, row.code, "at {:?}", row.later);
-        assert_eq!(rt; later.asked.items(), row.places);
+        assert!(rt; later.has_asked(row.places), "at {:?}", row.later);
         assert!(rt; kept.held());
     }
     Ok(())
@@ -231,7 +240,7 @@ fn a_pass_that_was_put_off_goes_on_at_its_line(rt: HostRuntime) -> Result<(), Fa
     let code = run_pass(alloc, &mut chain, keep, &mut kept, &mut paused, &mut lines)?;
     assert_eq!(rt; code, GOOD);
     assert!(rt; paused.is_none());
-    assert_eq!(rt; lines.asked.items(), [1u64, 2, 3, 3, 4].as_slice());
+    assert!(rt; lines.has_asked(&[1, 2, 3, 3, 4]));
     assert_eq!(rt; kept.at(1), Some(FAILED));
     Ok(())
 }
@@ -262,7 +271,7 @@ fn a_walk_that_ends_early_looks_at_little(rt: HostRuntime) -> Result<(), Fail> {
     let keep = PassKind::Keep;
     let code = run_pass(alloc, &mut chain, keep, &mut kept, &mut paused, &mut lines)?;
     assert_eq!(rt; code, FAILED);
-    assert_eq!(rt; lines.asked.items(), [1u64].as_slice());
+    assert!(rt; lines.has_asked(&[1]));
     assert!(rt; chain.looks() <= 4);
     Ok(())
 }

@@ -11,6 +11,12 @@ pub struct Script {
     pub asked: Numbers,
 }
 
+impl Script {
+    pub fn has_asked(&self, places: &[u64]) -> bool {
+        self.asked.items() == places
+    }
+}
+
 impl Ask for Script {
     ghost use Rattle.std.specs.Prelude.{false, length};
     ghost use Rattle.pam_base.specs.declared.code.Code.TheVariants as codes;
@@ -26,7 +32,7 @@ impl Ask for Script {
     ghost ask_count = { λ script. length script.asked };
 
     fn ask(&mut self, _chain: &Chain, i: usize) -> Result<Code, NoMemory> {
-        let place = i as u64 + 1;
+        let place = (i as u64).saturating_add(1);
         self.asked.push(place)?;
         if self.later == Some(place) {
             self.later = None;
