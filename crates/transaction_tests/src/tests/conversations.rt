@@ -61,23 +61,23 @@ fn told(alloc: Global, answer: &Result<Replies, ConvFault>) -> Result<Vec<u8>, A
 }
 
 // Whether an exchange comes to this.
-fn gives(
-    conv: &mut dyn Conv,
+fn gives<C: Conv>(
+    conv: &mut C,
     alloc: Global,
     messages: &Messages,
     want: &[u8],
 ) -> Result<bool, AllocError>
     requires { IsExchange messages.now }
 {
-    let answer = talk_with(conv, alloc, messages);
+    let answer = conv.talk(alloc, messages);
     Ok(told(alloc, &answer)?.as_slice() == want)
 }
 
 // The length of the first reply.
-fn reply_length(conv: &mut dyn Conv, alloc: Global, messages: &Messages) -> Option<usize>
+fn reply_length<C: Conv>(conv: &mut C, alloc: Global, messages: &Messages) -> Option<usize>
     requires { IsExchange messages.now }
 {
-    let replies = talk_with(conv, alloc, messages).ok()?;
+    let replies = conv.talk(alloc, messages).ok()?;
     Some(replies.items().first()?.text.len())
 }
 
@@ -89,7 +89,8 @@ fn each_prompt_takes_the_next_reply_and_too_few_are_gone(rt: HostRuntime) -> Res
     offer_to(&mut queue, alloc, b"joe")?;
     assert!(rt; gives(&mut queue, alloc, &login, b"Gone")?);
     offer_to(&mut queue, alloc, b"")?;
-    assert!(rt; gives(&mut queue, alloc, &login, b"|joe||")?);
+    let answer = talk_with(&mut queue, alloc, &login);
+    assert_eq!(rt; told(alloc, &answer)?.as_slice(), b"|joe||".as_slice());
     Ok(())
 }
 
@@ -119,7 +120,7 @@ fn a_terminal_shows_texts_and_reads_lines(rt: HostRuntime) -> Result<(), Fail> {
     let mut shown = Vec::new(alloc);
     let mut term = TermConv::new(b"joe\n\nlast".as_slice(), &mut shown);
     assert!(rt; gives(&mut term, alloc, &login, b"|joe||")?);
-    offer_to(&mut term, alloc, b"more")?;
+    term.offer(alloc, b"more")?;
     assert!(rt; gives(&mut term, alloc, &prompt, b"last|")?);
     assert!(rt; gives(&mut term, alloc, &prompt, b"Gone")?);
     assert_eq!(rt; shown.as_slice(), b"hi\nlogin: Password: Code:Code:".as_slice());
