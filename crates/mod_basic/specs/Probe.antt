@@ -1,8 +1,10 @@
 -- pam_probe, with which a stack is tried out (this project's own).
-use Rattle.std.specs.Prelude.{◌≡◌, ℕ, ◌+◌, ◌*◌, ◌%◌, ◌^◌, max, Bool, true, false, not, is_ok, if◌then◌else◌, Option, None, Result, Ok, Err, List, [], ◌∷◌, ◌++◌, length, codes}
+use Rattle.std.specs.Prelude.{◌≡◌, ℕ, ◌+◌, ◌*◌, ◌%◌, ◌^◌, max, Bool, true, false, not, is_ok, if◌then◌else◌, Option, None, Result, Ok, Err, List, [], ◌∷◌, ◌++◌, length, take, codes}
 use Rattle.std.specs.Option.{unwrap_or, option_and_then}
 use Rattle.std.specs.List.{filter_map, last_or}
+use Rattle.conv_port.specs.declared.message.Message.{Message}
 use Rattle.pam_base.specs.Code.{code_of_word}
+use Rattle.pam_base.specs.declared.style.Style.{Style}
 use Rattle.pam_base.specs.declared.code.Code.{Code}
 use Rattle.pam_base.specs.declared.code.Code.TheVariants as returns
 use Rattle.fail_delay.specs.Delay.{counted_request}
@@ -32,15 +34,19 @@ births_in (send style text) = []
 births_in (delay micros) = []
 births_in nothing = []
 
+-- the message that is sent: of its text 512 bytes count
+abbrev pub message_of : Style → List ℕ → Message
+message_of style text = record { style = style; text = take 512 text }
+
 -- what it does to the room, and whether the conversation gave no reply
 abbrev pub refuses : PlainRequest → SeenRoom → Bool
-refuses (send style text) room = not (is_ok (speak (record { style = style; text = text } ∷ []) room).answer)
+refuses (send style text) room = not (is_ok (speak (message_of style text ∷ []) room).answer)
 refuses (set_data name payload) room = false
 refuses (delay micros) room = false
 refuses nothing room = false
 
 abbrev pub room_after : PlainRequest → SeenRoom → SeenRoom
-room_after (send style text) room = (speak (record { style = style; text = text } ∷ []) room).room
+room_after (send style text) room = (speak (message_of style text ∷ []) room).room
 room_after (delay micros) room = record room { delay = max (counted_request micros) room.delay }
 room_after (set_data name payload) room = room
 room_after nothing room = room
@@ -48,22 +54,27 @@ room_after nothing room = room
 abbrev pub probed : PlainRequest → Probing → Probing
 probed request p = probing (refuses request p.room) (room_after request p.room) (p.births ++ births_in request)
 
+-- all arguments in order, up to a message that got no reply
+abbrev pub probed_all : List (List ℕ) → Probing → Probing
+probed_all [] p = p
+probed_all (arg ∷ args) p = if (probed (request_of arg) p).refused then probed (request_of arg) p else probed_all args (probed (request_of arg) p)
+
 -- what one request does, where the conversation tells; without memory nothing is said of it
 abbrev pub Probes : {T : Type 0} → Result T (Refuse ConvErr) → PlainRequest → SeenRoom → SeenRoom → Type 0
 Probes (Ok v) request old new = (refuses request old ≡ false) × (new ≡ room_after request old)
 Probes (Err (refusals.Named e)) request old new = (refuses request old ≡ true) × (new ≡ room_after request old)
 Probes (Err refusals.NoMemory) request old new = Unit {0}
 
--- the data that it sets, in any world; without memory none
-abbrev pub SetsFor : {T : Type 0} → Result T (Refuse ConvErr) → PlainRequest → ℕ → PlainDataList → PlainLedger → PlainDataList → PlainLedger → Type 0
-SetsFor (Ok v) request owner list ledger = HasSet owner (births_in request) list ledger
-SetsFor (Err (refusals.Named e)) request owner list ledger = HasSet owner (births_in request) list ledger
-SetsFor (Err refusals.NoMemory) request owner list ledger = HasSet owner [] list ledger
+-- what all of them come to: how they ended, the room, and the data that were set
+pub record ComesTo (refused : Bool) (p : Probing) (room : SeenRoom) (owner : ℕ) (list : PlainDataList) (ledger : PlainLedger) (later : PlainDataList) (after : PlainLedger) : Type 0 where
+  pub refused_is : p.refused ≡ refused
+  pub room_is : room ≡ p.room
+  pub births_are : HasSet owner p.births list ledger later after
 
--- all arguments in order, up to a message that got no reply
-abbrev pub probed_all : List (List ℕ) → Probing → Probing
-probed_all [] p = p
-probed_all (arg ∷ args) p = if (probed (request_of arg) p).refused then probed (request_of arg) p else probed_all args (probed (request_of arg) p)
+abbrev pub ProbesAll : {T : Type 0} → Result T (Refuse ConvErr) → Probing → SeenRoom → ℕ → PlainDataList → PlainLedger → PlainDataList → PlainLedger → Type 0
+ProbesAll (Ok v) p room owner list ledger later after = ComesTo false p room owner list ledger later after
+ProbesAll (Err (refusals.Named e)) p room owner list ledger later after = ComesTo true p room owner list ledger later after
+ProbesAll (Err refusals.NoMemory) p room owner list ledger later after = Unit {0}
 
 abbrev pub code_in : List ℕ → Option Code
 code_in arg = option_and_then code_of_word (value_in (codes "answer=") arg)

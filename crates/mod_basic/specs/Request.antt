@@ -29,12 +29,12 @@ named_payload text = split_at (position (λ b. b == 58) text) text
 abbrev pub delay_of : List ℕ → PlainRequest
 delay_of word = if is_numeral word then delay (counted_request (value_of_digits word)) else nothing
 
--- say=TEXT and ask=TEXT, of which 512 bytes count
+-- say=TEXT and ask=TEXT
 abbrev pub said : List ℕ → PlainRequest
-said text = send TextInfo (take 512 text)
+said text = send TextInfo text
 
 abbrev pub asked : List ℕ → PlainRequest
-asked text = send EchoOn (take 512 text)
+asked text = send EchoOn text
 
 abbrev pub request_of : List ℕ → PlainRequest
 request_of arg = unwrap_or

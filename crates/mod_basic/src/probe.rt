@@ -1,10 +1,11 @@
-ghost use Rattle.std.specs.Prelude.{◌≡◌, ◌≢◌, ◌≤◌, ◌++◌, Err, List, IsTrue, OnOk, OnErr, codes};
+ghost use Rattle.std.specs.Prelude.{◌≡◌, ◌≤◌, ◌++◌, false, List, [], IsTrue, OnOk, OnErr, codes};
 ghost use Rattle.conv_port.specs.declared.message.Message.{Message};
+ghost use Rattle.data_cleanup.specs.Sets.{Sets};
 ghost use Rattle.pam_room.specs.State.{room_of};
 ghost use Rattle.pam_room.specs.Module.{HasSet, seen_of};
 ghost use Rattle.pam_room.specs.Plain.{plain_transaction};
 ghost use Rattle.mod_basic.specs.Request.{plain_request};
-ghost use Rattle.mod_basic.specs.Probe.{Probes, SetsFor, code_in, fixed_answer, probe_note, probe_plays};
+ghost use Rattle.mod_basic.specs.Probe.{Probes, ProbesAll, births_in, code_in, fixed_answer, probe_note, probe_plays, probed_all, probing};
 
 use crate::request::{Request, request_in};
 use conv_port::Conv;
@@ -12,8 +13,8 @@ use data_cleanup::{Datum, Ledger, Receipt};
 use pam_base::{Code, ConvErr, NoMemory, Refuse, Text, Texts, code_named};
 use pam_outside::{Clock, Vault};
 use pam_room::{
-    Call, Module, Process, Transaction, nothing_is_set, parts_are_played, send, set_data_are_sets,
-    setting_goes_on, value_in,
+    Call, Module, Process, Transaction, first_bytes, nothing_is_set, parts_are_played, send,
+    set_data_are_sets, setting_goes_on, value_in,
 };
 use std::alloc::Global;
 
@@ -46,26 +47,55 @@ impl Module for Probe {
         _vault: &mut dyn Vault,
         _clock: &mut dyn Clock,
     ) -> Result<Code, NoMemory> {
-        nothing_is_set();
-        setting_goes_on();
         set_data_are_sets();
         parts_are_played();
-        for arg in call.args.items() {
-            let request = request_in(arg.bytes());
-            let done = do_request(alloc, request, transaction, &mut process.ledger, conv);
-            match done {
-                Ok(()) => {}
-                Err(Refuse::NoMemory) => return Err(NoMemory),
-                Err(Refuse::Named(ConvErr)) => return Ok(Code::ConvErr),
-            }
+        match do_all(alloc, call.args, transaction, &mut process.ledger, conv) {
+            Ok(()) => Ok(fixed_answer(call.args)),
+            Err(Refuse::NoMemory) => Err(NoMemory),
+            Err(Refuse::Named(ConvErr)) => Ok(Code::ConvErr),
         }
-        Ok(fixed_answer(call.args))
     }
 
     fn tidy(&self, datum: Datum, status: u32) -> Receipt {
         let note = note_of(datum.payload(), status);
         datum.spend(status, note)
     }
+}
+
+// Does what all arguments ask for, up to a message that gets no reply.
+fn do_all(
+    alloc: Global,
+    args: &Texts,
+    transaction: &mut Transaction,
+    ledger: &mut Ledger,
+    conv: &mut dyn Conv,
+) -> Result<(), Refuse<ConvErr>>
+    ensures tells { conv_tells conv.new ≡ conv_tells conv.old }
+    ensures told { IsTrue (conv_tells conv.old) →
+        ProbesAll result (probed_all args.now (probing false (seen_of (room_of (plain_transaction transaction.old) (conv_holds conv.old))) []))
+        (seen_of (room_of (plain_transaction transaction.new) (conv_holds conv.new)))
+        transaction.old.serving transaction.old.datums ledger.old transaction.new.datums ledger.new }
+    ensures sets { Sets transaction.old.serving transaction.old.datums ledger.old transaction.new.datums ledger.new }
+    ensures data_handle { transaction.new.datums.handle ≡ transaction.old.datums.handle }
+    ensures delay { transaction.old.delay ≤ transaction.new.delay }
+    ensures said { (more : List Message) × (transaction.new.said ≡ transaction.old.said ++ more) }
+    ensures others { transaction.new ≡ record transaction.old {
+      datums = transaction.new.datums;
+      delay = transaction.new.delay;
+      said = transaction.new.said;
+      put_off = transaction.new.put_off;
+    } }
+{
+    nothing_is_set();
+    setting_goes_on();
+    set_data_are_sets();
+    let mut rest = args.items();
+    while let [arg, after @ ..] = rest {
+        let request = request_in(arg.bytes());
+        do_request(alloc, request, transaction, ledger, conv)?;
+        rest = after;
+    }
+    Ok(())
 }
 
 // Does what one argument asks for.
@@ -78,9 +108,10 @@ fn do_request(
 ) -> Result<(), Refuse<ConvErr>>
     ensures tells { conv_tells conv.new ≡ conv_tells conv.old }
     ensures told { IsTrue (conv_tells conv.old) →
-        Probes result (plain_request request) (seen_of (room_of (plain_transaction transaction.old) (conv_holds conv.old)))
+        Probes result (plain_request request.entry) (seen_of (room_of (plain_transaction transaction.old) (conv_holds conv.old)))
         (seen_of (room_of (plain_transaction transaction.new) (conv_holds conv.new))) }
-    ensures sets { SetsFor result (plain_request request) transaction.old.serving transaction.old.datums ledger.old transaction.new.datums ledger.new }
+    ensures sets { OnOk result (HasSet transaction.old.serving (births_in (plain_request request.entry)) transaction.old.datums ledger.old transaction.new.datums ledger.new) }
+    ensures none_set { OnErr result ((transaction.new.datums ≡ transaction.old.datums) × (ledger.new ≡ ledger.old)) }
     ensures delay { transaction.old.delay ≤ transaction.new.delay }
     ensures said { (more : List Message) × (transaction.new.said ≡ transaction.old.said ++ more) }
     ensures others { transaction.new ≡ record transaction.old {
@@ -96,7 +127,7 @@ fn do_request(
             transaction.set_data(alloc, ledger, name, payload)?;
         }
         Request::Send { style, text } => {
-            let text = Text::from_bytes(alloc, text)?;
+            let text = Text::from_bytes(alloc, first_bytes(text, 512))?;
             let _reply = send(alloc, transaction, conv, style, text)?;
         }
         Request::Delay { micros } => transaction.delay.request(micros),

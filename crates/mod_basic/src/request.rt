@@ -5,7 +5,7 @@ ghost use Rattle.mod_basic.specs.Request.{delay_of, named_payload, plain_request
 
 use fail_delay::LONGEST_REQUEST;
 use pam_base::{Style, are_digits, number_in};
-use pam_room::{first_bytes, value_in};
+use pam_room::value_in;
 
 /// What an argument of pam_probe asks for.
 #[derive(Clone, Copy, Debug)]
@@ -28,12 +28,12 @@ pub fn request_in<'a>(arg: &'a [u8]) -> Request<'a>
     } else if let Some(text) = value_in(b"say=", arg) {
         Request::Send {
             style: Style::TextInfo,
-            text: first_bytes(text, 512),
+            text,
         }
     } else if let Some(text) = value_in(b"ask=", arg) {
         Request::Send {
             style: Style::EchoOn,
-            text: first_bytes(text, 512),
+            text,
         }
     } else if let Some(word) = value_in(b"delay=", arg) {
         delay_of(word)

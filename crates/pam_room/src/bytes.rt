@@ -1,8 +1,9 @@
-ghost use Rattle.std.specs.Prelude.{◌≡◌, take};
+ghost use Rattle.std.specs.Prelude.{◌≡◌, ◌≤◌, length, take};
 
 /// The first bytes of a text, at most so many.
 pub fn first_bytes(text: &[u8], most: usize) -> &[u8]
-    ensures { result.now ≡ take most text.now }
+    ensures front { result.now ≡ take most text.now }
+    ensures few { length result.now ≤ most }
 {
     if text.len() <= most {
         text
