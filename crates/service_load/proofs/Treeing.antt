@@ -1,5 +1,5 @@
 -- One tree, and the four in turn.
-use Rattle.std.proofs.Common.{◌≡◌, ℕ, suc, ◌+◌, ◌≤◌, Bool, true, false, not, cond, eqb, List, [], ◌∷◌, ◌++◌, Option, Result, Ok, Err, refl, sym, ap, ◌∙◌, arith}
+use Rattle.std.proofs.Common.{◌≡◌, ℕ, suc, ◌+◌, ◌≤◌, Bool, true, false, not, cond, eqb, List, [], ◌∷◌, ◌++◌, Option, Result, Ok, Err, refl, sym, ap, subst, ◌∙◌, arith}
 use Rattle.std.proofs.lemmas.Bool.{eqb-true}
 use Rattle.pam_base.specs.declared.fault.Refuse.{Refuse}
 use Rattle.pam_base.specs.declared.fault.Refuse.TheVariants as refusals
@@ -12,6 +12,7 @@ use Rattle.service_load.specs.declared.rule_file.RuleFile.{RuleFile}
 use Rattle.service_load.specs.declared.rule_type.RuleType.{RuleType}
 use Rattle.service_load.specs.Files.{held, is_absent}
 use Rattle.service_load.specs.FirstFault.{Counts, Stop, going_on, look}
+use Rattle.service_load.specs.Load.{LoadsBy}
 use Rattle.service_load.specs.Loading.{texts_of, counts_of, Looks, OnlyCalls, Grows, IsBounded, Makes, items_at, nodes_at}
 use Rattle.service_load.specs.Order.{Item, Opener, as_service, as_other, as_last, items, other_opener, tree_items}
 use Rattle.service_load.specs.Tree.{nodes, tree_of}
@@ -94,3 +95,44 @@ module _ (root : List ℕ) (first : VaultState) (was : Loader) (own other : Rule
     pub stop_other : (r : Refuse LoadFault) → Looks {A = Bool} (Err r) (look texts first.fails (counts_of half mid) (items_at texts 0 type opener other)) (counts_of is now) → OnlyCalls first now → Makes (Err r) texts first now was is own other type
     stop_other (refusals.Named f) looks only = record { looks = on_to_other ∙ looks; made = tt; stays = only }
     stop_other refusals.NoMemory looks only = record { looks = tt; made = tt; stays = only }
+
+-- ---- the four trees
+
+pub only_only : (a b c : VaultState) → OnlyCalls a b → OnlyCalls b c → OnlyCalls a c
+only_only a b c one two = two ∙ ap (λ (v : VaultState). record v { calls = c.calls }) one
+
+-- a later tree, said of the vault as it was
+pub makes_since : (r : Result Nodes (Refuse LoadFault)) (root : List ℕ) (first old new : VaultState) (was is : Loader) (own other : RuleFile) (type : RuleType) → OnlyCalls first old → Makes r (texts_of root old) old new was is own other type
+    → Makes r (texts_of root first) (record first { calls = old.calls }) new was is own other type
+makes_since r root first old new was is own other type only makes =
+    let P : VaultState → Type 0 = λ v. Makes r (texts_of root v) v new was is own other type in
+    subst P only makes
+
+module _ (texts : List ℕ → Option (List ℕ)) (fails : List ℕ) (a b c d e : Counts) (ts us vs ws : List Item) where
+  abbrev along : List Item
+  along = ts ++ (us ++ (vs ++ (ws ++ [])))
+
+  pub stop_first : (s : Stop) → look texts fails a ts ≡ Err s → look texts fails a along ≡ Err s
+  stop_first s stops = look_stops texts fails a s ts (us ++ (vs ++ (ws ++ []))) stops
+
+  pub stop_second : (s : Stop) → look texts fails a ts ≡ Ok b → look texts fails b us ≡ Err s → look texts fails a along ≡ Err s
+  stop_second s one stops = look_past texts fails a b ts (us ++ (vs ++ (ws ++ []))) one ∙ look_stops texts fails b s us (vs ++ (ws ++ [])) stops
+
+  pub stop_third : (s : Stop) → look texts fails a ts ≡ Ok b → look texts fails b us ≡ Ok c → look texts fails c vs ≡ Err s → look texts fails a along ≡ Err s
+  stop_third s one two stops =
+      look_past texts fails a b ts (us ++ (vs ++ (ws ++ []))) one ∙ look_past texts fails b c us (vs ++ (ws ++ [])) two ∙ look_stops texts fails c s vs (ws ++ []) stops
+
+  pub stop_fourth : (s : Stop) → look texts fails a ts ≡ Ok b → look texts fails b us ≡ Ok c → look texts fails c vs ≡ Ok d → look texts fails d ws ≡ Err s → look texts fails a along ≡ Err s
+  stop_fourth s one two three stops =
+      look_past texts fails a b ts (us ++ (vs ++ (ws ++ []))) one ∙ look_past texts fails b c us (vs ++ (ws ++ [])) two ∙ look_past texts fails c d vs (ws ++ []) three
+      ∙ look_stops texts fails d s ws [] stops
+
+  pub pass_four : look texts fails a ts ≡ Ok b → look texts fails b us ≡ Ok c → look texts fails c vs ≡ Ok d → look texts fails d ws ≡ Ok e → look texts fails a along ≡ Ok e
+  pass_four one two three four =
+      look_past texts fails a b ts (us ++ (vs ++ (ws ++ []))) one ∙ look_past texts fails b c us (vs ++ (ws ++ [])) two ∙ look_past texts fails c d vs (ws ++ []) three
+      ∙ ap (λ (l : List Item). look texts fails d l) (nil-append ws) ∙ four
+
+-- a refusal, unless memory ran out, stops the load, where a fault stops the whole look
+pub loads_stop : (r : Refuse LoadFault) (part whole : Result Counts Stop) (is : Counts) (new : VaultState) (stack : RuleType → Stack) → is.calls ≡ new.calls → ((s : Stop) → part ≡ Err s → whole ≡ Err s) → Looks {A = Nodes} (Err r) part is → LoadsBy (Err r) whole new stack
+loads_stop (refusals.Named f) part whole is new stack same stops looks = stops (record { fault = f; calls = is.calls }) looks ∙ ap (λ (n : ℕ). Err (record { fault = f; calls = n })) same
+loads_stop refusals.NoMemory part whole is new stack same stops looks = tt
