@@ -3,19 +3,25 @@ use Rattle.std.proofs.Common.{◌≡◌, ℕ, suc, ◌+◌, ◌≤◌, Bool, tru
 use Rattle.std.proofs.lemmas.Bool.{eqb-true}
 use Rattle.pam_base.specs.declared.fault.Refuse.{Refuse}
 use Rattle.pam_base.specs.declared.fault.Refuse.TheVariants as refusals
-use Rattle.pam_outside.specs.Files.{VaultState}
+use Rattle.pam_base.specs.declared.fault.FaultKind.TheVariants.{ReadFailed}
+use Rattle.pam_outside.specs.Counts.{next_count}
+use Rattle.pam_outside.specs.Files.{VaultState, counted, is_failing, is_folder}
 use Rattle.control_words.specs.declared.nodes.Nodes.{Nodes}
 use Rattle.control_words.specs.Stack.{Stack, none, line, sub, joined, count, stack_of}
 use Rattle.service_load.specs.declared.load_fault.LoadFault.{LoadFault}
 use Rattle.service_load.specs.declared.loader.Loader.{Loader}
 use Rattle.service_load.specs.declared.rule_file.RuleFile.{RuleFile}
 use Rattle.service_load.specs.declared.rule_type.RuleType.{RuleType}
+use Rattle.service_load.specs.declared.trees.Trees.{Trees}
 use Rattle.service_load.specs.Files.{held, is_absent}
-use Rattle.service_load.specs.FirstFault.{Counts, Stop, going_on, look}
-use Rattle.service_load.specs.Load.{LoadsBy}
+use Rattle.service_load.specs.FirstFault.{Counts, Stop, fault_at, going_on, look}
+use Rattle.service_load.specs.Answers.{IsRefusal}
+use Rattle.service_load.specs.Entry.{folder_name}
+use Rattle.service_load.specs.Load.{LoadsBy, LoadsFrom, Loads, loaded_from, has_folder}
+use Rattle.service_load.specs.Names.{path_of}
 use Rattle.service_load.specs.Loading.{texts_of, counts_of, Looks, OnlyCalls, Grows, IsBounded, Makes, items_at, nodes_at}
 use Rattle.service_load.specs.Order.{Item, Opener, as_service, as_other, as_last, items, other_opener, tree_items}
-use Rattle.service_load.specs.Tree.{nodes, tree_of}
+use Rattle.service_load.specs.Tree.{nodes, tree, tree_of}
 use Rattle.service_load.proofs.Expanding.{look_past, look_stops}
 
 empty-none : (s : Stack) → eqb (count s) 0 ≡ true → s ≡ none
@@ -136,3 +142,21 @@ module _ (texts : List ℕ → Option (List ℕ)) (fails : List ℕ) (a b c d e 
 pub loads_stop : (r : Refuse LoadFault) (part whole : Result Counts Stop) (is : Counts) (new : VaultState) (stack : RuleType → Stack) → is.calls ≡ new.calls → ((s : Stop) → part ≡ Err s → whole ≡ Err s) → Looks {A = Nodes} (Err r) part is → LoadsBy (Err r) whole new stack
 loads_stop (refusals.Named f) part whole is new stack same stops looks = stops (record { fault = f; calls = is.calls }) looks ∙ ap (λ (n : ℕ). Err (record { fault = f; calls = n })) same
 loads_stop refusals.NoMemory part whole is new stack same stops looks = tt
+
+-- ---- the whole load
+
+pub loads_all : (result : Result Trees (Refuse LoadFault)) (first mid new : VaultState) (root service path : List ℕ) (found : Bool) → is_failing first ≡ false → found ≡ is_folder path first.files → path ≡ path_of root folder_name → mid ≡ counted first
+    → LoadsFrom result found mid new root service → Loads result first new root service
+loads_all result first mid new root service path found fine found_is path_is called loads =
+    let P : VaultState → Type 0 = λ v. LoadsFrom result found v new root service in
+    let Q : Bool → Type 0 = λ b. LoadsBy result (loaded_from b first root service (next_count first.calls)) new (tree (texts_of root first) b service) in
+    let at_first : Q found = subst P called loads in
+    let folder : found ≡ has_folder first root = found_is ∙ ap (λ (p : List ℕ). is_folder p first.files) path_is in
+    rw fine (subst Q folder at_first)
+
+pub loads_failed : (r : Refuse LoadFault) (first new : VaultState) (root service : List ℕ) → is_failing first ≡ true → new ≡ counted first → IsRefusal r (fault_at folder_name 0 ReadFailed) → Loads (Err r) first new root service
+loads_failed (refusals.Named f) first new root service failing called refused = rw (failing, called, refused) refl
+loads_failed refusals.NoMemory first new root service failing called refused = tt
+
+pub only_counted : (first mid new : VaultState) → mid ≡ counted first → OnlyCalls mid new → OnlyCalls first new
+only_counted first mid new called only = only ∙ ap (λ (v : VaultState). record v { calls = new.calls }) called
