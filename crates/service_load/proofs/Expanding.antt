@@ -178,7 +178,7 @@ module _ (texts : List ℕ → Option (List ℕ)) (fails : List ℕ) where
 
   pub line_stops : (r : Refuse LoadFault) (was is : Loader) (before after : Stack) (vault : VaultState) (name : List ℕ) (number : ℕ) (rule : Rule) → AddsLine {A = Unit {0}} (Err r) was is before after name number rule
       → Looks {A = Unit {0}} (Err r) (look texts fails (counts_of was vault) (made name number ∷ [])) (counts_of is vault)
-  line_stops (refusals.Named f) was is before after vault name number rule adds = rw (adds.1, adds.2) (look_line_over (counts_of was vault) name number adds.0)
+  line_stops (refusals.Named f) was is before after vault name number rule adds = rw adds.2 (look_line_over (counts_of was vault) name number adds.0)
   line_stops refusals.NoMemory was is before after vault name number rule adds = tt
 
   pub line_past : (was is : Loader) (before after : Stack) (vault : VaultState) (name : List ℕ) (number : ℕ) (rule : Rule) → AddsLine {A = Unit {0}} (Ok tt) was is before after name number rule

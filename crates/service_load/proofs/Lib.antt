@@ -5,3 +5,4 @@ pub mod KindLemmas
 pub mod Opening
 pub mod Listing
 pub mod Expanding
+pub mod Treeing

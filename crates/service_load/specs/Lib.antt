@@ -9,3 +9,4 @@ pub mod Answers
 pub mod Checking
 pub mod Kinds
 pub mod Loading
+pub mod Load

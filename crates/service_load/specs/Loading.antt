@@ -1,11 +1,12 @@
 -- What the parts of a load give (this project's own).
-use Rattle.std.specs.Prelude.{◌≡◌, ℕ, ◌+◌, ◌-◌, ◌≤◌, ◌<◌, Bool, true, false, List, [], Option, Some, None, Result, Ok, Err, OnOk}
+use Rattle.std.specs.Prelude.{◌≡◌, ℕ, ◌+◌, ◌-◌, ◌≤◌, ◌<◌, Bool, true, false, List, [], Option, Some, None, Result, Ok, Err, OnOk, IfOk}
 use Rattle.pam_base.specs.declared.fault.Refuse.{Refuse}
 use Rattle.pam_base.specs.declared.fault.Refuse.TheVariants.{NoMemory, Named}
 use Rattle.pam_base.specs.declared.fault.FaultKind.TheVariants.{TooManyLines, ReadFailed}
 use Rattle.pam_outside.specs.Files.{VaultState}
 use Rattle.conf_lex.specs.declared.token.LexFault.{LexFault}
-use Rattle.control_words.specs.Stack.{Stack, none, line, joined, lines_in, depth}
+use Rattle.control_words.specs.Stack.{Stack, none, line, joined, lines_in, depth, stack_of}
+use Rattle.control_words.specs.declared.nodes.Nodes.{Nodes}
 use Rattle.control_words.specs.declared.nodes.Rule.{Rule}
 use Rattle.service_load.specs.declared.entry.Entry.{Entry}
 use Rattle.service_load.specs.declared.load_fault.LoadFault.{LoadFault}
@@ -19,8 +20,8 @@ use Rattle.service_load.specs.Kinds.{KindCounts}
 use Rattle.service_load.specs.Names.{texts_under}
 use Rattle.service_load.specs.declared.opener.Opener.{Opener as Because}
 use Rattle.service_load.specs.declared.opener.Opener.TheVariants as openers
-use Rattle.service_load.specs.Order.{Item, Opener, as_service, as_other, as_last, by_rule, items, items_of}
-use Rattle.service_load.specs.Tree.{nodes, nodes_of}
+use Rattle.service_load.specs.Order.{Item, Opener, as_service, as_other, as_last, by_rule, items, items_of, tree_items}
+use Rattle.service_load.specs.Tree.{nodes, nodes_of, tree_of}
 
 -- the texts of the files that a vault tells of, under a root
 abbrev pub texts_of : List ℕ → VaultState → List ℕ → Option (List ℕ)
@@ -115,3 +116,14 @@ pub record Grows (level : ℕ) (was is : Loader) (before after : Stack) : Type 0
   pub lines : lines_in after + was.lines ≡ lines_in before + is.lines
   pub few : was.lines ≤ 4096 → is.lines ≤ 4096
   pub deep : (n : ℕ) → depth before ≤ n → 16 ≤ level + n → depth after ≤ n
+
+-- over a vault that tells, a tree was made along its items
+pub record Makes (result : Result Nodes (Refuse LoadFault)) (texts : List ℕ → Option (List ℕ)) (old new : VaultState) (was is : Loader) (own other : RuleFile) (type : RuleType) : Type 0 where
+  pub looks : Looks result (look texts old.fails (counts_of was old) (tree_items texts own other type)) (counts_of is new)
+  pub made : IfOk result (λ made. stack_of made.vec.items ≡ tree_of (nodes texts 17 type own) (nodes texts 17 type other))
+  pub stays : OnlyCalls old new
+
+-- in any world a stack has at most 4,096 lines, and substacks nested at most 16 deep
+pub record IsBounded (stack : Stack) : Type 0 where
+  pub lines : lines_in stack ≤ 4096
+  pub deep : depth stack ≤ 16

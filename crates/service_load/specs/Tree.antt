@@ -28,6 +28,10 @@ abbrev pub nodes_of : (List ℕ → Stack) → RuleType → List Entry → Stack
 nodes_of deeper type [] = none
 nodes_of deeper type (e ∷ es) = joined (entry_nodes deeper type e) (nodes_of deeper type es)
 
+-- the nodes of a service, or those of `other` where it has none (pam.conf(5))
+abbrev pub tree_of : Stack → Stack → Stack
+tree_of own other = if count own == 0 then other else own
+
 module _ (texts : List ℕ → Option (List ℕ)) where
   -- the nodes of a file for a type, where so many levels of files may open: none above the last
   unfoldable pub nodes : ℕ → RuleType → RuleFile → Stack
@@ -35,8 +39,5 @@ module _ (texts : List ℕ → Option (List ℕ)) where
   nodes (suc levels) type file = nodes_of (λ name. nodes levels type (plain_file name)) type (entries_of (is_in_folder file) (rules_held (held texts file)))
 
   -- the tree of a service for a type: the service's nodes, at level 0 of 16, or those of `other` where it has none
-  abbrev pub tree_of : Stack → Stack → Stack
-  tree_of own other = if count own == 0 then other else own
-
   abbrev pub tree : Bool → List ℕ → RuleType → Stack
   tree is_folder service type = tree_of (nodes 17 type (service_file is_folder service)) (nodes 17 type (service_file is_folder (codes "other")))

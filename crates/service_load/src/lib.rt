@@ -5,6 +5,7 @@
 mod entry;
 mod file_rules;
 mod load_fault;
+mod loading;
 mod loader;
 mod names;
 mod opener;
@@ -15,5 +16,6 @@ mod trees;
 mod type_field;
 
 pub use load_fault::LoadFault;
+pub use loading::load;
 pub use rule_type::RuleType;
 pub use trees::Trees;

@@ -1,4 +1,4 @@
-ghost use Rattle.std.specs.Prelude.{◌≡◌, ◌+◌, ◌<◌, ◌≤◌, not, IsTrue, IfOk, OnOk};
+ghost use Rattle.std.specs.Prelude.{◌≡◌, ◌+◌, ◌<◌, ◌≤◌, not, IsTrue, IfOk, OnOk, if◌then◌else◌};
 ghost use Rattle.pam_outside.specs.Counts.{fails_next};
 ghost use Rattle.pam_outside.specs.Files.{counted};
 ghost use Rattle.control_words.specs.Stack.{stack_of};
@@ -6,7 +6,8 @@ ghost use Rattle.service_load.specs.Answers.{Answers, IsRefusal};
 ghost use Rattle.service_load.specs.FirstFault.{opening_fault};
 ghost use Rattle.service_load.specs.Checking.{entries_held};
 ghost use Rattle.service_load.specs.Files.{held, is_absent, is_in_folder};
-ghost use Rattle.service_load.specs.Loading.{AddsLine, Brings, CountsFaults, Grows, IfCalled, OnlyCalls, Opens, counts_of, items_at, nodes_at, opened_answer, opener_of, texts_of};
+ghost use Rattle.service_load.specs.Order.{as_last, as_other};
+ghost use Rattle.service_load.specs.Loading.{AddsLine, Brings, CountsFaults, Grows, IfCalled, IsBounded, Makes, OnlyCalls, Opens, counts_of, items_at, nodes_at, opened_answer, opener_of, texts_of};
 
 use crate::entry::{Content, Entries, Entry};
 use crate::file_rules::entries_in;
@@ -15,6 +16,7 @@ use crate::names::path_of;
 use crate::opener::Opener;
 use crate::position::Position;
 use crate::rule_file::RuleFile;
+use crate::rule_type::RuleType;
 use control_words::{Node, Nodes, Rule};
 use pam_base::{FaultKind, Refuse};
 use pam_outside::{Vault, VaultFault, read_file};
@@ -183,6 +185,50 @@ impl Loader {
             }
         }
         Ok(true)
+    }
+
+    /// The stack of a service for a type: the service's own nodes or, where it has none, those of `other`.
+    pub(crate) fn tree(
+        &mut self,
+        alloc: Global,
+        vault: &mut dyn Vault,
+        root: &[u8],
+        rule_type: RuleType,
+        own: &RuleFile,
+        other: &RuleFile,
+    ) -> Result<Nodes, Refuse<LoadFault>>
+        ensures tells { vault_tells vault.new ≡ vault_tells vault.old }
+        ensures told { IsTrue (vault_tells vault.old) → Makes result
+            (texts_of root.now (vault_holds vault.old)) (vault_holds vault.old) (vault_holds vault.new)
+            self.old self.new own.now other.now rule_type }
+        ensures bounded { IfOk result (λ nodes. IsBounded (stack_of nodes.vec.items)) }
+        ensures faults { CountsFaults result (vault_faults vault.old) (vault_faults vault.new) }
+    {
+        self.lines = 0;
+        let at = Position {
+            root,
+            rule_type,
+            level: 0,
+        };
+        let mut nodes = Nodes::new(alloc);
+        let there = self.add_file(alloc, vault, at, Opener::Service, own, &mut nodes)?;
+        if !nodes.is_empty() {
+            return Ok(nodes);
+        }
+        let opener = opener_of_other(there, own);
+        self.add_file(alloc, vault, at, opener, other, &mut nodes)?;
+        Ok(nodes)
+    }
+}
+
+// Why `other` is opened, by whether the service is there.
+fn opener_of_other<'a>(there: bool, own: &'a RuleFile) -> Opener<'a>
+    ensures { opener_of result ≡ (if there then as_other else as_last own.now.name) }
+{
+    if there {
+        Opener::Other
+    } else {
+        Opener::Last(own.name.bytes())
     }
 }
 

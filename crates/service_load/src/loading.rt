@@ -1,0 +1,74 @@
+ghost use Rattle.std.specs.Prelude.{◌≡◌, IsTrue, IfOk};
+ghost use Rattle.pam_outside.specs.Files.{counted, is_failing};
+ghost use Rattle.service_load.specs.Load.{AreBounded, Loads, LoadsFrom};
+ghost use Rattle.service_load.specs.Loading.{CountsFaults, OnlyCalls};
+
+use crate::load_fault::{LoadFault, refused};
+use crate::loader::Loader;
+use crate::names::path_of;
+use crate::rule_file::RuleFile;
+use crate::rule_type::RuleType;
+use crate::trees::Trees;
+use pam_base::{FaultKind, Refuse};
+use pam_outside::{ReplaceFault, Vault, is_folder};
+use std::alloc::Global;
+
+/// The folder of the service files.
+const FOLDER: &[u8; 10] = b"/etc/pam.d";
+
+/// The stacks of a service (`pam.conf(5)`, `pam.d(5)`): its rules stand in `/etc/pam.d/SERVICE` under the root
+/// or, where `/etc/pam.d` is no folder, in `/etc/pam.conf`; the service is folded to lower case. A rule may
+/// include other files; of a type for which the service has no nodes the stack is that of `other`.
+pub fn load(
+    alloc: Global,
+    vault: &mut dyn Vault,
+    root: &[u8],
+    service: &[u8],
+) -> Result<Trees, Refuse<LoadFault>>
+    ensures tells { vault_tells vault.new ≡ vault_tells vault.old }
+    ensures told { IsTrue (vault_tells vault.old) →
+        Loads result (vault_holds vault.old) (vault_holds vault.new) root.now service.now }
+    ensures stays { IsTrue (vault_tells vault.old) → OnlyCalls (vault_holds vault.old) (vault_holds vault.new) }
+    ensures bounded { IfOk result (λ trees. AreBounded trees) }
+    ensures faults { CountsFaults result (vault_faults vault.old) (vault_faults vault.new) }
+{
+    let folder = path_of(alloc, root, FOLDER)?;
+    match is_folder(vault, alloc, folder.bytes()) {
+        Ok(found) => load_from(alloc, vault, root, found, service),
+        Err(ReplaceFault::NoMemory) => Err(Refuse::NoMemory),
+        Err(ReplaceFault::Failed) => Err(refused(alloc, FOLDER, 0, FaultKind::ReadFailed)),
+    }
+}
+
+// The stacks of a service, once it is known whether there is a folder.
+fn load_from(
+    alloc: Global,
+    vault: &mut dyn Vault,
+    root: &[u8],
+    is_folder: bool,
+    service: &[u8],
+) -> Result<Trees, Refuse<LoadFault>>
+    ensures tells { vault_tells vault.new ≡ vault_tells vault.old }
+    ensures told { IsTrue (vault_tells vault.old) →
+        LoadsFrom result is_folder (vault_holds vault.old) (vault_holds vault.new) root.now service.now }
+    ensures stays { IsTrue (vault_tells vault.old) → OnlyCalls (vault_holds vault.old) (vault_holds vault.new) }
+    ensures bounded { IfOk result (λ trees. AreBounded trees) }
+    ensures faults { CountsFaults result (vault_faults vault.old) (vault_faults vault.new) }
+{
+    let own = RuleFile::of_service(alloc, is_folder, service)?;
+    let other = RuleFile::of_service(alloc, is_folder, b"other")?;
+    let mut loader = Loader {
+        openings: 0,
+        lines: 0,
+    };
+    let auth = loader.tree(alloc, vault, root, RuleType::Auth, &own, &other)?;
+    let account = loader.tree(alloc, vault, root, RuleType::Account, &own, &other)?;
+    let password = loader.tree(alloc, vault, root, RuleType::Password, &own, &other)?;
+    let session = loader.tree(alloc, vault, root, RuleType::Session, &own, &other)?;
+    Ok(Trees {
+        auth,
+        account,
+        password,
+        session,
+    })
+}
