@@ -6,7 +6,8 @@ use Rattle.std.proofs.KnownBytes.{Appends-nil, Appends-trans}
 use Rattle.std.proofs.lemmas.List.{append-nil}
 use Rattle.conv_port.specs.declared.message.Message.{Message}
 use Rattle.conv_port.specs.declared.message.Reply.{Reply}
-use Rattle.conv_port.specs.Message.{AreReplies, IsReply, is_prompt}
+use Rattle.pam_base.specs.Style.{is_prompt}
+use Rattle.conv_port.specs.Message.{AreReplies, IsReply}
 use Rattle.conv_port.specs.Terminal.{IsTyped, Types, all_shown, behind_line, behind_replies, has_lines, shown, typed_line, typed_replies}
 
 -- what was typed gives the replies so far, and then those to the rest of the messages

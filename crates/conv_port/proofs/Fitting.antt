@@ -5,7 +5,8 @@ use Rattle.conv_port.specs.declared.message.Message.{Message}
 use Rattle.conv_port.specs.declared.message.Reply.{Reply}
 use Rattle.conv_port.specs.declared.offer.Offer.{Offer}
 use Rattle.conv_port.specs.declared.offer.Offer.TheVariants.{Answer, Later}
-use Rattle.conv_port.specs.Message.{is_prompt, AreReplies}
+use Rattle.pam_base.specs.Style.{is_prompt}
+use Rattle.conv_port.specs.Message.{AreReplies}
 use Rattle.conv_port.specs.Conv.{ready_replies, replies_from, first_text}
 use Rattle.conv_port.specs.Queue.{AreShort}
 

@@ -5,7 +5,8 @@ use Rattle.std.specs.List.{count_by}
 use Rattle.conv_port.specs.declared.message.Message.{Message}
 use Rattle.conv_port.specs.declared.offer.Offer.{Offer}
 use Rattle.conv_port.specs.declared.offer.Offer.TheVariants.{Answer, Later}
-use Rattle.conv_port.specs.Message.{is_prompt, prompt_count}
+use Rattle.pam_base.specs.Style.{is_prompt}
+use Rattle.conv_port.specs.Message.{prompt_count}
 use Rattle.conv_port.specs.Conv.{ready_replies}
 
 pub counted : (messages : List Message) → count_by (λ (m : Message). is_prompt m.style) messages ≡ prompt_count messages

@@ -5,7 +5,8 @@ use Rattle.conv_port.specs.declared.message.Message.{Message}
 use Rattle.conv_port.specs.declared.message.Reply.{Reply}
 use Rattle.conv_port.specs.declared.offer.Offer.{Offer}
 use Rattle.conv_port.specs.declared.offer.Offer.TheVariants.{Answer}
-use Rattle.conv_port.specs.Message.{is_prompt, prompt_count}
+use Rattle.pam_base.specs.Style.{is_prompt}
+use Rattle.conv_port.specs.Message.{prompt_count}
 use Rattle.conv_port.specs.Conv.{ready_replies, replies_from}
 use Rattle.conv_port.specs.Queue.{TakesReply}
 

@@ -1,15 +1,15 @@
 -- What a conversation that tells holds, and what it answers by that (this project's own: pam_conv(3) leaves open
 -- where replies come from; PAM_CONV_AGAIN is the answer of one that has none yet).
-use Rattle.std.specs.Prelude.{◌≡◌, ℕ, Bool, true, false, ◌||◌, nat_le, if◌then◌else◌, List, [], ◌∷◌, ◌++◌, length, drop, Result, Ok, Err, OnOk, OnErr}
+use Rattle.std.specs.Prelude.{◌≡◌, ℕ, Bool, true, false, ◌||◌, nat_le, if◌then◌else◌, List, [], ◌∷◌, ◌++◌, length, drop, codes, Result, Ok, Err, OnOk, OnErr}
 use Rattle.std.specs.Str.{bytes_eq}
-use Rattle.std.proofs.Common.{codes}
 use Rattle.conv_port.specs.declared.conv.ConvFault.{ConvFault}
 use Rattle.conv_port.specs.declared.conv.ConvFault.TheVariants.{NoMemory, Gone, Again}
 use Rattle.conv_port.specs.declared.message.Message.{Message}
 use Rattle.conv_port.specs.declared.message.Reply.{Reply}
 use Rattle.conv_port.specs.declared.offer.Offer.{Offer}
 use Rattle.conv_port.specs.declared.offer.Offer.TheVariants.{Answer, Later}
-use Rattle.conv_port.specs.Message.{is_prompt, prompt_count}
+use Rattle.pam_base.specs.Style.{is_prompt}
+use Rattle.conv_port.specs.Message.{prompt_count}
 
 -- What was offered and isn't taken yet, in order, and whether the conversation waits where too little was. One
 -- that waits holds no marks.

@@ -1,17 +1,9 @@
 -- The messages of an exchange and their replies (pam_conv(3); the limits are this project's own).
-use Rattle.std.specs.Prelude.{◌≡◌, ℕ, ◌<◌, ◌≤◌, Bool, true, false, List, [], ◌∷◌, length, ◌+◌, if◌then◌else◌}
+use Rattle.std.specs.Prelude.{◌≡◌, ℕ, ◌<◌, ◌≤◌, false, List, [], ◌∷◌, length, ◌+◌, if◌then◌else◌}
 use Rattle.std.specs.List.{AllByRecursion}
-use Rattle.pam_base.specs.declared.style.Style.{Style}
-use Rattle.pam_base.specs.declared.style.Style.TheVariants.{EchoOff, EchoOn, ErrorMsg, TextInfo}
+use Rattle.pam_base.specs.Style.{is_prompt}
 use Rattle.conv_port.specs.declared.message.Message.{Message}
 use Rattle.conv_port.specs.declared.message.Reply.{Reply}
-
--- whether a message of this style asks for a reply
-abbrev pub is_prompt : Style → Bool
-is_prompt EchoOff = true
-is_prompt EchoOn = true
-is_prompt ErrorMsg = false
-is_prompt TextInfo = false
 
 -- how many of the messages are prompts
 abbrev pub prompt_count : List Message → ℕ

@@ -5,7 +5,7 @@ use Rattle.conv_port.specs.declared.message.Message.{Message}
 use Rattle.conv_port.specs.declared.message.Reply.{Reply}
 use Rattle.conv_port.specs.declared.offer.Offer.{Offer}
 use Rattle.conv_port.specs.declared.offer.Offer.TheVariants.{Answer, Later}
-use Rattle.conv_port.specs.Message.{is_prompt}
+use Rattle.pam_base.specs.Style.{is_prompt}
 
 -- what was offered and isn't taken yet, and its two counts
 pub record QueueState : Type 0 where

@@ -3,7 +3,7 @@ use Rattle.std.specs.Prelude.{◌≡◌, ℕ, ◌<◌, ◌==◌, ◌&&◌, nat_l
 use Rattle.std.specs.List.{before_first, after_first, flat_map}
 use Rattle.conv_port.specs.declared.message.Message.{Message}
 use Rattle.conv_port.specs.declared.message.Reply.{Reply}
-use Rattle.conv_port.specs.Message.{is_prompt}
+use Rattle.pam_base.specs.Style.{is_prompt}
 
 -- where it reads, where it writes, and its faults so far
 pub record Terminal (R W : Type 0) : Type 0 where

@@ -1,5 +1,6 @@
 ghost use Rattle.std.specs.Prelude.{◌≡◌};
-ghost use Rattle.conv_port.specs.Message.{is_prompt, prompt_count};
+ghost use Rattle.pam_base.specs.Style.{is_prompt};
+ghost use Rattle.conv_port.specs.Message.{prompt_count};
 
 use pam_base::{Sequence, Style, Text};
 
@@ -27,10 +28,7 @@ impl Message {
     pub fn is_prompt(&self) -> bool
         ensures { result ≡ is_prompt self.now.style }
     {
-        match self.style {
-            Style::EchoOff | Style::EchoOn => true,
-            Style::ErrorMsg | Style::TextInfo => false,
-        }
+        self.style.is_prompt()
     }
 }
 

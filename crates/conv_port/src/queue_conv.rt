@@ -1,6 +1,7 @@
 ghost use Rattle.std.specs.Prelude.{◌≡◌, ◌<◌, ◌≤◌, [], drop, length, IfOk, IsTrue, OnErr};
 ghost use Rattle.pam_base.specs.Counts.{next_count};
-ghost use Rattle.conv_port.specs.Message.{is_prompt, prompt_count};
+ghost use Rattle.pam_base.specs.Style.{is_prompt};
+ghost use Rattle.conv_port.specs.Message.{prompt_count};
 ghost use Rattle.conv_port.specs.Conv.{ready_replies, replies_from, starts_with_mark, without_mark};
 ghost use Rattle.conv_port.specs.Queue.{TakesReply};
 

@@ -1,7 +1,8 @@
 ghost use Rattle.std.specs.Prelude.{◌≡◌, ◌≢◌, ◌≤◌, [], ◌∷◌, false, length, IsTrue, IfOk, OnOk, Err, IsOk, MatchOption};
 ghost use Rattle.std.specs.Io.KnownBytes.{Appends, Consumes, IsAtEnd};
 ghost use Rattle.pam_base.specs.Counts.{Rose, next_count};
-ghost use Rattle.conv_port.specs.Message.{AreReplies, HasPrompt, IsExchange, IsReply, is_prompt};
+ghost use Rattle.pam_base.specs.Style.{is_prompt};
+ghost use Rattle.conv_port.specs.Message.{AreReplies, HasPrompt, IsExchange, IsReply};
 ghost use Rattle.conv_port.specs.Conv.{TakesOffer, Talks};
 ghost use Rattle.conv_port.specs.Terminal.{Types, TypesLine, all_shown, shown};
 

@@ -9,3 +9,4 @@ pub mod Item
 pub mod Style
 pub mod White
 pub mod Counts
+pub mod ServiceName

@@ -18,7 +18,7 @@ use Rattle.script_lang.specs.Command.{row_of, command_of_word}
 use Rattle.script_lang.specs.Cut.{first_word, has_its_words}
 use Rattle.script_lang.specs.Fit.{IsFit}
 use Rattle.script_lang.specs.Line.{command_line, line_of_command, line_or_fault}
-use Rattle.script_lang.specs.ServiceName.{is_service_name}
+use Rattle.pam_base.specs.ServiceName.{is_service_name}
 use Rattle.script_lang.specs.Value.{Meaning, Meanings, bytes, bytes_of, meaning_at, meanings_at, all_of}
 use Rattle.script_lang.proofs.Words.{join-words_of}
 

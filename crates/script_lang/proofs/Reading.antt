@@ -19,7 +19,7 @@ use Rattle.script_lang.specs.declared.line.Line.TheVariants as lines
 use Rattle.script_lang.specs.Command.{command_of_word, word_of_call}
 use Rattle.script_lang.specs.Line.{parsed, is_blank, line_of_command, without_return}
 use Rattle.script_lang.specs.Number.{number_of_word}
-use Rattle.script_lang.specs.ServiceName.{is_name_byte, is_service_name}
+use Rattle.pam_base.specs.ServiceName.{is_name_byte, is_service_name}
 use Rattle.script_lang.specs.Written.{text_of_step, line_of, is_name, is_number, is_sound, is_writable, switch_word}
 use Rattle.script_lang.proofs.Decimals.{decimal-space, number_of_word-decimal}
 use Rattle.script_lang.proofs.Words.{words_of-word, words_of-alone, join-words_of, has_word}

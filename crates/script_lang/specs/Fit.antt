@@ -4,7 +4,7 @@ use Rattle.pam_base.specs.declared.call.AppCall.{AppCall}
 use Rattle.pam_base.specs.declared.call.AppCall.TheVariants as calls
 use Rattle.script_lang.specs.declared.line.Line.{Line}
 use Rattle.script_lang.specs.declared.line.Line.TheVariants as lines
-use Rattle.script_lang.specs.ServiceName.{is_service_name}
+use Rattle.pam_base.specs.ServiceName.{is_service_name}
 
 -- a start names a service, and a reply has at most 512 bytes
 abbrev pub is_fit : AppCall → Bool

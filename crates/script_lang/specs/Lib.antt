@@ -5,6 +5,5 @@ pub mod Fit
 pub mod Line
 pub mod Number
 pub mod Place
-pub mod ServiceName
 pub mod Value
 pub mod Written

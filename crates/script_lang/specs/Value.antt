@@ -15,7 +15,7 @@ use Rattle.script_lang.specs.declared.value.Value.TheVariants as values
 use Rattle.script_lang.specs.declared.value.Values.{Values}
 use Rattle.script_lang.specs.Place.{fault_of, form_of}
 use Rattle.script_lang.specs.Number.{number_of_word, random_of_word, moment_of_word}
-use Rattle.script_lang.specs.ServiceName.{is_service_name}
+use Rattle.pam_base.specs.ServiceName.{is_service_name}
 use Rattle.script_lang.specs.Cut.{word_at}
 
 -- what the word at a place stands for; nothing, where there is none

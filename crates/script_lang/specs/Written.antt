@@ -7,7 +7,7 @@ use Rattle.pam_base.specs.declared.call.Step.{Step}
 use Rattle.pam_base.specs.Bytes.{has_byte}
 use Rattle.pam_base.specs.Item.{item_word}
 use Rattle.script_lang.specs.Command.{word_of_call}
-use Rattle.script_lang.specs.ServiceName.{is_service_name}
+use Rattle.pam_base.specs.ServiceName.{is_service_name}
 
 abbrev pub switch_word : Bool → List ℕ
 switch_word true = codes "on"

@@ -8,10 +8,8 @@ mod law;
 mod line;
 mod number;
 mod place;
-mod service_name;
 mod value;
 
 pub use command::{call_word, func_word};
 pub use law::written_is_read;
 pub use line::{Line, parse};
-pub use service_name::is_service_name;

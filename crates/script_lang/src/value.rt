@@ -5,8 +5,7 @@ ghost use Rattle.script_lang.specs.Value.{carried, carried_all, meaning_of, mean
 use crate::cut::word_at;
 use crate::number::{moment_in, number_in, random_in};
 use crate::place::{Form, Place};
-use crate::service_name::is_service_name;
-use pam_base::{ItemName, NoMemory, ScriptKind, Text, item_named};
+use pam_base::{ItemName, NoMemory, ScriptKind, Text, is_service_name, item_named};
 use std::alloc::Global;
 
 /// What the word at a place stands for.

@@ -1,5 +1,5 @@
 use crate::tests::shown::{LONG, NUMERAL, WORD, expect, shown};
-use script_lang::is_service_name;
+use pam_base::is_service_name;
 use std::alloc::Global;
 use std::test::Fail;
 

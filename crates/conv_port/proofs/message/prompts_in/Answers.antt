@@ -1,7 +1,7 @@
 use Rattle.std.proofs.Common.{rules, ◌≡◌, ◌∙◌}
 use Rattle.std.specs.List.{count_by}
 use Rattle.conv_port.specs.declared.message.Message.{Message}
-use Rattle.conv_port.specs.Message.{is_prompt}
+use Rattle.pam_base.specs.Style.{is_prompt}
 use Rattle.conv_port.proofs.Ready.{counted}
 use Rattle.conv_port.proofs.message.prompts_in.Goals as goal
 

@@ -1,6 +1,6 @@
 ghost use Rattle.std.specs.Prelude.{◌≡◌};
 ghost use Rattle.std.specs.List.{list_all};
-ghost use Rattle.script_lang.specs.ServiceName.{is_name_byte, is_service_name};
+ghost use Rattle.pam_base.specs.ServiceName.{is_name_byte, is_service_name};
 
 const MAX_NAME: usize = 64;
 
