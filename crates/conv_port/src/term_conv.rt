@@ -75,12 +75,7 @@ impl<R: Read + Drop, W: Write + Drop> Conv for TermConv<R, W> {
         ensures shown { OnOk result (Appends (W.contents self.old.writer) (W.contents self.new.writer) (all_shown messages.now)) }
         ensures typed { IfOk result (λ replies. Types messages.now replies (R.remaining self.old.reader) (R.remaining self.new.reader)) }
     {
-        let result = converse(
-            alloc,
-            messages.items(),
-            &mut self.reader,
-            &mut self.writer,
-        );
+        let result = converse(alloc, messages.items(), &mut self.reader, &mut self.writer);
         if let Err(ConvFault::Gone) = result {
             self.faults = self.faults.saturating_add(1);
         }
@@ -136,11 +131,7 @@ fn show<W: Write>(message: &Message, writer: &mut W) -> Result<(), ConvFault>
 }
 
 // The reply to one message.
-fn read_reply<R: Read>(
-    alloc: Global,
-    message: &Message,
-    reader: &mut R,
-) -> Result<Reply, ConvFault>
+fn read_reply<R: Read>(alloc: Global, message: &Message, reader: &mut R) -> Result<Reply, ConvFault>
     ensures reply { IfOk result (λ reply. IsReply message.now reply) }
     ensures never_again { result ≢ Err ConvFault.Again }
     ensures typed { IfOk result (λ reply. Types (message.now ∷ []) (reply ∷ []) (R.remaining reader.old) (R.remaining reader.new)) }
@@ -175,8 +166,8 @@ fn read_line<R: Read>(alloc: Global, reader: &mut R) -> Result<Text, ConvFault>
 fn read_byte<R: Read>(reader: &mut R) -> Result<Option<u8>, ConvFault>
     ensures never_again { result ≢ Err ConvFault.Again }
     ensures byte { IfOk result (λ byte. MatchOption byte
-      (Consumes (R.remaining reader.old) (R.remaining reader.new) [] × IsAtEnd (R.remaining reader.new))
-      (λ b. Consumes (R.remaining reader.old) (R.remaining reader.new) (b ∷ []))) }
+        (Consumes (R.remaining reader.old) (R.remaining reader.new) [] × IsAtEnd (R.remaining reader.new))
+        (λ b. Consumes (R.remaining reader.old) (R.remaining reader.new) (b ∷ []))) }
 {
     let mut byte = [0u8; 1];
     match reader.read(&mut byte) {

@@ -123,7 +123,10 @@ fn a_terminal_shows_texts_and_reads_lines(rt: HostRuntime) -> Result<(), Fail> {
     term.offer(alloc, b"more")?;
     assert!(rt; gives(&mut term, alloc, &prompt, b"last|")?);
     assert!(rt; gives(&mut term, alloc, &prompt, b"Gone")?);
-    assert_eq!(rt; shown.as_slice(), b"hi\nlogin: Password: Code:Code:".as_slice());
+    assert_eq!(rt;
+        shown.as_slice(),
+        b"hi\nlogin: Password: Code:Code:".as_slice()
+    );
     Ok(())
 }
 

@@ -76,7 +76,10 @@ fn a_receipt_is_filed_with_the_number_of_births_as_its_mark(rt: HostRuntime) -> 
     let filed = set_and_file(alloc, &mut ledger, &mut list);
     list.dismiss();
     filed?;
-    let mut marks = ledger.filed().iter().map(|f| (f.receipt.id, f.receipt.note, f.mark));
+    let mut marks = ledger
+        .filed()
+        .iter()
+        .map(|f| (f.receipt.id, f.receipt.note, f.mark));
     assert_eq!(rt; marks.next(), Some((0, 1, 1)));
     Ok(())
 }
