@@ -21,18 +21,21 @@ pub trait Clock: Drop {
     fn word(&mut self) -> u64
         ensures tells { clock_tells self.new ≡ clock_tells self.old }
         ensures told { IsTrue (clock_tells self.old) → result ≡ (clock_holds self.old).word }
-        ensures stays { IsTrue (clock_tells self.old) → clock_holds self.new ≡ clock_holds self.old };
+        ensures stays { IsTrue (clock_tells self.old) →
+            clock_holds self.new ≡ clock_holds self.old };
 
     /// Sets the moment of a clock that tells; the word stays.
     fn set_moment(&mut self, moment: u64)
         requires { moment ≤ MAX_MOMENT }
         ensures tells { clock_tells self.new ≡ clock_tells self.old }
-        ensures told { IsTrue (clock_tells self.old) → clock_holds self.new ≡ record (clock_holds self.old) { moment = moment } };
+        ensures told { IsTrue (clock_tells self.old) →
+            clock_holds self.new ≡ record (clock_holds self.old) { moment = moment } };
 
     /// Sets the word of a clock that tells; the moment stays.
     fn set_word(&mut self, word: u64)
         ensures tells { clock_tells self.new ≡ clock_tells self.old }
-        ensures told { IsTrue (clock_tells self.old) → clock_holds self.new ≡ record (clock_holds self.old) { word = word } };
+        ensures told { IsTrue (clock_tells self.old) →
+            clock_holds self.new ≡ record (clock_holds self.old) { word = word } };
 }
 
 /// `Clock::now` of a clock that is lent.
@@ -56,7 +59,8 @@ pub fn random_word(clock: &mut dyn Clock) -> u64
 pub fn set_moment(clock: &mut dyn Clock, moment: u64)
     requires { moment ≤ MAX_MOMENT }
     ensures tells { clock_tells clock.new ≡ clock_tells clock.old }
-    ensures told { IsTrue (clock_tells clock.old) → clock_holds clock.new ≡ record (clock_holds clock.old) { moment = moment } }
+    ensures told { IsTrue (clock_tells clock.old) →
+        clock_holds clock.new ≡ record (clock_holds clock.old) { moment = moment } }
 {
     clock.set_moment(moment)
 }
@@ -64,7 +68,8 @@ pub fn set_moment(clock: &mut dyn Clock, moment: u64)
 /// `Clock::set_word` of a clock that is lent.
 pub fn set_word(clock: &mut dyn Clock, word: u64)
     ensures tells { clock_tells clock.new ≡ clock_tells clock.old }
-    ensures told { IsTrue (clock_tells clock.old) → clock_holds clock.new ≡ record (clock_holds clock.old) { word = word } }
+    ensures told { IsTrue (clock_tells clock.old) →
+        clock_holds clock.new ≡ record (clock_holds clock.old) { word = word } }
 {
     clock.set_word(word)
 }

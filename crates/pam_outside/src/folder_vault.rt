@@ -52,13 +52,23 @@ impl<R: Files + Drop> Vault for FolderVault<R> {
     /// else. A path that the system refuses, a folder, and any other error are Failed.
     fn read(&mut self, alloc: Global, path: &[u8], limit: u32) -> Result<Text, VaultFault>
         ensures bound { IfOk result (λ text. length text ≤ limit) }
-        ensures tells { ⟦<FolderVault<R> as Vault>⟧.vault_tells self.new ≡ ⟦<FolderVault<R> as Vault>⟧.vault_tells self.old }
-        ensures told { IsTrue (⟦<FolderVault<R> as Vault>⟧.vault_tells self.old) → ReadsFile result path.now limit (⟦<FolderVault<R> as Vault>⟧.vault_holds self.old) }
-        ensures counts { IsTrue (⟦<FolderVault<R> as Vault>⟧.vault_tells self.old) → ⟦<FolderVault<R> as Vault>⟧.vault_holds self.new ≡ counted (⟦<FolderVault<R> as Vault>⟧.vault_holds self.old) }
-        ensures faults { ⟦<FolderVault<R> as Vault>⟧.vault_faults self.old ≤ ⟦<FolderVault<R> as Vault>⟧.vault_faults self.new }
-        ensures failed { result ≡ Err VaultFault.Failed → Rose (⟦<FolderVault<R> as Vault>⟧.vault_faults self.old) (⟦<FolderVault<R> as Vault>⟧.vault_faults self.new) }
-        ensures no_fault { result ≢ Err VaultFault.Failed → ⟦<FolderVault<R> as Vault>⟧.vault_faults self.new ≡ ⟦<FolderVault<R> as Vault>⟧.vault_faults self.old }
-        ensures fault { result ≡ Err VaultFault.Failed → self.new ≡ record self.old { faults = next_count self.old.faults } }
+        ensures tells { ⟦<FolderVault<R> as Vault>⟧.vault_tells self.new ≡
+            ⟦<FolderVault<R> as Vault>⟧.vault_tells self.old }
+        ensures told { IsTrue (⟦<FolderVault<R> as Vault>⟧.vault_tells self.old) →
+            ReadsFile result path.now limit (⟦<FolderVault<R> as Vault>⟧.vault_holds self.old) }
+        ensures counts { IsTrue (⟦<FolderVault<R> as Vault>⟧.vault_tells self.old) →
+            ⟦<FolderVault<R> as Vault>⟧.vault_holds self.new ≡ counted
+            (⟦<FolderVault<R> as Vault>⟧.vault_holds self.old) }
+        ensures faults { ⟦<FolderVault<R> as Vault>⟧.vault_faults self.old ≤
+            ⟦<FolderVault<R> as Vault>⟧.vault_faults self.new }
+        ensures failed { result ≡ Err VaultFault.Failed →
+            Rose (⟦<FolderVault<R> as Vault>⟧.vault_faults self.old)
+            (⟦<FolderVault<R> as Vault>⟧.vault_faults self.new) }
+        ensures no_fault { result ≢ Err VaultFault.Failed →
+            ⟦<FolderVault<R> as Vault>⟧.vault_faults self.new ≡
+            ⟦<FolderVault<R> as Vault>⟧.vault_faults self.old }
+        ensures fault { result ≡ Err VaultFault.Failed →
+            self.new ≡ record self.old { faults = next_count self.old.faults } }
         ensures stays { result ≢ Err VaultFault.Failed → self.new ≡ self.old }
         ensures not_text { ¬ (IsUtf8 path.now) → result ≡ Err VaultFault.Failed }
     {
@@ -72,13 +82,23 @@ impl<R: Files + Drop> Vault for FolderVault<R> {
     /// Whether the path is a folder, be it empty or not: no, where there is a file or nothing. Any other error of
     /// the system is Failed. It takes no memory.
     fn folder(&mut self, _alloc: Global, path: &[u8]) -> Result<bool, ReplaceFault>
-        ensures tells { ⟦<FolderVault<R> as Vault>⟧.vault_tells self.new ≡ ⟦<FolderVault<R> as Vault>⟧.vault_tells self.old }
-        ensures told { IsTrue (⟦<FolderVault<R> as Vault>⟧.vault_tells self.old) → TellsFolder result path.now (⟦<FolderVault<R> as Vault>⟧.vault_holds self.old) }
-        ensures counts { IsTrue (⟦<FolderVault<R> as Vault>⟧.vault_tells self.old) → ⟦<FolderVault<R> as Vault>⟧.vault_holds self.new ≡ counted (⟦<FolderVault<R> as Vault>⟧.vault_holds self.old) }
-        ensures faults { ⟦<FolderVault<R> as Vault>⟧.vault_faults self.old ≤ ⟦<FolderVault<R> as Vault>⟧.vault_faults self.new }
-        ensures failed { result ≡ Err ReplaceFault.Failed → Rose (⟦<FolderVault<R> as Vault>⟧.vault_faults self.old) (⟦<FolderVault<R> as Vault>⟧.vault_faults self.new) }
-        ensures no_fault { result ≢ Err ReplaceFault.Failed → ⟦<FolderVault<R> as Vault>⟧.vault_faults self.new ≡ ⟦<FolderVault<R> as Vault>⟧.vault_faults self.old }
-        ensures fault { result ≡ Err ReplaceFault.Failed → self.new ≡ record self.old { faults = next_count self.old.faults } }
+        ensures tells { ⟦<FolderVault<R> as Vault>⟧.vault_tells self.new ≡
+            ⟦<FolderVault<R> as Vault>⟧.vault_tells self.old }
+        ensures told { IsTrue (⟦<FolderVault<R> as Vault>⟧.vault_tells self.old) →
+            TellsFolder result path.now (⟦<FolderVault<R> as Vault>⟧.vault_holds self.old) }
+        ensures counts { IsTrue (⟦<FolderVault<R> as Vault>⟧.vault_tells self.old) →
+            ⟦<FolderVault<R> as Vault>⟧.vault_holds self.new ≡ counted
+            (⟦<FolderVault<R> as Vault>⟧.vault_holds self.old) }
+        ensures faults { ⟦<FolderVault<R> as Vault>⟧.vault_faults self.old ≤
+            ⟦<FolderVault<R> as Vault>⟧.vault_faults self.new }
+        ensures failed { result ≡ Err ReplaceFault.Failed →
+            Rose (⟦<FolderVault<R> as Vault>⟧.vault_faults self.old)
+            (⟦<FolderVault<R> as Vault>⟧.vault_faults self.new) }
+        ensures no_fault { result ≢ Err ReplaceFault.Failed →
+            ⟦<FolderVault<R> as Vault>⟧.vault_faults self.new ≡
+            ⟦<FolderVault<R> as Vault>⟧.vault_faults self.old }
+        ensures fault { result ≡ Err ReplaceFault.Failed →
+            self.new ≡ record self.old { faults = next_count self.old.faults } }
         ensures stays { result ≢ Err ReplaceFault.Failed → self.new ≡ self.old }
         ensures not_text { ¬ (IsUtf8 path.now) → result ≡ Err ReplaceFault.Failed }
     {
@@ -93,14 +113,29 @@ impl<R: Files + Drop> Vault for FolderVault<R> {
     /// the permissions of the file that it replaces, and where there is none its owner alone may read it. It makes
     /// no folders.
     fn replace(&mut self, alloc: Global, path: &[u8], bytes: &[u8]) -> Result<(), ReplaceFault>
-        ensures tells { ⟦<FolderVault<R> as Vault>⟧.vault_tells self.new ≡ ⟦<FolderVault<R> as Vault>⟧.vault_tells self.old }
-        ensures told { IsTrue (⟦<FolderVault<R> as Vault>⟧.vault_tells self.old) → Replaces result path.now bytes.now (⟦<FolderVault<R> as Vault>⟧.vault_holds self.old) (⟦<FolderVault<R> as Vault>⟧.vault_holds self.new) }
-        ensures found { IsTrue (⟦<FolderVault<R> as Vault>⟧.vault_tells self.old) → OnOk result (file_at path.now (⟦<FolderVault<R> as Vault>⟧.vault_holds self.new).files ≡ Some bytes.now) }
-        ensures others { IsTrue (⟦<FolderVault<R> as Vault>⟧.vault_tells self.old) → (other : List ℕ) → other ≢ path.now → file_at other (⟦<FolderVault<R> as Vault>⟧.vault_holds self.new).files ≡ file_at other (⟦<FolderVault<R> as Vault>⟧.vault_holds self.old).files }
-        ensures faults { ⟦<FolderVault<R> as Vault>⟧.vault_faults self.old ≤ ⟦<FolderVault<R> as Vault>⟧.vault_faults self.new }
-        ensures failed { result ≡ Err ReplaceFault.Failed → Rose (⟦<FolderVault<R> as Vault>⟧.vault_faults self.old) (⟦<FolderVault<R> as Vault>⟧.vault_faults self.new) }
-        ensures no_fault { result ≢ Err ReplaceFault.Failed → ⟦<FolderVault<R> as Vault>⟧.vault_faults self.new ≡ ⟦<FolderVault<R> as Vault>⟧.vault_faults self.old }
-        ensures fault { result ≡ Err ReplaceFault.Failed → self.new ≡ record self.old { faults = next_count self.old.faults } }
+        ensures tells { ⟦<FolderVault<R> as Vault>⟧.vault_tells self.new ≡
+            ⟦<FolderVault<R> as Vault>⟧.vault_tells self.old }
+        ensures told { IsTrue (⟦<FolderVault<R> as Vault>⟧.vault_tells self.old) →
+            Replaces result path.now bytes.now (⟦<FolderVault<R> as Vault>⟧.vault_holds self.old)
+            (⟦<FolderVault<R> as Vault>⟧.vault_holds self.new) }
+        ensures found { IsTrue (⟦<FolderVault<R> as Vault>⟧.vault_tells self.old) →
+            OnOk result
+            (file_at path.now
+            (⟦<FolderVault<R> as Vault>⟧.vault_holds self.new).files ≡ Some bytes.now) }
+        ensures others { IsTrue (⟦<FolderVault<R> as Vault>⟧.vault_tells self.old) →
+            (other : List ℕ) → other ≢ path.now →
+            file_at other (⟦<FolderVault<R> as Vault>⟧.vault_holds self.new).files ≡ file_at other
+            (⟦<FolderVault<R> as Vault>⟧.vault_holds self.old).files }
+        ensures faults { ⟦<FolderVault<R> as Vault>⟧.vault_faults self.old ≤
+            ⟦<FolderVault<R> as Vault>⟧.vault_faults self.new }
+        ensures failed { result ≡ Err ReplaceFault.Failed →
+            Rose (⟦<FolderVault<R> as Vault>⟧.vault_faults self.old)
+            (⟦<FolderVault<R> as Vault>⟧.vault_faults self.new) }
+        ensures no_fault { result ≢ Err ReplaceFault.Failed →
+            ⟦<FolderVault<R> as Vault>⟧.vault_faults self.new ≡
+            ⟦<FolderVault<R> as Vault>⟧.vault_faults self.old }
+        ensures fault { result ≡ Err ReplaceFault.Failed →
+            self.new ≡ record self.old { faults = next_count self.old.faults } }
         ensures stays { result ≢ Err ReplaceFault.Failed → self.new ≡ self.old }
         ensures not_text { ¬ (IsUtf8 path.now) → result ≡ Err ReplaceFault.Failed }
     {

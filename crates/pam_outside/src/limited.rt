@@ -19,10 +19,13 @@ pub fn read_to_limit<F: Read + Drop>(
     limit: u32,
 ) -> Result<Text, VaultFault>
     ensures bound { IfOk result (λ text. length text ≤ limit) }
-    ensures whole { IfOk result (λ text. IfSome (F.remaining source.old.inner) (λ left. text ≡ left)) }
-    ensures too_long { result ≡ Err VaultFault.TooLong → IfSome (F.remaining source.old.inner) (λ left. limit < length left) }
+    ensures whole { IfOk result
+        (λ text. IfSome (F.remaining source.old.inner) (λ left. text ≡ left)) }
+    ensures too_long { result ≡ Err VaultFault.TooLong →
+        IfSome (F.remaining source.old.inner) (λ left. limit < length left) }
     ensures not_absent { result ≢ Err VaultFault.Absent }
-    ensures failed { result ≡ Err VaultFault.Failed → source.new.faults ≡ next_count source.old.faults }
+    ensures failed { result ≡ Err VaultFault.Failed →
+        source.new.faults ≡ next_count source.old.faults }
     ensures no_fault { result ≢ Err VaultFault.Failed → source.new.faults ≡ source.old.faults }
 {
     let mut bytes = Vec::new(alloc);
@@ -44,11 +47,14 @@ fn read_more<F: Read + Drop>(
     requires { vec_len bytes.old < most }
     ensures grows { IfOk result (λ n. vec_len bytes.new ≡ vec_len bytes.old + n) }
     ensures bound { IfOk result (λ n. vec_len bytes.new ≤ most) }
-    ensures taken { IfOk result (λ n. (all : Option (List ℕ)) → Consumes all (F.remaining source.old.inner) bytes.old.items → Consumes all (F.remaining source.new.inner) bytes.new.items) }
+    ensures taken { IfOk result (λ n. (all : Option (List ℕ)) →
+        Consumes all (F.remaining source.old.inner) bytes.old.items →
+        Consumes all (F.remaining source.new.inner) bytes.new.items) }
     ensures end { result ≡ Ok 0 → IsAtEnd (F.remaining source.new.inner) }
     ensures causes { result ≢ Err VaultFault.Absent }
     ensures not_long { result ≢ Err VaultFault.TooLong }
-    ensures failed { result ≡ Err VaultFault.Failed → source.new.faults ≡ next_count source.old.faults }
+    ensures failed { result ≡ Err VaultFault.Failed →
+        source.new.faults ≡ next_count source.old.faults }
     ensures no_fault { result ≢ Err VaultFault.Failed → source.new.faults ≡ source.old.faults }
 {
     let mut piece = [0u8; CHUNK];

@@ -22,7 +22,13 @@ impl Model for MemSink {
 
     ghost Value = { SinkMemory };
 
-    ghost view = { λ s. record { written = s.bytes.items; room = s.room; calls = s.calls.made; faults = s.calls.faults; fails = s.calls.fails } };
+    ghost view = { λ s. record {
+      written = s.bytes.items;
+      room = s.room;
+      calls = s.calls.made;
+      faults = s.calls.faults;
+      fails = s.calls.fails;
+    } };
 
     ghost invariant = { λ s. vec_len s.bytes + s.room ≤ vec_capacity s.bytes };
 }
@@ -31,7 +37,8 @@ impl MemSink {
     /// An empty sink with room for so many bytes, which it takes here and not later. `fails` has the numbers,
     /// from 1, of the writes that are to fail.
     pub fn new(alloc: Global, room: usize, fails: Numbers) -> Result<MemSink, NoMemory>
-        ensures { IfOk result (λ sink. sink ≡ record { written = []; room = room; calls = 0; faults = 0; fails = fails }) }
+        ensures { IfOk result
+            (λ sink. sink ≡ record { written = []; room = room; calls = 0; faults = 0; fails = fails }) }
     {
         Ok(MemSink {
             bytes: Vec::with_capacity(alloc, room)?,
@@ -63,16 +70,35 @@ impl Sink for MemSink {
     fn write(&mut self, piece: &[u8]) -> Result<usize, Failed>
         requires { 0 < length piece.now }
         ensures bound { IfOk result (λ n. n ≤ length piece.now) }
-        ensures tells { ⟦<MemSink as Sink>⟧.sink_tells self.new ≡ ⟦<MemSink as Sink>⟧.sink_tells self.old }
-        ensures told { IsTrue (⟦<MemSink as Sink>⟧.sink_tells self.old) → Writes result piece.now (⟦<MemSink as Sink>⟧.sink_holds self.old) (⟦<MemSink as Sink>⟧.sink_holds self.new) }
-        ensures faults { ⟦<MemSink as Sink>⟧.sink_faults self.old ≤ ⟦<MemSink as Sink>⟧.sink_faults self.new }
-        ensures failed { OnErr result (Rose (⟦<MemSink as Sink>⟧.sink_faults self.old) (⟦<MemSink as Sink>⟧.sink_faults self.new)) }
-        ensures nothing { result ≡ Ok 0 → Rose (⟦<MemSink as Sink>⟧.sink_faults self.old) (⟦<MemSink as Sink>⟧.sink_faults self.new) }
-        ensures no_fault { IfOk result (λ n. 0 < n → ⟦<MemSink as Sink>⟧.sink_faults self.new ≡ ⟦<MemSink as Sink>⟧.sink_faults self.old) }
-        ensures fails_exactly { IsErr result ↔ IsTrue (fails_next self.old.calls self.old.fails || nat_lt self.old.room (length piece.now)) }
+        ensures tells { ⟦<MemSink as Sink>⟧.sink_tells self.new ≡
+            ⟦<MemSink as Sink>⟧.sink_tells self.old }
+        ensures told { IsTrue (⟦<MemSink as Sink>⟧.sink_tells self.old) →
+            Writes result piece.now (⟦<MemSink as Sink>⟧.sink_holds self.old)
+            (⟦<MemSink as Sink>⟧.sink_holds self.new) }
+        ensures faults { ⟦<MemSink as Sink>⟧.sink_faults self.old ≤
+            ⟦<MemSink as Sink>⟧.sink_faults self.new }
+        ensures failed { OnErr result
+            (Rose (⟦<MemSink as Sink>⟧.sink_faults self.old)
+            (⟦<MemSink as Sink>⟧.sink_faults self.new)) }
+        ensures nothing { result ≡ Ok 0 →
+            Rose (⟦<MemSink as Sink>⟧.sink_faults self.old)
+            (⟦<MemSink as Sink>⟧.sink_faults self.new) }
+        ensures no_fault { IfOk result (λ n. 0 < n →
+            ⟦<MemSink as Sink>⟧.sink_faults self.new ≡ ⟦<MemSink as Sink>⟧.sink_faults self.old) }
+        ensures fails_exactly { IsErr result ↔ IsTrue
+            (fails_next self.old.calls self.old.fails || nat_lt self.old.room (length piece.now)) }
         ensures amount { IfOk result (λ n. n ≡ length piece.now) }
-        ensures written { OnOk result (self.new ≡ record self.old { written = self.old.written ++ piece.now; room = self.old.room - length piece.now; calls = next_count self.old.calls }) }
-        ensures fault { OnErr result (self.new ≡ record self.old { calls = next_count self.old.calls; faults = next_count self.old.faults }) }
+        ensures written { OnOk result
+            (self.new ≡ record self.old {
+              written = self.old.written ++ piece.now;
+              room = self.old.room - length piece.now;
+              calls = next_count self.old.calls;
+            }) }
+        ensures fault { OnErr result
+            (self.new ≡ record self.old {
+              calls = next_count self.old.calls;
+              faults = next_count self.old.faults;
+            }) }
     {
         if self.calls.next_fails() || self.room < piece.len() {
             self.calls.count_fault();

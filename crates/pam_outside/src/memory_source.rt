@@ -22,7 +22,13 @@ impl Model for MemSource {
 
     ghost Value = { SourceMemory };
 
-    ghost view = { λ s. record { left = drop s.at s.bytes; calls = s.calls.made; reads_at_end = s.reads_at_end; faults = s.calls.faults; fails = s.calls.fails } };
+    ghost view = { λ s. record {
+      left = drop s.at s.bytes;
+      calls = s.calls.made;
+      reads_at_end = s.reads_at_end;
+      faults = s.calls.faults;
+      fails = s.calls.fails;
+    } };
 
     ghost invariant = { λ s. s.at ≤ length s.bytes };
 }
@@ -30,7 +36,13 @@ impl Model for MemSource {
 impl MemSource {
     /// A source of these bytes. `fails` has the numbers, from 1, of the reads that are to fail.
     pub fn new(bytes: Text, fails: Numbers) -> MemSource
-        ensures { result ≡ record { left = bytes; calls = 0; reads_at_end = 0; faults = 0; fails = fails } }
+        ensures { result ≡ record {
+          left = bytes;
+          calls = 0;
+          reads_at_end = 0;
+          faults = 0;
+          fails = fails;
+        } }
     {
         MemSource {
             bytes,
@@ -57,7 +69,11 @@ impl Source for MemSource {
 
     ghost source_tells = { λ s. true };
 
-    ghost source_holds = { λ s. record { left = s.left; calls = s.calls; reads_at_end = s.reads_at_end } };
+    ghost source_holds = { λ s. record {
+      left = s.left;
+      calls = s.calls;
+      reads_at_end = s.reads_at_end;
+    } };
 
     ghost source_faults = { λ s. s.faults };
 
@@ -66,16 +82,34 @@ impl Source for MemSource {
     fn read(&mut self, into: &mut [u8]) -> Result<usize, Failed>
         requires { 0 < length into.old }
         ensures bound { IfOk result (λ n. n ≤ length into.new) }
-        ensures tells { ⟦<MemSource as Source>⟧.source_tells self.new ≡ ⟦<MemSource as Source>⟧.source_tells self.old }
-        ensures told { IsTrue (⟦<MemSource as Source>⟧.source_tells self.old) → Reads result into.new (⟦<MemSource as Source>⟧.source_holds self.old) (⟦<MemSource as Source>⟧.source_holds self.new) }
-        ensures faults { ⟦<MemSource as Source>⟧.source_faults self.old ≤ ⟦<MemSource as Source>⟧.source_faults self.new }
-        ensures failed { OnErr result (Rose (⟦<MemSource as Source>⟧.source_faults self.old) (⟦<MemSource as Source>⟧.source_faults self.new)) }
-        ensures no_fault { OnOk result (⟦<MemSource as Source>⟧.source_faults self.new ≡ ⟦<MemSource as Source>⟧.source_faults self.old) }
+        ensures tells { ⟦<MemSource as Source>⟧.source_tells self.new ≡
+            ⟦<MemSource as Source>⟧.source_tells self.old }
+        ensures told { IsTrue (⟦<MemSource as Source>⟧.source_tells self.old) →
+            Reads result into.new (⟦<MemSource as Source>⟧.source_holds self.old)
+            (⟦<MemSource as Source>⟧.source_holds self.new) }
+        ensures faults { ⟦<MemSource as Source>⟧.source_faults self.old ≤
+            ⟦<MemSource as Source>⟧.source_faults self.new }
+        ensures failed { OnErr result
+            (Rose (⟦<MemSource as Source>⟧.source_faults self.old)
+            (⟦<MemSource as Source>⟧.source_faults self.new)) }
+        ensures no_fault { OnOk result
+            (⟦<MemSource as Source>⟧.source_faults self.new ≡
+            ⟦<MemSource as Source>⟧.source_faults self.old) }
         ensures fails_exactly { IsErr result ↔ IsTrue (fails_next self.old.calls self.old.fails) }
         ensures amount { IfOk result (λ n. n ≡ min (length into.old) (length self.old.left)) }
         ensures buffer { IfOk result (λ n. into.new ≡ take n self.old.left ++ drop n into.old) }
-        ensures taken { IfOk result (λ n. self.new ≡ record self.old { left = drop n self.old.left; calls = next_count self.old.calls; reads_at_end = next_at_end self.old.reads_at_end (length self.old.left) }) }
-        ensures fault { OnErr result (self.new ≡ record self.old { calls = next_count self.old.calls; reads_at_end = next_at_end self.old.reads_at_end (length self.old.left); faults = next_count self.old.faults }) }
+        ensures taken { IfOk result
+            (λ n. self.new ≡ record self.old {
+              left = drop n self.old.left;
+              calls = next_count self.old.calls;
+              reads_at_end = next_at_end self.old.reads_at_end (length self.old.left);
+            }) }
+        ensures fault { OnErr result
+            (self.new ≡ record self.old {
+              calls = next_count self.old.calls;
+              reads_at_end = next_at_end self.old.reads_at_end (length self.old.left);
+              faults = next_count self.old.faults;
+            }) }
         ensures buffer_stays { OnErr result (into.new ≡ into.old) }
     {
         let rest = &self.bytes.bytes()[self.at..];

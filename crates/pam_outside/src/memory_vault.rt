@@ -37,7 +37,12 @@ impl Model for MemVault {
 
     ghost Value = { VaultMemory };
 
-    ghost view = { λ v. record { files = v.files.items; calls = v.calls.made; faults = v.calls.faults; fails = v.calls.fails } };
+    ghost view = { λ v. record {
+      files = v.files.items;
+      calls = v.calls.made;
+      faults = v.calls.faults;
+      fails = v.calls.fails;
+    } };
 }
 
 impl MemVault {
@@ -54,9 +59,11 @@ impl MemVault {
     /// Sets the file with this path, whole: one that is there is replaced, and keeps its place. It is no counted
     /// call. Without memory the vault stays as it was.
     pub fn put(&mut self, alloc: Global, path: &[u8], bytes: &[u8]) -> Result<(), NoMemory>
-        ensures ok { OnOk result (self.new ≡ record self.old { files = file_put path.now bytes.now self.old.files }) }
+        ensures ok { OnOk result
+            (self.new ≡ record self.old { files = file_put path.now bytes.now self.old.files }) }
         ensures found { OnOk result (file_at path.now self.new.files ≡ Some bytes.now) }
-        ensures others { OnOk result ((other : List ℕ) → other ≢ path.now → file_at other self.new.files ≡ file_at other self.old.files) }
+        ensures others { OnOk result ((other : List ℕ) → other ≢ path.now →
+            file_at other self.new.files ≡ file_at other self.old.files) }
         ensures err { OnErr result (self.new ≡ self.old) }
     {
         let file = StoredFile {

@@ -12,13 +12,15 @@ pub trait Nap: Drop {
     /// Waits so many microseconds. It can't fail, and takes no memory.
     fn rest(&mut self, micros: u32)
         ensures tells { nap_tells self.new ≡ nap_tells self.old }
-        ensures told { IsTrue (nap_tells self.old) → nap_holds self.new ≡ rested (nap_holds self.old) micros };
+        ensures told { IsTrue (nap_tells self.old) →
+            nap_holds self.new ≡ rested (nap_holds self.old) micros };
 }
 
 /// `Nap::rest` of a nap that is lent.
 pub fn rest(nap: &mut dyn Nap, micros: u32)
     ensures tells { nap_tells nap.new ≡ nap_tells nap.old }
-    ensures told { IsTrue (nap_tells nap.old) → nap_holds nap.new ≡ rested (nap_holds nap.old) micros }
+    ensures told { IsTrue (nap_tells nap.old) →
+        nap_holds nap.new ≡ rested (nap_holds nap.old) micros }
 {
     nap.rest(micros)
 }

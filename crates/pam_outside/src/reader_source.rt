@@ -44,12 +44,21 @@ impl<R: Read + Drop> Source for ReaderSource<R> {
     fn read(&mut self, into: &mut [u8]) -> Result<usize, Failed>
         requires { 0 < length into.old }
         ensures bound { IfOk result (λ n. n ≤ length into.new) }
-        ensures tells { ⟦<ReaderSource<R> as Source>⟧.source_tells self.new ≡ ⟦<ReaderSource<R> as Source>⟧.source_tells self.old }
-        ensures told { IsTrue (⟦<ReaderSource<R> as Source>⟧.source_tells self.old) → Reads result into.new (⟦<ReaderSource<R> as Source>⟧.source_holds self.old) (⟦<ReaderSource<R> as Source>⟧.source_holds self.new) }
-        ensures faults { ⟦<ReaderSource<R> as Source>⟧.source_faults self.old ≤ ⟦<ReaderSource<R> as Source>⟧.source_faults self.new }
-        ensures failed { OnErr result (Rose (⟦<ReaderSource<R> as Source>⟧.source_faults self.old) (⟦<ReaderSource<R> as Source>⟧.source_faults self.new)) }
-        ensures no_fault { OnOk result (⟦<ReaderSource<R> as Source>⟧.source_faults self.new ≡ ⟦<ReaderSource<R> as Source>⟧.source_faults self.old) }
-        ensures given { ReadConsumes (R.remaining self.old.inner) (R.remaining self.new.inner) result into.new }
+        ensures tells { ⟦<ReaderSource<R> as Source>⟧.source_tells self.new ≡
+            ⟦<ReaderSource<R> as Source>⟧.source_tells self.old }
+        ensures told { IsTrue (⟦<ReaderSource<R> as Source>⟧.source_tells self.old) →
+            Reads result into.new (⟦<ReaderSource<R> as Source>⟧.source_holds self.old)
+            (⟦<ReaderSource<R> as Source>⟧.source_holds self.new) }
+        ensures faults { ⟦<ReaderSource<R> as Source>⟧.source_faults self.old ≤
+            ⟦<ReaderSource<R> as Source>⟧.source_faults self.new }
+        ensures failed { OnErr result
+            (Rose (⟦<ReaderSource<R> as Source>⟧.source_faults self.old)
+            (⟦<ReaderSource<R> as Source>⟧.source_faults self.new)) }
+        ensures no_fault { OnOk result
+            (⟦<ReaderSource<R> as Source>⟧.source_faults self.new ≡
+            ⟦<ReaderSource<R> as Source>⟧.source_faults self.old) }
+        ensures given { ReadConsumes (R.remaining self.old.inner)
+            (R.remaining self.new.inner) result into.new }
         ensures fault { OnErr result (self.new.faults ≡ next_count self.old.faults) }
     {
         match self.inner.read(into) {

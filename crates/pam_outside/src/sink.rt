@@ -21,7 +21,8 @@ pub trait Sink {
         requires { 0 < length piece.now }
         ensures bound { IfOk result (λ n. n ≤ length piece.now) }
         ensures tells { sink_tells self.new ≡ sink_tells self.old }
-        ensures told { IsTrue (sink_tells self.old) → Writes result piece.now (sink_holds self.old) (sink_holds self.new) }
+        ensures told { IsTrue (sink_tells self.old) →
+            Writes result piece.now (sink_holds self.old) (sink_holds self.new) }
         ensures faults { sink_faults self.old ≤ sink_faults self.new }
         ensures failed { OnErr result (Rose (sink_faults self.old) (sink_faults self.new)) }
         ensures nothing { result ≡ Ok 0 → Rose (sink_faults self.old) (sink_faults self.new) }

@@ -22,7 +22,8 @@ pub trait Source {
         requires { 0 < length into.old }
         ensures bound { IfOk result (λ n. n ≤ length into.new) }
         ensures tells { source_tells self.new ≡ source_tells self.old }
-        ensures told { IsTrue (source_tells self.old) → Reads result into.new (source_holds self.old) (source_holds self.new) }
+        ensures told { IsTrue (source_tells self.old) →
+            Reads result into.new (source_holds self.old) (source_holds self.new) }
         ensures faults { source_faults self.old ≤ source_faults self.new }
         ensures failed { OnErr result (Rose (source_faults self.old) (source_faults self.new)) }
         ensures no_fault { OnOk result (source_faults self.new ≡ source_faults self.old) };

@@ -45,31 +45,45 @@ pub trait Vault: Drop {
     fn read(&mut self, alloc: Global, path: &[u8], limit: u32) -> Result<Text, VaultFault>
         ensures bound { IfOk result (λ text. length text ≤ limit) }
         ensures tells { vault_tells self.new ≡ vault_tells self.old }
-        ensures told { IsTrue (vault_tells self.old) → ReadsFile result path.now limit (vault_holds self.old) }
-        ensures counts { IsTrue (vault_tells self.old) → vault_holds self.new ≡ counted (vault_holds self.old) }
+        ensures told { IsTrue (vault_tells self.old) →
+            ReadsFile result path.now limit (vault_holds self.old) }
+        ensures counts { IsTrue (vault_tells self.old) →
+            vault_holds self.new ≡ counted (vault_holds self.old) }
         ensures faults { vault_faults self.old ≤ vault_faults self.new }
-        ensures failed { result ≡ Err VaultFault.Failed → Rose (vault_faults self.old) (vault_faults self.new) }
-        ensures no_fault { result ≢ Err VaultFault.Failed → vault_faults self.new ≡ vault_faults self.old };
+        ensures failed { result ≡ Err VaultFault.Failed →
+            Rose (vault_faults self.old) (vault_faults self.new) }
+        ensures no_fault { result ≢ Err VaultFault.Failed →
+            vault_faults self.new ≡ vault_faults self.old };
 
     /// Whether a file lies below this path: whether the path of one begins with it and a slash. The files stay.
     fn folder(&mut self, alloc: Global, path: &[u8]) -> Result<bool, ReplaceFault>
         ensures tells { vault_tells self.new ≡ vault_tells self.old }
-        ensures told { IsTrue (vault_tells self.old) → TellsFolder result path.now (vault_holds self.old) }
-        ensures counts { IsTrue (vault_tells self.old) → vault_holds self.new ≡ counted (vault_holds self.old) }
+        ensures told { IsTrue (vault_tells self.old) →
+            TellsFolder result path.now (vault_holds self.old) }
+        ensures counts { IsTrue (vault_tells self.old) →
+            vault_holds self.new ≡ counted (vault_holds self.old) }
         ensures faults { vault_faults self.old ≤ vault_faults self.new }
-        ensures failed { result ≡ Err ReplaceFault.Failed → Rose (vault_faults self.old) (vault_faults self.new) }
-        ensures no_fault { result ≢ Err ReplaceFault.Failed → vault_faults self.new ≡ vault_faults self.old };
+        ensures failed { result ≡ Err ReplaceFault.Failed →
+            Rose (vault_faults self.old) (vault_faults self.new) }
+        ensures no_fault { result ≢ Err ReplaceFault.Failed →
+            vault_faults self.new ≡ vault_faults self.old };
 
     /// Sets the file whole, whether it was there or not. Where it is refused, the files are as before; every other
     /// file always stays.
     fn replace(&mut self, alloc: Global, path: &[u8], bytes: &[u8]) -> Result<(), ReplaceFault>
         ensures tells { vault_tells self.new ≡ vault_tells self.old }
-        ensures told { IsTrue (vault_tells self.old) → Replaces result path.now bytes.now (vault_holds self.old) (vault_holds self.new) }
-        ensures found { IsTrue (vault_tells self.old) → OnOk result (file_at path.now (vault_holds self.new).files ≡ Some bytes.now) }
-        ensures others { IsTrue (vault_tells self.old) → (other : List ℕ) → other ≢ path.now → file_at other (vault_holds self.new).files ≡ file_at other (vault_holds self.old).files }
+        ensures told { IsTrue (vault_tells self.old) →
+            Replaces result path.now bytes.now (vault_holds self.old) (vault_holds self.new) }
+        ensures found { IsTrue (vault_tells self.old) →
+            OnOk result (file_at path.now (vault_holds self.new).files ≡ Some bytes.now) }
+        ensures others { IsTrue (vault_tells self.old) → (other : List ℕ) → other ≢ path.now →
+            file_at other (vault_holds self.new).files ≡ file_at other
+            (vault_holds self.old).files }
         ensures faults { vault_faults self.old ≤ vault_faults self.new }
-        ensures failed { result ≡ Err ReplaceFault.Failed → Rose (vault_faults self.old) (vault_faults self.new) }
-        ensures no_fault { result ≢ Err ReplaceFault.Failed → vault_faults self.new ≡ vault_faults self.old };
+        ensures failed { result ≡ Err ReplaceFault.Failed →
+            Rose (vault_faults self.old) (vault_faults self.new) }
+        ensures no_fault { result ≢ Err ReplaceFault.Failed →
+            vault_faults self.new ≡ vault_faults self.old };
 }
 
 /// `Vault::read` of a vault that is lent.
@@ -81,11 +95,15 @@ pub fn read_file(
 ) -> Result<Text, VaultFault>
     ensures bound { IfOk result (λ text. length text ≤ limit) }
     ensures tells { vault_tells vault.new ≡ vault_tells vault.old }
-    ensures told { IsTrue (vault_tells vault.old) → ReadsFile result path.now limit (vault_holds vault.old) }
-    ensures counts { IsTrue (vault_tells vault.old) → vault_holds vault.new ≡ counted (vault_holds vault.old) }
+    ensures told { IsTrue (vault_tells vault.old) →
+        ReadsFile result path.now limit (vault_holds vault.old) }
+    ensures counts { IsTrue (vault_tells vault.old) →
+        vault_holds vault.new ≡ counted (vault_holds vault.old) }
     ensures faults { vault_faults vault.old ≤ vault_faults vault.new }
-    ensures failed { result ≡ Err VaultFault.Failed → Rose (vault_faults vault.old) (vault_faults vault.new) }
-    ensures no_fault { result ≢ Err VaultFault.Failed → vault_faults vault.new ≡ vault_faults vault.old }
+    ensures failed { result ≡ Err VaultFault.Failed →
+        Rose (vault_faults vault.old) (vault_faults vault.new) }
+    ensures no_fault { result ≢ Err VaultFault.Failed →
+        vault_faults vault.new ≡ vault_faults vault.old }
 {
     vault.read(alloc, path, limit)
 }
@@ -93,11 +111,15 @@ pub fn read_file(
 /// `Vault::folder` of a vault that is lent.
 pub fn is_folder(vault: &mut dyn Vault, alloc: Global, path: &[u8]) -> Result<bool, ReplaceFault>
     ensures tells { vault_tells vault.new ≡ vault_tells vault.old }
-    ensures told { IsTrue (vault_tells vault.old) → TellsFolder result path.now (vault_holds vault.old) }
-    ensures counts { IsTrue (vault_tells vault.old) → vault_holds vault.new ≡ counted (vault_holds vault.old) }
+    ensures told { IsTrue (vault_tells vault.old) →
+        TellsFolder result path.now (vault_holds vault.old) }
+    ensures counts { IsTrue (vault_tells vault.old) →
+        vault_holds vault.new ≡ counted (vault_holds vault.old) }
     ensures faults { vault_faults vault.old ≤ vault_faults vault.new }
-    ensures failed { result ≡ Err ReplaceFault.Failed → Rose (vault_faults vault.old) (vault_faults vault.new) }
-    ensures no_fault { result ≢ Err ReplaceFault.Failed → vault_faults vault.new ≡ vault_faults vault.old }
+    ensures failed { result ≡ Err ReplaceFault.Failed →
+        Rose (vault_faults vault.old) (vault_faults vault.new) }
+    ensures no_fault { result ≢ Err ReplaceFault.Failed →
+        vault_faults vault.new ≡ vault_faults vault.old }
 {
     vault.folder(alloc, path)
 }
@@ -110,12 +132,17 @@ pub fn replace_file(
     bytes: &[u8],
 ) -> Result<(), ReplaceFault>
     ensures tells { vault_tells vault.new ≡ vault_tells vault.old }
-    ensures told { IsTrue (vault_tells vault.old) → Replaces result path.now bytes.now (vault_holds vault.old) (vault_holds vault.new) }
-    ensures found { IsTrue (vault_tells vault.old) → OnOk result (file_at path.now (vault_holds vault.new).files ≡ Some bytes.now) }
-    ensures others { IsTrue (vault_tells vault.old) → (other : List ℕ) → other ≢ path.now → file_at other (vault_holds vault.new).files ≡ file_at other (vault_holds vault.old).files }
+    ensures told { IsTrue (vault_tells vault.old) →
+        Replaces result path.now bytes.now (vault_holds vault.old) (vault_holds vault.new) }
+    ensures found { IsTrue (vault_tells vault.old) →
+        OnOk result (file_at path.now (vault_holds vault.new).files ≡ Some bytes.now) }
+    ensures others { IsTrue (vault_tells vault.old) → (other : List ℕ) → other ≢ path.now →
+        file_at other (vault_holds vault.new).files ≡ file_at other (vault_holds vault.old).files }
     ensures faults { vault_faults vault.old ≤ vault_faults vault.new }
-    ensures failed { result ≡ Err ReplaceFault.Failed → Rose (vault_faults vault.old) (vault_faults vault.new) }
-    ensures no_fault { result ≢ Err ReplaceFault.Failed → vault_faults vault.new ≡ vault_faults vault.old }
+    ensures failed { result ≡ Err ReplaceFault.Failed →
+        Rose (vault_faults vault.old) (vault_faults vault.new) }
+    ensures no_fault { result ≢ Err ReplaceFault.Failed →
+        vault_faults vault.new ≡ vault_faults vault.old }
 {
     vault.replace(alloc, path, bytes)
 }

@@ -10,7 +10,8 @@ use pam_base::Failed;
 /// the count is as before. An empty text makes no call.
 pub fn write_all<K: Sink>(sink: &mut K, text: &[u8]) -> Result<(), Failed>
     ensures tells { K.sink_tells sink.new ≡ K.sink_tells sink.old }
-    ensures told { IsTrue (K.sink_tells sink.old) → WritesWhole result text.now (K.sink_holds sink.old) (K.sink_holds sink.new) }
+    ensures told { IsTrue (K.sink_tells sink.old) →
+        WritesWhole result text.now (K.sink_holds sink.old) (K.sink_holds sink.new) }
     ensures faults { K.sink_faults sink.old ≤ K.sink_faults sink.new }
     ensures failed { OnErr result (Rose (K.sink_faults sink.old) (K.sink_faults sink.new)) }
     ensures no_fault { OnOk result (K.sink_faults sink.new ≡ K.sink_faults sink.old) }

@@ -45,14 +45,27 @@ impl<W: Write + Drop> Sink for WriterSink<W> {
     fn write(&mut self, piece: &[u8]) -> Result<usize, Failed>
         requires { 0 < length piece.now }
         ensures bound { IfOk result (λ n. n ≤ length piece.now) }
-        ensures tells { ⟦<WriterSink<W> as Sink>⟧.sink_tells self.new ≡ ⟦<WriterSink<W> as Sink>⟧.sink_tells self.old }
-        ensures told { IsTrue (⟦<WriterSink<W> as Sink>⟧.sink_tells self.old) → Writes result piece.now (⟦<WriterSink<W> as Sink>⟧.sink_holds self.old) (⟦<WriterSink<W> as Sink>⟧.sink_holds self.new) }
-        ensures faults { ⟦<WriterSink<W> as Sink>⟧.sink_faults self.old ≤ ⟦<WriterSink<W> as Sink>⟧.sink_faults self.new }
-        ensures failed { OnErr result (Rose (⟦<WriterSink<W> as Sink>⟧.sink_faults self.old) (⟦<WriterSink<W> as Sink>⟧.sink_faults self.new)) }
-        ensures nothing { result ≡ Ok 0 → Rose (⟦<WriterSink<W> as Sink>⟧.sink_faults self.old) (⟦<WriterSink<W> as Sink>⟧.sink_faults self.new) }
-        ensures no_fault { IfOk result (λ n. 0 < n → ⟦<WriterSink<W> as Sink>⟧.sink_faults self.new ≡ ⟦<WriterSink<W> as Sink>⟧.sink_faults self.old) }
-        ensures given { WriteAppends (W.contents self.old.inner) (W.contents self.new.inner) result piece.now }
-        ensures counted { IfOk result (λ n. self.new.faults ≡ (if n == 0 then next_count self.old.faults else self.old.faults)) }
+        ensures tells { ⟦<WriterSink<W> as Sink>⟧.sink_tells self.new ≡
+            ⟦<WriterSink<W> as Sink>⟧.sink_tells self.old }
+        ensures told { IsTrue (⟦<WriterSink<W> as Sink>⟧.sink_tells self.old) →
+            Writes result piece.now (⟦<WriterSink<W> as Sink>⟧.sink_holds self.old)
+            (⟦<WriterSink<W> as Sink>⟧.sink_holds self.new) }
+        ensures faults { ⟦<WriterSink<W> as Sink>⟧.sink_faults self.old ≤
+            ⟦<WriterSink<W> as Sink>⟧.sink_faults self.new }
+        ensures failed { OnErr result
+            (Rose (⟦<WriterSink<W> as Sink>⟧.sink_faults self.old)
+            (⟦<WriterSink<W> as Sink>⟧.sink_faults self.new)) }
+        ensures nothing { result ≡ Ok 0 →
+            Rose (⟦<WriterSink<W> as Sink>⟧.sink_faults self.old)
+            (⟦<WriterSink<W> as Sink>⟧.sink_faults self.new) }
+        ensures no_fault { IfOk result (λ n. 0 < n →
+            ⟦<WriterSink<W> as Sink>⟧.sink_faults self.new ≡
+            ⟦<WriterSink<W> as Sink>⟧.sink_faults self.old) }
+        ensures given { WriteAppends (W.contents self.old.inner)
+            (W.contents self.new.inner) result piece.now }
+        ensures counted { IfOk result
+            (λ n. self.new.faults ≡
+            (if n == 0 then next_count self.old.faults else self.old.faults)) }
         ensures fault { OnErr result (self.new.faults ≡ next_count self.old.faults) }
     {
         match self.inner.write(piece) {
