@@ -1,5 +1,4 @@
 mod basic;
 mod memory;
 mod probe;
-mod prompts;
 mod scene;
