@@ -1,0 +1,4 @@
+mod basic;
+mod memory;
+mod probe;
+mod scene;
