@@ -2,7 +2,8 @@
 use Rattle.std.proofs.Common.{◌≡◌, ℕ, zero, suc, ◌<◌, ◌≤◌, Bool, true, false, not, ◌||◌, ◌&&◌, cond, eqb, List, [], ◌∷◌, ◌++◌, length, Option, Some, None, refl, sym, ap, ◌∙◌, subst, arith, append_assoc, length-append, ◌⊎◌, inl, inr}
 use Rattle.std.proofs.lemmas.Bool.{eqb-true}
 use Rattle.pam_base.specs.Bytes.{has_byte}
-use Rattle.conf_lex.specs.Piece.{Join, feed, return_feed, join_bytes, BracketUnit, escaped, joined, single, unit_bytes, units_bytes, Piece, newline, white, join, plain, bracket, open_bracket, comment, piece_bytes, spelling, is_white, begins_with, at_line_end, join_after_backslash, join_at, has_join, begins_join, goes_on, all_go_on, is_single, unit_stands, units_stand, stands, Reads, IsReading}
+use Rattle.pam_base.specs.White.{is_white}
+use Rattle.conf_lex.specs.Piece.{Join, feed, return_feed, join_bytes, BracketUnit, escaped, joined, single, unit_bytes, units_bytes, Piece, newline, white, join, plain, bracket, open_bracket, comment, piece_bytes, spelling, begins_with, at_line_end, join_after_backslash, join_at, has_join, begins_join, goes_on, all_go_on, is_single, unit_stands, units_stand, stands, Reads, IsReading}
 use Rattle.conf_lex.specs.Reading.{unit_at, pieces_of}
 use Rattle.conf_lex.proofs.Once.{both, either, one_reading}
 

@@ -6,7 +6,7 @@ use Rattle.pam_base.specs.Bytes.{has_byte, IsFirstPlace}
 use Rattle.conf_lex.specs.Rules.{newlines}
 use Rattle.conf_lex.specs.Lexing.{before_nul, nul_line, Moves}
 use Rattle.conf_lex.proofs.Every.{which}
-use Rattle.conf_lex.specs.Piece.{Join, feed, return_feed, join_bytes, join_at, join_after_backslash, at_line_end, begins_with, is_white, goes_on}
+use Rattle.conf_lex.specs.Piece.{Join, feed, return_feed, join_bytes, join_at, join_after_backslash, at_line_end, begins_with, goes_on}
 use Rattle.conf_lex.specs.Reading.{run_of, rest_of_line}
 use Rattle.conf_lex.specs.Lexing.{is_bracket_end, is_escape, begins_white}
 use Rattle.conf_lex.proofs.Once.{both, either, white_cases}

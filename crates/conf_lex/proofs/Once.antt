@@ -2,7 +2,8 @@
 use Rattle.std.proofs.Common.{◌≡◌, ℕ, zero, suc, ◌-◌, Bool, true, false, not, ◌||◌, ◌&&◌, eqb, List, [], ◌∷◌, ◌++◌, length, drop, Option, Some, None, refl, ap, ◌∙◌, arith, append_assoc, append-nil, ◌⊎◌, inl, inr}
 use Rattle.std.proofs.lemmas.Bool.{eqb-true}
 use Rattle.pam_base.specs.Bytes.{has_byte}
-use Rattle.conf_lex.specs.Piece.{Join, feed, return_feed, BracketUnit, escaped, joined, single, unit_bytes, units_bytes, Piece, newline, white, join, plain, bracket, open_bracket, comment, piece_bytes, spelling, is_white, begins_with, at_line_end, join_at, has_join, begins_join, goes_on, all_go_on, is_single, unit_stands, units_stand, stands, all_stand, Reads, IsReading}
+use Rattle.pam_base.specs.White.{is_white}
+use Rattle.conf_lex.specs.Piece.{Join, feed, return_feed, BracketUnit, escaped, joined, single, unit_bytes, units_bytes, Piece, newline, white, join, plain, bracket, open_bracket, comment, piece_bytes, spelling, begins_with, at_line_end, join_at, has_join, begins_join, goes_on, all_go_on, is_single, unit_stands, units_stand, stands, all_stand, Reads, IsReading}
 use Rattle.conf_lex.specs.Reading.{run_of, rest_of_line, unit_at, units_behind, first_piece, pieces_behind, pieces_of}
 
 -- ---- tests

@@ -6,10 +6,11 @@ use Rattle.std.proofs.lemmas.List.{take-append-drop}
 use Rattle.std.proofs.lemmas.List.Folds.{list_any-append}
 use Rattle.std.specs.List.{list_any}
 use Rattle.pam_base.specs.Bytes.{has_byte}
+use Rattle.pam_base.specs.White.{is_white}
 use Rattle.conf_lex.specs.declared.lexer.Found.{Found}
 use Rattle.conf_lex.specs.declared.lexer.Line.{Line}
 use Rattle.conf_lex.specs.declared.lexer.Found.TheVariants as founds
-use Rattle.conf_lex.specs.Piece.{BracketUnit, units_bytes, units_stand, Piece, white, join, plain, bracket, open_bracket, comment, piece_bytes, piece_tokens, spelling, tokens_of, is_newline, is_open, stands, all_stand, at_line_end, begins_with, is_white, goes_on, all_go_on, Reads}
+use Rattle.conf_lex.specs.Piece.{BracketUnit, units_bytes, units_stand, Piece, white, join, plain, bracket, open_bracket, comment, piece_bytes, piece_tokens, spelling, tokens_of, is_newline, is_open, stands, all_stand, at_line_end, begins_with, goes_on, all_go_on, Reads}
 use Rattle.conf_lex.specs.Reading.{unit_at, run_of}
 use Rattle.conf_lex.specs.Rules.{newlines}
 use Rattle.conf_lex.specs.Lexing.{begins_white, TakesJoin, TakesUnits, TakesPiece, TakesPieces, found_tokens, found_open}

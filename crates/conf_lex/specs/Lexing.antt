@@ -1,6 +1,7 @@
 -- What the parts of the lexer give (this project's own).
 use Rattle.std.specs.Prelude.{◌≡◌, ℕ, ◌+◌, ◌≤◌, Bool, true, false, List, [], ◌∷◌, ◌++◌, Option, Some, None, Result, Ok, Err, length, nat_lt, ◌==◌, ◌||◌, ◌&&◌, if◌then◌else◌}
 use Rattle.std.specs.List.{flat_map, list_any}
+use Rattle.pam_base.specs.White.{is_white}
 use Rattle.pam_base.specs.declared.fault.Refuse.{Refuse}
 use Rattle.pam_base.specs.declared.fault.Refuse.TheVariants as refusals
 use Rattle.pam_base.specs.declared.fault.FaultKind.TheVariants.{OpenBracket, RuleTooLong}
@@ -10,7 +11,7 @@ use Rattle.conf_lex.specs.declared.token.LexFault.{LexFault}
 use Rattle.conf_lex.specs.declared.lexer.Found.{Found}
 use Rattle.conf_lex.specs.declared.lexer.Found.TheVariants as founds
 use Rattle.conf_lex.specs.declared.lexer.Line.{Line}
-use Rattle.conf_lex.specs.Piece.{Join, join_bytes, join_at, BracketUnit, unit_bytes, unit_text, units_bytes, units_text, units_stand, unit_stands, Piece, piece_bytes, piece_tokens, spelling, tokens_of, is_newline, is_open, stands, begins_with, is_white, Reads}
+use Rattle.conf_lex.specs.Piece.{Join, join_bytes, join_at, BracketUnit, unit_bytes, unit_text, units_bytes, units_text, units_stand, unit_stands, Piece, piece_bytes, piece_tokens, spelling, tokens_of, is_newline, is_open, stands, begins_with, Reads}
 use Rattle.conf_lex.specs.Reading.{unit_at, pieces_of}
 use Rattle.conf_lex.specs.Rules.{newlines, JoinedLine, lines_of_pieces, numbered, rule_at, line_rules, first_fault}
 

@@ -4,6 +4,7 @@
 use Rattle.std.specs.Prelude.{◌≡◌, ℕ, Bool, true, false, not, List, [], ◌∷◌, ◌++◌, Option, Some, None, ◌==◌, ◌||◌, ◌&&◌, if◌then◌else◌}
 use Rattle.std.specs.List.{flat_map}
 use Rattle.pam_base.specs.Bytes.{has_byte}
+use Rattle.pam_base.specs.White.{is_white}
 use Rattle.conf_lex.specs.declared.token.Token.{Token}
 
 -- a join (pam.conf(5): an escaped end of line extends a rule): a backslash and a newline, or (own) with a carriage return between
@@ -87,10 +88,6 @@ is_open (open_bracket us) = true
 is_open _ = false
 
 -- ---- where a piece may stand: what must follow it in the text
-
--- white space (own): a space, a tab or a carriage return
-abbrev pub is_white : ℕ → Bool
-is_white b = b == 32 || b == 9 || b == 13
 
 -- whether a text begins with the byte (own)
 abbrev pub begins_with : ℕ → List ℕ → Bool

@@ -1,7 +1,8 @@
 -- The pieces of a text by a plain function on lists, a piece at a time from the front (this project's own; the law
 -- `one_reading` says that they are the text's only reading).
 use Rattle.std.specs.Prelude.{ℕ, zero, suc, ◌-◌, ◌||◌, List, [], ◌∷◌, length, drop, Option, Some, None, ◌==◌, ◌&&◌, if◌then◌else◌}
-use Rattle.conf_lex.specs.Piece.{Join, BracketUnit, escaped, joined, single, unit_bytes, units_bytes, Piece, newline, white, join, plain, bracket, open_bracket, comment, piece_bytes, is_white, begins_with, join_at, goes_on}
+use Rattle.pam_base.specs.White.{is_white}
+use Rattle.conf_lex.specs.Piece.{Join, BracketUnit, escaped, joined, single, unit_bytes, units_bytes, Piece, newline, white, join, plain, bracket, open_bracket, comment, piece_bytes, begins_with, join_at, goes_on}
 
 -- the plain token at the front, without a look at its first byte (own)
 abbrev pub run_of : List ℕ → List ℕ

@@ -5,7 +5,7 @@ ghost use Rattle.conf_lex.specs.Rules.{newlines, rule_at};
 ghost use Rattle.conf_lex.specs.Lexing.{before_nul, nul_line, Moves, is_bracket_end, is_escape, begins_white, TakesJoin, TakesUnit, TakesUnits, TakesPiece, TakesPieces, EndsLine, GivesLine, Gives, found_tokens, found_open, fault_at, answer_at};
 
 use crate::token::{LexFault, RawRule, RawRules, Token, Tokens};
-use pam_base::{FaultKind, NoMemory, Refuse, Text};
+use pam_base::{FaultKind, NoMemory, Refuse, Text, is_white};
 use std::alloc::Global;
 
 /// The most bytes of a joined line, its ending newline not counted.
@@ -64,8 +64,8 @@ fn goes_on(text: &[u8]) -> bool
     ensures { result ≡ goes_on (before_nul text.now) }
 {
     match text {
-        [] | [b' ' | b'\t' | b'\r' | b'#' | b'\n' | 0, ..] => false,
-        _ => join_length(text).is_none(),
+        [] | [b'#' | b'\n' | 0, ..] => false,
+        [byte, ..] => !is_white(*byte) && join_length(text).is_none(),
     }
 }
 
@@ -281,7 +281,7 @@ impl<'a> Lexer<'a> {
             return Ok(Found::Blank);
         }
         match self.rest[0] {
-            b' ' | b'\t' | b'\r' => Ok(self.white()),
+            byte if is_white(byte) => Ok(self.white()),
             b'#' => Ok(self.comment()),
             b'[' => self.bracket(alloc),
             _ => self.plain(alloc),
@@ -358,7 +358,7 @@ impl<'a> Lexer<'a> {
     }
 
     /// The physical line of the first NUL byte in what is left, if it has one.
-    pub fn nul(&self) -> Option<u32>
+    pub fn nul_line(&self) -> Option<u32>
         requires { self.now.line + length self.now.rest.now < 2 ^ 32 }
         ensures { result ≡ nul_line self.now.line self.now.rest.now }
     {

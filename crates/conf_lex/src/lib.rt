@@ -10,6 +10,3 @@ mod token;
 pub use laws::{one_first_fault, one_reading, one_spelling};
 pub use service_file::rules;
 pub use token::{LexFault, RawRule, RawRules, Token, Tokens};
-
-#[cfg(test)]
-mod tests;

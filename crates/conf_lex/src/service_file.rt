@@ -53,7 +53,7 @@ pub fn rules(alloc: Global, text: &[u8]) -> Result<RawRules, Refuse<LexFault>>
         line: 1,
     };
     let answer = lexer.rules(alloc);
-    match lexer.nul() {
+    match lexer.nul_line() {
         Some(line) => Err(Refuse::Named(LexFault {
             line,
             kind: FaultKind::NulByte,

@@ -3,7 +3,8 @@ use Rattle.std.proofs.Common.{◌≡◌, ◌<◌, ◌≤◌, ℕ, zero, suc, ◌
 use Rattle.std.specs.List.{position_or_len, before_first}
 use Rattle.std.proofs.lemmas.List.{drop-drop, nil_from_length}
 use Rattle.std.proofs.lemmas.List.Sums.{prefix_len-le-length}
-use Rattle.control_words.specs.Entries.{Entry, FirstEntry, behind_space, ends_name, entries_behind, entries_in, first_entry, from_first, is_other, is_space, with_name}
+use Rattle.pam_base.specs.White.{is_white}
+use Rattle.control_words.specs.Entries.{Entry, FirstEntry, behind_space, ends_name, entries_behind, entries_in, first_entry, from_first, is_other, with_name}
 
 -- ---- the ends of a text
 
@@ -41,8 +42,8 @@ from_first-end test text = record { places = position_or_len test text; inside =
 -- ---- the first entry
 
 -- what stands behind an action
-behind_equals : (bs : List ℕ) → IsEnd bs (from_first is_space (behind_space bs))
-behind_equals bs = end-end bs (behind_space bs) _ (from_first-end is_other bs) (from_first-end is_space (behind_space bs))
+behind_equals : (bs : List ℕ) → IsEnd bs (from_first is_white (behind_space bs))
+behind_equals bs = end-end bs (behind_space bs) _ (from_first-end is_other bs) (from_first-end is_white (behind_space bs))
 
 module _ (name : List ℕ) where
   with_name-by : (b : ℕ) (bs : List ℕ) (is : Bool) → eqb b 61 ≡ is → IsEnd (b ∷ bs) (with_name name (b ∷ bs)).rest
@@ -62,7 +63,7 @@ from_first-later test b bs e =
 pub from_first-here : (test : ℕ → Bool) (b : ℕ) (bs : List ℕ) → test b ≡ true → from_first test (b ∷ bs) ≡ b ∷ bs
 from_first-here test b bs e = rw e refl
 
-module _ (b : ℕ) (bs : List ℕ) (other : is_space b ≡ false) where
+module _ (b : ℕ) (bs : List ℕ) (other : is_white b ≡ false) where
   space-here : behind_space (b ∷ bs) ≡ b ∷ bs
   space-here = from_first-here is_other b bs (ap not other)
 
@@ -72,12 +73,12 @@ module _ (b : ℕ) (bs : List ℕ) (other : is_space b ≡ false) where
   rest_at : List ℕ → List ℕ
   rest_at text = (with_name name (behind_space text)).rest
 
-  equals_first : eqb b 61 ≡ true → (first_entry (b ∷ bs)).rest ≡ from_first is_space (behind_space bs)
+  equals_first : eqb b 61 ≡ true → (first_entry (b ∷ bs)).rest ≡ from_first is_white (behind_space bs)
   unfolding name rest_at
   equals_first e =
       let ends : ends_name b ≡ true = rw (other, e) refl in
       let here : behind_space (from_first ends_name (b ∷ bs)) ≡ b ∷ bs = ap behind_space (from_first-here ends_name b bs ends) ∙ space-here in
-      let equals : (with_name name (b ∷ bs)).rest ≡ from_first is_space (behind_space bs) = rw e refl in
+      let equals : (with_name name (b ∷ bs)).rest ≡ from_first is_white (behind_space bs) = rw e refl in
       ap (λ (t : List ℕ). (with_name name t).rest) here ∙ equals
 
   -- at least one byte is taken
@@ -106,18 +107,18 @@ entries-none : entries_in [] ≡ []
 unfolding entries_in entries_behind
 entries-none = refl
 
-entries-found : (b : ℕ) (bs : List ℕ) (found : FirstEntry) → is_space b ≡ false → first_entry (b ∷ bs) ≡ found → entries_behind 0 (b ∷ bs) ≡ found.entry ∷ entries_behind (length bs - length found.rest) bs
+entries-found : (b : ℕ) (bs : List ℕ) (found : FirstEntry) → is_white b ≡ false → first_entry (b ∷ bs) ≡ found → entries_behind 0 (b ∷ bs) ≡ found.entry ∷ entries_behind (length bs - length found.rest) bs
 unfolding entries_behind
 entries-found b bs found other is = rw (other, entries_behind) (ap (λ (f : FirstEntry). f.entry ∷ entries_behind (length bs - length f.rest) bs) is)
 
-entries-other : (b : ℕ) (bs : List ℕ) → is_space b ≡ false → entries_in (b ∷ bs) ≡ (first_entry (b ∷ bs)).entry ∷ entries_in (first_entry (b ∷ bs)).rest
+entries-other : (b : ℕ) (bs : List ℕ) → is_white b ≡ false → entries_in (b ∷ bs) ≡ (first_entry (b ∷ bs)).entry ∷ entries_in (first_entry (b ∷ bs)).rest
 unfolding entries_in
 entries-other b bs other =
     let rest : List ℕ = (first_entry (b ∷ bs)).rest in
     let left : entries_behind (length bs - length rest) bs ≡ entries_behind 0 rest = entries_behind-dropped (length bs - length rest) bs ∙ ap (entries_behind 0) (end-dropped bs rest (first_entry-end b bs other)) in
     entries-found b bs (first_entry (b ∷ bs)) other refl ∙ ap (λ (es : List Entry). (first_entry (b ∷ bs)).entry ∷ es) left
 
-entries-later : (b : ℕ) (bs : List ℕ) → is_space b ≡ true → entries_in (b ∷ bs) ≡ entries_in bs
+entries-later : (b : ℕ) (bs : List ℕ) → is_white b ≡ true → entries_in (b ∷ bs) ≡ entries_in bs
 unfolding entries_in entries_behind
 entries-later b bs space = rw (space, entries_behind) refl
 
@@ -126,38 +127,38 @@ abbrev pub starts : List ℕ → Bool
 starts [] = true
 starts (b ∷ bs) = is_other b
 
-entries-behind_space-by : (b : ℕ) (bs : List ℕ) (is : Bool) → is_space b ≡ is → entries_in bs ≡ entries_in (behind_space bs) → entries_in (b ∷ bs) ≡ entries_in (behind_space (b ∷ bs))
+entries-behind_space-by : (b : ℕ) (bs : List ℕ) (is : Bool) → is_white b ≡ is → entries_in bs ≡ entries_in (behind_space bs) → entries_in (b ∷ bs) ≡ entries_in (behind_space (b ∷ bs))
 entries-behind_space-by b bs true e h = entries-later b bs e ∙ h ∙ ap entries_in (sym (from_first-later is_other b bs (ap not e)))
 entries-behind_space-by b bs false e h = ap entries_in (sym (from_first-here is_other b bs (ap not e)))
 
 -- white space at the front is no part of an entry
 pub entries-behind_space : (text : List ℕ) → entries_in text ≡ entries_in (behind_space text)
 entries-behind_space [] = refl
-entries-behind_space (b ∷ bs) = entries-behind_space-by b bs (is_space b) refl (entries-behind_space bs)
+entries-behind_space (b ∷ bs) = entries-behind_space-by b bs (is_white b) refl (entries-behind_space bs)
 
 pub not-true : (b : Bool) → not b ≡ true → b ≡ false
 not-true true e = absurd cc
 not-true false e = refl
 
-starts-by : (b : ℕ) (bs : List ℕ) (is : Bool) → is_space b ≡ is → starts (behind_space bs) ≡ true → starts (behind_space (b ∷ bs)) ≡ true
+starts-by : (b : ℕ) (bs : List ℕ) (is : Bool) → is_white b ≡ is → starts (behind_space bs) ≡ true → starts (behind_space (b ∷ bs)) ≡ true
 starts-by b bs true e h = ap starts (from_first-later is_other b bs (ap not e)) ∙ h
 starts-by b bs false e h = ap starts (from_first-here is_other b bs (ap not e)) ∙ ap not e
 
 pub starts-behind_space : (text : List ℕ) → starts (behind_space text) ≡ true
 starts-behind_space [] = refl
-starts-behind_space (b ∷ bs) = starts-by b bs (is_space b) refl (starts-behind_space bs)
+starts-behind_space (b ∷ bs) = starts-by b bs (is_white b) refl (starts-behind_space bs)
 
 -- the first entry of a text that starts with none, and those behind it
 pub entries-first : (text : List ℕ) → 0 < length text → starts text ≡ true → entries_in text ≡ (first_entry text).entry ∷ entries_in (behind_space (first_entry text).rest)
 entries-first [] some other = absurd (omega (arith, some))
 entries-first (b ∷ bs) some other =
-    entries-other b bs (not-true (is_space b) other) ∙ ap (λ (es : List Entry). (first_entry (b ∷ bs)).entry ∷ es) (entries-behind_space (first_entry (b ∷ bs)).rest)
+    entries-other b bs (not-true (is_white b) other) ∙ ap (λ (es : List Entry). (first_entry (b ∷ bs)).entry ∷ es) (entries-behind_space (first_entry (b ∷ bs)).rest)
 
 pub rest-shorter : (text : List ℕ) → 0 < length text → starts text ≡ true → length (behind_space (first_entry text).rest) < length text
 rest-shorter [] some other = absurd (omega (arith, some))
 rest-shorter (b ∷ bs) some other =
     let rest : List ℕ = (first_entry (b ∷ bs)).rest in
-    let a : length rest ≤ length bs = end-shorter bs rest (first_entry-end b bs (not-true (is_space b) other)) in
+    let a : length rest ≤ length bs = end-shorter bs rest (first_entry-end b bs (not-true (is_white b) other)) in
     let c : length (behind_space rest) ≤ length rest = end-shorter rest (behind_space rest) (from_first-end is_other rest) in
     omega (arith, a, c)
 

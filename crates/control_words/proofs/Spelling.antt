@@ -3,7 +3,8 @@
 use Rattle.std.proofs.Common.{◌≡◌, ◌<◌, ℕ, suc, ◌+◌, Bool, true, false, ◌&&◌, ◌||◌, eqb, not, List, [], ◌∷◌, ◌++◌, length, refl, sym, ap, ◌∙◌, arith}
 use Rattle.std.specs.List.{before_first, list_all, position_or_len}
 use Rattle.std.proofs.lemmas.List.{append-nil}
-use Rattle.control_words.specs.Entries.{Entry, FirstEntry, behind_space, ends_name, entries_in, first_entry, from_first, is_other, is_space, with_action, with_name}
+use Rattle.pam_base.specs.White.{is_white}
+use Rattle.control_words.specs.Entries.{Entry, FirstEntry, behind_space, ends_name, entries_in, first_entry, from_first, is_other, with_action, with_name}
 use Rattle.control_words.proofs.Cutting.{entries-behind_space, entries-first, from_first-here, from_first-later, none-left, not-true}
 
 -- ---- a run of bytes, and a byte that ends it
@@ -43,13 +44,13 @@ module _ (test : ℕ → Bool) where
 no_other : (b : Bool) → b ≡ true → not (not b) ≡ true
 no_other b e = ap (λ (c : Bool). not (not c)) e
 
-blank-run : (blank : List ℕ) → list_all is_space blank ≡ true → list_all (λ b. not (is_other b)) blank ≡ true
+blank-run : (blank : List ℕ) → list_all is_white blank ≡ true → list_all (λ b. not (is_other b)) blank ≡ true
 blank-run [] e = refl
 blank-run (b ∷ bs) e =
-    let parts = both (is_space b) (list_all is_space bs) e in
-    rw (no_other (is_space b) parts.0) (blank-run bs parts.1)
+    let parts = both (is_white b) (list_all is_white bs) e in
+    rw (no_other (is_white b) parts.0) (blank-run bs parts.1)
 
-pub behind_blank : (blank more : List ℕ) → list_all is_space blank ≡ true → stops is_other more ≡ true → behind_space (blank ++ more) ≡ more
+pub behind_blank : (blank more : List ℕ) → list_all is_white blank ≡ true → stops is_other more ≡ true → behind_space (blank ++ more) ≡ more
 behind_blank blank more e ends = (up_to is_other blank more (blank-run blank e) ends).1
 
 neither-space : (b : Bool) (c : Bool) → not (b || c) ≡ true → not b ≡ true
@@ -58,15 +59,15 @@ neither-space false c e = refl
 
 -- ---- white space alone has no entries
 
-pub entries-blank : (blank : List ℕ) → list_all is_space blank ≡ true → entries_in blank ≡ []
+pub entries-blank : (blank : List ℕ) → list_all is_white blank ≡ true → entries_in blank ≡ []
 entries-blank blank e =
     let all : behind_space (blank ++ []) ≡ [] = behind_blank blank [] e refl in
     entries-behind_space blank ∙ ap (λ (t : List ℕ). entries_in (behind_space t)) (sym (append-nil blank)) ∙ ap entries_in all ∙ none-left [] refl
 
 -- ---- an entry is its name and its action, whatever white space is round them
 
-module _ (before left right more : List ℕ) (n a : ℕ) (ns as_ : List ℕ) (before_blank : list_all is_space before ≡ true) (left_blank : list_all is_space left ≡ true) (right_blank : list_all is_space right ≡ true)
-    (named : list_all (λ b. not (ends_name b)) (n ∷ ns) ≡ true) (acting : list_all is_other (a ∷ as_) ≡ true) (ends : stops is_space more ≡ true) where
+module _ (before left right more : List ℕ) (n a : ℕ) (ns as_ : List ℕ) (before_blank : list_all is_white before ≡ true) (left_blank : list_all is_white left ≡ true) (right_blank : list_all is_white right ≡ true)
+    (named : list_all (λ b. not (ends_name b)) (n ∷ ns) ≡ true) (acting : list_all is_other (a ∷ as_) ≡ true) (ends : stops is_white more ≡ true) where
   abbrev behind_equals : List ℕ
   behind_equals = right ++ ((a ∷ as_) ++ more)
 
@@ -74,15 +75,15 @@ module _ (before left right more : List ℕ) (n a : ℕ) (ns as_ : List ℕ) (be
   spelled = (n ∷ ns) ++ (left ++ 61 ∷ behind_equals)
 
   name_other : is_other n ≡ true
-  name_other = neither-space (is_space n) (eqb n 61) (both (not (ends_name n)) (list_all (λ b. not (ends_name b)) ns) named).0
+  name_other = neither-space (is_white n) (eqb n 61) (both (not (ends_name n)) (list_all (λ b. not (ends_name b)) ns) named).0
 
-  left_ends : (l : List ℕ) → list_all is_space l ≡ true → stops ends_name (l ++ 61 ∷ behind_equals) ≡ true
+  left_ends : (l : List ℕ) → list_all is_white l ≡ true → stops ends_name (l ++ 61 ∷ behind_equals) ≡ true
   left_ends [] e = refl
-  left_ends (b ∷ bs) e = rw (both (is_space b) (list_all is_space bs) e).0 refl
+  left_ends (b ∷ bs) e = rw (both (is_white b) (list_all is_white bs) e).0 refl
 
   action_of_it : with_action (n ∷ ns) ((a ∷ as_) ++ more) ≡ record { entry = record { name = n ∷ ns; action = a ∷ as_ }; rest = more }
   action_of_it =
-      let cut = up_to is_space (a ∷ as_) more acting ends in
+      let cut = up_to is_white (a ∷ as_) more acting ends in
       λ i. record { entry = record { name = n ∷ ns; action = cut.0 i }; rest = cut.1 i }
 
   first_of_it : first_entry spelled ≡ record { entry = record { name = n ∷ ns; action = a ∷ as_ }; rest = more }

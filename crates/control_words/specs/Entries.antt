@@ -2,18 +2,15 @@
 -- is, where it may stand and where a name and an action end are this project's own rules.
 use Rattle.std.specs.Prelude.{ℕ, zero, suc, ◌-◌, Bool, true, false, List, [], ◌∷◌, length, drop, ◌==◌, ◌||◌, not, if◌then◌else◌}
 use Rattle.std.specs.List.{position_or_len, before_first}
-
--- white space is space, tab and carriage return (this project's own)
-abbrev pub is_space : ℕ → Bool
-is_space byte = byte == 32 || byte == 9 || byte == 13
+use Rattle.pam_base.specs.White.{is_white}
 
 -- a name runs up to white space or `=` (this project's own)
 abbrev pub ends_name : ℕ → Bool
-ends_name byte = is_space byte || byte == 61
+ends_name byte = is_white byte || byte == 61
 
 -- any other byte (this project's own)
 abbrev pub is_other : ℕ → Bool
-is_other byte = not (is_space byte)
+is_other byte = not (is_white byte)
 
 -- a text from the first byte on that passes the test, or nothing where none does (this project's own)
 abbrev pub from_first : (ℕ → Bool) → List ℕ → List ℕ
@@ -35,7 +32,7 @@ behind_space text = from_first is_other text
 
 -- an action runs up to white space (this project's own)
 abbrev pub with_action : List ℕ → List ℕ → FirstEntry
-with_action name text = record { entry = record { name = name; action = before_first is_space text }; rest = from_first is_space text }
+with_action name text = record { entry = record { name = name; action = before_first is_white text }; rest = from_first is_white text }
 
 -- behind its name an entry has `=` and its action (pam.conf(5)), with white space on both sides of `=` (this
 -- project's own)
@@ -52,7 +49,7 @@ first_entry text = with_name (before_first ends_name text) (behind_space (from_f
 unfoldable pub entries_behind : ℕ → List ℕ → List Entry
 entries_behind passed [] = []
 entries_behind (suc passed) (b ∷ bs) = entries_behind passed bs
-entries_behind zero (b ∷ bs) = elim (is_space b) [
+entries_behind zero (b ∷ bs) = elim (is_white b) [
   | true ↦ entries_behind zero bs
   | false ↦ (first_entry (b ∷ bs)).entry ∷ entries_behind (length bs - length (first_entry (b ∷ bs)).rest) bs
 ]

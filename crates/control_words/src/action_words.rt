@@ -6,7 +6,7 @@ ghost use Rattle.control_words.specs.Bracket.{action_of_word, named_action};
 
 use crate::bracket::ControlFault;
 use crate::control::Action;
-use pam_base::FaultKind;
+use pam_base::{FaultKind, are_digits};
 
 /// The action that a word in brackets stands for (`pam.conf(5)`).
 pub(crate) fn action_named(word: &[u8]) -> Result<Action, ControlFault>
@@ -43,12 +43,6 @@ fn plain_action(word: &[u8]) -> Option<Action>
     } else {
         None
     }
-}
-
-fn are_digits(word: &[u8]) -> bool
-    ensures { result ≡ list_all is_ascii_digit word.now }
-{
-    word.iter().all(|byte| byte.is_ascii_digit())
 }
 
 // The value of some digits, or 256 where it is above 255.

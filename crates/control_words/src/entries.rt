@@ -1,6 +1,9 @@
 ghost use Rattle.std.specs.Prelude.{◌≡◌};
 ghost use Rattle.std.specs.List.{before_first, position};
-ghost use Rattle.control_words.specs.Entries.{behind_space, ends_name, first_entry, from_first, is_other, is_space};
+ghost use Rattle.pam_base.specs.White.{is_white};
+ghost use Rattle.control_words.specs.Entries.{behind_space, ends_name, first_entry, from_first, is_other};
+
+use pam_base::is_white;
 
 /// An entry `name=action` as it is written, and what stands behind it. Where it has no `=`, its action is
 /// empty.
@@ -48,8 +51,8 @@ fn up_to_name_end(text: &[u8]) -> (&[u8], &[u8])
 }
 
 fn up_to_space(text: &[u8]) -> (&[u8], &[u8])
-    ensures front { result.0.now ≡ before_first is_space text.now }
-    ensures rest { result.1.now ≡ from_first is_space text.now }
+    ensures front { result.0.now ≡ before_first is_white text.now }
+    ensures rest { result.1.now ≡ from_first is_white text.now }
 {
     let end = first_space(text).unwrap_or(text.len());
     text.split_at(end)
@@ -58,24 +61,18 @@ fn up_to_space(text: &[u8]) -> (&[u8], &[u8])
 fn first_other(text: &[u8]) -> Option<usize>
     ensures { result ≡ position is_other text.now }
 {
-    text.iter().position(|byte| !is_space(*byte))
+    text.iter().position(|byte| !is_white(*byte))
 }
 
 fn first_name_end(text: &[u8]) -> Option<usize>
     ensures { result ≡ position ends_name text.now }
 {
     text.iter()
-        .position(|byte| is_space(*byte) || *byte == b'=')
+        .position(|byte| is_white(*byte) || *byte == b'=')
 }
 
 fn first_space(text: &[u8]) -> Option<usize>
-    ensures { result ≡ position is_space text.now }
+    ensures { result ≡ position is_white text.now }
 {
-    text.iter().position(|byte| is_space(*byte))
-}
-
-fn is_space(byte: u8) -> bool
-    ensures { result ≡ is_space byte }
-{
-    matches!(byte, b' ' | b'\t' | b'\r')
+    text.iter().position(|byte| is_white(*byte))
 }

@@ -16,6 +16,3 @@ pub use control::{Action, Control};
 pub use keywords::keyword;
 pub use module::module_name;
 pub use nodes::{Node, Nodes, Rule};
-
-#[cfg(test)]
-mod tests;

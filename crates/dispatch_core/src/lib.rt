@@ -5,8 +5,6 @@
 mod modules;
 mod opinion;
 mod pass;
-#[cfg(test)]
-mod tests;
 mod visits;
 
 pub use opinion::{Impression, Opinion};

@@ -8,3 +8,4 @@ pub mod Quote
 pub mod Item
 pub mod Style
 pub mod White
+pub mod Counts

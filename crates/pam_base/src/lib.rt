@@ -12,8 +12,6 @@ mod number;
 mod quote;
 mod sequence;
 mod style;
-#[cfg(test)]
-mod tests;
 mod white;
 mod words;
 

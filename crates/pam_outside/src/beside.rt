@@ -5,6 +5,7 @@ use crate::vault::ReplaceFault;
 use std::alloc::Global;
 use std::fs::OpenOptions;
 use std::io::{self, Write};
+use std::os::unix::fs::OpenOptionsExt;
 use std::rt::Files;
 
 /// Writes a file beside and renames it to the path, so that the path never names a file that is written in part.
@@ -17,7 +18,7 @@ pub fn replace_beside<R: Files>(
     ensures { ¬ (IsUtf8 path.now) → result ≡ Err ReplaceFault.Failed }
 {
     let path = str::from_utf8(path).map_err(|_| ReplaceFault::Failed)?;
-    let beside = format!(in alloc; "{path}.new").map_err(|_| ReplaceFault::NoMemory)?;
+    let beside = format!(in alloc; "{path}.pamsess-new").map_err(|_| ReplaceFault::NoMemory)?;
     match write_and_rename(rt, beside.as_str(), path, bytes) {
         Ok(()) => Ok(()),
         Err(_) => {
@@ -27,12 +28,13 @@ pub fn replace_beside<R: Files>(
     }
 }
 
-// A new file, which takes the place of what stood at the path.
+// The file may hold secrets: its owner alone may read it, or those who may read the one that it replaces.
 fn write_and_rename<R: Files>(rt: &R, beside: &str, path: &str, bytes: &[u8]) -> io::Result<()> {
     let _ = rt.remove_file(beside);
     let mut file = OpenOptions::new()
         .write(true)
         .create_new(true)
+        .mode(0o600)
         .open(rt, beside)?;
     if let Ok(old) = rt.metadata(path) {
         rt.set_permissions(beside, old.permissions())?;

@@ -89,8 +89,9 @@ impl<R: Files + Drop> Vault for FolderVault<R> {
         result
     }
 
-    /// Writes a file beside, under the same name with `.new` behind it, and renames it to the path. What stood
-    /// there beside goes. It makes no folders.
+    /// Writes a file beside, under the same name with `.pamsess-new` behind it, and renames it to the path. It has
+    /// the permissions of the file that it replaces, and where there is none its owner alone may read it. It makes
+    /// no folders.
     fn replace(&mut self, alloc: Global, path: &[u8], bytes: &[u8]) -> Result<(), ReplaceFault>
         ensures tells { ⟦<FolderVault<R> as Vault>⟧.vault_tells self.new ≡ ⟦<FolderVault<R> as Vault>⟧.vault_tells self.old }
         ensures told { IsTrue (⟦<FolderVault<R> as Vault>⟧.vault_tells self.old) → Replaces result path.now bytes.now (⟦<FolderVault<R> as Vault>⟧.vault_holds self.old) (⟦<FolderVault<R> as Vault>⟧.vault_holds self.new) }

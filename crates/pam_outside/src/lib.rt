@@ -19,8 +19,6 @@ mod real_clock;
 mod sink;
 mod sleep_nap;
 mod source;
-#[cfg(test)]
-mod tests;
 mod vault;
 mod whole;
 mod writer_sink;

@@ -1,0 +1,9 @@
+mod codes;
+mod controls;
+mod dispatching;
+mod faults;
+mod items;
+mod lists;
+mod nodes;
+mod service_text;
+mod texts;

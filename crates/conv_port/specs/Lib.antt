@@ -1,0 +1,4 @@
+pub mod Message
+pub mod Conv
+pub mod Queue
+pub mod Terminal

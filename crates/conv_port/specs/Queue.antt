@@ -1,0 +1,27 @@
+-- What a conversation in memory holds (this project's own).
+use Rattle.std.specs.Prelude.{◌≡◌, ℕ, ◌≤◌, true, false, List, [], ◌∷◌, length}
+use Rattle.std.specs.List.{AllByRecursion}
+use Rattle.conv_port.specs.declared.message.Message.{Message}
+use Rattle.conv_port.specs.declared.message.Reply.{Reply}
+use Rattle.conv_port.specs.declared.offer.Offer.{Offer}
+use Rattle.conv_port.specs.declared.offer.Offer.TheVariants.{Answer, Later}
+use Rattle.conv_port.specs.Message.{is_prompt}
+
+-- what was offered and isn't taken yet, and its two counts
+pub record QueueState : Type 0 where
+  pub offers : List Offer
+  pub faults : ℕ
+  pub deferrals : ℕ
+
+abbrev pub IsShort : Offer → Type 0
+IsShort (Answer text) = length text ≤ 512
+IsShort Later = Unit {0}
+
+-- every reply has at most 512 bytes
+abbrev pub AreShort : List Offer → Type 0
+AreShort offers = AllByRecursion IsShort offers
+
+-- one message of an exchange: a prompt takes the reply in front, and any other message has the empty one
+pub record TakesReply (m : Message) (r : Reply) (before after : List Offer) : Type 0 where
+  pub prompt : is_prompt m.style ≡ true → before ≡ Answer r.text ∷ after
+  pub other : is_prompt m.style ≡ false → (r.text ≡ []) × (after ≡ before)

@@ -1,0 +1,105 @@
+ghost use Rattle.std.specs.Prelude.{◌≡◌, ◌≢◌, ◌≤◌, ℕ, Bool, length, IsTrue, IfOk, Err};
+ghost use Rattle.pam_base.specs.Counts.{Rose};
+ghost use Rattle.conv_port.specs.Message.{AreReplies, HasPrompt, IsExchange};
+ghost use Rattle.conv_port.specs.Conv.{ConvState, TakesOffer, Talks};
+
+use crate::message::{Messages, Replies};
+use pam_base::NoMemory;
+use std::alloc::Global;
+
+/// Why an exchange gives no replies.
+#[derive(Clone, Copy, Debug, PartialEq, Eq)]
+pub enum ConvFault {
+    NoMemory,
+    /// The user can't be reached, or gives no more replies.
+    Gone,
+    /// There is no reply yet: the exchange is to be tried again later (`PAM_CONV_AGAIN`).
+    Again,
+}
+
+impl From<NoMemory> for ConvFault {
+    ghost use Rattle.std.specs.Prelude.{◌≡◌};
+    ghost use Rattle.conv_port.specs.declared.conv.ConvFault.{ConvFault};
+    ghost use Rattle.conv_port.specs.declared.conv.ConvFault.TheVariants as faults;
+
+    ghost from_gives = { λ _ e. e ≡ faults.NoMemory };
+
+    fn from(_: NoMemory) -> Self {
+        ConvFault::NoMemory
+    }
+}
+
+/// What an application gives for the questions of modules (`struct pam_conv` in `pam_conv(3)`).
+pub trait Conv: Drop {
+    /// Whether it tells what it holds. It does so for ever or never.
+    ghost conv_tells: { Self → Bool };
+
+    /// What was offered to it and isn't taken yet, and whether it waits where too little was, where it tells.
+    ghost conv_holds: { Self → ConvState };
+
+    /// How often it answered Gone. The count never falls, and stands still at 2^64 - 1.
+    ghost conv_faults: { Self → ℕ };
+
+    /// How often it answered Again. The count never falls, and stands still at 2^64 - 1.
+    ghost conv_deferrals: { Self → ℕ };
+
+    /// One exchange, of 1 to 32 messages of at most 512 bytes each. It gives one reply for each message, of at
+    /// most 512 bytes, and the empty one for a message that is no prompt. Gone comes only where the count of
+    /// faults rose, Again only where a message is a prompt and the count of deferrals rose, and neither count
+    /// rises otherwise. One that tells answers exactly by what it holds, unless there is no memory; then it
+    /// holds what it held.
+    fn talk(&mut self, alloc: Global, messages: &Messages) -> Result<Replies, ConvFault>
+        requires { IsExchange messages.now }
+        ensures replies { IfOk result (λ replies. AreReplies messages.now replies) }
+        ensures tells { conv_tells self.new ≡ conv_tells self.old }
+        ensures told { IsTrue (conv_tells self.old) → Talks result messages.now (conv_holds self.old) (conv_holds self.new) }
+        ensures faults { conv_faults self.old ≤ conv_faults self.new }
+        ensures gone { result ≡ Err ConvFault.Gone → Rose (conv_faults self.old) (conv_faults self.new) }
+        ensures not_gone { result ≢ Err ConvFault.Gone → conv_faults self.new ≡ conv_faults self.old }
+        ensures deferrals { conv_deferrals self.old ≤ conv_deferrals self.new }
+        ensures again { result ≡ Err ConvFault.Again → Rose (conv_deferrals self.old) (conv_deferrals self.new) }
+        ensures prompt { result ≡ Err ConvFault.Again → HasPrompt messages.now }
+        ensures not_again { result ≢ Err ConvFault.Again → conv_deferrals self.new ≡ conv_deferrals self.old };
+
+    /// Offers a reply of at most 512 bytes, for a prompt to come. One that tells and doesn't wait takes the six
+    /// bytes `\later` as a mark, which puts off the exchange that finds it in front; one that tells adds what was
+    /// offered at the end, and without memory holds what it held. Neither count changes.
+    fn offer(&mut self, alloc: Global, text: &[u8]) -> Result<(), NoMemory>
+        requires { length text.now ≤ 512 }
+        ensures tells { conv_tells self.new ≡ conv_tells self.old }
+        ensures told { IsTrue (conv_tells self.old) → TakesOffer result text.now (conv_holds self.old) (conv_holds self.new) }
+        ensures faults { conv_faults self.new ≡ conv_faults self.old }
+        ensures deferrals { conv_deferrals self.new ≡ conv_deferrals self.old };
+}
+
+/// `Conv::talk` of a conversation that is lent.
+pub fn talk_with(
+    conv: &mut dyn Conv,
+    alloc: Global,
+    messages: &Messages,
+) -> Result<Replies, ConvFault>
+    requires { IsExchange messages.now }
+    ensures replies { IfOk result (λ replies. AreReplies messages.now replies) }
+    ensures tells { conv_tells conv.new ≡ conv_tells conv.old }
+    ensures told { IsTrue (conv_tells conv.old) → Talks result messages.now (conv_holds conv.old) (conv_holds conv.new) }
+    ensures faults { conv_faults conv.old ≤ conv_faults conv.new }
+    ensures gone { result ≡ Err ConvFault.Gone → Rose (conv_faults conv.old) (conv_faults conv.new) }
+    ensures not_gone { result ≢ Err ConvFault.Gone → conv_faults conv.new ≡ conv_faults conv.old }
+    ensures deferrals { conv_deferrals conv.old ≤ conv_deferrals conv.new }
+    ensures again { result ≡ Err ConvFault.Again → Rose (conv_deferrals conv.old) (conv_deferrals conv.new) }
+    ensures prompt { result ≡ Err ConvFault.Again → HasPrompt messages.now }
+    ensures not_again { result ≢ Err ConvFault.Again → conv_deferrals conv.new ≡ conv_deferrals conv.old }
+{
+    conv.talk(alloc, messages)
+}
+
+/// `Conv::offer` of a conversation that is lent.
+pub fn offer_to(conv: &mut dyn Conv, alloc: Global, text: &[u8]) -> Result<(), NoMemory>
+    requires { length text.now ≤ 512 }
+    ensures tells { conv_tells conv.new ≡ conv_tells conv.old }
+    ensures told { IsTrue (conv_tells conv.old) → TakesOffer result text.now (conv_holds conv.old) (conv_holds conv.new) }
+    ensures faults { conv_faults conv.new ≡ conv_faults conv.old }
+    ensures deferrals { conv_deferrals conv.new ≡ conv_deferrals conv.old }
+{
+    conv.offer(alloc, text)
+}

@@ -1,0 +1,15 @@
+//! Conversations (`pam_conv(3)`): how a module asks the user and tells them something, through what the
+//! application has given. One over replies that are held ready, and one over a terminal.
+#![tactic(auto)]
+
+mod conv;
+mod message;
+mod offer;
+mod queue_conv;
+mod term_conv;
+
+pub use conv::{Conv, ConvFault, offer_to, talk_with};
+pub use message::{Message, Messages, Replies, Reply};
+pub use offer::Offer;
+pub use queue_conv::QueueConv;
+pub use term_conv::TermConv;

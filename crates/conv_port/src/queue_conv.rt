@@ -1,0 +1,135 @@
+ghost use Rattle.std.specs.Prelude.{◌≡◌, ◌<◌, ◌≤◌, [], drop, length, IfOk, IsTrue, OnErr};
+ghost use Rattle.pam_base.specs.Counts.{next_count};
+ghost use Rattle.conv_port.specs.Message.{is_prompt, prompt_count};
+ghost use Rattle.conv_port.specs.Conv.{ready_replies, replies_from, starts_with_mark, without_mark};
+ghost use Rattle.conv_port.specs.Queue.{TakesReply};
+
+use crate::conv::{Conv, ConvFault};
+use crate::message::{Message, Messages, Replies, Reply, prompts_in};
+use crate::offer::Offer;
+use pam_base::{NoMemory, Text};
+use std::alloc::Global;
+use std::collections::VecDeque;
+use std::marker::Model;
+
+/// A conversation over replies that were offered to it, in order. It tells what it holds, and doesn't wait.
+#[derive(Drop)]
+pub struct QueueConv {
+    offers: VecDeque<Offer>,
+    faults: u64,
+    deferrals: u64,
+}
+
+impl Model for QueueConv {
+    ghost use Rattle.conv_port.specs.Queue.{QueueState, AreShort};
+
+    ghost Value = { QueueState };
+
+    ghost view = { λ q. record { offers = q.offers.items; faults = q.faults; deferrals = q.deferrals } };
+
+    ghost invariant = { λ q. AreShort q.offers.items };
+}
+
+impl QueueConv {
+    /// A conversation that holds nothing. It takes no memory before the first offer.
+    pub fn new(alloc: Global) -> Self
+        ensures { result ≡ record { offers = []; faults = 0; deferrals = 0 } }
+    {
+        QueueConv {
+            offers: VecDeque::new(alloc),
+            faults: 0,
+            deferrals: 0,
+        }
+    }
+}
+
+impl Conv for QueueConv {
+    ghost use Rattle.std.specs.Prelude.{true, false};
+
+    ghost conv_tells = { λ q. true };
+
+    ghost conv_holds = { λ q. record { offers = q.offers; waits = false } };
+
+    ghost conv_faults = { λ q. q.faults };
+
+    ghost conv_deferrals = { λ q. q.deferrals };
+
+    fn talk(&mut self, alloc: Global, messages: &Messages) -> Result<Replies, ConvFault> {
+        if prompts_in(messages.items()) <= ready_in(&self.offers) {
+            let replies = take_replies(alloc, messages.items(), &mut self.offers)?;
+            return Ok(Replies::from_vec(replies));
+        }
+        if take_mark(&mut self.offers) {
+            self.deferrals = self.deferrals.saturating_add(1);
+            Err(ConvFault::Again)
+        } else {
+            self.faults = self.faults.saturating_add(1);
+            Err(ConvFault::Gone)
+        }
+    }
+
+    fn offer(&mut self, alloc: Global, text: &[u8]) -> Result<(), NoMemory> {
+        self.offers.reserve(1)?;
+        let offer = Offer::new(alloc, text)?;
+        self.offers.push_back(offer).unwrap();
+        Ok(())
+    }
+}
+
+// How many replies stand before the first mark, or in all.
+fn ready_in(offers: &VecDeque<Offer>) -> usize
+    ensures { result ≡ length (ready_replies offers.now.items) }
+{
+    let mut ready = 0;
+    while let Some(Offer::Answer(_)) = offers.get(ready) {
+        ready += 1;
+    }
+    ready
+}
+
+// Takes a mark that stands in front, and says whether there was one.
+fn take_mark(offers: &mut VecDeque<Offer>) -> bool
+    ensures found { result ≡ starts_with_mark offers.old.items }
+    ensures taken { offers.new.items ≡ without_mark offers.old.items }
+{
+    if let Some(Offer::Later) = offers.front() {
+        let _mark = offers.pop_front();
+        true
+    } else {
+        false
+    }
+}
+
+// Gives each prompt the next reply. All memory is taken before the first reply is.
+fn take_replies(
+    alloc: Global,
+    messages: &[Message],
+    offers: &mut VecDeque<Offer>,
+) -> Result<Vec<Reply>, NoMemory>
+    requires { prompt_count «messages».now ≤ length (ready_replies offers.old.items) }
+    ensures replies { IfOk result (λ replies. replies.items ≡ replies_from (ready_replies offers.old.items) «messages».now) }
+    ensures taken { IfOk result (λ _. offers.new.items ≡ drop (prompt_count «messages».now) offers.old.items) }
+    ensures err { OnErr result (offers.new.items ≡ offers.old.items) }
+{
+    let mut replies = Vec::with_capacity(alloc, messages.len())?;
+    for message in messages {
+        replies.push(take_reply(alloc, message, offers)).unwrap();
+    }
+    Ok(replies)
+}
+
+// The reply to one message: a prompt takes the one that stands in front.
+fn take_reply(alloc: Global, message: &Message, offers: &mut VecDeque<Offer>) -> Reply
+    requires { IsTrue (is_prompt message.now.style) → 0 < length (ready_replies offers.old.items) }
+    ensures { TakesReply message.now result offers.old.items offers.new.items }
+{
+    if !message.is_prompt() {
+        return Reply {
+            text: Text::new(alloc),
+        };
+    }
+    match offers.pop_front() {
+        Some(Offer::Answer(text)) => Reply { text },
+        _ => unreachable!(),
+    }
+}

@@ -1,0 +1,186 @@
+ghost use Rattle.std.specs.Prelude.{◌≡◌, ◌≢◌, ◌≤◌, [], ◌∷◌, false, length, IsTrue, IfOk, OnOk, Err, IsOk, MatchOption};
+ghost use Rattle.std.specs.Io.KnownBytes.{Appends, Consumes, IsAtEnd};
+ghost use Rattle.pam_base.specs.Counts.{Rose, next_count};
+ghost use Rattle.conv_port.specs.Message.{AreReplies, HasPrompt, IsExchange, IsReply, is_prompt};
+ghost use Rattle.conv_port.specs.Conv.{TakesOffer, Talks};
+ghost use Rattle.conv_port.specs.Terminal.{Types, TypesLine, all_shown, shown};
+
+use crate::conv::{Conv, ConvFault};
+use crate::message::{Message, Messages, Replies, Reply};
+use pam_base::{NoMemory, Text};
+use std::alloc::Global;
+use std::io::{Read, Write};
+use std::marker::Model;
+
+/// A conversation over a terminal (`misc_conv(3)`): it shows texts on a writer, as standard error, and reads
+/// replies from a reader, as standard input. It tells nothing, and leaves the terminal's echo as it is.
+#[derive(Drop)]
+pub struct TermConv<R: Read + Drop, W: Write + Drop> {
+    reader: R,
+    writer: W,
+    faults: u64,
+}
+
+impl<R: Read + Drop, W: Write + Drop> Model for TermConv<R, W> {
+    ghost use Rattle.conv_port.specs.Terminal.{Terminal};
+
+    ghost Value = { Terminal R W };
+
+    ghost view = { λ t. record { reader = t.reader; writer = t.writer; faults = t.faults } };
+}
+
+impl<R: Read + Drop, W: Write + Drop> TermConv<R, W> {
+    /// A conversation that hasn't failed yet.
+    pub fn new(reader: R, writer: W) -> Self
+        ensures { result ≡ record { reader = reader; writer = writer; faults = 0 } }
+    {
+        TermConv {
+            reader,
+            writer,
+            faults: 0,
+        }
+    }
+}
+
+impl<R: Read + Drop, W: Write + Drop> Conv for TermConv<R, W> {
+    ghost conv_tells = { λ t. false };
+
+    // never told
+    ghost conv_holds = { λ t. record { offers = []; waits = false } };
+
+    ghost conv_faults = { λ t. t.faults };
+
+    ghost conv_deferrals = { λ t. 0 };
+
+    /// Shows each text, behind one that is no prompt a newline, and reads the reply to each prompt before the next
+    /// text: what stands before the next newline; after 512 bytes without one these bytes, and what follows them
+    /// is left for the next prompt; at the end of input what was read. It reads byte by byte, and no further.
+    /// An error of the reader or the writer, or the end of input before any byte of a reply, is Gone, which leaves
+    /// what was shown and read so far, and so does want of memory. It never answers Again.
+    fn talk(&mut self, alloc: Global, messages: &Messages) -> Result<Replies, ConvFault>
+        requires { IsExchange messages.now }
+        ensures replies { IfOk result (λ replies. AreReplies messages.now replies) }
+        ensures tells { ⟦<TermConv<R, W> as Conv>⟧.conv_tells self.new ≡ ⟦<TermConv<R, W> as Conv>⟧.conv_tells self.old }
+        ensures told { IsTrue (⟦<TermConv<R, W> as Conv>⟧.conv_tells self.old) → Talks result messages.now (⟦<TermConv<R, W> as Conv>⟧.conv_holds self.old) (⟦<TermConv<R, W> as Conv>⟧.conv_holds self.new) }
+        ensures faults { ⟦<TermConv<R, W> as Conv>⟧.conv_faults self.old ≤ ⟦<TermConv<R, W> as Conv>⟧.conv_faults self.new }
+        ensures gone { result ≡ Err ConvFault.Gone → Rose (⟦<TermConv<R, W> as Conv>⟧.conv_faults self.old) (⟦<TermConv<R, W> as Conv>⟧.conv_faults self.new) }
+        ensures not_gone { result ≢ Err ConvFault.Gone → ⟦<TermConv<R, W> as Conv>⟧.conv_faults self.new ≡ ⟦<TermConv<R, W> as Conv>⟧.conv_faults self.old }
+        ensures deferrals { ⟦<TermConv<R, W> as Conv>⟧.conv_deferrals self.old ≤ ⟦<TermConv<R, W> as Conv>⟧.conv_deferrals self.new }
+        ensures again { result ≡ Err ConvFault.Again → Rose (⟦<TermConv<R, W> as Conv>⟧.conv_deferrals self.old) (⟦<TermConv<R, W> as Conv>⟧.conv_deferrals self.new) }
+        ensures prompt { result ≡ Err ConvFault.Again → HasPrompt messages.now }
+        ensures not_again { result ≢ Err ConvFault.Again → ⟦<TermConv<R, W> as Conv>⟧.conv_deferrals self.new ≡ ⟦<TermConv<R, W> as Conv>⟧.conv_deferrals self.old }
+        ensures never_again { result ≢ Err ConvFault.Again }
+        ensures one_fault { result ≡ Err ConvFault.Gone → self.new.faults ≡ next_count self.old.faults }
+        ensures shown { OnOk result (Appends (W.contents self.old.writer) (W.contents self.new.writer) (all_shown messages.now)) }
+        ensures typed { IfOk result (λ replies. Types messages.now replies (R.remaining self.old.reader) (R.remaining self.new.reader)) }
+    {
+        let result = converse(
+            alloc,
+            messages.items(),
+            &mut self.reader,
+            &mut self.writer,
+        );
+        if let Err(ConvFault::Gone) = result {
+            self.faults = self.faults.saturating_add(1);
+        }
+        result
+    }
+
+    /// Does nothing: a terminal's replies are typed.
+    fn offer(&mut self, _alloc: Global, _text: &[u8]) -> Result<(), NoMemory>
+        requires { length _text.now ≤ 512 }
+        ensures tells { ⟦<TermConv<R, W> as Conv>⟧.conv_tells self.new ≡ ⟦<TermConv<R, W> as Conv>⟧.conv_tells self.old }
+        ensures told { IsTrue (⟦<TermConv<R, W> as Conv>⟧.conv_tells self.old) → TakesOffer result _text.now (⟦<TermConv<R, W> as Conv>⟧.conv_holds self.old) (⟦<TermConv<R, W> as Conv>⟧.conv_holds self.new) }
+        ensures faults { ⟦<TermConv<R, W> as Conv>⟧.conv_faults self.new ≡ ⟦<TermConv<R, W> as Conv>⟧.conv_faults self.old }
+        ensures deferrals { ⟦<TermConv<R, W> as Conv>⟧.conv_deferrals self.new ≡ ⟦<TermConv<R, W> as Conv>⟧.conv_deferrals self.old }
+        ensures nothing { self.new ≡ self.old }
+        ensures ok { IsOk result }
+    {
+        Ok(())
+    }
+}
+
+// One exchange.
+fn converse<R: Read, W: Write>(
+    alloc: Global,
+    messages: &[Message],
+    reader: &mut R,
+    writer: &mut W,
+) -> Result<Replies, ConvFault>
+    ensures replies { IfOk result (λ replies. AreReplies «messages».now replies) }
+    ensures never_again { result ≢ Err ConvFault.Again }
+    ensures shown { OnOk result (Appends (W.contents writer.old) (W.contents writer.new) (all_shown «messages».now)) }
+    ensures typed { IfOk result (λ replies. Types «messages».now replies (R.remaining reader.old) (R.remaining reader.new)) }
+{
+    let mut replies = Replies::new(alloc);
+    for message in messages {
+        show(message, writer)?;
+        replies.push(read_reply(alloc, message, reader)?)?;
+    }
+    Ok(replies)
+}
+
+// Shows one text.
+fn show<W: Write>(message: &Message, writer: &mut W) -> Result<(), ConvFault>
+    ensures never_again { result ≢ Err ConvFault.Again }
+    ensures shown { OnOk result (Appends (W.contents writer.old) (W.contents writer.new) (shown message.now)) }
+{
+    writer
+        .write_all(message.text.bytes())
+        .map_err(|_| ConvFault::Gone)?;
+    if !message.is_prompt() {
+        writer.write_all(b"\n").map_err(|_| ConvFault::Gone)?;
+    }
+    writer.flush().map_err(|_| ConvFault::Gone)
+}
+
+// The reply to one message.
+fn read_reply<R: Read>(
+    alloc: Global,
+    message: &Message,
+    reader: &mut R,
+) -> Result<Reply, ConvFault>
+    ensures reply { IfOk result (λ reply. IsReply message.now reply) }
+    ensures never_again { result ≢ Err ConvFault.Again }
+    ensures typed { IfOk result (λ reply. Types (message.now ∷ []) (reply ∷ []) (R.remaining reader.old) (R.remaining reader.new)) }
+{
+    let text = if message.is_prompt() {
+        read_line(alloc, reader)?
+    } else {
+        Text::new(alloc)
+    };
+    Ok(Reply { text })
+}
+
+// The next line, or a part of 512 bytes of a longer one.
+fn read_line<R: Read>(alloc: Global, reader: &mut R) -> Result<Text, ConvFault>
+    ensures short { IfOk result (λ text. length text ≤ 512) }
+    ensures never_again { result ≢ Err ConvFault.Again }
+    ensures typed { IfOk result (λ text. TypesLine text (R.remaining reader.old) (R.remaining reader.new)) }
+{
+    let mut bytes = Vec::with_capacity(alloc, 512).map_err(|_| ConvFault::NoMemory)?;
+    while bytes.len() < 512 {
+        match read_byte(reader)? {
+            Some(b'\n') => return Ok(Text::from_vec(bytes)),
+            Some(byte) => bytes.push(byte).unwrap(),
+            None if bytes.is_empty() => return Err(ConvFault::Gone),
+            None => return Ok(Text::from_vec(bytes)),
+        }
+    }
+    Ok(Text::from_vec(bytes))
+}
+
+// The next byte; None at the end of input.
+fn read_byte<R: Read>(reader: &mut R) -> Result<Option<u8>, ConvFault>
+    ensures never_again { result ≢ Err ConvFault.Again }
+    ensures byte { IfOk result (λ byte. MatchOption byte
+      (Consumes (R.remaining reader.old) (R.remaining reader.new) [] × IsAtEnd (R.remaining reader.new))
+      (λ b. Consumes (R.remaining reader.old) (R.remaining reader.new) (b ∷ []))) }
+{
+    let mut byte = [0u8; 1];
+    match reader.read(&mut byte) {
+        Ok(0) => Ok(None),
+        Ok(_) => Ok(Some(byte[0])),
+        Err(_) => Err(ConvFault::Gone),
+    }
+}

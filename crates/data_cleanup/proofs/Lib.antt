@@ -1,0 +1,7 @@
+pub mod Sound
+pub mod Apart
+pub mod Placing
+pub mod Cleaning
+pub mod Growing
+pub mod Setting
+mod Rows

@@ -1,0 +1,5 @@
+use Rattle.data_cleanup.proofs.Cleaning.{begins}
+use Rattle.data_cleanup.proofs.laws.cleanup_begins.Goals as goal
+
+pub returns : goal.returns
+returns c = begins

@@ -1,0 +1,5 @@
+use Rattle.data_cleanup.proofs.Setting.{sets_none}
+use Rattle.data_cleanup.proofs.laws.nothing_sets.Goals as goal
+
+pub returns : goal.returns
+returns c = sets_none

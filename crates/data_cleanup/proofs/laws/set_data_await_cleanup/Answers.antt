@@ -1,0 +1,5 @@
+use Rattle.data_cleanup.proofs.Setting.{sets_await}
+use Rattle.data_cleanup.proofs.laws.set_data_await_cleanup.Goals as goal
+
+pub returns : goal.returns
+returns c = sets_await

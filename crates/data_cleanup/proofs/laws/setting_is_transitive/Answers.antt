@@ -1,0 +1,5 @@
+use Rattle.data_cleanup.proofs.Setting.{sets_transitive}
+use Rattle.data_cleanup.proofs.laws.setting_is_transitive.Goals as goal
+
+pub returns : goal.returns
+returns c = sets_transitive

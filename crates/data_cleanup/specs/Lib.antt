@@ -1,0 +1,9 @@
+pub mod Datum
+pub mod DataList
+pub mod Ledger
+pub mod LedgerInside
+pub mod Cleanup
+pub mod Sets
+pub mod Grows
+pub mod Tidy
+pub mod Due

@@ -1,0 +1,20 @@
+//! The data that modules keep in a transaction (`pam_set_data(3)`, `pam_get_data(3)`), and the ledger that
+//! shows that each is cleaned up once. A datum can't be dropped: its module's cleanup spends it, and what that
+//! gives, a receipt, is filed.
+#![tactic(auto)]
+
+mod data_list;
+mod datum;
+mod laws;
+mod ledger;
+mod receipt;
+
+pub use data_list::DataList;
+pub use datum::{Birth, Births, Datum};
+pub use laws::{
+    cleanup_begins, cleanup_ends, cleanup_goes_on, growth_is_transitive, next_awaits_cleanup,
+    nothing_grows, nothing_sets, one_birth_sets, reversed_await_cleanup, set_data_await_cleanup,
+    setting_is_transitive, swept_setting_grows,
+};
+pub use ledger::Ledger;
+pub use receipt::{Filed, Receipt};

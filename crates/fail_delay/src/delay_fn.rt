@@ -1,0 +1,55 @@
+ghost use Rattle.std.specs.Prelude.{◌≡◌, ◌≤◌, ℕ};
+ghost use Rattle.pam_base.specs.declared.code.Code.{Code};
+ghost use Rattle.fail_delay.specs.DelayFn.{GivesOneNumber, IsNumberGiven};
+
+use pam_base::Code;
+
+/// The longest delay that can be asked for, 90 seconds, in microseconds.
+pub const LONGEST_ASKED: u32 = 90_000_000;
+
+/// A function from the code that an authentication answers and the asked delay to the wait, both in
+/// microseconds.
+pub type DelayRule = Box<dyn Fn(Code, u32) -> u32>;
+
+/// What contracts see of a delay function.
+pub trait DelayTold {
+    // For a code and an asked delay up to 90 seconds the function gives this number.
+    ghost delay_is: { Self → (Code → ℕ → ℕ) → Type 0 };
+}
+
+/// An application's own delay function (PAM_FAIL_DELAY, `pam_fail_delay(3)`). Unlike that page's it doesn't
+/// sleep: it answers how long to wait.
+#[derive(Drop)]
+pub struct DelayFn {
+    rule: DelayRule,
+    ghost callable: { (code : Code) (asked : ℕ) → asked ≤ 90000000 → DelayRule.pre rule code asked },
+    ghost one_number: { GivesOneNumber (DelayRule.post rule) },
+}
+
+impl DelayTold for DelayFn {
+    ghost delay_is = { λ f number. IsNumberGiven (DelayRule.post f.rule) number };
+}
+
+impl DelayFn {
+    /// The function may be called for every code and every asked delay up to 90 seconds. It gives one number
+    /// for each pair of them, always the same, and at most 60 seconds.
+    pub fn new(rule: DelayRule) -> Self
+        requires callable { (code : Code) (asked : ℕ) → asked ≤ 90000000 → DelayRule.pre rule code asked }
+        requires one_number { GivesOneNumber (DelayRule.post rule) }
+        ensures { (number : Code → ℕ → ℕ) → IsNumberGiven (DelayRule.post rule) number →
+            ⟦<DelayFn as DelayTold>⟧.delay_is result number }
+    {
+        DelayFn { rule }
+    }
+
+    /// How long to wait, in microseconds: the one number that the function gives for the code and the asked
+    /// delay. It is at most 60 seconds.
+    pub fn wait(&self, code: Code, asked: u32) -> u32
+        requires { asked ≤ 90000000 }
+        ensures number { (number : Code → ℕ → ℕ) → ⟦<DelayFn as DelayTold>⟧.delay_is self.now number →
+            result ≡ number code asked }
+        ensures within { result ≤ 60000000 }
+    {
+        (self.rule)(code, asked)
+    }
+}

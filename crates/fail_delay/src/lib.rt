@@ -1,0 +1,17 @@
+//! The delay after an authentication, `pam_fail_delay(3)`: the longest request, the delay that is asked for, and
+//! what is waited, with and without an application's own delay function.
+#![tactic(auto)]
+
+
+mod delay;
+mod delay_fn;
+mod laws;
+mod spread;
+mod waiting;
+
+
+pub use delay::{Delay, LONGEST_REQUEST};
+pub use delay_fn::{DelayFn, DelayRule, DelayTold, LONGEST_ASKED};
+pub use laws::{asked_within_half, longest_is_the_maximum, zero_asks_for_nothing};
+pub use spread::asked;
+pub use waiting::wait_after;

@@ -1,0 +1,20 @@
+//! What setting one item means for all of them.
+ghost use Rattle.std.specs.Prelude.{◌≡◌, ◌≢◌, ℕ, List, Option, None};
+ghost use Rattle.pam_base.specs.declared.item.ItemName.{ItemName};
+ghost use Rattle.item_store.specs.Items.{ItemTexts, text_of, with_text, without_tokens};
+
+/// A set item reads as it was set, and every other item as before.
+pub fn items_stand_alone()
+    ensures set { (items : ItemTexts) (item : ItemName) (text : Option (List ℕ)) →
+        item ≢ ItemName.Conv → item ≢ ItemName.FailDelay → text_of (with_text items item text) item ≡ text }
+    ensures others { (items : ItemTexts) (item other : ItemName) (text : Option (List ℕ)) →
+        other ≢ item → text_of (with_text items item text) other ≡ text_of items other }
+{}
+
+/// Clearing the tokens leaves neither of them, and every other item as before.
+pub fn tokens_stand_alone()
+    ensures cleared { (items : ItemTexts) → text_of (without_tokens items) ItemName.AuthTok ≡ None }
+    ensures cleared_old { (items : ItemTexts) → text_of (without_tokens items) ItemName.OldAuthTok ≡ None }
+    ensures others { (items : ItemTexts) (other : ItemName) → other ≢ ItemName.AuthTok → other ≢ ItemName.OldAuthTok →
+        text_of (without_tokens items) other ≡ text_of items other }
+{}

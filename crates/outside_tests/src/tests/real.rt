@@ -1,0 +1,265 @@
+use super::{bytes_of, read_some};
+use pam_base::{Failed, Text};
+use pam_outside::{
+    Clock, FolderVault, Nap, ReaderSource, RealClock, ReplaceFault, Sink, SleepNap, Vault,
+    VaultFault, WriterSink, write_all,
+};
+use std::fs::Permissions;
+use std::io::{self, ErrorKind, Read};
+use std::os::unix::fs::PermissionsExt;
+use std::path::PathBuf;
+use std::random::RandomSource;
+use std::test::Fail;
+use std::time::{Duration, Instant};
+use std::{env, fs, process};
+
+// A reader whose second read fails.
+#[derive(Drop)]
+struct Interrupted {
+    reads: u8,
+}
+
+impl Read for Interrupted {
+    fn read(&mut self, into: &mut [u8]) -> io::Result<usize> {
+        self.reads = self.reads.saturating_add(1);
+        if self.reads == 2 {
+            return Err(io::Error::from(ErrorKind::TimedOut));
+        }
+        match into.first_mut() {
+            Some(byte) => {
+                *byte = b'x';
+                Ok(1)
+            }
+            None => Ok(0),
+        }
+    }
+}
+
+// A system whose clock stands at this second, or has an error, and that has no random words.
+#[derive(Clone, Copy)]
+struct Stopped {
+    second: Option<u64>,
+}
+
+impl std::rt::Clock for Stopped {
+    fn monotonic(&self) -> io::Result<Duration> {
+        Err(io::Error::from(ErrorKind::Unsupported))
+    }
+
+    fn since_1970(&self) -> io::Result<Duration> {
+        match self.second {
+            Some(second) => Ok(Duration::from_secs(second)),
+            None => Err(io::Error::from(ErrorKind::Unsupported)),
+        }
+    }
+}
+
+impl RandomSource for Stopped {
+    fn fill_bytes(&self, _buf: &mut [u8]) -> io::Result<()> {
+        Err(io::Error::from(ErrorKind::Unsupported))
+    }
+}
+
+#[test]
+fn a_reader_is_a_source(rt: HostRuntime) -> Result<(), Fail> {
+    let mut text = Vec::new(rt.alloc());
+    let mut source = ReaderSource::new(b"abcd".as_slice());
+    for want in [Ok(3), Ok(1), Ok(0)] {
+        assert_eq!(rt; read_some(&mut source, &mut text)?, want);
+    }
+    assert_eq!(rt; text.as_slice(), b"abcd".as_slice());
+    Ok(())
+}
+
+#[test]
+fn a_reader_that_fails_once_is_a_source_that_does(rt: HostRuntime) -> Result<(), Fail> {
+    let mut text = Vec::new(rt.alloc());
+    let mut source = ReaderSource::new(Interrupted { reads: 0 });
+    for want in [Ok(1), Err(Failed), Ok(1)] {
+        assert_eq!(rt; read_some(&mut source, &mut text)?, want);
+    }
+    Ok(())
+}
+
+#[test]
+fn a_writer_is_a_sink_and_fails_where_it_is_full(rt: HostRuntime) -> Result<(), Fail> {
+    let mut written = Vec::new(rt.alloc());
+    let mut sink = WriterSink::new(&mut written);
+    assert_eq!(rt; write_all(&mut sink, b"abc"), Ok(()));
+    assert_eq!(rt; sink.write(b"d"), Ok(1));
+    assert_eq!(rt; written.as_slice(), b"abcd".as_slice());
+    let mut room = [0u8; 3];
+    let mut sink = WriterSink::new(room.as_mut_slice());
+    assert_eq!(rt; write_all(&mut sink, b"abcd"), Err(Failed));
+    assert_eq!(rt; room.as_slice(), b"abc".as_slice());
+    Ok(())
+}
+
+#[test]
+fn a_real_clock_can_not_be_set_and_its_words_differ(rt: HostRuntime) {
+    let mut clock = RealClock::new(rt);
+    let before = clock.now();
+    // after 2020 and before 2100
+    assert!(rt; 1_577_836_800 < before && before < 4_102_444_800);
+    clock.set_moment(0);
+    assert!(rt; before <= clock.now());
+    clock.set_word(0);
+    assert_ne!(rt; clock.word(), clock.word());
+}
+
+#[test]
+fn a_real_clock_gives_0_at_an_error_and_no_later_moment_than_the_last(rt: HostRuntime) {
+    let mut clock = RealClock::new(Stopped { second: None });
+    assert_eq!(rt; clock.now(), 0);
+    assert_eq!(rt; clock.word(), 0);
+    let clock = RealClock::new(Stopped {
+        second: Some(1_000_000_000_000),
+    });
+    assert_eq!(rt; clock.now(), 1_000_000_000_000);
+    let clock = RealClock::new(Stopped {
+        second: Some(1_000_000_000_001),
+    });
+    assert_eq!(rt; clock.now(), 1_000_000_000_000);
+}
+
+#[test]
+fn a_sleeping_nap_waits(rt: HostRuntime) -> Result<(), Fail> {
+    let start = Instant::now(&rt)?;
+    SleepNap::new(rt).rest(20_000);
+    assert!(rt; Duration::from_micros(20_000) <= start.elapsed(&rt)?);
+    Ok(())
+}
+
+// An empty folder of its own for a test of this name.
+fn new_folder(rt: HostRuntime, name: &str) -> Result<PathBuf, Fail> {
+    let alloc = rt.alloc();
+    let id = process::id(rt.process());
+    let name = format!(in alloc; "outside_tests_{name}_{id}")?;
+    let folder = env::temp_dir(&rt)?.join(alloc, name.as_str())?;
+    let _ = fs::remove_dir_all(&rt, folder.as_path());
+    fs::create_dir(&rt, folder.as_path())?;
+    Ok(folder)
+}
+
+/// The limit of the reads.
+const LIMIT: u32 = 10_000;
+
+#[test]
+fn real_files_are_read_whole_or_refused(rt: HostRuntime) -> Result<(), Fail> {
+    let alloc = rt.alloc();
+    let folder = new_folder(rt, "read")?;
+    let most = vec![in alloc; b'x'; LIMIT as usize]?;
+    let more = vec![in alloc; b'x'; LIMIT as usize + 1]?;
+    fs::create_dir(&rt, folder.join(alloc, "pam.d")?.as_path())?;
+    for (name, bytes) in [
+        ("empty", b"".as_slice()),
+        ("nul", b"a\0b"),
+        ("common", b"front"),
+        ("common-auth", b"whole"),
+        ("most", most.as_slice()),
+        ("more", more.as_slice()),
+    ] {
+        fs::write(&rt, folder.join(alloc, name)?.as_path(), bytes)?;
+    }
+    let long = "longer-than-a-name-may-be-".repeat(alloc, 20)?;
+    let mut vault = FolderVault::new(rt);
+    for (name, want, is_folder) in [
+        ("empty", Ok(b"".as_slice()), Ok(false)),
+        ("nul", Ok(b"a\0b"), Ok(false)),
+        ("common", Ok(b"front"), Ok(false)),
+        ("common-auth", Ok(b"whole"), Ok(false)),
+        ("most", Ok(most.as_slice()), Ok(false)),
+        ("more", Err(VaultFault::TooLong), Ok(false)),
+        ("absent", Err(VaultFault::Absent), Ok(false)),
+        ("absent/below", Err(VaultFault::Absent), Ok(false)),
+        ("pam.d", Err(VaultFault::Failed), Ok(true)),
+        ("pam.d/login", Err(VaultFault::Absent), Ok(false)),
+        (
+            "common/below",
+            Err(VaultFault::Failed),
+            Err(ReplaceFault::Failed),
+        ),
+        (
+            "common\0",
+            Err(VaultFault::Failed),
+            Err(ReplaceFault::Failed),
+        ),
+        (
+            long.as_str(),
+            Err(VaultFault::Failed),
+            Err(ReplaceFault::Failed),
+        ),
+    ] {
+        let path = folder.join(alloc, name)?;
+        let read = vault.read(alloc, path.as_str().as_bytes(), LIMIT);
+        assert_eq!(rt; bytes_of(&read), want, "at {name}");
+        let found = vault.folder(alloc, path.as_str().as_bytes());
+        assert_eq!(rt; found, is_folder, "at {name}");
+    }
+    let read = vault.read(alloc, b"/tmp/\xff", LIMIT);
+    assert_eq!(rt; bytes_of(&read), Err(VaultFault::Failed));
+    assert_eq!(rt;
+        vault.folder(alloc, b"/tmp/\xff"),
+        Err(ReplaceFault::Failed)
+    );
+    fs::remove_dir_all(&rt, folder.as_path())?;
+    Ok(())
+}
+
+// The file, after it was replaced by a short text.
+fn replaced(rt: HostRuntime, path: &PathBuf) -> Result<Text, Fail> {
+    let alloc = rt.alloc();
+    let bytes = path.as_str().as_bytes();
+    let mut vault = FolderVault::new(rt);
+    vault.replace(alloc, bytes, b"short")?;
+    Ok(vault.read(alloc, bytes, LIMIT)?)
+}
+
+#[test]
+fn real_files_are_replaced_whole(rt: HostRuntime) -> Result<(), Fail> {
+    let folder = new_folder(rt, "replace")?;
+    let stands = folder.join(rt.alloc(), "stands")?;
+    fs::write(&rt, stands.as_path(), "a longer text")?;
+    fs::set_permissions(&rt, stands.as_path(), Permissions::from_mode(0o640))?;
+    for (name, mode) in [("stands", 0o640u32), ("new", 0o600)] {
+        let path = folder.join(rt.alloc(), name)?;
+        assert_eq!(rt;
+            replaced(rt, &path)?.bytes(),
+            b"short".as_slice(),
+            "at {name}"
+        );
+        let found = fs::metadata(&rt, path.as_path())?.permissions().mode();
+        assert_eq!(rt; found & 0o777, mode, "at {name}");
+    }
+    assert_eq!(rt; names_in(rt, &folder)?, 2, "nothing is left beside");
+    fs::remove_dir_all(&rt, folder.as_path())?;
+    Ok(())
+}
+
+#[test]
+fn real_files_that_are_not_replaced_leave_nothing(rt: HostRuntime) -> Result<(), Fail> {
+    let alloc = rt.alloc();
+    let folder = new_folder(rt, "refuse")?;
+    fs::create_dir(&rt, folder.join(alloc, "pam.d")?.as_path())?;
+    let mut vault = FolderVault::new(rt);
+    for name in ["pam.d", "absent/below"] {
+        let path = folder.join(alloc, name)?;
+        let refused = vault.replace(alloc, path.as_str().as_bytes(), b"short");
+        assert_eq!(rt; refused, Err(ReplaceFault::Failed), "at {name}");
+    }
+    let refused = vault.replace(alloc, b"/tmp/\xff", b"short");
+    assert_eq!(rt; refused, Err(ReplaceFault::Failed));
+    assert_eq!(rt; names_in(rt, &folder)?, 1);
+    fs::remove_dir_all(&rt, folder.as_path())?;
+    Ok(())
+}
+
+// How many names a folder has.
+fn names_in(rt: HostRuntime, folder: &PathBuf) -> Result<usize, Fail> {
+    let mut names = 0usize;
+    for entry in fs::read_dir(&rt, folder.as_path())? {
+        let _ = entry?;
+        names = names.saturating_add(1);
+    }
+    Ok(names)
+}

@@ -1,0 +1,16 @@
+-- Counts of calls and of faults (this project's own). Both are kept in 64 bits, and stand still at their end.
+use Rattle.std.specs.Prelude.{ℕ, ◌+◌, ◌-◌, ◌≤◌, ◌^◌, min, Bool, List, nat_lt, nat_eq, ◌&&◌}
+use Rattle.std.specs.List.{list_any}
+
+-- a count after one more
+abbrev pub next_count : ℕ → ℕ
+next_count n = min (n + 1) (2 ^ 64 - 1)
+
+-- a count that rose
+abbrev pub Rose : ℕ → ℕ → Type 0
+Rose before now = next_count before ≤ now
+
+-- whether the call after so many is among those that are to fail, which are numbered from 1;
+-- where the count stands still, no further call is
+abbrev pub fails_next : ℕ → List ℕ → Bool
+fails_next calls fails = nat_lt calls (2 ^ 64 - 1) && list_any (λ n. nat_eq n (calls + 1)) fails

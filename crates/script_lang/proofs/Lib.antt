@@ -1,0 +1,5 @@
+pub mod Decimals
+pub mod Digits
+pub mod Reading
+pub mod Rows
+pub mod Words

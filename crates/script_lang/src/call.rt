@@ -1,0 +1,58 @@
+ghost use Rattle.std.specs.Prelude.{◌≡◌, IfOk};
+ghost use Rattle.script_lang.specs.Call.{line_made};
+ghost use Rattle.script_lang.specs.Value.{meanings_of};
+
+use crate::command::Command;
+use crate::line::Line;
+use crate::value::Values;
+use pam_base::{AppCall, NoMemory, Step};
+use std::alloc::Global;
+
+/// The line that a command makes of the values at its places.
+pub(crate) fn line_made(
+    alloc: Global,
+    command: Command,
+    values: Values<'_>,
+) -> Result<Line, NoMemory>
+    ensures { IfOk result (λ line. line ≡ line_made command (meanings_of values.entry)) }
+{
+    let second = values.second;
+    let third = values.third;
+    let number = second.number();
+    let item = second.item();
+    let call = match command {
+        Command::Start => AppCall::Start {
+            service: second.text(alloc)?,
+            user: third.optional_text(alloc)?,
+        },
+        Command::End => AppCall::End { status: number },
+        Command::Authenticate => AppCall::Authenticate { flags: number },
+        Command::SetCred => AppCall::SetCred { flags: number },
+        Command::AcctMgmt => AppCall::AcctMgmt { flags: number },
+        Command::OpenSession => AppCall::OpenSession { flags: number },
+        Command::CloseSession => AppCall::CloseSession { flags: number },
+        Command::ChAuthTok => AppCall::ChAuthTok { flags: number },
+        Command::SetItem => AppCall::SetItem {
+            item,
+            value: third.optional_text(alloc)?,
+        },
+        Command::GetItem => AppCall::GetItem { item },
+        Command::PutEnv => AppCall::PutEnv {
+            text: second.text(alloc)?,
+        },
+        Command::GetEnv => AppCall::GetEnv {
+            name: second.text(alloc)?,
+        },
+        Command::EnvList => AppCall::EnvList,
+        Command::FailDelay => AppCall::FailDelay { micros: number },
+        Command::DelayFn => AppCall::DelayFn { on: second.is_on() },
+        Command::Reply => AppCall::Reply {
+            text: second.text(alloc)?,
+        },
+        Command::At => return Ok(Line::At(values.first.wide())),
+        Command::Random => return Ok(Line::Random(values.first.wide())),
+        Command::Caller => return Ok(Line::Caller(values.first.number())),
+    };
+    let number = values.first.number();
+    Ok(Line::Step(Step { number, call }))
+}

@@ -1,0 +1,77 @@
+ghost use Rattle.std.specs.Prelude.{◌≡◌, option_map};
+ghost use Rattle.std.specs.List.{list_any};
+ghost use Rattle.pam_base.specs.Words.{words_of};
+ghost use Rattle.script_lang.specs.Place.{is_text};
+ghost use Rattle.script_lang.specs.Cut.{first_word, word_at, wanted_of, most_of, has_its_words, IsBehind};
+
+use crate::place::Place;
+use pam_base::first_place;
+
+/// The word of a line's command, which is empty where the line begins with a space.
+pub(crate) fn first_word(line: &[u8]) -> &[u8]
+    ensures { result.now ≡ first_word line.now }
+{
+    match first_place(b' ', line) {
+        Some(end) => &line[..end],
+        None => line,
+    }
+}
+
+/// The word at a place, where so many words stand before it in the line. None exactly where the line has no more
+/// words.
+pub(crate) fn word_at(place: Place, before: usize, line: &[u8]) -> Option<&[u8]>
+    ensures { option_map (λ word. word.now) result ≡ word_at place before (words_of line.now) }
+{
+    let rest = behind_words(before, line)?;
+    if place.is_text() {
+        Some(rest)
+    } else {
+        Some(first_word(rest))
+    }
+}
+
+/// Whether the line has as many words behind its command as these places ask for.
+pub(crate) fn has_its_words(places: [Place; 3], line: &[u8]) -> bool
+    ensures { result ≡ has_its_words places (words_of line.now) }
+{
+    behind_words(wanted(places), line).is_some()
+        && (has_text(places) || behind_words(most(places) + 1, line).is_none())
+}
+
+// What stands behind so many words and the space after each. None exactly where the line has no more words.
+fn behind_words(count: usize, line: &[u8]) -> Option<&[u8]>
+    ensures { IsBehind (option_map (λ rest. rest.now) result) count (words_of line.now) }
+{
+    let mut rest = line;
+    for _ in 0..count {
+        rest = behind_word(rest)?;
+    }
+    Some(rest)
+}
+
+fn behind_word(line: &[u8]) -> Option<&[u8]>
+    ensures { IsBehind (option_map (λ rest. rest.now) result) 1 (words_of line.now) }
+{
+    let end = first_place(b' ', line)?;
+    Some(&line[end + 1..])
+}
+
+// How many of the places want a word.
+fn wanted(places: [Place; 3]) -> usize
+    ensures { result ≡ wanted_of places }
+{
+    places.iter().filter(|place| place.is_wanted()).count()
+}
+
+// At how many of the places a word may stand.
+fn most(places: [Place; 3]) -> usize
+    ensures { result ≡ most_of places }
+{
+    places.iter().filter(|place| place.form().is_some()).count()
+}
+
+fn has_text(places: [Place; 3]) -> bool
+    ensures { result ≡ list_any is_text places }
+{
+    places.iter().any(|place| place.is_text())
+}
