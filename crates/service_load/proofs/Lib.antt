@@ -6,3 +6,4 @@ pub mod Opening
 pub mod Listing
 pub mod Expanding
 pub mod Treeing
+pub mod Counting

@@ -1,5 +1,5 @@
 -- What a load meets, in the order in which it meets it (this project's own): a list, depth first, for the four types in turn.
-use Rattle.std.specs.Prelude.{ℕ, zero, suc, ◌-◌, Bool, List, [], ◌∷◌, ◌++◌, map, Option, Some, None, codes, ◌==◌, if◌then◌else◌}
+use Rattle.std.specs.Prelude.{ℕ, zero, suc, ◌+◌, ◌-◌, Bool, List, [], ◌∷◌, ◌++◌, map, Option, Some, None, codes, ◌==◌, if◌then◌else◌}
 use Rattle.std.specs.List.{flat_map}
 use Rattle.conf_lex.specs.declared.token.RawRule.{RawRule}
 use Rattle.control_words.specs.Stack.{count}
@@ -25,6 +25,12 @@ pub data Item : Type 0 where
   opening : RuleFile → ℕ → Opener → Item
   checked : RuleFile → RawRule → Item
   made : List ℕ → ℕ → Item
+
+-- how many files are opened along some items
+abbrev pub openings_in : List Item → ℕ
+openings_in [] = 0
+openings_in (opening file level opener ∷ is) = openings_in is + 1
+openings_in (i ∷ is) = openings_in is
 
 -- what an entry of the file with this name brings, where `deeper` gives what an opened file brings
 abbrev pub content_items : (Opener → RuleFile → List Item) → List ℕ → ℕ → Content → List Item

@@ -4,6 +4,7 @@
 
 mod entry;
 mod file_rules;
+mod laws;
 mod load_fault;
 mod loading;
 mod loader;
@@ -15,6 +16,7 @@ mod rule_type;
 mod trees;
 mod type_field;
 
+pub use laws::each_opening_is_a_call;
 pub use load_fault::LoadFault;
 pub use loading::load;
 pub use rule_type::RuleType;

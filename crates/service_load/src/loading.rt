@@ -16,9 +16,23 @@ use std::alloc::Global;
 /// The folder of the service files.
 const FOLDER: &[u8; 10] = b"/etc/pam.d";
 
-/// The stacks of a service (`pam.conf(5)`, `pam.d(5)`): its rules stand in `/etc/pam.d/SERVICE` under the root
-/// or, where `/etc/pam.d` is no folder, in `/etc/pam.conf`; the service is folded to lower case. A rule may
-/// include other files; of a type for which the service has no nodes the stack is that of `other`.
+/// The stacks of a service (`pam.conf(5)`, `pam.d(5)`), under a root whose slashes at its end don't count.
+///
+/// The rules are those of `/etc/pam.d/SERVICE`, with the service in lower case; where `/etc/pam.d` is no folder,
+/// those lines of `/etc/pam.conf` that begin with the service, in any case. `include`, `substack` and
+/// `@include` bring in other files, which are read anew each time. Of a type for which the service has no nodes
+/// the stack is that of the service `other`, or empty where that isn't there.
+///
+/// The fault is the first one that is met, type by type and file by file: when a file is opened, first
+/// `TooDeep`, the 17th level; `TooManyFiles`, the 257th opening; `ReadFailed`, where the vault's call failed;
+/// `IncludeAbsent` or, where neither the service nor `other` is there, `NoService`; the faults of the file's
+/// text (`rules`) and of each of its rules (`BadType`, `MissingField`, those of `control_of`); then, rule by
+/// rule, `TooManyLines`, the 4,097th line of a stack. It stands at the rule, with its file and line; line 0
+/// means the file as a whole.
+///
+/// A load asks the vault once for the folder and once for each file that it opens. It takes memory for the
+/// text and the rules of the files that are open, at most 17, and for the stacks. Without memory nothing is
+/// given; of what the vault tells only its number of calls has changed, as with every answer.
 pub fn load(
     alloc: Global,
     vault: &mut dyn Vault,
