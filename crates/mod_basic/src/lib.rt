@@ -12,5 +12,4 @@ pub use debug::Debug;
 pub use deny::Deny;
 pub use permit::Permit;
 pub use probe::Probe;
-
 pub use rootok::Rootok;

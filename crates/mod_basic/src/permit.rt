@@ -8,9 +8,7 @@ use data_cleanup::{Datum, Receipt};
 use item_store::Items;
 use pam_base::{Code, Func, ItemName, NoMemory};
 use pam_outside::{Clock, Vault};
-use pam_room::{
-    Call, Module, Process, Transaction, get_item, set_item, spend_by_length,
-};
+use pam_room::{Call, Module, Process, Transaction, get_item, set_item, spend_by_length};
 use std::alloc::Global;
 
 /// `pam_permit(8)`: SUCCESS for all six functions. authenticate sets USER to `nobody` where it is unset.

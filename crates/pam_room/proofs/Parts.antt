@@ -9,9 +9,17 @@ pub parts_played : (p : Played) (old new : Scene) → old.room.transaction.datum
 parts_played p old new number l =
     let t = new.room.transaction in
     let whole : scene_of (room_of (record {
-      items = t.items; env = t.env; datums = t.datums; delay = t.delay; said = t.said; trail = t.trail; handle = t.handle; serving = t.serving; put_off = t.put_off;
+      items = t.items;
+      env = t.env;
+      datums = t.datums;
+      delay = t.delay;
+      said = t.said;
+      trail = t.trail;
+      handle = t.handle;
+      serving = t.serving;
+      put_off = t.put_off;
     }) new.room.conv) new.vault new.clock (record { ledger = new.process.ledger; root = new.process.root; caller = new.process.caller }) ≡ with_played p old =
-        rw (l.items, l.env, l.births.list, l.delay, l.said, l.trail, l.handle, l.serving, l.put_off, l.conv, l.vault, l.clock, l.births.ledger, l.root, l.caller, number) refl in
+    rw (l.items, l.env, l.births.list, l.delay, l.said, l.trail, l.handle, l.serving, l.put_off, l.conv, l.vault, l.clock, l.births.ledger, l.root, l.caller, number) refl in
     whole
 
 pub stays_on : (x y z : PlainTransaction) (a b c : PlainProcess) → Stays x y a b → Stays y z b c → Stays x z a c

@@ -64,7 +64,6 @@ impl Transaction {
         ensures err { OnErr result ((self.new.datums ≡ self.old.datums) × (ledger.new ≡ ledger.old)) }
         ensures others { self.new ≡ record self.old { datums = self.new.datums } }
     {
-        self.datums
-            .set(alloc, ledger, self.serving, name, payload)
+        self.datums.set(alloc, ledger, self.serving, name, payload)
     }
 }
