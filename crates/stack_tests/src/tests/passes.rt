@@ -3,7 +3,7 @@ ghost use Rattle.control_words.specs.Stack.{lines_in, depth, stack_of};
 
 use crate::tests::build::{Around, add_line, add_sub, chain_of, rule};
 use crate::tests::script::Script;
-use chain_pass::{Paused, run_pass};
+use dispatch_core::{Paused, run_pass};
 use control_words::Nodes;
 use frozen_chain::Kept;
 use handler_chain::flatten;

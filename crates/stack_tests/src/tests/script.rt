@@ -1,4 +1,4 @@
-use chain_pass::Ask;
+use dispatch_core::Ask;
 use handler_chain::Chain;
 use pam_base::{Code, NoMemory, Numbers};
 
