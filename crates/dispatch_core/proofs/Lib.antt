@@ -1,2 +1,13 @@
-mod Rows
-pub mod Stepping
+pub mod Standing
+pub mod Entering
+pub mod Walking
+pub mod Turning
+pub mod Giving
+pub mod Keeping
+pub mod Taking
+pub mod Progress
+pub mod Ending
+pub mod Pathing
+pub mod Lining
+pub mod Sounding
+pub mod Telling

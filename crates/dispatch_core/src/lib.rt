@@ -1,12 +1,18 @@
-//! The stack: a pass visits the lines of a service in order, and its code is what the opinions of the visited
-//! lines come to (`pam.conf(5)`).
+//! One pass over a stack that was laid flat, by the indices of its lines: each line's module serves the call, and the
+//! walker goes on where the line's list goes on. Whatever the modules do, the pass is the walk over the nested stack.
 #![tactic(auto)]
 
-mod modules;
-mod opinion;
+mod entry_states;
+mod given;
+mod line;
 mod pass;
-mod visits;
+mod paths;
+mod paused;
+mod request;
+mod step;
+mod supplies;
+mod turn;
+mod walker;
 
-pub use opinion::{Impression, Opinion};
 pub use pass::dispatch;
-pub use visits::{Visit, Visits};
+pub use paused::Paused;

@@ -1,90 +1,200 @@
-ghost use Rattle.std.specs.Prelude.{◌≡◌, ◌<◌, ◌≤◌, ◌+◌, ◌^◌, ◌++◌, ◌∷◌, [], true, IfOk, OnErr};
-ghost use Rattle.control_words.specs.Stack.{Stack, none, node_on, stack_of, count};
-ghost use Rattle.dispatch_core.specs.Opinion.{opening};
-ghost use Rattle.dispatch_core.specs.Pass.{EndsAs, behind_line, is_plain_stack, pass, paths_in, serve_line};
-ghost use Rattle.dispatch_core.specs.Walk.{walk};
+ghost use Rattle.std.specs.Prelude.{◌≡◌, ◌<◌, ◌≤◌, ◌^◌, ◌+◌, ◌*◌, ◌&&◌, [], None, Some, true, is_some, length, map, IfOk, OnOk, OnErr, IsNone, IsTrue};
+ghost use Rattle.control_words.specs.Stack.{lines_in};
+ghost use Rattle.frozen_chain.specs.Kept.{empty_cells, lines_kept};
+ghost use Rattle.pam_room.specs.State.{state_of};
+ghost use Rattle.pam_room.specs.Stays.{IsReady};
+ghost use Rattle.pam_room.specs.Module.{notes_of, player_of};
+ghost use Rattle.pam_room.specs.Plain.{plain_process, plain_transaction};
+ghost use Rattle.stack_walk.specs.Pass.{pass_after};
+ghost use Rattle.dispatch_core.specs.AnyWorld.{GoesSoundly};
+ghost use Rattle.dispatch_core.specs.Given.{past_of};
+ghost use Rattle.dispatch_core.specs.Lines.{answers_by};
+ghost use Rattle.dispatch_core.specs.Paths.{HasPaths};
+ghost use Rattle.dispatch_core.specs.Passes.{LeavesAs, PassesAs, WalksAs, by_place, kept_behind, kept_failed};
 
-use crate::modules::answer_of;
-use crate::opinion::Opinion;
-use crate::visits::{Visit, Visits};
-use control_words::{Node, Nodes};
-use pam_base::{Code, NoMemory, Text};
+use crate::paused::Paused;
+use crate::request::Request;
+use crate::supplies::Supplies;
+use crate::turn::take_turn;
+use crate::walker::Walker;
+use data_cleanup::{growth_is_transitive, nothing_grows};
+use frozen_chain::Kept;
+use handler_chain::Chain;
+use pam_base::{Code, Func, NoMemory};
+use pam_room::{Module, Room, RoomTold, World, WorldTold, staying_is_transitive};
+use stack_walk::PassKind;
 use std::alloc::Global;
-use std::collections::VecDeque;
 
-/// One pass over a stack for authenticate (`pam.conf(5)`): visits its lines in order and answers the code of
-/// the stack. The visits are added to the trail, whose places count from 1.
+// Walks a stack from its first line. None where the walk is put off, else its verdict.
+fn walk(
+    alloc: Global,
+    chain: &mut Chain,
+    mods: &[Box<dyn Module>],
+    request: Request,
+    follows: &Kept,
+    keeps: &mut Kept,
+    supplies: &mut Supplies,
+    room: &mut Room,
+    world: &mut World,
+) -> Result<Option<Code>, NoMemory>
+    requires names { chain.old.names ≡ map label mods.now }
+    requires few { length mods.now < 2 ^ 32 }
+    requires taken { supplies.old.given.taken ≡ [] }
+    requires answers { lines_in chain.old.nodes ≤ supplies.old.given.room }
+    requires paths { HasPaths chain.old.nodes 0 supplies.old.paths }
+    requires spare { lines_in chain.old.nodes ≤ room.old.transaction.trail.spare }
+    requires cells { is_some keeps.old ≡ true → keeps.old ≡ Some (empty_cells (lines_in chain.old.nodes)) }
+    requires ready { IsReady (length mods.now) (plain_transaction room.old.transaction) (plain_process world.old.process) }
+    ensures room_tells { ⟦<Room as RoomTold>⟧.tells room.new ≡ ⟦<Room as RoomTold>⟧.tells room.old }
+    ensures world_tells { ⟦<World as WorldTold>⟧.tells world.new ≡ ⟦<World as WorldTold>⟧.tells world.old }
+    ensures told { IsTrue (⟦<Room as RoomTold>⟧.tells room.old && ⟦<World as WorldTold>⟧.tells world.old) →
+        IfOk result (λ end. WalksAs (pass_after request.kind (by_place follows.now) (answers_by (map (player_of label plays note) mods.now) request.func request.flags) chain.old.nodes supplies.old.given.past
+        (state_of (⟦<Room as RoomTold>⟧.plain room.old) (⟦<World as WorldTold>⟧.plain world.old)))
+        end keeps.new supplies.new.given (state_of (⟦<Room as RoomTold>⟧.plain room.new) (⟦<World as WorldTold>⟧.plain world.new))) }
+    ensures held { OnOk result (is_some keeps.new ≡ is_some keeps.old) }
+    ensures none { IfOk result (λ end. IsNone end → supplies.new.given.past ≡ []) }
+    ensures nodes { chain.new.nodes ≡ chain.old.nodes }
+    ensures names { chain.new.names ≡ chain.old.names }
+    ensures looks { OnOk result (chain.new.looks + 4 * length room.old.transaction.trail.visits
+        ≤ chain.old.looks + 4 * (length room.new.transaction.trail.visits + length supplies.old.given.past)) }
+    ensures sound { GoesSoundly (notes_of (map (player_of label plays note) mods.now)) (length mods.now)
+        (plain_transaction room.old.transaction) (plain_transaction room.new.transaction) (plain_process world.old.process) (plain_process world.new.process) }
+    ensures ready { IsReady (length mods.now) (plain_transaction room.new.transaction) (plain_process world.new.process) }
+{
+    nothing_grows();
+    growth_is_transitive();
+    staying_is_transitive();
+    let mut walker = Walker::new();
+    while walker.at < chain.len() {
+        let Some(_answer) = take_turn(
+            alloc,
+            chain,
+            mods,
+            request,
+            follows,
+            keeps,
+            supplies,
+            room,
+            world,
+            &mut walker,
+        )?
+        else {
+            return Ok(None);
+        };
+    }
+    Ok(Some(walker.opinion.verdict()))
+}
+
+// Takes all memory, walks the stack, and pauses where the walk is put off.
+fn walk_all(
+    alloc: Global,
+    chain: &mut Chain,
+    mods: &[Box<dyn Module>],
+    request: Request,
+    follows: &Kept,
+    keeps: &mut Kept,
+    paused: &mut Paused,
+    room: &mut Room,
+    world: &mut World,
+) -> Result<Code, NoMemory>
+    requires names { chain.old.names ≡ map label mods.now }
+    requires few { length mods.now < 2 ^ 32 }
+    requires cells { keeps.old ≡ None }
+    requires ready { IsReady (length mods.now) (plain_transaction room.old.transaction) (plain_process world.old.process) }
+    ensures room_tells { ⟦<Room as RoomTold>⟧.tells room.new ≡ ⟦<Room as RoomTold>⟧.tells room.old }
+    ensures world_tells { ⟦<World as WorldTold>⟧.tells world.new ≡ ⟦<World as WorldTold>⟧.tells world.old }
+    ensures told { IsTrue (⟦<Room as RoomTold>⟧.tells room.old && ⟦<World as WorldTold>⟧.tells world.old) →
+        IfOk result (λ code. PassesAs request.kind (pass_after request.kind (by_place follows.now) (answers_by (map (player_of label plays note) mods.now) request.func request.flags) chain.old.nodes (past_of paused.old)
+        (state_of (⟦<Room as RoomTold>⟧.plain room.old) (⟦<World as WorldTold>⟧.plain world.old)))
+        code keeps.new paused.new (state_of (⟦<Room as RoomTold>⟧.plain room.new) (⟦<World as WorldTold>⟧.plain world.new))) }
+    ensures paused { OnErr result (paused.new ≡ None) }
+    ensures nodes { chain.new.nodes ≡ chain.old.nodes }
+    ensures names { chain.new.names ≡ chain.old.names }
+    ensures looks { OnOk result (chain.new.looks + 4 * length room.old.transaction.trail.visits
+        ≤ chain.old.looks + 4 * (length room.new.transaction.trail.visits + length (past_of paused.old))) }
+    ensures sound { GoesSoundly (notes_of (map (player_of label plays note) mods.now)) (length mods.now)
+        (plain_transaction room.old.transaction) (plain_transaction room.new.transaction) (plain_process world.old.process) (plain_process world.new.process) }
+    ensures ready { IsReady (length mods.now) (plain_transaction room.new.transaction) (plain_process world.new.process) }
+{
+    nothing_grows();
+    let mut supplies = Supplies::take(alloc, chain, paused, room)?;
+    if request.kind == PassKind::Keep {
+        keeps.open(alloc, chain.len())?;
+    }
+    match walk(
+        alloc,
+        chain,
+        mods,
+        request,
+        follows,
+        keeps,
+        &mut supplies,
+        room,
+        world,
+    )? {
+        Some(code) => Ok(code),
+        None => {
+            *paused = supplies.given.pause();
+            Ok(Code::Incomplete)
+        }
+    }
+}
+
+// What stays kept behind a pass that has answered, or for which there was no memory.
+fn settle(kind: PassKind, kept: &mut Kept, keeps: Kept, answered: bool)
+    ensures { kept.new ≡ kept_behind kind answered keeps kept.old }
+{
+    match kind {
+        PassKind::Keep if answered => *kept = keeps,
+        PassKind::Keep => kept.drop_all(),
+        PassKind::Loose if answered => kept.drop_all(),
+        PassKind::Follow | PassKind::Loose => {}
+    }
+}
+
+/// One pass over a stack (`pam.conf(5)`): the module of each line that it comes to serves the call, and the visit is
+/// added to the trail. It acts by the answers that are kept, where it follows, and goes on behind those of the call
+/// that it was put off in. Its code is INCOMPLETE where a line puts it off; then the answers that it was given are
+/// paused. Behind a pass that keeps, its answers are kept; behind a loose one none are.
 ///
-/// It stands on lines alone, whose controls neither reset nor jump. All memory is taken before the first line
-/// is visited, so without memory no line was, and the trail is as it was.
-pub fn dispatch(alloc: Global, nodes: &Nodes, trail: &mut Visits) -> Result<Code, NoMemory>
-    requires plain { is_plain_stack (stack_of nodes.now.vec.items) ≡ true }
-    requires few { count (stack_of nodes.now.vec.items) < 2 ^ 32 }
-    ensures ok { IfOk result (λ code. EndsAs (pass (stack_of nodes.now.vec.items) trail.old.visits) code trail.new.visits) }
-    ensures err { OnErr result (trail.new.visits ≡ trail.old.visits) }
+/// It takes all memory of its own before the first module serves. After want of memory a pass that keeps has nothing
+/// kept, any other leaves what was kept, nothing is paused, and no datum waits for its cleanup.
+pub fn dispatch(
+    alloc: Global,
+    chain: &mut Chain,
+    mods: &[Box<dyn Module>],
+    func: Func,
+    flags: u32,
+    kind: PassKind,
+    kept: &mut Kept,
+    paused: &mut Paused,
+    room: &mut Room,
+    world: &mut World,
+) -> Result<Code, NoMemory>
+    requires names { chain.old.names ≡ map label mods.now }
+    requires few { length mods.now < 2 ^ 32 }
+    requires ready { IsReady (length mods.now) (plain_transaction room.old.transaction) (plain_process world.old.process) }
+    ensures room_tells { ⟦<Room as RoomTold>⟧.tells room.new ≡ ⟦<Room as RoomTold>⟧.tells room.old }
+    ensures world_tells { ⟦<World as WorldTold>⟧.tells world.new ≡ ⟦<World as WorldTold>⟧.tells world.old }
+    ensures told { IsTrue (⟦<Room as RoomTold>⟧.tells room.old && ⟦<World as WorldTold>⟧.tells world.old) →
+        IfOk result (λ code. LeavesAs kind (pass_after kind (by_place kept.old) (answers_by (map (player_of label plays note) mods.now) func flags) chain.old.nodes (past_of paused.old)
+        (state_of (⟦<Room as RoomTold>⟧.plain room.old) (⟦<World as WorldTold>⟧.plain world.old)))
+        kept.old code kept.new paused.new (state_of (⟦<Room as RoomTold>⟧.plain room.new) (⟦<World as WorldTold>⟧.plain world.new))) }
+    ensures kept { OnErr result (kept.new ≡ kept_failed kind kept.old) }
+    ensures paused { OnErr result (paused.new ≡ None) }
+    ensures nodes { chain.new.nodes ≡ chain.old.nodes }
+    ensures names { chain.new.names ≡ chain.old.names }
+    ensures looks { OnOk result (chain.new.looks + 4 * length room.old.transaction.trail.visits
+        ≤ chain.old.looks + 4 * (length room.new.transaction.trail.visits + length (past_of paused.old))) }
+    ensures sound { GoesSoundly (notes_of (map (player_of label plays note) mods.now)) (length mods.now)
+        (plain_transaction room.old.transaction) (plain_transaction room.new.transaction) (plain_process world.old.process) (plain_process world.new.process) }
+    ensures ready { IsReady (length mods.now) (plain_transaction room.new.transaction) (plain_process world.new.process) }
 {
-    let mut paths = paths_of(alloc, nodes.items())?;
-    trail.reserve(nodes.len())?;
-    let mut opinion = Opinion::opening();
-    let mut visited: usize = 0;
-    let mut rest = nodes.items();
-    while let [node, after @ ..] = rest {
-        let path = paths.pop_front().unwrap();
-        visited += 1;
-        let turn = visit(node, visited as u32, path, opinion, trail);
-        if turn.ended {
-            return Ok(turn.opinion.verdict());
-        }
-        opinion = turn.opinion;
-        rest = after;
-    }
-    Ok(opinion.verdict())
-}
-
-// The paths of the lines, copied for their visits.
-fn paths_of(alloc: Global, nodes: &[Node]) -> Result<VecDeque<Text>, NoMemory>
-    ensures { IfOk result (λ paths. paths.items ≡ paths_in (stack_of nodes.now)) }
-{
-    let mut paths = VecDeque::new(alloc);
-    let mut rest = nodes;
-    while let [node, after @ ..] = rest {
-        if let Node::Line(rule) = node {
-            paths.push_back(Text::from_bytes(alloc, rule.path.bytes())?)?;
-        }
-        rest = after;
-    }
-    Ok(paths)
-}
-
-// The opinion behind a line, and whether its list ends there.
-#[derive(Clone, Copy)]
-struct Turn {
-    opinion: Opinion,
-    ended: bool,
-}
-
-// Visits a line: its module answers, the visit is added to the trail, and the line's action is done.
-fn visit(node: &Node, place: u32, path: Text, opinion: Opinion, trail: &mut Visits) -> Turn
-    requires plain { is_plain_stack (node_on node.now none) ≡ true }
-    requires path { path ∷ [] ≡ paths_in (node_on node.now none) }
-    requires room { 0 < trail.old.room }
-    ensures turn { (rest : Stack) → walk serve_line 0 (node_on node.now rest) place opening opinion trail.old.visits ≡ behind_line result.opinion result.ended rest (place + 1) trail.new.visits }
-    ensures room { trail.old.room ≤ trail.new.room + 1 }
-{
-    match node {
-        Node::Line(rule) => {
-            let answer = answer_of(path.bytes());
-            let visit = Visit {
-                place,
-                path,
-                answer,
-            };
-            trail.push(visit).unwrap();
-            let action = rule.control.action(answer);
-            let opinion = opinion.after(action, answer, Opinion::opening());
-            let ended = opinion.ends(action);
-            Turn { opinion, ended }
-        }
-        Node::Sub(_) => unreachable!(),
-    }
+    let mut keeps = Kept::none();
+    let request = Request { func, flags, kind };
+    let result = walk_all(
+        alloc, chain, mods, request, kept, &mut keeps, paused, room, world,
+    );
+    settle(kind, kept, keeps, result.is_ok());
+    result
 }

@@ -4,7 +4,7 @@ use Rattle.pam_base.specs.Lines.{Cut, onto, cut, last_line, lines_of}
 use Rattle.control_words.specs.declared.nodes.Rule.{Rule}
 use Rattle.control_words.specs.declared.control.Action.{Action}
 use Rattle.control_words.specs.Keyword.{required, requisite, sufficient, optional, control_of_word}
-use Rattle.dispatch_core.specs.Pass.{is_plain, is_plain_stack}
+use Rattle.thin_pass.specs.Pass.{is_plain, is_plain_stack}
 use Rattle.std.specs.List.{list_all}
 use Rattle.std.specs.Str.{bytes_eq, str_eq_ignore_ascii_case}
 use Rattle.std.specs.Prelude.{codes, option_map}

@@ -5,7 +5,7 @@ use Rattle.pam_base.specs.declared.fault.ScriptKind.TheVariants.{NotBuilt}
 use Rattle.pam_base.specs.Lines.{cut, lines_of}
 use Rattle.pam_base.specs.Words.{words_of}
 use Rattle.pam_outside.specs.Files.{VaultState}
-use Rattle.dispatch_core.specs.Pass.{pass}
+use Rattle.thin_pass.specs.Pass.{pass}
 use Rattle.pam_session_cli.specs.declared.drive.Ending.TheVariants.{Done, Refused}
 use Rattle.pam_session_cli.specs.Looked.{last_looked, looked}
 use Rattle.pam_session_cli.specs.State.{step_of}

@@ -12,7 +12,7 @@ use Rattle.pam_base.specs.Code.{number_of, name_of}
 use Rattle.pam_base.specs.Fault.{fault_number, fault_name, script_fault_number, script_fault_name}
 use Rattle.pam_base.specs.Quote.{quoted_text}
 use Rattle.control_words.specs.Module.{name_of_module}
-use Rattle.dispatch_core.specs.declared.visits.Visit.{Visit}
+use Rattle.thin_pass.specs.declared.visits.Visit.{Visit}
 use Rattle.pam_session_cli.specs.declared.load.LoadFault.{LoadFault}
 use Rattle.pam_session_cli.specs.declared.outcome.Answer.{Answer}
 use Rattle.pam_session_cli.specs.declared.outcome.Answer.TheVariants as answers

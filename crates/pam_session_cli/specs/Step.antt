@@ -5,10 +5,10 @@ use Rattle.pam_base.specs.declared.call.AppCall.TheVariants.{Start, End, Authent
 use Rattle.pam_base.specs.declared.code.Code.TheVariants.{Success}
 use Rattle.pam_outside.specs.Files.{VaultState, counted}
 use Rattle.control_words.specs.Stack.{Stack}
-use Rattle.dispatch_core.specs.declared.visits.Visit.{Visit}
-use Rattle.dispatch_core.specs.Opinion.{verdict}
-use Rattle.dispatch_core.specs.Walk.{Walked}
-use Rattle.dispatch_core.specs.Pass.{pass}
+use Rattle.thin_pass.specs.declared.visits.Visit.{Visit}
+use Rattle.thin_pass.specs.Opinion.{verdict}
+use Rattle.thin_pass.specs.Walk.{Walked}
+use Rattle.thin_pass.specs.Pass.{pass}
 use Rattle.pam_session_cli.specs.declared.load.LoadFault.{LoadFault}
 use Rattle.pam_session_cli.specs.declared.outcome.Answer.{Answer}
 use Rattle.pam_session_cli.specs.declared.outcome.Answer.TheVariants as answers

@@ -1,7 +1,7 @@
 ghost use Rattle.std.specs.Prelude.{◌≡◌, ◌≤◌, ◌<◌, ◌++◌, ◌∷◌, [], length, true, IsTrue, IfOk, IfSome, IfNone};
 ghost use Rattle.std.specs.Str.{str_to_ascii_lowercase};
 ghost use Rattle.control_words.specs.Stack.{stack_of, count};
-ghost use Rattle.dispatch_core.specs.Pass.{is_plain_stack};
+ghost use Rattle.thin_pass.specs.Pass.{is_plain_stack};
 ghost use Rattle.pam_outside.specs.Counts.{RisesIf};
 ghost use Rattle.pam_outside.specs.Files.{counted};
 ghost use Rattle.pam_session_cli.specs.Service.{root_before, service_file, service_path};

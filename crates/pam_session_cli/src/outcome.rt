@@ -1,7 +1,7 @@
 ghost use Rattle.std.specs.Prelude.{◌≡◌, []};
 
 use crate::load::LoadFault;
-use dispatch_core::Visits;
+use thin_pass::Visits;
 use pam_base::Code;
 use std::alloc::Global;
 

@@ -5,7 +5,7 @@ ghost use Rattle.pam_session_cli.specs.Report.{answer_text, closed_text, code_te
 use crate::load::LoadFault;
 use crate::outcome::{Answer, Outcome};
 use control_words::module_name;
-use dispatch_core::Visit;
+use thin_pass::Visit;
 use pam_base::{
     AppCall, Code, FaultKind, NoMemory, ScriptKind, Step, code_name, code_number, quoted,
 };

@@ -1,6 +1,6 @@
 ghost use Rattle.std.specs.Prelude.{◌≡◌, ◌≤◌, length, true, IfOk};
 ghost use Rattle.control_words.specs.Stack.{stack_of, count};
-ghost use Rattle.dispatch_core.specs.Pass.{is_plain_stack};
+ghost use Rattle.thin_pass.specs.Pass.{is_plain_stack};
 ghost use Rattle.std.specs.Char.{is_ascii_uppercase};
 ghost use Rattle.std.specs.List.{list_any};
 ghost use Rattle.pam_session_cli.specs.Service.{is_lowercase, is_module, rule_of_line};

@@ -1,6 +1,6 @@
 ghost use Rattle.std.specs.Prelude.{◌≡◌, ◌≤◌, ◌<◌, ◌+◌, ◌^◌, true, IsTrue, IfOk, OnOk, OnErr};
 ghost use Rattle.control_words.specs.Stack.{stack_of, count};
-ghost use Rattle.dispatch_core.specs.Pass.{is_plain_stack};
+ghost use Rattle.thin_pass.specs.Pass.{is_plain_stack};
 
 use crate::outcome::{Answer, Outcome};
 use crate::report::step_report;

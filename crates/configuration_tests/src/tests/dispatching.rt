@@ -1,10 +1,10 @@
 ghost use Rattle.std.specs.Prelude.{◌≡◌, ◌<◌, ◌^◌, true, IfOk};
 ghost use Rattle.std.specs.List.{list_all};
 ghost use Rattle.control_words.specs.Stack.{stack_of, count};
-ghost use Rattle.dispatch_core.specs.Pass.{is_plain, is_plain_stack};
+ghost use Rattle.thin_pass.specs.Pass.{is_plain, is_plain_stack};
 
 use control_words::{Action, Node, Nodes, Rule, keyword};
-use dispatch_core::{Impression, Opinion, Visit, Visits, dispatch};
+use thin_pass::{Impression, Opinion, Visit, Visits, dispatch};
 use pam_base::{Code, Text, Texts};
 use std::alloc::Global;
 use std::test::Fail;

@@ -3,7 +3,6 @@ ghost use Rattle.control_words.specs.Stack.{lines_in, depth, stack_of};
 
 use conf_lex::Token;
 use control_words::{Control, Node, Nodes, Rule, control_of, keyword};
-use handler_chain::{Chain, flatten};
 use pam_base::{Text, Texts};
 use std::alloc::Global;
 use std::test::Fail;
@@ -45,13 +44,19 @@ pub fn add_sub(nodes: &mut Nodes, inner: Nodes) -> Result<(), Fail>
     Ok(())
 }
 
-/// Adds lines with these controls.
-fn add_lines(alloc: Global, nodes: &mut Nodes, controls: &[&[u8]]) -> Result<(), Fail>
+/// The names of modules, by the places of the lines that name them.
+pub const NAMES: &[&[u8]] = &[b"first", b"second", b"third", b"fourth", b"fifth"];
+
+// Adds lines with these controls, of which the first has this index.
+fn add_lines(alloc: Global, nodes: &mut Nodes, controls: &[&[u8]], first: usize) -> Result<(), Fail>
     ensures lines { OnOk result (lines_in (stack_of nodes.new.vec.items) ≡ lines_in (stack_of nodes.old.vec.items) + length controls.now) }
     ensures depth { OnOk result (depth (stack_of nodes.new.vec.items) ≡ depth (stack_of nodes.old.vec.items)) }
 {
+    let mut i = first;
     for text in controls {
-        add_line(nodes, rule(alloc, text, b"pam_x.so")?)?;
+        let name = NAMES.get(i).copied().ok_or("no name")?;
+        add_line(nodes, rule(alloc, text, name)?)?;
+        i = i.saturating_add(1);
     }
     Ok(())
 }
@@ -64,16 +69,21 @@ pub struct Around {
     pub behind: &'static [&'static [u8]],
 }
 
-/// A chain of at most 30 lines.
-pub fn chain_of(alloc: Global, stack: &Around) -> Result<Chain, Fail> {
-    if stack.before.len() > 10 || stack.inner.len() > 10 || stack.behind.len() > 10 {
+/// A stack of at most 30 lines. Each names the module of its place.
+pub fn stack(alloc: Global, around: &Around) -> Result<Nodes, Fail>
+    ensures lines { IfOk result (λ nodes. lines_in (stack_of nodes.vec.items) ≤ 30) }
+    ensures depth { IfOk result (λ nodes. depth (stack_of nodes.vec.items) ≤ 1) }
+{
+    let before = around.before.len();
+    let inner = around.inner.len();
+    if before > 10 || inner > 10 || around.behind.len() > 10 {
         return Err("too many lines")?;
     }
-    let mut inner = Nodes::new(alloc);
-    add_lines(alloc, &mut inner, stack.inner)?;
+    let mut within = Nodes::new(alloc);
+    add_lines(alloc, &mut within, around.inner, before)?;
     let mut nodes = Nodes::new(alloc);
-    add_lines(alloc, &mut nodes, stack.before)?;
-    add_sub(&mut nodes, inner)?;
-    add_lines(alloc, &mut nodes, stack.behind)?;
-    Ok(flatten(alloc, &nodes, &Texts::new(alloc))?)
+    add_lines(alloc, &mut nodes, around.before, 0)?;
+    add_sub(&mut nodes, within)?;
+    add_lines(alloc, &mut nodes, around.behind, before + inner)?;
+    Ok(nodes)
 }

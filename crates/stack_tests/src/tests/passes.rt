@@ -1,13 +1,12 @@
 ghost use Rattle.std.specs.Prelude.{◌≡◌, ◌≤◌, ◌+◌, IfOk};
 ghost use Rattle.control_words.specs.Stack.{lines_in, depth, stack_of};
 
-use crate::tests::build::{Around, add_line, add_sub, chain_of, rule};
-use crate::tests::script::Script;
-use chain_pass::{Paused, run_pass};
+use crate::tests::build::{Around, NAMES, add_line, add_sub, rule, stack};
+use crate::tests::script::pass;
 use control_words::Nodes;
+use dispatch_core::Paused;
 use frozen_chain::Kept;
-use handler_chain::flatten;
-use pam_base::{Code, Numbers, Texts};
+use pam_base::Code;
 use stack_walk::PassKind;
 use std::alloc::Global;
 use std::test::Fail;
@@ -24,15 +23,7 @@ struct Row {
     stack: Around,
     answers: &'static [Code],
     code: Code,
-    places: &'static [u64],
-}
-
-fn script(alloc: Global, answers: &'static [Code]) -> Script {
-    Script {
-        answers,
-        later: None,
-        asked: Numbers::new(alloc),
-    }
+    places: &'static [u32],
 }
 
 const ROWS: &[Row] = &[
@@ -108,20 +99,13 @@ const ROWS: &[Row] = &[
 fn a_pass_visits_the_lines_of_its_way(rt: HostRuntime) -> Result<(), Fail> {
     let alloc = rt.alloc();
     for row in ROWS {
-        let mut chain = chain_of(alloc, &row.stack)?;
-        let mut lines = script(alloc, row.answers);
+        let nodes = stack(alloc, &row.stack)?;
         let mut kept = Kept::none();
         let mut paused = Paused::none();
-        let code = run_pass(
-            alloc,
-            &mut chain,
-            PassKind::Keep,
-            &mut kept,
-            &mut paused,
-            &mut lines,
-        )?;
-        assert_eq!(rt; code, row.code, "at {:?}", row.places);
-        assert!(rt; lines.has_asked(row.places), "at {:?}", row.places);
+        let keep = PassKind::Keep;
+        let passed = pass(alloc, &nodes, row.answers, keep, &mut kept, &mut paused)?;
+        assert_eq!(rt; passed.code, row.code, "at {:?}", row.places);
+        assert!(rt; passed.places.as_slice() == row.places, "at {:?}", row.places);
         assert!(rt; kept.held() && paused.is_none());
     }
     Ok(())
@@ -134,7 +118,7 @@ struct Followed {
     first: &'static [Code],
     later: &'static [Code],
     code: Code,
-    places: &'static [u64],
+    places: &'static [u32],
 }
 
 const FOLLOWED: &[Followed] = &[
@@ -172,29 +156,20 @@ const FOLLOWED: &[Followed] = &[
 fn a_pass_that_follows_takes_the_way_of_the_one_that_kept(rt: HostRuntime) -> Result<(), Fail> {
     let alloc = rt.alloc();
     for row in FOLLOWED {
-        let stack = Around {
+        let around = Around {
             before: row.controls,
             inner: NONE,
             behind: NONE,
         };
-        let mut chain = chain_of(alloc, &stack)?;
+        let nodes = stack(alloc, &around)?;
         let mut kept = Kept::none();
         let mut paused = Paused::none();
-        let mut first = script(alloc, row.first);
         let keep = PassKind::Keep;
-        run_pass(alloc, &mut chain, keep, &mut kept, &mut paused, &mut first)?;
-        let mut later = script(alloc, row.later);
+        pass(alloc, &nodes, row.first, keep, &mut kept, &mut paused)?;
         let follow = PassKind::Follow;
-        let code = run_pass(
-            alloc,
-            &mut chain,
-            follow,
-            &mut kept,
-            &mut paused,
-            &mut later,
-        )?;
-        assert_eq!(rt; code, row.code, "at {:?}", row.later);
-        assert!(rt; later.has_asked(row.places), "at {:?}", row.later);
+        let later = pass(alloc, &nodes, row.later, follow, &mut kept, &mut paused)?;
+        assert_eq!(rt; later.code, row.code, "at {:?}", row.later);
+        assert!(rt; later.places.as_slice() == row.places, "at {:?}", row.later);
         assert!(rt; kept.held());
     }
     Ok(())
@@ -203,19 +178,19 @@ fn a_pass_that_follows_takes_the_way_of_the_one_that_kept(rt: HostRuntime) -> Re
 #[test]
 fn a_loose_pass_decides_by_its_own_answers_and_leaves_none(rt: HostRuntime) -> Result<(), Fail> {
     let alloc = rt.alloc();
-    let stack = Around {
+    let around = Around {
         before: &[b"optional"],
         inner: NONE,
         behind: NONE,
     };
-    let mut chain = chain_of(alloc, &stack)?;
+    let nodes = stack(alloc, &around)?;
     let mut kept = Kept::none();
     kept.open(alloc, 1)?;
     let mut paused = Paused::none();
-    let mut lines = script(alloc, &[Code::SessionErr]);
+    let answers = [Code::SessionErr];
     let loose = PassKind::Loose;
-    let code = run_pass(alloc, &mut chain, loose, &mut kept, &mut paused, &mut lines)?;
-    assert_eq!(rt; code, Code::PermDenied);
+    let passed = pass(alloc, &nodes, &answers, loose, &mut kept, &mut paused)?;
+    assert_eq!(rt; passed.code, Code::PermDenied);
     assert!(rt; !kept.held());
     Ok(())
 }
@@ -223,24 +198,25 @@ fn a_loose_pass_decides_by_its_own_answers_and_leaves_none(rt: HostRuntime) -> R
 #[test]
 fn a_pass_that_was_put_off_goes_on_at_its_line(rt: HostRuntime) -> Result<(), Fail> {
     let alloc = rt.alloc();
-    let stack = Around {
+    let around = Around {
         before: &[b"required"],
         inner: &[b"required", b"required", b"default=reset"],
         behind: NONE,
     };
-    let mut chain = chain_of(alloc, &stack)?;
+    let nodes = stack(alloc, &around)?;
     let mut kept = Kept::none();
     let mut paused = Paused::none();
-    let mut lines = script(alloc, &[GOOD, FAILED, GOOD, GOOD]);
-    lines.later = Some(3);
     let keep = PassKind::Keep;
-    let code = run_pass(alloc, &mut chain, keep, &mut kept, &mut paused, &mut lines)?;
-    assert_eq!(rt; code, Code::Incomplete);
+    let answers = [GOOD, FAILED, Code::Incomplete, GOOD];
+    let first = pass(alloc, &nodes, &answers, keep, &mut kept, &mut paused)?;
+    assert_eq!(rt; first.code, Code::Incomplete);
+    assert!(rt; first.places.as_slice() == [1, 2, 3]);
     assert!(rt; !paused.is_none());
-    let code = run_pass(alloc, &mut chain, keep, &mut kept, &mut paused, &mut lines)?;
-    assert_eq!(rt; code, GOOD);
+    let answers = [FAILED, GOOD, GOOD, GOOD];
+    let later = pass(alloc, &nodes, &answers, keep, &mut kept, &mut paused)?;
+    assert_eq!(rt; later.code, GOOD);
+    assert!(rt; later.places.as_slice() == [3, 4]);
     assert!(rt; paused.is_none());
-    assert!(rt; lines.has_asked(&[1, 2, 3, 3, 4]));
     assert_eq!(rt; kept.at(1), Some(FAILED));
     Ok(())
 }
@@ -252,10 +228,10 @@ fn denied(alloc: Global, substacks: usize) -> Result<Nodes, Fail>
     ensures depth { IfOk result (λ nodes. depth (stack_of nodes.vec.items) ≤ 1) }
 {
     let mut nodes = Nodes::new(alloc);
-    add_line(&mut nodes, rule(alloc, b"requisite", b"pam_deny.so")?)?;
+    add_line(&mut nodes, rule(alloc, b"requisite", NAMES[0])?)?;
     for _ in 0..substacks {
         let mut inner = Nodes::new(alloc);
-        add_line(&mut inner, rule(alloc, b"required", b"pam_permit.so")?)?;
+        add_line(&mut inner, rule(alloc, b"required", NAMES[1])?)?;
         add_sub(&mut nodes, inner)?;
     }
     Ok(nodes)
@@ -264,14 +240,13 @@ fn denied(alloc: Global, substacks: usize) -> Result<Nodes, Fail>
 #[test]
 fn a_walk_that_ends_early_looks_at_little(rt: HostRuntime) -> Result<(), Fail> {
     let alloc = rt.alloc();
-    let mut chain = flatten(alloc, &denied(alloc, 1000)?, &Texts::new(alloc))?;
+    let nodes = denied(alloc, 1000)?;
     let mut kept = Kept::none();
     let mut paused = Paused::none();
-    let mut lines = script(alloc, &[FAILED]);
     let keep = PassKind::Keep;
-    let code = run_pass(alloc, &mut chain, keep, &mut kept, &mut paused, &mut lines)?;
-    assert_eq!(rt; code, FAILED);
-    assert!(rt; lines.has_asked(&[1]));
-    assert!(rt; chain.looks() <= 4);
+    let passed = pass(alloc, &nodes, &[FAILED, GOOD], keep, &mut kept, &mut paused)?;
+    assert_eq!(rt; passed.code, FAILED);
+    assert!(rt; passed.places.as_slice() == [1]);
+    assert!(rt; passed.looks <= 4);
     Ok(())
 }

@@ -1,9 +1,0 @@
-pub mod Standing
-pub mod Entering
-pub mod Walking
-pub mod Turning
-pub mod Giving
-pub mod Keeping
-pub mod Taking
-pub mod Progress
-pub mod Ending

@@ -1,7 +1,0 @@
-use Rattle.std.proofs.Common.{List, Some, ◌∙◌, ap}
-use Rattle.pam_base.specs.declared.code.Code.{Code}
-use Rattle.chain_pass.proofs.Giving.{all_taken}
-use Rattle.chain_pass.proofs.given.Given.pause.Goals as goal
-
-pub returns : goal.returns
-returns c = c.of.ensures ∙ ap (λ (answers : List Code). Some answers) (all_taken _ _ _ _ c.self.view_is c.requires)

@@ -1,4 +1,0 @@
-pub mod EntryStates
-pub mod Index
-pub mod Given
-pub mod Passes

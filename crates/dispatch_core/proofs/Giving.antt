@@ -1,0 +1,14 @@
+-- The answers that a pass was given.
+use Rattle.std.proofs.Common.{◌≡◌, ℕ, List, [], ◌++◌, Option, Some, take, drop, refl, sym, ◌∙◌, ap, append-nil}
+use Rattle.std.proofs.lemmas.List.{take-append-drop}
+use Rattle.pam_base.specs.declared.code.Code.{Code}
+use Rattle.dispatch_core.specs.Given.{GivenView}
+
+abbrev view_of : List Code → ℕ → ℕ → GivenView
+view_of answers used room = record { taken = take used answers; past = drop used answers; room = room }
+
+-- where no earlier answer is left, all of them were taken
+pub all_taken : (answers : List Code) (used room : ℕ) (given : GivenView) → view_of answers used room ≡ given → given.past ≡ [] → answers ≡ given.taken
+all_taken answers used room given is none =
+    let past : drop used answers ≡ [] = ap (λ (g : GivenView). g.past) is ∙ none in
+    sym (take-append-drop used answers) ∙ ap (λ (xs : List Code). take used answers ++ xs) past ∙ append-nil (take used answers) ∙ ap (λ (g : GivenView). g.taken) is

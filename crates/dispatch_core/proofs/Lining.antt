@@ -1,0 +1,73 @@
+-- A line's answer, by what the chain tells of the line.
+use Rattle.std.proofs.Common.{◌≡◌, ℕ, suc, ◌+◌, ◌<◌, ◌≤◌, Bool, true, false, if◌then◌else◌, Option, Some, None, IfSome, Result, Ok, Err, IfOk, List, [], ◌∷◌, length, map, refl, sym, ◌∙◌, ap, subst, arith}
+use Rattle.std.proofs.lemmas.List.{length-map}
+use Rattle.std.specs.Str.{bytes_eq}
+use Rattle.pam_base.specs.declared.call.Func.{Func}
+use Rattle.pam_base.specs.declared.code.Code.{Code}
+use Rattle.control_words.specs.Module.{name_of_module}
+use Rattle.control_words.specs.Stack.{Stack, lines_in}
+use Rattle.control_words.specs.declared.nodes.Rule.{Rule}
+use Rattle.handler_chain.specs.FlatLines.{FlatLine, module_at, module_of, no_rule, number_of_name, rule_at}
+use Rattle.pam_room.specs.State.{State}
+use Rattle.pam_room.specs.Call.{PlainCall}
+use Rattle.pam_room.specs.Module.{Note, Player, Plays, player_of}
+use Rattle.pam_room.specs.Serve.{serve_line}
+use Rattle.pam_room.specs.Serve as room
+use Rattle.stack_walk.specs.Pass.{AnswersAs}
+use Rattle.dispatch_core.specs.Lines.{answers_by, names_of}
+use Rattle.dispatch_core.proofs.Standing.{standing, at_line-stands}
+
+-- the names of modules are those of their players
+names_are : {M : Type 0} (label : M → List ℕ) (plays : M → Plays) (note : M → Note) (mods : List M) → map label mods ≡ names_of (map (player_of label plays note) mods)
+names_are label plays note [] = refl
+names_are label plays note (m ∷ ms) = ap (λ (names : List (List ℕ)). label m ∷ names) (names_are label plays note ms)
+
+-- a number that is found is that of a name
+found_if : (b : Bool) (x y : Option ℕ) (limit : ℕ) → IfSome x (λ n. n < limit) → IfSome y (λ n. n < limit) → IfSome (if b then x else y) (λ n. n < limit)
+found_if true x y limit first second = first
+found_if false x y limit first second = second
+
+found_within : (wanted : List ℕ) (i limit : ℕ) (names : List (List ℕ)) → i + length names ≤ limit → IfSome (number_of_name wanted i names) (λ n. n < limit)
+found_within wanted i limit [] within = tt
+found_within wanted i limit (name ∷ names) within =
+    found_if (bytes_eq name wanted) (Some i) (number_of_name wanted (i + 1) names) limit (omega (arith, within)) (found_within wanted (i + 1) limit names (omega (arith, within)))
+
+module_is : (stack : Stack) (names : List (List ℕ)) (i : ℕ) → i < lines_in stack → module_at stack names i ≡ module_of names (rule_at stack i)
+module_is stack names i within =
+    let at = standing stack i within in
+    at_line-stands None (λ (l : FlatLine). module_of names l.rule) stack i at.line _ at.stands
+    ∙ ap (module_of names) (sym (at_line-stands no_rule (λ (l : FlatLine). l.rule) stack i at.line _ at.stands))
+
+-- the module of a line is one of those that are there
+pub module_there : {M : Type 0} (label : M → List ℕ) (mods : List M) (stack : Stack) (names : List (List ℕ)) (i : ℕ) (number : Option ℕ)
+    → i < lines_in stack → names ≡ map label mods → number ≡ module_at stack names i → IfSome number (λ n. n < length mods)
+module_there label mods stack names i number within is found =
+    let few : 0 + length names ≤ length mods = omega (arith, ap length is, length-map mods label) in
+    subst (λ (o : Option ℕ). IfSome o (λ n. n < length mods)) (sym (found ∙ module_is stack names i within))
+    (found_within (name_of_module (rule_at stack i).path) 0 (length mods) names few)
+
+-- what a line's module serves is the line's answer
+module _ {M : Type 0} (label : M → List ℕ) (plays : M → Plays) (note : M → Note) (mods : List M) (func : Func) (flags : ℕ) (stack : Stack) (i : ℕ) where
+  pub line_answered : (names : List (List ℕ)) (number : Option ℕ) (place : ℕ) (path : List ℕ) (args : List (List ℕ)) (s later : State) (code : Code)
+      → i < lines_in stack → names ≡ map label mods → number ≡ module_at stack names i → place ≡ i + 1 → path ≡ (rule_at stack i).path → args ≡ (rule_at stack i).args
+      → room.AnswersAs (serve_line (map (player_of label plays note) mods) number place path (record { func = func; flags = flags; args = args }) s) code later
+      → AnswersAs (answers_by (map (player_of label plays note) mods) func flags (rule_at stack i) (i + 1) s) code later
+  line_answered names number place path args s later code within is found at its given answers =
+      let names_so : names ≡ names_of (map (player_of label plays note) mods) = is ∙ names_are label plays note mods in
+      let number_so : number ≡ module_of (names_of (map (player_of label plays note) mods)) (rule_at stack i) =
+          found ∙ module_is stack names i within ∙ ap (λ (ns : List (List ℕ)). module_of ns (rule_at stack i)) names_so in
+      let players : List Player = map (player_of label plays note) mods in
+      let first = subst (λ (n : Option ℕ). room.AnswersAs (serve_line players n place path (record { func = func; flags = flags; args = args }) s) code later) number_so answers in
+      let second = subst (λ (n : ℕ). room.AnswersAs (serve_line players (module_of (names_of players) (rule_at stack i)) n path (record { func = func; flags = flags; args = args }) s) code later) at first in
+      let third = subst (λ (p : List ℕ). room.AnswersAs (serve_line players (module_of (names_of players) (rule_at stack i)) (i + 1) p (record { func = func; flags = flags; args = args }) s) code later) its second in
+      let fourth : room.AnswersAs (serve_line players (module_of (names_of players) (rule_at stack i)) (i + 1) (rule_at stack i).path (record { func = func; flags = flags; args = (rule_at stack i).args }) s) code later =
+          subst (λ (a : List (List ℕ)). room.AnswersAs (serve_line players (module_of (names_of players) (rule_at stack i)) (i + 1) (rule_at stack i).path (record { func = func; flags = flags; args = a }) s) code later) given third in
+      record { answer_is = fourth.answer_is; state_is = fourth.state_is }
+
+  -- whatever it answered
+  pub line_asked : {E : Type 0} (result : Result Code E) (names : List (List ℕ)) (number : Option ℕ) (place : ℕ) (path : List ℕ) (args : List (List ℕ)) (s later : State)
+      → i < lines_in stack → names ≡ map label mods → number ≡ module_at stack names i → place ≡ i + 1 → path ≡ (rule_at stack i).path → args ≡ (rule_at stack i).args
+      → IfOk result (λ code. room.AnswersAs (serve_line (map (player_of label plays note) mods) number place path (record { func = func; flags = flags; args = args }) s) code later)
+      → IfOk result (λ code. AnswersAs (answers_by (map (player_of label plays note) mods) func flags (rule_at stack i) (i + 1) s) code later)
+  line_asked (Ok code) names number place path args s later within is found at its given answers = line_answered names number place path args s later code within is found at its given answers
+  line_asked (Err e) names number place path args s later within is found at its given answers = tt

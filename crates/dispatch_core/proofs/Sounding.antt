@@ -1,0 +1,39 @@
+-- What a pass does in any world, over several steps.
+use Rattle.std.proofs.Common.{◌≡◌, ℕ, List, [], ◌++◌, refl, sym, ◌∙◌, ap, append_assoc, arith}
+use Rattle.std.proofs.lemmas.List.{append-nil}
+use Rattle.data_cleanup.specs.Cleanup.{Notes}
+use Rattle.data_cleanup.specs.DataList.{PlainDataList}
+use Rattle.data_cleanup.specs.Ledger.{PlainLedger}
+use Rattle.data_cleanup.specs.Grows.{Grows}
+use Rattle.pam_room.specs.State.{PlainTransaction, PlainProcess}
+use Rattle.pam_room.specs.Stays.{Stays}
+use Rattle.pam_room.specs.declared.visits.Visit.{Visit}
+use Rattle.dispatch_core.specs.AnyWorld.{GoesSoundly}
+
+-- nothing was done
+pub sound_none : (note : Notes) (modules : ℕ) (t : PlainTransaction) (p : PlainProcess)
+    → Grows note modules t.datums p.ledger t.datums p.ledger → GoesSoundly note modules t t p p
+sound_none note modules t p grows = record {
+  stays = record { handle = refl; data_handle = refl; service = refl; delay = omega arith; said = ([], sym (append-nil t.said)); root = refl; caller = refl };
+  trail = ([], sym (append-nil t.trail));
+  grows = grows;
+}
+
+pub sound_more : ((x y z : PlainTransaction) (a b c : PlainProcess) → Stays x y a b → Stays y z b c → Stays x z a c)
+    → ((note : Notes) (modules : ℕ) (x y z : PlainDataList) (a b c : PlainLedger) → Grows note modules x a y b → Grows note modules y b z c → Grows note modules x a z c)
+    → (note : Notes) (modules : ℕ) (x y z : PlainTransaction) (a b c : PlainProcess)
+    → GoesSoundly note modules x y a b → GoesSoundly note modules y z b c → GoesSoundly note modules x z a c
+sound_more staying growing note modules x y z a b c s t = record {
+  stays = staying x y z a b c s.stays t.stays;
+  trail = (s.trail.0 ++ t.trail.0, t.trail.1 ∙ ap (λ (v : List Visit). v ++ t.trail.0) s.trail.1 ∙ append_assoc x.trail _ _);
+  grows = growing note modules _ _ _ _ _ _ s.grows t.grows;
+}
+
+-- a visit, or none
+pub sound_step : (note : Notes) (modules : ℕ) (x y : PlainTransaction) (a b : PlainProcess) (more : List Visit)
+    → Stays x y a b → y.trail ≡ x.trail ++ more → Grows note modules x.datums a.ledger y.datums b.ledger → GoesSoundly note modules x y a b
+sound_step note modules x y a b more stays trail grows = record { stays = stays; trail = (more, trail); grows = grows }
+
+pub sound_unseen : (note : Notes) (modules : ℕ) (x y : PlainTransaction) (a b : PlainProcess)
+    → Stays x y a b → y.trail ≡ x.trail → Grows note modules x.datums a.ledger y.datums b.ledger → GoesSoundly note modules x y a b
+sound_unseen note modules x y a b stays trail grows = record { stays = stays; trail = ([], trail ∙ sym (append-nil x.trail)); grows = grows }

@@ -1,0 +1,5 @@
+-- What tells at first tells later on.
+use Rattle.std.proofs.Common.{◌≡◌, Bool, ◌&&◌, IsTrue}
+
+pub both_tell : (a b c d : Bool) → a ≡ b → c ≡ d → IsTrue (b && d) → IsTrue (a && c)
+both_tell a b c d e f h = rw (e, f) h

@@ -1,0 +1,113 @@
+use Rattle.std.proofs.Common.{◌≡◌, ◌≤◌, ◌<◌, ◌+◌, ◌++◌, ◌∷◌, [], List, Option, Some, None, length, length-append, map, is_some, true, refl, sym, ◌∙◌, ap, subst, arith}
+use Rattle.pam_base.specs.declared.code.Code.{Code}
+use Rattle.control_words.specs.Stack.{Stack, lines_in}
+use Rattle.frozen_chain.specs.Kept.{Answers, kept_at, lines_kept}
+use Rattle.pam_room.specs.State.{State, state_of}
+use Rattle.pam_room.specs.Module.{player_of}
+use Rattle.pam_room.specs.Plain.{plain_room, plain_world}
+use Rattle.stack_walk.specs.Pass.{Answering, Visit, pass_after, pass_state, serving, visit}
+use Rattle.dispatch_core.specs.declared.walker.Walker.{Walker}
+use Rattle.dispatch_core.specs.Lines.{answers_by}
+use Rattle.dispatch_core.specs.Passes.{by_place, Keeps, kept_with, taken_with, turned, visits_with, IsAhead}
+use Rattle.dispatch_core.specs.Paths.{HasPaths}
+use Rattle.dispatch_core.proofs.Turning.{begun, ended_at_last}
+use Rattle.dispatch_core.proofs.Pathing.{paths_ahead}
+use Rattle.dispatch_core.proofs.Progress.{nothing_yet, one_more, lines_kept-more, held-more, lines_kept-empty}
+use Rattle.dispatch_core.proofs.Ending.{walks_off, walks_to, turn_more}
+use Rattle.dispatch_core.proofs.Sounding.{sound_more, sound_none}
+use Rattle.dispatch_core.proofs.Telling.{both_tell}
+use Rattle.dispatch_core.proofs.pass.walk.Goals as goal
+
+pub loop-walker-init : goal.loop-walker-init
+loop-walker-init g c =
+    let answers : Answering State = answers_by (map (player_of (λ b. (goal.Module-dyn g (b.vtable, b.value)).label b.value) (λ b. (goal.Module-dyn g (b.vtable, b.value)).plays b.value) (λ b. (goal.Module-dyn g (b.vtable, b.value)).note b.value)) c.args.mods.now) c.args.request.func c.args.request.flags in
+    (
+      [],
+      record {
+        goes = λ told. begun c.args.request.kind (serving c.args.request.kind (by_place c.args.follows.now) answers) c.args.chain.now.nodes c.new-walker.result _ c.new-walker.ensures.at c.new-walker.ensures.opinion c.new-walker.ensures.entries;
+        progress = nothing_yet c.args.keeps.now c.args.supplies.now.given.taken (lines_in c.args.chain.now.nodes) c.new-walker.result.at c.requires.cells c.requires.taken;
+        few = omega (arith, ap length c.requires.taken);
+        answers_fit = omega (arith, c.requires.answers);
+        spare = omega (arith, c.requires.spare);
+        paths = paths_ahead _ _ 0 _ (omega arith) c.requires.paths;
+        cells = λ there. ap lines_kept (c.requires.cells there) ∙ lines_kept-empty (lines_in c.args.chain.now.nodes);
+        held = refl;
+        room_tells = refl;
+        world_tells = refl;
+        nodes = refl;
+        names = refl;
+        looks = omega arith;
+        sound = sound_none _ _ _ _ (c.nothing_grows.ensures _ _ _ _ c.requires.ready.none_gone);
+        ready = c.requires.ready;
+      },
+    )
+
+pub returns-in_default-clause-told : goal.returns-in_default-clause-told
+returns-in_default-clause-told g c = λ told.
+    let sofar = c.loop-walker.invariant.1 in
+    let visits : List Visit = c.loop-walker.invariant.0 in
+    let answers : Answering State = answers_by (map (player_of (λ b. (goal.Module-dyn g (b.vtable, b.value)).label b.value) (λ b. (goal.Module-dyn g (b.vtable, b.value)).plays b.value) (λ b. (goal.Module-dyn g (b.vtable, b.value)).note b.value)) c.args.mods.now) c.args.request.func c.args.request.flags in
+    let serve = serving c.args.request.kind (by_place c.args.follows.now) answers in
+    let later : State = state_of (plain_room (λ b. (goal.Conv-dyn g (b.vtable, b.value)).conv_holds b.value) c.take_turn.new.room) (plain_world (λ b. (goal.Vault-dyn g (b.vtable, b.value)).vault_holds b.value) (λ b. (goal.Clock-dyn g (b.vtable, b.value)).clock_holds b.value) (λ b. (goal.Nap-dyn g (b.vtable, b.value)).nap_holds b.value) c.take_turn.new.world) in
+    let now = both_tell _ _ _ _ sofar.room_tells sofar.world_tells told in
+    let kept : c.take_turn.new.keeps ≡ c.loop-walker.keeps = c.in_ok-_answer.ensures.keeps ∙ ap (kept_with c.loop-walker.keeps c.loop-walker.walker.at) c.in_default.is in
+    walks_off _ c.loop-walker.walker.opinion c.take_turn.new.supplies.given.past visits later c.take_turn.new.keeps c.take_turn.new.supplies.given
+    (c.in_ok-_answer.ensures.taken ∙ ap (taken_with c.loop-walker.supplies.given.taken) c.in_default.is ∙ sofar.progress.taken_is)
+    (subst (λ (k : Answers). is_some k ≡ true → Keeps k visits) (sym kept) sofar.progress.kept_is)
+    (turn_more c.args.request.kind serve c.loop-walker.chain.nodes c.args.chain.now.nodes c.loop-walker.walker _ _ c.in_ok-_answer.field-0 None
+    (λ stack o. turned c.args.request.kind serve stack o c.loop-walker.walker.opinion c.take_turn.new.walker (pass_state c.take_turn.new.supplies.given.past (visits_with visits (c.loop-walker.walker.at + 1) o) later))
+    sofar.nodes (c.in_ok-_answer.ensures.told now visits) c.in_default.is (sofar.goes told))
+
+pub returns-in_default-clause-sound : goal.returns-in_default-clause-sound
+returns-in_default-clause-sound g c = sound_more c.staying_is_transitive.ensures c.growth_is_transitive.ensures _ _ _ _ _ _ _ _ c.loop-walker.invariant.1.sound c.take_turn.ensures.sound
+
+pub returns-in_err-_answer-clause-sound : goal.returns-in_err-_answer-clause-sound
+returns-in_err-_answer-clause-sound g c = sound_more c.staying_is_transitive.ensures c.growth_is_transitive.ensures _ _ _ _ _ _ _ _ c.loop-walker.invariant.1.sound c.take_turn.ensures.sound
+
+pub loop-walker-preserved : goal.loop-walker-preserved
+loop-walker-preserved g c =
+    let sofar = c.loop-walker.invariant.1 in
+    let visits : List Visit = c.loop-walker.invariant.0 in
+    let answer : Code = c.in-Some._answer in
+    let at = c.loop-walker.walker.at in
+    let answers : Answering State = answers_by (map (player_of (λ b. (goal.Module-dyn g (b.vtable, b.value)).label b.value) (λ b. (goal.Module-dyn g (b.vtable, b.value)).plays b.value) (λ b. (goal.Module-dyn g (b.vtable, b.value)).note b.value)) c.args.mods.now) c.args.request.func c.args.request.flags in
+    let serve = serving c.args.request.kind (by_place c.args.follows.now) answers in
+    let later : State = state_of (plain_room (λ b. (goal.Conv-dyn g (b.vtable, b.value)).conv_holds b.value) c.take_turn.new.room) (plain_world (λ b. (goal.Vault-dyn g (b.vtable, b.value)).vault_holds b.value) (λ b. (goal.Clock-dyn g (b.vtable, b.value)).clock_holds b.value) (λ b. (goal.Nap-dyn g (b.vtable, b.value)).nap_holds b.value) c.take_turn.new.world) in
+    let kept : c.take_turn.new.keeps ≡ kept_at c.loop-walker.keeps at answer = c.in_ok-_answer.ensures.keeps ∙ ap (kept_with c.loop-walker.keeps at) c.in-Some.is in
+    let held : is_some c.take_turn.new.keeps ≡ is_some c.loop-walker.keeps = ap is_some kept ∙ held-more c.loop-walker.keeps at answer in
+    let taken : c.take_turn.new.supplies.given.taken ≡ c.loop-walker.supplies.given.taken ++ answer ∷ [] = c.in_ok-_answer.ensures.taken ∙ ap (taken_with c.loop-walker.supplies.given.taken) c.in-Some.is in
+    let ahead : at < c.take_turn.new.walker.at = subst (λ (o : Option Code). IsAhead o c.loop-walker.walker c.take_turn.new.walker) c.in-Some.is c.in_ok-_answer.ensures.ahead in
+    let within : at < lines_in c.loop-walker.chain.nodes = omega (arith, c.loop-walker-test.true, c.len.ensures.counted) in (
+      visits ++ visit (at + 1) answer ∷ [],
+      record {
+        goes = λ told.
+            let now = both_tell _ _ _ _ sofar.room_tells sofar.world_tells told in
+            turn_more c.args.request.kind serve c.loop-walker.chain.nodes c.args.chain.now.nodes c.loop-walker.walker _ _ c.in_ok-_answer.field-0 (Some answer)
+            (λ stack o. turned c.args.request.kind serve stack o c.loop-walker.walker.opinion c.take_turn.new.walker (pass_state c.take_turn.new.supplies.given.past (visits_with visits (at + 1) o) later))
+            sofar.nodes (c.in_ok-_answer.ensures.told now visits) c.in-Some.is (sofar.goes told);
+        progress = one_more c.loop-walker.keeps c.take_turn.new.keeps c.loop-walker.supplies.given.taken c.take_turn.new.supplies.given.taken at c.take_turn.new.walker.at visits answer sofar.progress
+            (λ there. omega (arith, sofar.cells there, within, ap lines_in sofar.nodes)) held kept taken ahead;
+        few = omega (arith, ap length taken, length-append c.loop-walker.supplies.given.taken (answer ∷ []), sofar.few, ahead);
+        answers_fit = omega (arith, c.in_ok-_answer.ensures.answers, sofar.answers_fit);
+        spare = omega (arith, c.take_turn.ensures.spare, sofar.spare, ahead);
+        paths = paths_ahead _ _ (at + 1) _ (omega (arith, ahead)) (subst (λ (t : Stack). HasPaths t (at + 1) c.take_turn.new.supplies.paths) sofar.nodes c.take_turn.ensures.paths);
+        cells = λ there. ap lines_kept kept ∙ lines_kept-more c.loop-walker.keeps at answer ∙ sofar.cells (sym held ∙ there);
+        held = held ∙ sofar.held;
+        room_tells = c.take_turn.ensures.room_tells ∙ sofar.room_tells;
+        world_tells = c.take_turn.ensures.world_tells ∙ sofar.world_tells;
+        nodes = c.take_turn.ensures.nodes ∙ sofar.nodes;
+        names = c.take_turn.ensures.names ∙ sofar.names;
+        looks = omega (arith, c.in_ok-_answer.ensures.looks, sofar.looks);
+        sound = sound_more c.staying_is_transitive.ensures c.growth_is_transitive.ensures _ _ _ _ _ _ _ _ sofar.sound c.take_turn.ensures.sound;
+        ready = c.take_turn.ensures.ready;
+      },
+    )
+
+pub returns-clause-told : goal.returns-clause-told
+returns-clause-told g c = λ told.
+    let sofar = c.loop-walker.invariant.1 in
+    let answers : Answering State = answers_by (map (player_of (λ b. (goal.Module-dyn g (b.vtable, b.value)).label b.value) (λ b. (goal.Module-dyn g (b.vtable, b.value)).plays b.value) (λ b. (goal.Module-dyn g (b.vtable, b.value)).note b.value)) c.args.mods.now) c.args.request.func c.args.request.flags in
+    let now : State = state_of (plain_room (λ b. (goal.Conv-dyn g (b.vtable, b.value)).conv_holds b.value) c.loop-walker.room) (plain_world (λ b. (goal.Vault-dyn g (b.vtable, b.value)).vault_holds b.value) (λ b. (goal.Clock-dyn g (b.vtable, b.value)).clock_holds b.value) (λ b. (goal.Nap-dyn g (b.vtable, b.value)).nap_holds b.value) c.loop-walker.world) in
+    let behind : lines_in c.args.chain.now.nodes ≤ c.loop-walker.walker.at = omega (arith, c.len.ensures.counted, c.loop-walker-test.false, ap lines_in sofar.nodes) in
+    walks_to _ c.loop-walker.walker.opinion c.loop-walker.supplies.given.past c.loop-walker.invariant.0 now c.loop-walker.keeps c.loop-walker.supplies.given sofar.progress.taken_is sofar.progress.kept_is _ c.verdict.ensures
+    (ended_at_last c.args.request.kind (serving c.args.request.kind (by_place c.args.follows.now) answers) c.args.chain.now.nodes c.loop-walker.walker _ _ behind (sofar.goes told))

@@ -1,0 +1,104 @@
+-- What a pass by index leaves.
+use Rattle.std.specs.Prelude.{◌≡◌, ℕ, zero, suc, ◌+◌, ◌<◌, Bool, true, false, if◌then◌else◌, Option, Some, None, is_some, is_none, List, [], ◌∷◌, ◌++◌}
+use Rattle.pam_base.specs.declared.code.Code.{Code}
+use Rattle.pam_base.specs.declared.code.Code.TheVariants as codes
+use Rattle.control_words.specs.Stack.{Stack}
+use Rattle.frozen_chain.specs.Kept.{Answers, answer_at, kept_at}
+use Rattle.stack_walk.specs.declared.opinion.Opinion.{Opinion}
+use Rattle.stack_walk.specs.declared.pass_kind.PassKind.{PassKind}
+use Rattle.stack_walk.specs.declared.pass_kind.PassKind.TheVariants as kinds
+use Rattle.stack_walk.specs.Opinion.{verdict}
+use Rattle.stack_walk.specs.Walk.{Serving, Walked, halted, code_of}
+use Rattle.stack_walk.specs.Route.{KeptAnswers}
+use Rattle.stack_walk.specs.Pass.{PassState, Visit, visit, kept_in, answers_of}
+use Rattle.dispatch_core.specs.declared.walker.Walker.{Walker}
+use Rattle.dispatch_core.specs.Given.{GivenView}
+use Rattle.dispatch_core.specs.Index.{walk_on}
+
+-- kept answers by the places of lines, which count from 1
+abbrev pub by_place : Answers → KeptAnswers
+by_place kept zero = None
+by_place kept (suc i) = answer_at kept i
+
+-- ---- one turn: a line gave an answer, or None where it put the pass off
+
+abbrev pub answer_in : Option Code → Code
+answer_in None = codes.Incomplete
+answer_in (Some answer) = answer
+
+abbrev pub visits_with : List Visit → ℕ → Option Code → List Visit
+visits_with visits place None = visits
+visits_with visits place (Some answer) = visits ++ visit place answer ∷ []
+
+abbrev pub taken_with : List Code → Option Code → List Code
+taken_with taken None = taken
+taken_with taken (Some answer) = taken ++ answer ∷ []
+
+abbrev pub kept_with : Answers → ℕ → Option Code → Answers
+kept_with kept i None = kept
+kept_with kept i (Some answer) = kept_at kept i answer
+
+abbrev pub IsAhead : Option Code → Walker → Walker → Type 0
+IsAhead None old new = Unit {0}
+IsAhead (Some answer) old new = old.at < new.at
+
+-- what is left of a pass behind a turn
+abbrev pub turned : {State : Type 0} → PassKind → Serving State → Stack → Option Code → Opinion → Walker → State → Walked State
+turned kind serve stack None opinion walker state = halted opinion state
+turned kind serve stack (Some answer) opinion walker state = walk_on kind serve stack walker state
+
+-- ---- all turns
+
+-- the verdict of a walk, or None where it was put off
+abbrev pub end_of : {State : Type 0} → Walked State → Option Code
+end_of w = if w.stopped then None else Some (verdict w.opinion)
+
+-- cells have the answers of visits
+abbrev pub Keeps : Answers → List Visit → Type 0
+Keeps kept visits = (place : ℕ) → by_place kept place ≡ kept_in visits place
+
+-- cells are open, and have the answers of visits
+abbrev pub KeepsAll : Answers → List Visit → Type 0
+KeepsAll kept visits = (is_some kept ≡ true) × Keeps kept visits
+
+-- what a walk over all lines gave, kept and took is that of a walk
+pub record WalksAs {State : Type 0} (w : Walked (PassState State)) (ended : Option Code) (kept : Answers) (given : GivenView) (state : State) : Type 0 where
+  pub end_is : ended ≡ end_of w
+  pub kept_is : is_some kept ≡ true → Keeps kept w.state.visits
+  pub taken_is : given.taken ≡ answers_of w.state.visits
+  pub state_is : state ≡ w.state.state
+
+-- the answers to go on after, where a pass was put off
+abbrev pub paused_after : {State : Type 0} → Walked (PassState State) → Option (List Code)
+paused_after w = if w.stopped then Some (answers_of w.state.visits) else None
+
+-- a code, the answers kept in a pass that keeps, what is paused and a state are those of a walk
+pub record PassesAs {State : Type 0} (kind : PassKind) (w : Walked (PassState State)) (code : Code) (kept : Answers) (paused : Option (List Code)) (state : State) : Type 0 where
+  pub code_is : code ≡ code_of w
+  pub kept_is : kind ≡ kinds.Keep → KeepsAll kept w.state.visits
+  pub paused_is : paused ≡ paused_after w
+  pub state_is : state ≡ w.state.state
+
+-- what is kept behind a pass: the answers of its visits, what was kept before, nothing
+abbrev pub KeepsAfter : PassKind → List Visit → Answers → Answers → Type 0
+KeepsAfter kinds.Keep visits old new = KeepsAll new visits
+KeepsAfter kinds.Follow visits old new = new ≡ old
+KeepsAfter kinds.Loose visits old new = new ≡ None
+
+-- what is kept after want of memory
+abbrev pub kept_failed : PassKind → Answers → Answers
+kept_failed kinds.Keep old = None
+kept_failed kind old = old
+
+-- what is kept behind a pass that has answered or not, where `keeps` are its own answers
+abbrev pub kept_behind : PassKind → Bool → Answers → Answers → Answers
+kept_behind kinds.Keep answered keeps old = if answered then keeps else None
+kept_behind kinds.Follow answered keeps old = old
+kept_behind kinds.Loose answered keeps old = if answered then None else old
+
+-- a code, what is kept, what is paused and a state are those of a pass
+pub record LeavesAs {State : Type 0} (kind : PassKind) (w : Walked (PassState State)) (before : Answers) (code : Code) (kept : Answers) (paused : Option (List Code)) (state : State) : Type 0 where
+  pub code_is : code ≡ code_of w
+  pub kept_is : KeepsAfter kind w.state.visits before kept
+  pub paused_is : paused ≡ paused_after w
+  pub state_is : state ≡ w.state.state

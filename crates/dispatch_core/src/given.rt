@@ -1,0 +1,73 @@
+ghost use Rattle.std.specs.Prelude.{◌≡◌, ◌<◌, ◌≤◌, ◌+◌, ◌∷◌, ◌++◌, [], None, Some, IfOk, IfSome, IfNone};
+ghost use Rattle.dispatch_core.specs.Given.{past_of};
+
+use crate::paused::Paused;
+use pam_base::{Code, NoMemory};
+use std::alloc::Global;
+use std::marker::Model;
+
+/// The answers that a pass was given: those of its earlier calls, which come first again, and those of this one.
+#[derive(Drop)]
+pub struct Given {
+    answers: Vec<Code>,
+    used: usize,
+}
+
+impl Model for Given {
+    ghost use Rattle.std.specs.Prelude.{◌-◌, ◌≤◌, drop, length, take, vec_capacity, vec_len};
+    ghost use Rattle.dispatch_core.specs.Given.{GivenView};
+
+    ghost Value = { GivenView };
+
+    ghost view = { λ g. record { taken = take g.used g.answers.items; past = drop g.used g.answers.items; room = vec_capacity g.answers - vec_len g.answers } };
+
+    ghost invariant = { λ g. g.used ≤ length g.answers.items };
+}
+
+impl Given {
+    /// Goes on where a pass was put off, or begins anew, with room for the answers of so many lines. Behind it no pass
+    /// is put off, also without memory.
+    pub fn resume(alloc: Global, paused: &mut Paused, lines: usize) -> Result<Self, NoMemory>
+        ensures past { IfOk result (λ given. given.past ≡ past_of paused.old) }
+        ensures taken { IfOk result (λ given. given.taken ≡ []) }
+        ensures room { IfOk result (λ given. lines ≤ given.room) }
+        ensures none { paused.new ≡ None }
+    {
+        let mut answers = paused.take(alloc);
+        answers.reserve(lines)?;
+        Ok(Given { answers, used: 0 })
+    }
+
+    /// Takes the next answer that an earlier call was given, if one is left.
+    pub fn next(&mut self) -> Option<Code>
+        ensures first { IfSome result (λ answer. self.old.past ≡ answer ∷ self.new.past) }
+        ensures taken { IfSome result (λ answer. self.new.taken ≡ self.old.taken ++ answer ∷ []) }
+        ensures room { self.new.room ≡ self.old.room }
+        ensures none { IfNone result (self.old.past ≡ []) }
+        ensures same { IfNone result (self.new ≡ self.old) }
+    {
+        let answer = *self.answers.get(self.used)?;
+        self.used += 1;
+        Some(answer)
+    }
+
+    /// Adds the answer of a line that was asked. It takes no memory.
+    pub fn add(&mut self, answer: Code)
+        requires past { self.old.past ≡ [] }
+        requires room { 0 < self.old.room }
+        ensures past { self.new.past ≡ [] }
+        ensures taken { self.new.taken ≡ self.old.taken ++ answer ∷ [] }
+        ensures room { self.old.room ≤ self.new.room + 1 }
+    {
+        self.answers.push(answer).unwrap();
+        self.used += 1;
+    }
+
+    /// The answers to go on after, where the pass was put off.
+    pub fn pause(self) -> Paused
+        requires { self.past ≡ [] }
+        ensures { result ≡ Some self.taken }
+    {
+        Paused::of(self.answers)
+    }
+}

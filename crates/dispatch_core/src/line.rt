@@ -1,0 +1,62 @@
+ghost use Rattle.std.specs.Prelude.{◌≡◌, ◌<◌, ◌≤◌, ◌^◌, ◌+◌, ◌&&◌, length, map, IfOk, OnOk, IsTrue};
+ghost use Rattle.control_words.specs.Stack.{lines_in};
+ghost use Rattle.handler_chain.specs.FlatLines.{rule_at};
+ghost use Rattle.pam_room.specs.State.{state_of};
+ghost use Rattle.pam_room.specs.Stays.{IsReady};
+ghost use Rattle.pam_room.specs.Module.{notes_of, player_of};
+ghost use Rattle.pam_room.specs.Plain.{plain_process, plain_transaction};
+ghost use Rattle.stack_walk.specs.Pass.{AnswersAs};
+ghost use Rattle.dispatch_core.specs.AnyWorld.{GoesSoundly};
+ghost use Rattle.dispatch_core.specs.Lines.{answers_by};
+ghost use Rattle.dispatch_core.specs.Paths.{HasPaths};
+
+use crate::paths::Paths;
+use crate::request::Request;
+use handler_chain::Chain;
+use pam_base::{Code, NoMemory};
+use pam_room::{Call, Module, Room, RoomTold, StackLine, World, WorldTold, serve_line};
+use std::alloc::Global;
+
+/// Visits line i: the module that its path names serves the call. It takes no memory but the module's.
+pub fn ask_line(
+    alloc: Global,
+    chain: &Chain,
+    mods: &[Box<dyn Module>],
+    request: Request,
+    i: usize,
+    paths: &mut Paths,
+    room: &mut Room,
+    world: &mut World,
+) -> Result<Code, NoMemory>
+    requires within { i < lines_in chain.now.nodes }
+    requires names { chain.now.names ≡ map label mods.now }
+    requires few { length mods.now < 2 ^ 32 }
+    requires paths { HasPaths chain.now.nodes i paths.old }
+    requires spare { 0 < room.old.transaction.trail.spare }
+    requires ready { IsReady (length mods.now) (plain_transaction room.old.transaction) (plain_process world.old.process) }
+    ensures room_tells { ⟦<Room as RoomTold>⟧.tells room.new ≡ ⟦<Room as RoomTold>⟧.tells room.old }
+    ensures world_tells { ⟦<World as WorldTold>⟧.tells world.new ≡ ⟦<World as WorldTold>⟧.tells world.old }
+    ensures told { IsTrue (⟦<Room as RoomTold>⟧.tells room.old && ⟦<World as WorldTold>⟧.tells world.old) →
+        IfOk result (λ answer. AnswersAs (answers_by (map (player_of label plays note) mods.now) request.func request.flags (rule_at chain.now.nodes i) (i + 1)
+        (state_of (⟦<Room as RoomTold>⟧.plain room.old) (⟦<World as WorldTold>⟧.plain world.old)))
+        answer (state_of (⟦<Room as RoomTold>⟧.plain room.new) (⟦<World as WorldTold>⟧.plain world.new))) }
+    ensures visits { OnOk result (length room.new.transaction.trail.visits ≡ length room.old.transaction.trail.visits + 1) }
+    ensures spare { room.old.transaction.trail.spare ≤ room.new.transaction.trail.spare + 1 }
+    ensures paths { HasPaths chain.now.nodes (i + 1) paths.new }
+    ensures sound { GoesSoundly (notes_of (map (player_of label plays note) mods.now)) (length mods.now)
+        (plain_transaction room.old.transaction) (plain_transaction room.new.transaction) (plain_process world.old.process) (plain_process world.new.process) }
+    ensures ready { IsReady (length mods.now) (plain_transaction room.new.transaction) (plain_process world.new.process) }
+{
+    let _few = chain.len();
+    let line = StackLine {
+        place: i as u32 + 1,
+        path: paths.take(alloc, i),
+        module_number: chain.module(i),
+    };
+    let call = Call {
+        func: request.func,
+        flags: request.flags,
+        args: chain.args(i),
+    };
+    serve_line(alloc, mods, line, &call, room, world)
+}

@@ -1,0 +1,11 @@
+use pam_base::Func;
+use stack_walk::PassKind;
+
+/// What a pass is for: the function that its modules serve, with the flags of the application's call, and what
+/// becomes of its answers.
+#[derive(Clone, Copy)]
+pub struct Request {
+    pub func: Func,
+    pub flags: u32,
+    pub kind: PassKind,
+}

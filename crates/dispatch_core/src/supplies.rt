@@ -1,0 +1,52 @@
+ghost use Rattle.std.specs.Prelude.{◌≡◌, ◌≤◌, [], None, IfOk, OnOk};
+ghost use Rattle.control_words.specs.Stack.{lines_in};
+ghost use Rattle.dispatch_core.specs.Given.{past_of};
+ghost use Rattle.dispatch_core.specs.Paths.{HasPaths};
+
+use crate::given::Given;
+use crate::paths::Paths;
+use crate::paused::Paused;
+use handler_chain::Chain;
+use pam_base::NoMemory;
+use pam_room::{Room, RoomTold};
+use std::alloc::Global;
+
+/// What a pass uses up, so that it takes no memory of its own between two modules.
+#[derive(Drop)]
+pub struct Supplies {
+    pub given: Given,
+    pub paths: Paths,
+}
+
+impl Supplies {
+    /// Takes all memory of a pass but that of the answers that it keeps; in the room it makes spare room for visits.
+    /// Behind it no pass is put off, also without memory.
+    pub fn take(
+        alloc: Global,
+        chain: &Chain,
+        paused: &mut Paused,
+        room: &mut Room,
+    ) -> Result<Self, NoMemory>
+        ensures past { IfOk result (λ supplies. supplies.given.past ≡ past_of paused.old) }
+        ensures taken { IfOk result (λ supplies. supplies.given.taken ≡ []) }
+        ensures answers { IfOk result (λ supplies. lines_in chain.now.nodes ≤ supplies.given.room) }
+        ensures paths { IfOk result (λ supplies. HasPaths chain.now.nodes 0 supplies.paths) }
+        ensures spare { OnOk result (lines_in chain.now.nodes ≤ room.new.transaction.trail.spare) }
+        ensures none { paused.new ≡ None }
+        ensures room { ⟦<Room as RoomTold>⟧.plain room.new ≡ ⟦<Room as RoomTold>⟧.plain room.old }
+        ensures tells { ⟦<Room as RoomTold>⟧.tells room.new ≡ ⟦<Room as RoomTold>⟧.tells room.old }
+    {
+        let given = Given::resume(alloc, paused, chain.len())?;
+        let paths = Paths::of(alloc, chain)?;
+        reserve_visits(room, chain.len())?;
+        Ok(Supplies { given, paths })
+    }
+}
+
+fn reserve_visits(room: &mut Room, lines: usize) -> Result<(), NoMemory>
+    ensures spare { OnOk result (lines ≤ room.new.transaction.trail.spare) }
+    ensures room { ⟦<Room as RoomTold>⟧.plain room.new ≡ ⟦<Room as RoomTold>⟧.plain room.old }
+    ensures tells { ⟦<Room as RoomTold>⟧.tells room.new ≡ ⟦<Room as RoomTold>⟧.tells room.old }
+{
+    room.transaction.trail.reserve(lines)
+}

@@ -1,0 +1,4 @@
+pub mod Trail
+pub mod Opinion
+pub mod Walk
+pub mod Pass

@@ -1,0 +1,87 @@
+ghost use Rattle.std.specs.Prelude.{◌≡◌, ◌<◌, ◌≤◌, ◌+◌, ◌==◌, ◌∷◌, ◌++◌, [], length, slice_get, Some, IsOk, OnOk, OnErr};
+
+use pam_base::{Code, NoMemory, Text};
+use std::alloc::Global;
+use std::marker::Model;
+
+/// One visit of a line: its place among the stack's lines, from 1, its module's path, and what it answered.
+#[derive(Debug, Drop)]
+pub struct Visit {
+    pub place: u32,
+    pub path: Text,
+    pub answer: Code,
+}
+
+/// The lines visited, in order. Contracts see the visits, and beside them the room: how many more can be
+/// added without memory.
+#[derive(Debug, Drop)]
+pub struct Visits {
+    vec: Vec<Visit>,
+}
+
+impl Model for Visits {
+    ghost use Rattle.std.specs.Prelude.{◌-◌, vec_len, vec_capacity};
+    ghost use Rattle.thin_pass.specs.Trail.{Trail};
+
+    ghost Value = { Trail };
+
+    ghost view = { λ v. record { visits = v.vec.items; room = vec_capacity v.vec - vec_len v.vec } };
+}
+
+impl Visits {
+    pub fn new(alloc: Global) -> Self
+        ensures { result.visits ≡ [] }
+    {
+        Visits {
+            vec: Vec::new(alloc),
+        }
+    }
+
+    /// Adds a visit at the end. With room it takes no memory and answers Ok. Without memory the list stays as
+    /// it was.
+    pub fn push(&mut self, visit: Visit) -> Result<(), NoMemory>
+        ensures ok { OnOk result (self.new.visits ≡ self.old.visits ++ visit ∷ []) }
+        ensures err { OnErr result (self.new.visits ≡ self.old.visits) }
+        ensures roomy { 0 < self.old.room → IsOk result }
+        ensures room { self.old.room ≤ self.new.room + 1 }
+    {
+        self.vec.push(visit)?;
+        Ok(())
+    }
+
+    /// Makes room for n more visits. The visits stay as they were.
+    pub fn reserve(&mut self, n: usize) -> Result<(), NoMemory>
+        ensures visits { self.new.visits ≡ self.old.visits }
+        ensures ok { OnOk result (n ≤ self.new.room) }
+        ensures room { self.old.room ≤ self.new.room }
+    {
+        self.vec.reserve(n)?;
+        Ok(())
+    }
+
+    pub fn len(&self) -> usize
+        ensures { result ≡ length self.now.visits }
+    {
+        self.items().len()
+    }
+
+    pub fn is_empty(&self) -> bool
+        ensures { result ≡ (length self.now.visits == 0) }
+    {
+        self.items().is_empty()
+    }
+
+    /// The visit at index i, from 0.
+    pub fn at(&self, i: usize) -> &Visit
+        requires { i < length self.now.visits }
+        ensures { slice_get self.now.visits i ≡ Some result.now }
+    {
+        &self.vec[i]
+    }
+
+    pub fn items(&self) -> &[Visit]
+        ensures { result.now ≡ self.now.visits }
+    {
+        &self.vec
+    }
+}
