@@ -151,12 +151,7 @@ with_played p s = record {
 
 -- the same part by part: what is left is what was played
 pub record LeavesAs (p : Played) (old new : Scene) : Type 0 where
-  pub items : new.room.transaction.items ≡ p.room.items
-  pub env : new.room.transaction.env ≡ p.room.env
-  pub delay : new.room.transaction.delay ≡ p.room.delay
-  pub said : new.room.transaction.said ≡ p.room.said
-  pub put_off : new.room.transaction.put_off ≡ p.room.put_off
-  pub conv : new.room.conv ≡ p.room.conv
+  pub seen : seen_of new.room ≡ p.room
   pub trail : new.room.transaction.trail ≡ old.room.transaction.trail
   pub handle : new.room.transaction.handle ≡ old.room.transaction.handle
   pub serving : new.room.transaction.serving ≡ old.room.transaction.serving
