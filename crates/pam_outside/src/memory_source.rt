@@ -1,4 +1,4 @@
-ghost use Rattle.std.specs.Prelude.{◌≡◌, ◌<◌, ◌≤◌, IsTrue, length, min, take, drop, ◌++◌, IfOk, OnOk, OnErr, IsErr, ◌↔◌, ◌==◌, if◌then◌else◌};
+ghost use Rattle.std.specs.Prelude.{◌≡◌, ◌<◌, ◌≤◌, IsTrue, length, min, take, drop, ◌++◌, IfOk, OnOk, OnErr, IsErr, ◌↔◌};
 ghost use Rattle.pam_outside.specs.Counts.{next_count, next_at_end, fails_next, Rose};
 ghost use Rattle.pam_outside.specs.Streams.{Reads};
 
