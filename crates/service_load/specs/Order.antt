@@ -38,9 +38,11 @@ content_items deeper name line (Line rule) = made name line ∷ []
 content_items deeper name line (Include file) = deeper (by_rule name line) (plain_file file)
 content_items deeper name line (Substack file) = deeper (by_rule name line) (plain_file file)
 
+-- and where it serves the type
 abbrev pub entry_items : (Opener → RuleFile → List Item) → RuleType → List ℕ → Entry → List Item
 entry_items deeper type name entry = if serves type entry.rule_type then content_items deeper name entry.line entry.content else []
 
+-- what some entries bring, in order
 abbrev pub items_of : (Opener → RuleFile → List Item) → RuleType → List ℕ → List Entry → List Item
 items_of deeper type name entries = flat_map (entry_items deeper type name) entries
 
