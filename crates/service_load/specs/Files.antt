@@ -1,5 +1,5 @@
 -- Files of rules (pam.d(5), pam.conf(5)): what each holds. `texts` gives the text of each file that is there, by its name.
-use Rattle.std.specs.Prelude.{ℕ, Bool, true, false, List, [], ◌∷◌, ◌++◌, Option, Some, None, Result, Ok, Err, codes, ◌==◌, if◌then◌else◌}
+use Rattle.std.specs.Prelude.{ℕ, Bool, true, false, List, [], ◌∷◌, ◌++◌, Option, Some, None, Result, Ok, Err, codes, if◌then◌else◌}
 use Rattle.std.specs.List.{flat_map, filter_map, list_all}
 use Rattle.std.specs.Str.{str_to_ascii_lowercase}
 use Rattle.std.specs.Option.{is_none}
@@ -10,7 +10,7 @@ use Rattle.conf_lex.specs.declared.token.RawRule.{RawRule}
 use Rattle.conf_lex.specs.declared.token.LexFault.{LexFault}
 use Rattle.service_load.specs.declared.entry.Entry.{Entry}
 use Rattle.service_load.specs.declared.rule_file.RuleFile.{RuleFile}
-use Rattle.service_load.specs.Entry.{entry_of, folder_name}
+use Rattle.service_load.specs.Entry.{entry_of}
 use Rattle.service_load.specs.RuleType.{is_word}
 
 -- the file with this name, in the folder's form (pam.d(5))

@@ -1,5 +1,5 @@
 -- What a load meets, in the order in which it meets it (this project's own): a list, depth first, for the four types in turn.
-use Rattle.std.specs.Prelude.{ℕ, zero, suc, ◌+◌, ◌-◌, Bool, List, [], ◌∷◌, ◌++◌, map, Option, Some, None, codes, ◌==◌, if◌then◌else◌}
+use Rattle.std.specs.Prelude.{ℕ, zero, suc, ◌+◌, ◌-◌, Bool, List, [], ◌∷◌, ◌++◌, map, Option, codes, ◌==◌, if◌then◌else◌}
 use Rattle.std.specs.List.{flat_map}
 use Rattle.conf_lex.specs.declared.token.RawRule.{RawRule}
 use Rattle.control_words.specs.Stack.{count}
@@ -8,7 +8,7 @@ use Rattle.service_load.specs.declared.entry.Content.TheVariants.{Line, Include,
 use Rattle.service_load.specs.declared.entry.Entry.{Entry}
 use Rattle.service_load.specs.declared.rule_file.RuleFile.{RuleFile}
 use Rattle.service_load.specs.declared.rule_type.RuleType.{RuleType}
-use Rattle.service_load.specs.Files.{plain_file, service_file, Held, held, rules_held, is_absent, entries_of, all_fine, is_in_folder}
+use Rattle.service_load.specs.Files.{plain_file, service_file, held, rules_held, is_absent, entries_of, all_fine, is_in_folder}
 use Rattle.service_load.specs.RuleType.{all_types}
 use Rattle.service_load.specs.Tree.{serves, nodes}
 
