@@ -39,7 +39,12 @@ pub fn outcome(alloc: Global, vault: &mut MemVault, service: &[u8]) -> Result<Ve
         Ok(trees) => add_trees(&trees, &mut out)?,
         Err(Refuse::NoMemory) => out.extend_from_slice(b"no memory")?,
         Err(Refuse::Named(fault)) => {
-            let rest = format!(in alloc; " {} {} {}", fault.line, fault.kind.name(), fault.kind.number())?;
+            let rest = format!(in alloc;
+                " {} {} {}",
+                fault.line,
+                fault.kind.name(),
+                fault.kind.number()
+            )?;
             out.extend_from_slice(b"refused ")?;
             out.extend_from_slice(fault.file.bytes())?;
             out.extend_from_slice(rest.as_bytes())?;

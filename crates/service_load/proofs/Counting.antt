@@ -1,14 +1,12 @@
 -- The calls and openings that a look counts.
-use Rattle.std.proofs.Common.{◌≡◌, ℕ, ◌+◌, ◌-◌, ◌≤◌, ◌^◌, min, Bool, true, false, cond, leb, ltb, List, [], ◌∷◌, Option, Result, Ok, Err, refl, sym, ap, ◌∙◌, arith}
+use Rattle.std.proofs.Common.{◌≡◌, ℕ, ◌+◌, ◌-◌, ◌≤◌, ◌^◌, min, Bool, true, false, cond, leb, ltb, List, [], ◌∷◌, Option, Result, Ok, Err, refl, sym, arith}
 use Rattle.pam_base.specs.declared.fault.FaultKind.{FaultKind}
-use Rattle.pam_base.specs.declared.fault.FaultKind.TheVariants.{ReadFailed, TooDeep, TooManyFiles, TooManyLines}
-use Rattle.pam_outside.specs.Counts.{next_count, fails_next}
+use Rattle.pam_outside.specs.Counts.{fails_next}
 use Rattle.service_load.specs.declared.entry.Entry.{Entry}
-use Rattle.service_load.specs.declared.load_fault.LoadFault.{LoadFault}
 use Rattle.service_load.specs.declared.rule_file.RuleFile.{RuleFile}
 use Rattle.service_load.specs.Entry.{entry_of}
 use Rattle.service_load.specs.Files.{Held, absent, faulty, holds, held, is_in_folder}
-use Rattle.service_load.specs.FirstFault.{Counts, Stop, fault_at, asked, absent_file, held_file, refused_opening, opened, behind, checked_rule, going_on, look}
+use Rattle.service_load.specs.FirstFault.{Counts, Stop, asked, absent_file, held_file, opened, behind, checked_rule, going_on, look}
 use Rattle.service_load.specs.Order.{Item, begin, opening, checked, made, Opener, as_service, as_other, as_last, by_rule, openings_in}
 
 passed : (a b : Counts) → ◌≡◌ {A = Result Counts Stop} (Ok a) (Ok b) → a ≡ b

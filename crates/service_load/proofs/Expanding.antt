@@ -1,5 +1,5 @@
 -- What the entries of a file bring, one after another.
-use Rattle.std.proofs.Common.{◌≡◌, ℕ, suc, ◌+◌, ◌-◌, ◌≤◌, ◌<◌, max, length, Bool, true, false, List, [], ◌∷◌, ◌++◌, Option, Some, None, Result, Ok, Err, refl, sym, ap, subst, ◌∙◌, arith}
+use Rattle.std.proofs.Common.{◌≡◌, ℕ, ◌+◌, ◌-◌, ◌≤◌, ◌<◌, length, Bool, true, false, List, [], ◌∷◌, ◌++◌, Option, Some, None, Result, Ok, Err, refl, sym, ap, subst, ◌∙◌, arith}
 use Rattle.std.specs.Prelude.{OnOk}
 use Rattle.std.proofs.lemmas.Bool.{lt-leb, le-leb}
 use Rattle.pam_base.specs.declared.fault.Refuse.{Refuse}
@@ -8,8 +8,6 @@ use Rattle.pam_base.specs.declared.fault.FaultKind.TheVariants.{TooManyLines}
 use Rattle.pam_outside.specs.Files.{VaultState}
 use Rattle.control_words.specs.declared.nodes.Rule.{Rule}
 use Rattle.control_words.specs.Stack.{Stack, none, line, sub, joined, lines_in, depth}
-use Rattle.service_load.specs.declared.entry.Content.{Content}
-use Rattle.service_load.specs.declared.entry.Content.TheVariants as contents
 use Rattle.service_load.specs.declared.entry.Entry.{Entry}
 use Rattle.service_load.specs.declared.load_fault.LoadFault.{LoadFault}
 use Rattle.service_load.specs.declared.loader.Loader.{Loader}
@@ -18,7 +16,7 @@ use Rattle.service_load.specs.declared.rule_type.RuleType.{RuleType}
 use Rattle.service_load.specs.Files.{plain_file}
 use Rattle.service_load.specs.FirstFault.{Counts, Stop, fault_at, behind, going_on, look}
 use Rattle.service_load.specs.Loading.{texts_of, counts_of, Looks, OnlyCalls, CountsFaults, AddsLine, Opens, Brings, Grows, items_at, nodes_at, entries_items, entries_nodes}
-use Rattle.service_load.specs.Order.{Item, Opener, made, by_rule, content_items}
+use Rattle.service_load.specs.Order.{Item, Opener, made, content_items}
 use Rattle.service_load.specs.Tree.{serves, content_nodes}
 
 -- ---- stacks behind one another

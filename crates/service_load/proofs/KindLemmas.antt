@@ -12,7 +12,7 @@ use Rattle.conf_lex.specs.Rules.{IsFaultOf}
 use Rattle.control_words.specs.declared.control.Action.{Action}
 use Rattle.control_words.specs.declared.control.Action.TheVariants as actions
 use Rattle.control_words.specs.declared.bracket.ControlFault.{ControlFault}
-use Rattle.control_words.specs.Bracket.{named_action, jump_of, is_default, action_of_word, fault_of_entry, control_unless, control_of_entries, control_of}
+use Rattle.control_words.specs.Bracket.{named_action, jump_of, is_default, action_of_word, fault_of_entry, control_unless, control_of}
 use Rattle.control_words.specs.Entries.{Entry, entries_in}
 use Rattle.control_words.specs.Keyword.{control_of_word}
 use Rattle.service_load.specs.Kinds.{is_read_failed, KindCounts}

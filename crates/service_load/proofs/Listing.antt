@@ -1,5 +1,5 @@
 -- The stack that a list of nodes is.
-use Rattle.std.proofs.Common.{◌≡◌, ℕ, refl, ap, ◌∙◌}
+use Rattle.std.proofs.Common.{◌≡◌, refl, ap, ◌∙◌}
 use mathlib.Core.Former.{Count}
 use Rattle.control_words.specs.declared.nodes.Node.{Node, Sub, Sub', Row_of-Node, end_of-Node, more_of-Node, items-the_row-Node, items_hidden-the_row-Node-0}
 use Rattle.control_words.specs.declared.nodes.Nodes.{Nodes}

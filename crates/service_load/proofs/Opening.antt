@@ -1,12 +1,11 @@
 -- What a file that is opened comes to, along the items that it brings.
-use Rattle.std.proofs.Common.{◌≡◌, ℕ, suc, ◌+◌, ◌-◌, ◌≤◌, ◌<◌, Bool, true, false, cond, ◌&&◌, List, [], ◌∷◌, ◌++◌, map, length, Option, Some, None, Result, Ok, Err, refl, sym, ap, ◌∙◌, arith, inl, inr}
+use Rattle.std.proofs.Common.{◌≡◌, ℕ, suc, ◌+◌, ◌-◌, ◌≤◌, ◌<◌, Bool, true, false, cond, List, [], ◌∷◌, ◌++◌, map, length, Option, Some, None, Result, Ok, Err, refl, sym, ap, ◌∙◌, arith, inl, inr}
 use Rattle.std.specs.Prelude.{IsSomeAnd, ◌⊎◌}
-use Rattle.std.specs.Result.{is_ok}
 use Rattle.std.proofs.lemmas.Bool.{lt-ltb, le-ltb, le-leb, lt-leb}
 use Rattle.pam_base.specs.declared.fault.Refuse.{Refuse}
 use Rattle.pam_base.specs.declared.fault.Refuse.TheVariants as refusals
 use Rattle.pam_base.specs.declared.fault.FaultKind.{FaultKind}
-use Rattle.pam_base.specs.declared.fault.FaultKind.TheVariants.{FileTooLong, TooDeep, TooManyFiles, ReadFailed, NoService, IncludeAbsent}
+use Rattle.pam_base.specs.declared.fault.FaultKind.TheVariants.{FileTooLong, TooDeep, TooManyFiles, ReadFailed}
 use Rattle.pam_outside.specs.Counts.{fails_next}
 use Rattle.pam_outside.specs.Files.{VaultState, counted}
 use Rattle.conf_lex.specs.Answer.{answer_to}
@@ -23,9 +22,9 @@ use Rattle.service_load.specs.Answers.{Answers, IsRefusal, result_map}
 use Rattle.service_load.specs.Checking.{with_entry, checked_entries, entries_held}
 use Rattle.service_load.specs.Entry.{entry_of}
 use Rattle.service_load.specs.Files.{plain_file, Held, absent, faulty, holds, held, held_text, rules_held, is_in_folder, entries_of, all_fine}
-use Rattle.service_load.specs.FirstFault.{Counts, Stop, fault_at, opening_fault, asked, absent_file, checked_rule, held_file, opened, behind, going_on, look}
-use Rattle.service_load.specs.Loading.{counts_of, opener_of, Opens, IfCalled, opened_answer, items_at, nodes_at, entries_items, entries_nodes, left_items, left_nodes}
-use Rattle.service_load.specs.Order.{Item, opening, checked, Opener, as_last, by_rule, file_items, items}
+use Rattle.service_load.specs.FirstFault.{Counts, Stop, fault_at, opening_fault, asked, absent_file, checked_rule, held_file, going_on, look}
+use Rattle.service_load.specs.Loading.{counts_of, opener_of, Opens, IfCalled, opened_answer, items_at, nodes_at, entries_items, entries_nodes}
+use Rattle.service_load.specs.Order.{Item, opening, checked, Opener, file_items, items}
 use Rattle.service_load.specs.Tree.{nodes, nodes_of}
 
 -- a text that is too long has that fault
@@ -185,10 +184,11 @@ module _ (texts : List ℕ → Option (List ℕ)) (fails : List ℕ) (file : Rul
       some_by false absent es low few same failing in_it e = absurd cc
       some_by false (faulty f) es low few same failing in_it e = absurd cc
       some_by false (holds rules) es low few same failing in_it e =
-          let checks = rules_some es rules (checked_entries (is_in_folder file) rules) refl (as_lex (entries_held (is_in_folder file) (holds rules)) (Some es) e) in
-          (look_rules rules es low few failing in_it checks ∙ ap (λ (c : Counts). look texts fails c (entries_items texts level type file.name es)) (sym same),
-           nodes_are low ∙ rw (in_it, entries_are rules es checks) refl,
-           rw in_it refl)
+          let checks = rules_some es rules (checked_entries (is_in_folder file) rules) refl (as_lex (entries_held (is_in_folder file) (holds rules)) (Some es) e) in (
+            look_rules rules es low few failing in_it checks ∙ ap (λ (c : Counts). look texts fails c (entries_items texts level type file.name es)) (sym same),
+            nodes_are low ∙ rw (in_it, entries_are rules es checks) refl,
+            rw in_it refl,
+          )
 
       pub opens_some : (es : List Entry) → level ≤ 16 → was.openings < 256 → is ≡ asked was → opened_answer (fails_next was.calls fails) file.name (entries_held (is_in_folder file) (held texts file)) ≡ Ok (Some es) → Opens texts (Ok (Some es)) fails was is level type opener file
       opens_some es low few same e = some_by (fails_next was.calls fails) (held texts file) es low few same refl refl e

@@ -1,5 +1,5 @@
 -- Worked configurations, computed on the definitions.
-use Rattle.std.proofs.Common.{◌≡◌, ℕ, Bool, true, false, cond, List, [], ◌∷◌, ◌++◌, Option, Some, None, Result, Ok, Err, refl, ◌+◌}
+use Rattle.std.proofs.Common.{◌≡◌, ℕ, true, false, cond, List, [], ◌∷◌, ◌++◌, Option, Some, None, Ok, Err, refl, ◌+◌}
 use Rattle.std.specs.Prelude.{codes}
 use Rattle.std.specs.Str.{bytes_eq}
 use Rattle.pam_base.specs.declared.fault.FaultKind.{FaultKind}
@@ -15,7 +15,7 @@ use Rattle.service_load.specs.declared.rule_type.RuleType.TheVariants.{Auth, Acc
 use Rattle.service_load.specs.Entry.{entry_of}
 use Rattle.service_load.specs.Tree.{nodes, tree}
 use Rattle.service_load.specs.Order.{items, order}
-use Rattle.service_load.specs.FirstFault.{Counts, Stop, look, fault_at}
+use Rattle.service_load.specs.FirstFault.{Counts, look, fault_at}
 
 -- the files by their names
 abbrev Texts : Type 0

@@ -1,5 +1,5 @@
 -- One tree, and the four in turn.
-use Rattle.std.proofs.Common.{◌≡◌, ℕ, suc, ◌+◌, ◌≤◌, Bool, true, false, not, cond, eqb, List, [], ◌∷◌, ◌++◌, Option, Result, Ok, Err, refl, sym, ap, subst, ◌∙◌, arith}
+use Rattle.std.proofs.Common.{◌≡◌, ℕ, ◌+◌, Bool, true, false, not, cond, eqb, List, [], ◌∷◌, ◌++◌, Option, Result, Ok, Err, refl, ap, subst, ◌∙◌, arith}
 use Rattle.std.proofs.lemmas.Bool.{eqb-true}
 use Rattle.pam_base.specs.declared.fault.Refuse.{Refuse}
 use Rattle.pam_base.specs.declared.fault.Refuse.TheVariants as refusals
@@ -14,14 +14,14 @@ use Rattle.service_load.specs.declared.rule_file.RuleFile.{RuleFile}
 use Rattle.service_load.specs.declared.rule_type.RuleType.{RuleType}
 use Rattle.service_load.specs.declared.trees.Trees.{Trees}
 use Rattle.service_load.specs.Files.{held, is_absent}
-use Rattle.service_load.specs.FirstFault.{Counts, Stop, fault_at, going_on, look}
+use Rattle.service_load.specs.FirstFault.{Counts, Stop, fault_at, look}
 use Rattle.service_load.specs.Answers.{IsRefusal}
 use Rattle.service_load.specs.Entry.{folder_name}
 use Rattle.service_load.specs.Load.{LoadsBy, LoadsFrom, Loads, loaded_from, has_folder}
 use Rattle.service_load.specs.Names.{path_of}
 use Rattle.service_load.specs.Loading.{texts_of, counts_of, Looks, OnlyCalls, Grows, IsBounded, Makes, items_at, nodes_at}
 use Rattle.service_load.specs.Order.{Item, Opener, as_service, as_other, as_last, items, other_opener, tree_items}
-use Rattle.service_load.specs.Tree.{nodes, tree, tree_of}
+use Rattle.service_load.specs.Tree.{nodes, tree}
 use Rattle.service_load.proofs.Expanding.{look_past, look_stops}
 
 empty-none : (s : Stack) → eqb (count s) 0 ≡ true → s ≡ none

@@ -1,5 +1,5 @@
 -- The first fault of a configuration (this project's own): one look along the order, with the counts so far.
-use Rattle.std.specs.Prelude.{ℕ, ◌+◌, Bool, true, false, List, [], ◌∷◌, Option, Some, None, Result, Ok, Err, codes, nat_lt, nat_le, if◌then◌else◌}
+use Rattle.std.specs.Prelude.{ℕ, ◌+◌, List, [], ◌∷◌, Option, Result, Ok, Err, nat_lt, nat_le, if◌then◌else◌}
 use Rattle.pam_base.specs.declared.fault.FaultKind.{FaultKind}
 use Rattle.pam_base.specs.declared.fault.FaultKind.TheVariants.{IncludeAbsent, TooDeep, TooManyLines, TooManyFiles, NoService, ReadFailed}
 use Rattle.pam_outside.specs.Counts.{next_count, fails_next}

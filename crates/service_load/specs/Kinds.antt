@@ -1,7 +1,7 @@
 -- Which faults come from a vault (this project's own): ReadFailed alone.
-use Rattle.std.specs.Prelude.{◌≡◌, ℕ, Bool, true, false, Result, Ok, Err}
+use Rattle.std.specs.Prelude.{◌≡◌, ℕ, Bool, true, false, Result, Err}
 use Rattle.pam_base.specs.declared.fault.Refuse.{Refuse}
-use Rattle.pam_base.specs.declared.fault.Refuse.TheVariants.{NoMemory, Named}
+use Rattle.pam_base.specs.declared.fault.Refuse.TheVariants.{Named}
 use Rattle.pam_base.specs.declared.fault.FaultKind.{FaultKind}
 use Rattle.pam_base.specs.declared.fault.FaultKind.TheVariants.{ReadFailed}
 use Rattle.pam_outside.specs.Counts.{Rose}

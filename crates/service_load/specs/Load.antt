@@ -1,5 +1,5 @@
 -- The load of a service (pam.conf(5), pam.d(5)): its four stacks, or the first fault of its configuration.
-use Rattle.std.specs.Prelude.{◌≡◌, ℕ, Bool, List, [], Option, Some, None, Result, Ok, Err, codes, if◌then◌else◌}
+use Rattle.std.specs.Prelude.{◌≡◌, ℕ, Bool, List, Option, Some, None, Result, Ok, Err, if◌then◌else◌}
 use Rattle.pam_base.specs.declared.fault.Refuse.{Refuse}
 use Rattle.pam_base.specs.declared.fault.Refuse.TheVariants.{NoMemory, Named}
 use Rattle.pam_base.specs.declared.fault.FaultKind.TheVariants.{ReadFailed}
@@ -12,7 +12,7 @@ use Rattle.service_load.specs.declared.rule_type.RuleType.TheVariants.{Auth, Acc
 use Rattle.service_load.specs.declared.trees.Trees.{Trees}
 use Rattle.service_load.specs.Entry.{folder_name}
 use Rattle.service_load.specs.FirstFault.{Counts, Stop, fault_at, look}
-use Rattle.service_load.specs.Loading.{texts_of, OnlyCalls, IsBounded}
+use Rattle.service_load.specs.Loading.{texts_of, IsBounded}
 use Rattle.service_load.specs.Names.{path_of}
 use Rattle.service_load.specs.Order.{order}
 use Rattle.service_load.specs.Tree.{tree}

@@ -1,5 +1,5 @@
 -- What a load meets, in the order in which it meets it (this project's own): a list, depth first, for the four types in turn.
-use Rattle.std.specs.Prelude.{ℕ, zero, suc, ◌+◌, ◌-◌, Bool, List, [], ◌∷◌, ◌++◌, map, Option, Some, None, codes, ◌==◌, if◌then◌else◌}
+use Rattle.std.specs.Prelude.{ℕ, zero, suc, ◌+◌, ◌-◌, Bool, List, [], ◌∷◌, ◌++◌, map, Option, codes, ◌==◌, if◌then◌else◌}
 use Rattle.std.specs.List.{flat_map}
 use Rattle.conf_lex.specs.declared.token.RawRule.{RawRule}
 use Rattle.control_words.specs.Stack.{count}
@@ -8,7 +8,7 @@ use Rattle.service_load.specs.declared.entry.Content.TheVariants.{Line, Include,
 use Rattle.service_load.specs.declared.entry.Entry.{Entry}
 use Rattle.service_load.specs.declared.rule_file.RuleFile.{RuleFile}
 use Rattle.service_load.specs.declared.rule_type.RuleType.{RuleType}
-use Rattle.service_load.specs.Files.{plain_file, service_file, Held, held, rules_held, is_absent, entries_of, all_fine, is_in_folder}
+use Rattle.service_load.specs.Files.{plain_file, service_file, held, rules_held, is_absent, entries_of, all_fine, is_in_folder}
 use Rattle.service_load.specs.RuleType.{all_types}
 use Rattle.service_load.specs.Tree.{serves, nodes}
 
@@ -38,9 +38,11 @@ content_items deeper name line (Line rule) = made name line ∷ []
 content_items deeper name line (Include file) = deeper (by_rule name line) (plain_file file)
 content_items deeper name line (Substack file) = deeper (by_rule name line) (plain_file file)
 
+-- and where it serves the type
 abbrev pub entry_items : (Opener → RuleFile → List Item) → RuleType → List ℕ → Entry → List Item
 entry_items deeper type name entry = if serves type entry.rule_type then content_items deeper name entry.line entry.content else []
 
+-- what some entries bring, in order
 abbrev pub items_of : (Opener → RuleFile → List Item) → RuleType → List ℕ → List Entry → List Item
 items_of deeper type name entries = flat_map (entry_items deeper type name) entries
 

@@ -10,7 +10,7 @@ use Rattle.service_load.specs.declared.rule_type.RuleType.TheVariants.{Auth, Acc
 abbrev pub all_types : List RuleType
 all_types = Auth ∷ Account ∷ Password ∷ Session ∷ []
 
--- whether two types are the same
+-- whether two types are the same (this project's own)
 abbrev pub same_type : RuleType → RuleType → Bool
 same_type Auth Auth = true
 same_type Account Account = true
@@ -38,6 +38,6 @@ type_field_of_word (b ∷ bs) =
     if b == 45 then option_map (λ t. record { silent = true; rule_type = t }) (type_of_word bs)
     else option_map (λ t. record { silent = false; rule_type = t }) (type_of_word (b ∷ bs))
 
--- the type field that a token is: it stands without brackets
+-- the type field that a token is (this project's own: it stands without brackets)
 abbrev pub type_field_of : Token → Option TypeField
 type_field_of token = if token.bracketed then None else type_field_of_word token.text

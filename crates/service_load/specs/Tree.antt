@@ -9,21 +9,22 @@ use Rattle.service_load.specs.declared.rule_type.RuleType.{RuleType}
 use Rattle.service_load.specs.Files.{plain_file, service_file, held, rules_held, entries_of, is_in_folder}
 use Rattle.service_load.specs.RuleType.{same_type}
 
--- whether an entry serves a type
+-- whether an entry serves a type (pam.conf(5)); `@include` serves all
 abbrev pub serves : RuleType → Option RuleType → Bool
 serves type None = true
 serves type (Some own) = same_type type own
 
--- what an entry brings, where `deeper` gives the nodes of a file: a line, the nodes of a file, or a substack of them
+-- what an entry brings, where `deeper` gives the nodes of a file (pam.conf(5), on include and substack): a line, the nodes of a file, or a substack of them
 abbrev pub content_nodes : (List ℕ → Stack) → Content → Stack
 content_nodes deeper (Line rule) = line rule none
 content_nodes deeper (Include file) = deeper file
 content_nodes deeper (Substack file) = sub (deeper file) none
 
+-- and where it serves the type
 abbrev pub entry_nodes : (List ℕ → Stack) → RuleType → Entry → Stack
 entry_nodes deeper type entry = if serves type entry.rule_type then content_nodes deeper entry.content else none
 
--- what some entries bring, in order
+-- what some entries bring, in order (pam.conf(5))
 abbrev pub nodes_of : (List ℕ → Stack) → RuleType → List Entry → Stack
 nodes_of deeper type [] = none
 nodes_of deeper type (e ∷ es) = joined (entry_nodes deeper type e) (nodes_of deeper type es)
@@ -33,7 +34,7 @@ abbrev pub tree_of : Stack → Stack → Stack
 tree_of own other = if count own == 0 then other else own
 
 module _ (texts : List ℕ → Option (List ℕ)) where
-  -- the nodes of a file for a type, where so many levels of files may open: none above the last
+  -- the nodes of a file for a type (pam.conf(5)), where so many levels of files may open: none above the last
   unfoldable pub nodes : ℕ → RuleType → RuleFile → Stack
   nodes zero type file = none
   nodes (suc levels) type file = nodes_of (λ name. nodes levels type (plain_file name)) type (entries_of (is_in_folder file) (rules_held (held texts file)))

@@ -54,7 +54,7 @@ impl Loader {
         ensures tells { vault_tells vault.new ≡ vault_tells vault.old }
         ensures told { IsTrue (vault_tells vault.old) → Answers result
             (opened_answer (fails_next (vault_holds vault.old).calls (vault_holds vault.old).fails) file.now.name
-                (entries_held (is_in_folder file.now) (held (texts_of root.now (vault_holds vault.old)) file.now))) }
+            (entries_held (is_in_folder file.now) (held (texts_of root.now (vault_holds vault.old)) file.now))) }
         ensures calls { IsTrue (vault_tells vault.old) →
             IfCalled result (vault_holds vault.new ≡ counted (vault_holds vault.old)) }
         ensures stays { IsTrue (vault_tells vault.old) → OnlyCalls (vault_holds vault.old) (vault_holds vault.new) }

@@ -28,7 +28,10 @@ fn a_line_has_4096_bytes_and_a_file_65536(rt: HostRuntime) -> Result<(), Fail> {
     text.push(b'x')?;
     put(alloc, &mut vault, b"t", &text)?;
     let loaded = outcome(alloc, &mut vault, b"t")?;
-    assert_eq!(rt; loaded.as_slice(), b"refused /etc/pam.d/t 1 RuleTooLong 3".as_slice());
+    assert_eq!(rt;
+        loaded.as_slice(),
+        b"refused /etc/pam.d/t 1 RuleTooLong 3".as_slice()
+    );
     let text = lines_of(alloc, b"", b"auth required a", 4096)?;
     put(alloc, &mut vault, b"t", &text)?;
     let loaded = outcome(alloc, &mut vault, b"t")?;
@@ -36,7 +39,10 @@ fn a_line_has_4096_bytes_and_a_file_65536(rt: HostRuntime) -> Result<(), Fail> {
     let text = lines_of(alloc, b"#", b"auth required a", 4096)?;
     put(alloc, &mut vault, b"t", &text)?;
     let loaded = outcome(alloc, &mut vault, b"t")?;
-    assert_eq!(rt; loaded.as_slice(), b"refused /etc/pam.d/t 0 FileTooLong 4".as_slice());
+    assert_eq!(rt;
+        loaded.as_slice(),
+        b"refused /etc/pam.d/t 0 FileTooLong 4".as_slice()
+    );
     Ok(())
 }
 
@@ -63,7 +69,10 @@ fn files_include_one_another_sixteen_levels_deep(rt: HostRuntime) -> Result<(), 
     assert_eq!(rt; loaded.as_slice(), b"auth[pam_permit.so;]".as_slice());
     put(alloc, &mut vault, b"l16", b"auth include l17")?;
     let loaded = outcome(alloc, &mut vault, b"t")?;
-    assert_eq!(rt; loaded.as_slice(), b"refused /etc/pam.d/l16 1 TooDeep 12".as_slice());
+    assert_eq!(rt;
+        loaded.as_slice(),
+        b"refused /etc/pam.d/l16 1 TooDeep 12".as_slice()
+    );
     Ok(())
 }
 
@@ -80,11 +89,17 @@ fn a_load_opens_256_files(rt: HostRuntime) -> Result<(), Fail> {
     let text = lines_of(alloc, front, b"session include e", 253)?;
     put(alloc, &mut vault, b"t", &text)?;
     let loaded = outcome(alloc, &mut vault, b"t")?;
-    assert_eq!(rt; loaded.as_slice(), b"refused /etc/pam.d/t 256 TooManyFiles 14".as_slice());
+    assert_eq!(rt;
+        loaded.as_slice(),
+        b"refused /etc/pam.d/t 256 TooManyFiles 14".as_slice()
+    );
     let text = lines_of(alloc, b"", b"auth include e", 255)?;
     put(alloc, &mut vault, b"t", &text)?;
     let loaded = outcome(alloc, &mut vault, b"t")?;
-    assert_eq!(rt; loaded.as_slice(), b"refused /etc/pam.d/other 0 TooManyFiles 14".as_slice());
+    assert_eq!(rt;
+        loaded.as_slice(),
+        b"refused /etc/pam.d/other 0 TooManyFiles 14".as_slice()
+    );
     Ok(())
 }
 
@@ -100,7 +115,10 @@ fn each_of_eight_files_includes_the_next_twice(rt: HostRuntime) -> Result<(), Fa
     }
     put(alloc, &mut vault, b"l8", b"")?;
     let loaded = outcome(alloc, &mut vault, b"t")?;
-    assert_eq!(rt; loaded.as_slice(), b"refused /etc/pam.d/t 2 TooManyFiles 14".as_slice());
+    assert_eq!(rt;
+        loaded.as_slice(),
+        b"refused /etc/pam.d/t 2 TooManyFiles 14".as_slice()
+    );
     Ok(())
 }
 
@@ -117,6 +135,9 @@ fn each_tree_has_4096_lines(rt: HostRuntime) -> Result<(), Fail> {
     let text = lines_of(alloc, b"account required b\n", b"@include inner", 16)?;
     put(alloc, &mut vault, b"t", &text)?;
     let loaded = outcome(alloc, &mut vault, b"t")?;
-    assert_eq!(rt; loaded.as_slice(), b"refused /etc/pam.d/inner 512 TooManyLines 13".as_slice());
+    assert_eq!(rt;
+        loaded.as_slice(),
+        b"refused /etc/pam.d/inner 512 TooManyLines 13".as_slice()
+    );
     Ok(())
 }

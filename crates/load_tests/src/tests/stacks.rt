@@ -36,10 +36,7 @@ static ROWS: [Row; 16] = [
     ),
     // A substack.
     (
-        (
-            b"t",
-            b"AUTH Required pam_permit.so  a\nauth substack inner",
-        ),
+        (b"t", b"AUTH Required pam_permit.so  a\nauth substack inner"),
         (b"inner", b"auth [success=ok] pam_deny.so [x y]"),
         b"t",
         b"auth[pam_permit.so a;(pam_deny.so x y;)]",
@@ -50,7 +47,10 @@ static ROWS: [Row; 16] = [
             b"t",
             b"auth INCLUDE inner x y\nauth required z\nsession Include inner",
         ),
-        (b"inner", b"auth required a\naccount required b\nsession required c"),
+        (
+            b"inner",
+            b"auth required a\naccount required b\nsession required c",
+        ),
         b"t",
         b"auth[a;z;]session[c;]",
     ),
@@ -102,12 +102,7 @@ static ROWS: [Row; 16] = [
         b"auth[pam_deny.so;]",
     ),
     // A substack without lines is a node: `other` isn't used.
-    (
-        (b"t", b"auth substack t2"),
-        (b"t2", b""),
-        b"t",
-        b"auth[()]",
-    ),
+    ((b"t", b"auth substack t2"), (b"t2", b""), b"t", b"auth[()]"),
     // An empty file, without `other`.
     ((b"t", b""), (b"", b""), b"t", b""),
     // Where a folder is, no service and no `other`.
@@ -138,7 +133,8 @@ fn a_service_comes_to_its_stacks(rt: HostRuntime) -> Result<(), Fail> {
 }
 
 // A service, and what it comes to where there is no folder, from this pam.conf.
-static CONF: &[u8] = b"T auth required pam_permit.so\nother auth required pam_deny.so\nu @include x\n[t] auth bad\nv auth include v\nw";
+static CONF: &[u8] =
+    b"T auth required pam_permit.so\nother auth required pam_deny.so\nu @include x\n[t] auth bad\nv auth include v\nw";
 
 static CONF_ROWS: [(&'static [u8], &'static [u8]); 6] = [
     (b"t", b"auth[pam_permit.so;]"),
@@ -154,7 +150,10 @@ fn without_a_folder_the_rules_are_those_of_pam_conf(rt: HostRuntime) -> Result<(
     let alloc = rt.alloc();
     let mut vault = MemVault::new(alloc, Numbers::new(alloc));
     let text = outcome(alloc, &mut vault, b"t")?;
-    assert_eq!(rt; text.as_slice(), b"refused /etc/pam.conf 0 NoService 15".as_slice());
+    assert_eq!(rt;
+        text.as_slice(),
+        b"refused /etc/pam.conf 0 NoService 15".as_slice()
+    );
     vault.put(alloc, b"/r/etc/pam.conf", CONF)?;
     for row in &CONF_ROWS {
         let text = outcome(alloc, &mut vault, row.0)?;

@@ -1,11 +1,11 @@
-use Rattle.std.proofs.Common.{◌≡◌, ◌∙◌, ◌++◌, [], Ok, Err, refl, sym, rules}
+use Rattle.std.proofs.Common.{◌≡◌, ◌∙◌, ◌++◌, [], Ok, Err, refl, rules}
 use Rattle.std.specs.Prelude.{codes}
 use Rattle.service_load.specs.declared.loader.Loader.{Loader}
 use Rattle.service_load.specs.declared.rule_type.RuleType.TheVariants.{Auth, Account, Password, Session}
 use Rattle.service_load.specs.Files.{service_file}
 use Rattle.service_load.specs.Loading.{counts_of, texts_of}
 use Rattle.service_load.specs.FirstFault.{look}
-use Rattle.service_load.specs.Order.{Item, tree_items}
+use Rattle.service_load.specs.Order.{tree_items}
 use Rattle.service_load.specs.Tree.{tree}
 use Rattle.service_load.proofs.Treeing.{only_only, makes_since, stop_first, stop_second, stop_third, stop_fourth, pass_four, loads_stop}
 use Rattle.service_load.proofs.loading.load_from.Goals as goal
@@ -33,7 +33,7 @@ returns-in_err-auth-clause-told g c = λ tells.
     let answered : c.from_residual-in_err-auth.result ≡ Err r = search rules in
     let m1 = (rw (c.in_ok-own.ensures, c.in_ok-other.ensures) at (c.in_err-auth.ensures.told tells)) in
     let s1 = m1.stays in
-    rw answered (loads_stop r (look texts first.fails c0 t1) (look texts first.fails c0 (t1 ++ (t2 ++ (t3 ++ (t4 ++ []))))) c1 v1 stack refl (λ s stops. stop_first texts first.fails c0 c0 c0 c0 c0 t1 t2 t3 t4 s  stops) m1.looks)
+    rw answered (loads_stop r (look texts first.fails c0 t1) (look texts first.fails c0 (t1 ++ (t2 ++ (t3 ++ (t4 ++ []))))) c1 v1 stack refl (λ s stops. stop_first texts first.fails c0 c0 c0 c0 c0 t1 t2 t3 t4 s stops) m1.looks)
 
 pub returns-in_err-auth-clause-stays : goal.returns-in_err-auth-clause-stays
 returns-in_err-auth-clause-stays g c = λ tells.
