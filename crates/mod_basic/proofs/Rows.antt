@@ -1,16 +1,14 @@
 -- Worked rows, computed on the definitions.
-use Rattle.std.proofs.Common.{◌≡◌, ℕ, Bool, false, List, [], ◌∷◌, Some, None, codes, refl, map}
-use Rattle.std.specs.Prelude.{Ok}
-use Rattle.pam_base.specs.declared.code.Code.{Code}
+use Rattle.std.proofs.Common.{◌≡◌, ℕ, false, List, [], ◌∷◌, Some, None, codes, refl}
 use Rattle.pam_base.specs.declared.code.Code.TheVariants as returns
 use Rattle.pam_base.specs.declared.call.Func.{Func}
-use Rattle.pam_base.specs.declared.call.Func.TheVariants.{Authenticate, SetCred, CloseSession, OpenSession, ChAuthTok}
+use Rattle.pam_base.specs.declared.call.Func.TheVariants.{Authenticate, SetCred, OpenSession, ChAuthTok}
 use Rattle.pam_base.specs.declared.style.Style.TheVariants.{EchoOn, TextInfo}
 use Rattle.conv_port.specs.declared.offer.Offer.{Offer}
 use Rattle.conv_port.specs.declared.offer.Offer.TheVariants.{Answer}
 use Rattle.pam_room.specs.State.{State, new_transaction, room_of, state_of, world_of}
 use Rattle.pam_room.specs.Call.{PlainCall}
-use Rattle.pam_room.specs.Module.{Player, Played, Plays, SeenRoom, Sight, length_note, seen_of, sight_of}
+use Rattle.pam_room.specs.Module.{Player, Played, Plays, seen_of, sight_of}
 use Rattle.pam_room.specs.State.{scene_in}
 use Rattle.pam_room.specs.Serve.{Answered, serve_line}
 use Rattle.mod_basic.specs.Permit.{permit_plays}

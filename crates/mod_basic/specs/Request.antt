@@ -1,6 +1,6 @@
 -- What an argument of pam_probe asks for (this project's own).
-use Rattle.std.specs.Prelude.{ℕ, ◌+◌, ◌==◌, ◌&&◌, nat_lt, nat_le, Bool, if◌then◌else◌, Option, Some, None, List, length, take, drop, codes}
-use Rattle.std.specs.Option.{option_map, option_or, unwrap_or, option_and_then}
+use Rattle.std.specs.Prelude.{ℕ, ◌+◌, ◌==◌, if◌then◌else◌, Option, Some, None, List, take, drop, codes}
+use Rattle.std.specs.Option.{option_map, option_or, unwrap_or}
 use Rattle.std.specs.List.{position}
 use Rattle.pam_base.specs.Number.{is_numeral, value_of_digits}
 use Rattle.pam_base.specs.declared.style.Style.{Style}

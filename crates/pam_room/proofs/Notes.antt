@@ -1,5 +1,5 @@
 -- The note of an owner is that of the module with its number.
-use Rattle.std.proofs.Common.{◌≡◌, ℕ, zero, suc, ◌<◌, List, [], ◌∷◌, ◌++◌, length, map, get_or, refl, sym, ap, ◌∙◌, arith}
+use Rattle.std.proofs.Common.{◌≡◌, ℕ, zero, suc, ◌<◌, List, [], ◌∷◌, ◌++◌, length, map, get_or, refl, sym, ap, arith}
 use Rattle.data_cleanup.specs.Datum.{PlainDatum}
 use Rattle.data_cleanup.specs.declared.receipt.Receipt.{Receipt}
 use Rattle.pam_room.specs.Module.{Player, notes_of}

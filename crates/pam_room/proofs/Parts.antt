@@ -1,5 +1,5 @@
 -- What a module leaves, part by part; what stays and stays again.
-use Rattle.std.proofs.Common.{◌≡◌, ◌≤◌, List, ◌++◌, refl, ◌∙◌, ap, append_assoc, arith}
+use Rattle.std.proofs.Common.{◌≡◌, List, ◌++◌, refl, ◌∙◌, ap, append_assoc, arith}
 use Rattle.conv_port.specs.declared.message.Message.{Message}
 use Rattle.pam_room.specs.State.{PlainTransaction, PlainProcess, Scene, room_of, scene_of}
 use Rattle.pam_room.specs.Stays.{Stays}
@@ -15,9 +15,17 @@ parts_played p old new number l =
     let put_off = ap (λ (r : SeenRoom). r.put_off) l.seen in
     let conv = ap (λ (r : SeenRoom). r.conv) l.seen in
     let whole : scene_of (room_of (record {
-      items = t.items; env = t.env; datums = t.datums; delay = t.delay; said = t.said; trail = t.trail; handle = t.handle; serving = t.serving; put_off = t.put_off;
+      items = t.items;
+      env = t.env;
+      datums = t.datums;
+      delay = t.delay;
+      said = t.said;
+      trail = t.trail;
+      handle = t.handle;
+      serving = t.serving;
+      put_off = t.put_off;
     }) new.room.conv) new.vault new.clock (record { ledger = new.process.ledger; root = new.process.root; caller = new.process.caller }) ≡ with_played p old =
-        rw (items, env, l.births.list, delay, said, l.trail, l.handle, l.serving, put_off, conv, l.vault, l.clock, l.births.ledger, l.root, l.caller, number) refl in
+    rw (items, env, l.births.list, delay, said, l.trail, l.handle, l.serving, put_off, conv, l.vault, l.clock, l.births.ledger, l.root, l.caller, number) refl in
     whole
 
 pub stays_on : (x y z : PlainTransaction) (a b c : PlainProcess) → Stays x y a b → Stays y z b c → Stays x z a c

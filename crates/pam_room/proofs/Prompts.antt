@@ -1,5 +1,5 @@
 -- The prompt for a user's name fits a message.
-use Rattle.std.proofs.Common.{ℕ, ◌≤◌, List, Option, Some, None, length, take, arith, refl, lit≤}
+use Rattle.std.proofs.Common.{ℕ, ◌≤◌, List, Option, Some, None, length, arith, lit≤}
 use Rattle.std.proofs.lemmas.List.{length-take}
 use Rattle.pam_room.specs.Say.{login_prompt}
 

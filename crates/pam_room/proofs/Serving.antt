@@ -1,5 +1,5 @@
 -- A module that served as it plays, and the sweep behind it, are the line's service.
-use Rattle.std.proofs.Common.{◌≡◌, ℕ, zero, suc, ◌<◌, Bool, List, [], ◌∷◌, ◌++◌, Some, length, map, get_or, slice_get, refl, sym, ap, ◌∙◌, arith}
+use Rattle.std.proofs.Common.{◌≡◌, ℕ, zero, suc, ◌<◌, List, [], ◌∷◌, ◌++◌, Some, length, map, get_or, slice_get, refl, sym, ap, arith}
 use Rattle.pam_base.specs.declared.code.Code.{Code}
 use Rattle.data_cleanup.specs.DataList.{PlainDataList}
 use Rattle.data_cleanup.specs.Ledger.{PlainLedger}
@@ -7,7 +7,7 @@ use Rattle.data_cleanup.specs.Cleanup.{AwaitCleanup, swept_list, swept_ledger}
 use Rattle.pam_room.specs.Call.{PlainCall}
 use Rattle.pam_room.specs.State.{Scene, State, scene_in}
 use Rattle.pam_room.specs.Module.{Player, PlaysIn, notes_of}
-use Rattle.pam_room.specs.Serve.{AnswersAs, answer_or_incomplete, at_work, served, served_by}
+use Rattle.pam_room.specs.Serve.{AnswersAs, answer_or_incomplete, at_work, served}
 
 pub player_at : {M : Type 0} (player : M → Player) (mods : List M) (i : ℕ) (m : M) → i < length mods → m ≡ get_or mods i m → slice_get (map player mods) i ≡ Some (player m)
 player_at player [] i m lt is = absurd (omega (arith, lt))

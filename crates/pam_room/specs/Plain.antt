@@ -1,5 +1,4 @@
 -- The plain record of each struct (this project's own).
-use Rattle.std.specs.Prelude.{ℕ, List}
 use Rattle.std.specs.declared.alloc.Global.{Global}
 use Rattle.std.specs.declared.dyn_box.DynBox.{DynBox}
 use Rattle.conv_port.specs.Conv.{ConvState}

@@ -1,6 +1,6 @@
 -- How a line of a stack is served (pam.conf(5), Linux-PAM Module Writers' Guide; that a line may be put off, and
 -- when what was replaced is cleaned up, is this project's own).
-use Rattle.std.specs.Prelude.{◌≡◌, ℕ, Bool, true, false, if◌then◌else◌, Option, Some, None, List, [], ◌∷◌, ◌++◌, slice_get}
+use Rattle.std.specs.Prelude.{◌≡◌, ℕ, Bool, false, if◌then◌else◌, Option, Some, None, List, [], ◌∷◌, ◌++◌, slice_get}
 use Rattle.pam_base.specs.declared.code.Code.{Code}
 use Rattle.pam_base.specs.declared.code.Code.TheVariants.{ModuleUnknown, Incomplete}
 use Rattle.data_cleanup.specs.Cleanup.{Notes, swept_list, swept_ledger}

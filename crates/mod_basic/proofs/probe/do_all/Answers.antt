@@ -1,4 +1,4 @@
-use Rattle.std.proofs.Common.{◌∙◌, rules, ap, sym}
+use Rattle.std.proofs.Common.{◌∙◌, rules, ap}
 use Rattle.data_cleanup.specs.DataList.{PlainDataList}
 use Rattle.pam_room.specs.declared.transaction.Transaction.{Transaction}
 use Rattle.mod_basic.specs.Request.{plain_request, request_of}

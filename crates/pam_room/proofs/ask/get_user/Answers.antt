@@ -1,4 +1,3 @@
-use Rattle.std.proofs.Common.{◌≤◌, length, sym, subst, ℕ, List}
 use Rattle.pam_room.proofs.Prompts.{prompt_fits}
 use Rattle.pam_room.proofs.ask.get_user.Goals as goal
 
