@@ -28,12 +28,3 @@ sound_more staying growing note modules x y z a b c s t = record {
   trail = (s.trail.0 ++ t.trail.0, t.trail.1 ∙ ap (λ (v : List Visit). v ++ t.trail.0) s.trail.1 ∙ append_assoc x.trail _ _);
   grows = growing note modules _ _ _ _ _ _ s.grows t.grows;
 }
-
--- a visit, or none
-pub sound_step : (note : Notes) (modules : ℕ) (x y : PlainTransaction) (a b : PlainProcess) (more : List Visit)
-    → Stays x y a b → y.trail ≡ x.trail ++ more → Grows note modules x.datums a.ledger y.datums b.ledger → GoesSoundly note modules x y a b
-sound_step note modules x y a b more stays trail grows = record { stays = stays; trail = (more, trail); grows = grows }
-
-pub sound_unseen : (note : Notes) (modules : ℕ) (x y : PlainTransaction) (a b : PlainProcess)
-    → Stays x y a b → y.trail ≡ x.trail → Grows note modules x.datums a.ledger y.datums b.ledger → GoesSoundly note modules x y a b
-sound_unseen note modules x y a b stays trail grows = record { stays = stays; trail = ([], trail ∙ sym (append-nil x.trail)); grows = grows }

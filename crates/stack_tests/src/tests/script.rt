@@ -64,18 +64,18 @@ fn modules(alloc: Global, answers: &[Code]) -> Result<Vec<Box<dyn Module>>, Fail
     Ok(mods)
 }
 
-fn name_of(module: &Box<dyn Module>) -> &[u8]
-    ensures { result.now ≡ label module.now }
+fn name_of(handler: &Box<dyn Module>) -> &[u8]
+    ensures { result.now ≡ label handler.now }
 {
-    module.name()
+    handler.name()
 }
 
 fn names_of(alloc: Global, mods: &[Box<dyn Module>]) -> Result<Texts, Fail>
     ensures { IfOk result (λ names. names ≡ map label mods.now) }
 {
     let mut names = Texts::new(alloc);
-    for module in mods {
-        names.push(Text::from_bytes(alloc, name_of(module))?)?;
+    for handler in mods {
+        names.push(Text::from_bytes(alloc, name_of(handler))?)?;
     }
     Ok(names)
 }
@@ -94,6 +94,12 @@ pub struct Passed {
     pub code: Code,
     pub places: Vec<u32>,
     pub looks: u64,
+}
+
+impl Passed {
+    pub fn has_visited(&self, places: &[u32]) -> bool {
+        self.places.as_slice() == places
+    }
 }
 
 /// A pass for authenticate over a stack whose modules answer these codes, by their places, in a new transaction.

@@ -1,5 +1,5 @@
 use Rattle.std.proofs.Common.{◌≡◌, map, take}
 use Rattle.stack_tests.proofs.tests.script.names_of.Given as goal
 
-abbrev pub invariant-loop-module : goal.invariant-loop-module
-invariant-loop-module g l = l.names ≡ map (λ b. (goal.Module-dyn g (b.vtable, b.value)).label b.value) (take l.module-index l.mods)
+abbrev pub invariant-loop-handler : goal.invariant-loop-handler
+invariant-loop-handler g l = l.names ≡ map (λ b. (goal.Module-dyn g (b.vtable, b.value)).label b.value) (take l.handler-index l.mods)
