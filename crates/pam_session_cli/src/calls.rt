@@ -6,10 +6,10 @@ ghost use Rattle.pam_session_cli.specs.State.{slot_of, session_state, end_answer
 use crate::load::load;
 use crate::outcome::{Answer, Outcome};
 use crate::session::{Session, Transaction};
-use thin_pass::{Visits, dispatch};
 use pam_base::{Code, NoMemory, Refuse};
 use pam_outside::Vault;
 use std::alloc::Global;
+use thin_pass::{Visits, dispatch};
 
 impl Session {
     /// `pam_start(3)`: opens the transaction with the stack of a service.

@@ -1,9 +1,9 @@
 ghost use Rattle.std.specs.Prelude.{◌≡◌, []};
 
 use crate::load::LoadFault;
-use thin_pass::Visits;
 use pam_base::Code;
 use std::alloc::Global;
+use thin_pass::Visits;
 
 /// What a call answers.
 #[derive(Debug, Drop)]

@@ -5,11 +5,11 @@ ghost use Rattle.pam_session_cli.specs.Report.{answer_text, closed_text, code_te
 use crate::load::LoadFault;
 use crate::outcome::{Answer, Outcome};
 use control_words::module_name;
-use thin_pass::Visit;
 use pam_base::{
     AppCall, Code, FaultKind, NoMemory, ScriptKind, Step, code_name, code_number, quoted,
 };
 use std::alloc::{AllocError, Global};
+use thin_pass::Visit;
 
 /// The lines of a step: one for each line visited, and that of the answer.
 pub fn step_report(alloc: Global, step: &Step, outcome: &Outcome) -> Result<String, NoMemory>

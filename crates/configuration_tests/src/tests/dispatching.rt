@@ -4,10 +4,10 @@ ghost use Rattle.control_words.specs.Stack.{stack_of, count};
 ghost use Rattle.thin_pass.specs.Pass.{is_plain, is_plain_stack};
 
 use control_words::{Action, Node, Nodes, Rule, keyword};
-use thin_pass::{Impression, Opinion, Visit, Visits, dispatch};
 use pam_base::{Code, Text, Texts};
 use std::alloc::Global;
 use std::test::Fail;
+use thin_pass::{Impression, Opinion, Visit, Visits, dispatch};
 
 const REQUIRED: &[u8] = b"required";
 

@@ -72,8 +72,14 @@ fn a_set_item_reads_as_set_until_it_is_unset(rt: HostRuntime) -> Result<(), Fail
 fn the_service_is_set_once_and_read_by_all(rt: HostRuntime) -> Result<(), Fail> {
     let mut items = Items::new(rt.alloc());
     assert_eq!(rt; items.set_service(b"login"), Ok(()));
-    assert_eq!(rt; items.get_app(ItemName::Service), Ok(Some(b"login".as_slice())));
-    assert_eq!(rt; items.get_mod(ItemName::Service), Ok(Some(b"login".as_slice())));
+    assert_eq!(rt;
+        items.get_app(ItemName::Service),
+        Ok(Some(b"login".as_slice()))
+    );
+    assert_eq!(rt;
+        items.get_mod(ItemName::Service),
+        Ok(Some(b"login".as_slice()))
+    );
     Ok(())
 }
 
@@ -83,7 +89,10 @@ fn both_tokens_are_cleared_and_nothing_else(rt: HostRuntime) -> Result<(), Fail>
     assert_eq!(rt; items.set_mod(ItemName::AuthTok, Some(b"new")), Ok(()));
     assert_eq!(rt; items.set_mod(ItemName::OldAuthTok, Some(b"old")), Ok(()));
     assert_eq!(rt; items.set_mod(ItemName::User, Some(b"joe")), Ok(()));
-    assert_eq!(rt; items.get_mod(ItemName::AuthTok), Ok(Some(b"new".as_slice())));
+    assert_eq!(rt;
+        items.get_mod(ItemName::AuthTok),
+        Ok(Some(b"new".as_slice()))
+    );
     items.clear_tokens();
     assert_eq!(rt; items.get_mod(ItemName::AuthTok), Ok(None));
     assert_eq!(rt; items.get_mod(ItemName::OldAuthTok), Ok(None));
