@@ -4,3 +4,4 @@ pub mod Taking
 pub mod Fitting
 pub mod Typing
 pub mod Conversing
+pub mod Answering

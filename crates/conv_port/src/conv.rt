@@ -55,11 +55,11 @@ pub trait Conv: Drop {
         ensures told { IsTrue (conv_tells self.old) → Talks result messages.now (conv_holds self.old) (conv_holds self.new) }
         ensures faults { conv_faults self.old ≤ conv_faults self.new }
         ensures gone { result ≡ Err ConvFault.Gone → Rose (conv_faults self.old) (conv_faults self.new) }
-        ensures not_gone { result ≢ Err ConvFault.Gone → conv_faults self.new ≡ conv_faults self.old }
+        ensures no_fault { result ≢ Err ConvFault.Gone → conv_faults self.new ≡ conv_faults self.old }
         ensures deferrals { conv_deferrals self.old ≤ conv_deferrals self.new }
         ensures again { result ≡ Err ConvFault.Again → Rose (conv_deferrals self.old) (conv_deferrals self.new) }
         ensures prompt { result ≡ Err ConvFault.Again → HasPrompt messages.now }
-        ensures not_again { result ≢ Err ConvFault.Again → conv_deferrals self.new ≡ conv_deferrals self.old };
+        ensures no_deferral { result ≢ Err ConvFault.Again → conv_deferrals self.new ≡ conv_deferrals self.old };
 
     /// Offers a reply of at most 512 bytes, for a prompt to come. One that tells and doesn't wait takes the six
     /// bytes `\later` as a mark, which puts off the exchange that finds it in front; one that tells adds what was
@@ -84,11 +84,11 @@ pub fn talk_with(
     ensures told { IsTrue (conv_tells conv.old) → Talks result messages.now (conv_holds conv.old) (conv_holds conv.new) }
     ensures faults { conv_faults conv.old ≤ conv_faults conv.new }
     ensures gone { result ≡ Err ConvFault.Gone → Rose (conv_faults conv.old) (conv_faults conv.new) }
-    ensures not_gone { result ≢ Err ConvFault.Gone → conv_faults conv.new ≡ conv_faults conv.old }
+    ensures no_fault { result ≢ Err ConvFault.Gone → conv_faults conv.new ≡ conv_faults conv.old }
     ensures deferrals { conv_deferrals conv.old ≤ conv_deferrals conv.new }
     ensures again { result ≡ Err ConvFault.Again → Rose (conv_deferrals conv.old) (conv_deferrals conv.new) }
     ensures prompt { result ≡ Err ConvFault.Again → HasPrompt messages.now }
-    ensures not_again { result ≢ Err ConvFault.Again → conv_deferrals conv.new ≡ conv_deferrals conv.old }
+    ensures no_deferral { result ≢ Err ConvFault.Again → conv_deferrals conv.new ≡ conv_deferrals conv.old }
 {
     conv.talk(alloc, messages)
 }

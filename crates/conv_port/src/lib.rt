@@ -3,12 +3,14 @@
 #![tactic(auto)]
 
 mod conv;
+mod laws;
 mod message;
 mod offer;
 mod queue_conv;
 mod term_conv;
 
 pub use conv::{Conv, ConvFault, offer_to, talk_with};
+pub use laws::exchange_without_replies;
 pub use message::{Message, Messages, Replies, Reply};
 pub use offer::Offer;
 pub use queue_conv::QueueConv;

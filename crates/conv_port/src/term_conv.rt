@@ -64,22 +64,17 @@ impl<R: Read + Drop, W: Write + Drop> Conv for TermConv<R, W> {
         ensures told { IsTrue (⟦<TermConv<R, W> as Conv>⟧.conv_tells self.old) → Talks result messages.now (⟦<TermConv<R, W> as Conv>⟧.conv_holds self.old) (⟦<TermConv<R, W> as Conv>⟧.conv_holds self.new) }
         ensures faults { ⟦<TermConv<R, W> as Conv>⟧.conv_faults self.old ≤ ⟦<TermConv<R, W> as Conv>⟧.conv_faults self.new }
         ensures gone { result ≡ Err ConvFault.Gone → Rose (⟦<TermConv<R, W> as Conv>⟧.conv_faults self.old) (⟦<TermConv<R, W> as Conv>⟧.conv_faults self.new) }
-        ensures not_gone { result ≢ Err ConvFault.Gone → ⟦<TermConv<R, W> as Conv>⟧.conv_faults self.new ≡ ⟦<TermConv<R, W> as Conv>⟧.conv_faults self.old }
+        ensures no_fault { result ≢ Err ConvFault.Gone → ⟦<TermConv<R, W> as Conv>⟧.conv_faults self.new ≡ ⟦<TermConv<R, W> as Conv>⟧.conv_faults self.old }
         ensures deferrals { ⟦<TermConv<R, W> as Conv>⟧.conv_deferrals self.old ≤ ⟦<TermConv<R, W> as Conv>⟧.conv_deferrals self.new }
         ensures again { result ≡ Err ConvFault.Again → Rose (⟦<TermConv<R, W> as Conv>⟧.conv_deferrals self.old) (⟦<TermConv<R, W> as Conv>⟧.conv_deferrals self.new) }
         ensures prompt { result ≡ Err ConvFault.Again → HasPrompt messages.now }
-        ensures not_again { result ≢ Err ConvFault.Again → ⟦<TermConv<R, W> as Conv>⟧.conv_deferrals self.new ≡ ⟦<TermConv<R, W> as Conv>⟧.conv_deferrals self.old }
+        ensures no_deferral { result ≢ Err ConvFault.Again → ⟦<TermConv<R, W> as Conv>⟧.conv_deferrals self.new ≡ ⟦<TermConv<R, W> as Conv>⟧.conv_deferrals self.old }
         ensures never_again { result ≢ Err ConvFault.Again }
         ensures one_fault { result ≡ Err ConvFault.Gone → self.new.faults ≡ next_count self.old.faults }
         ensures shown { OnOk result (Appends (W.contents self.old.writer) (W.contents self.new.writer) (all_shown messages.now)) }
         ensures typed { IfOk result (λ replies. Types messages.now replies (R.remaining self.old.reader) (R.remaining self.new.reader)) }
     {
-        let result = converse(
-            alloc,
-            messages.items(),
-            &mut self.reader,
-            &mut self.writer,
-        );
+        let result = converse(alloc, messages.items(), &mut self.reader, &mut self.writer);
         if let Err(ConvFault::Gone) = result {
             self.faults = self.faults.saturating_add(1);
         }
@@ -135,11 +130,7 @@ fn show<W: Write>(message: &Message, writer: &mut W) -> Result<(), ConvFault>
 }
 
 // The reply to one message.
-fn read_reply<R: Read>(
-    alloc: Global,
-    message: &Message,
-    reader: &mut R,
-) -> Result<Reply, ConvFault>
+fn read_reply<R: Read>(alloc: Global, message: &Message, reader: &mut R) -> Result<Reply, ConvFault>
     ensures reply { IfOk result (λ reply. IsReply message.now reply) }
     ensures never_again { result ≢ Err ConvFault.Again }
     ensures typed { IfOk result (λ reply. Types (message.now ∷ []) (reply ∷ []) (R.remaining reader.old) (R.remaining reader.new)) }
@@ -174,8 +165,8 @@ fn read_line<R: Read>(alloc: Global, reader: &mut R) -> Result<Text, ConvFault>
 fn read_byte<R: Read>(reader: &mut R) -> Result<Option<u8>, ConvFault>
     ensures never_again { result ≢ Err ConvFault.Again }
     ensures byte { IfOk result (λ byte. MatchOption byte
-      (Consumes (R.remaining reader.old) (R.remaining reader.new) [] × IsAtEnd (R.remaining reader.new))
-      (λ b. Consumes (R.remaining reader.old) (R.remaining reader.new) (b ∷ []))) }
+        (Consumes (R.remaining reader.old) (R.remaining reader.new) [] × IsAtEnd (R.remaining reader.new))
+        (λ b. Consumes (R.remaining reader.old) (R.remaining reader.new) (b ∷ []))) }
 {
     let mut byte = [0u8; 1];
     match reader.read(&mut byte) {

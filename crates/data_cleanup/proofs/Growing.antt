@@ -9,6 +9,7 @@ use Rattle.data_cleanup.specs.Cleanup.{Notes}
 use Rattle.data_cleanup.specs.Grows.{with_births, replacements, AreSwept, IsOf, Grows}
 use Rattle.data_cleanup.specs.declared.datum.Birth.{Birth}
 use Rattle.data_cleanup.specs.declared.receipt.Filed.{Filed}
+use Rattle.data_cleanup.proofs.Cleaning.{all-append}
 
 with_births-append : (live : List PlainDatum) (xs ys : List Birth) → with_births live (xs ++ ys) ≡ with_births (with_births live xs) ys
 with_births-append live [] ys = refl
@@ -31,10 +32,6 @@ swept-append note n [] [] qs gs s t = t
 swept-append note n (r ∷ rs) (f ∷ fs) qs gs s t = (s.0, swept-append note n rs fs qs gs s.1 t)
 swept-append note n [] (f ∷ fs) qs gs s t = absurd s
 swept-append note n (r ∷ rs) [] qs gs s t = absurd s
-
-all-append : (P : Birth → Type 0) (xs ys : List Birth) → AllByRecursion P xs → AllByRecursion P ys → AllByRecursion P (xs ++ ys)
-all-append P [] ys a b = b
-all-append P (x ∷ xs) ys a b = (a.0, all-append P xs ys a.1 b)
 
 pub list_is : (m n : ℕ) (xs ys : List PlainDatum) → m ≡ n → xs ≡ ys → ◌≡◌ {A = PlainDataList} (record { handle = m; live = xs; gone = [] }) (record { handle = n; live = ys; gone = [] })
 list_is m n xs ys e f = cc

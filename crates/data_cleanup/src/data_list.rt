@@ -58,7 +58,7 @@ impl DataList {
         payload: &[u8],
     ) -> Result<(), NoMemory>
         ensures held { OnOk result (self.new ≡
-          hold self.old (birth_of (length ledger.old.births) self.old.handle owner name.now payload.now)) }
+            hold self.old (birth_of (length ledger.old.births) self.old.handle owner name.now payload.now)) }
         ensures born { OnOk result (ledger.new ≡ record ledger.old {
           births = ledger.old.births
               ++ birth_of (length ledger.old.births) self.old.handle owner name.now payload.now ∷ [];
@@ -87,8 +87,8 @@ impl DataList {
     /// isn't set.
     pub fn get(&self, name: &[u8]) -> Result<&[u8], NoModuleData>
         ensures { MatchResult result
-          (λ payload. payloads_of (data_named self.now.live name.now) ≡ payload.now ∷ [])
-          (λ _. data_named self.now.live name.now ≡ []) }
+            (λ payload. payloads_of (data_named self.now.live name.now) ≡ payload.now ∷ [])
+            (λ _. data_named self.now.live name.now ≡ []) }
     {
         match place_of(&self.live, name) {
             Some(i) => Ok(self.live[i].payload()),
@@ -99,7 +99,7 @@ impl DataList {
     /// Takes the oldest of the data that were replaced; None exactly where there is none. It takes no memory.
     pub fn take_gone(&mut self) -> Option<Datum>
         ensures { MatchOption result ((self.old.gone ≡ []) × (self.new ≡ self.old))
-          (λ d. (self.old.gone ≡ d ∷ self.new.gone) × (self.new ≡ record self.old { gone = self.new.gone })) }
+            (λ d. (self.old.gone ≡ d ∷ self.new.gone) × (self.new ≡ record self.old { gone = self.new.gone })) }
     {
         if self.gone.is_empty() {
             return None;
@@ -110,7 +110,7 @@ impl DataList {
     /// Takes the datum whose name was set last; None exactly where no name is set. It takes no memory.
     pub fn take_newest(&mut self) -> Option<Datum>
         ensures { MatchOption result ((self.old.live ≡ []) × (self.new ≡ self.old))
-          (λ d. (self.old.live ≡ self.new.live ++ d ∷ []) × (self.new ≡ record self.old { live = self.new.live })) }
+            (λ d. (self.old.live ≡ self.new.live ++ d ∷ []) × (self.new ≡ record self.old { live = self.new.live })) }
     {
         self.live.pop()
     }

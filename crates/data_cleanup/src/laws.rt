@@ -12,19 +12,19 @@ ghost use Rattle.data_cleanup.specs.declared.receipt.Receipt.{Receipt};
 /// What grows and grows again has grown.
 pub fn growth_is_transitive()
     ensures { (note : Notes) (modules : ℕ) (x y z : PlainDataList) (a b c : PlainLedger) →
-      Grows note modules x a y b → Grows note modules y b z c → Grows note modules x a z c }
+        Grows note modules x a y b → Grows note modules y b z c → Grows note modules x a z c }
 {}
 
 /// Where nothing was replaced and is left, nothing happening is growth.
 pub fn nothing_grows()
     ensures { (note : Notes) (modules : ℕ) (list : PlainDataList) (ledger : PlainLedger) →
-      list.gone ≡ [] → Grows note modules list ledger list ledger }
+        list.gone ≡ [] → Grows note modules list ledger list ledger }
 {}
 
 /// What a module sets, and then sets more, it has set.
 pub fn setting_is_transitive()
     ensures { (owner : ℕ) (x y z : PlainDataList) (a b c : PlainLedger) →
-      Sets owner x a y b → Sets owner y b z c → Sets owner x a z c }
+        Sets owner x a y b → Sets owner y b z c → Sets owner x a z c }
 {}
 
 /// Setting nothing changes nothing.
@@ -35,62 +35,62 @@ pub fn nothing_sets()
 /// One call of `DataList::set` sets.
 pub fn one_birth_sets()
     ensures { (owner : ℕ) (old new : PlainDataList) (before after : PlainLedger) (name payload : List ℕ) →
-      new ≡ hold old (birth_of (length before.births) old.handle owner name payload) →
-      after ≡ record before { births = before.births ++ birth_of (length before.births) old.handle owner name payload ∷ [] } →
-      Sets owner old before new after }
+        new ≡ hold old (birth_of (length before.births) old.handle owner name payload) →
+        after ≡ record before { births = before.births ++ birth_of (length before.births) old.handle owner name payload ∷ [] } →
+        Sets owner old before new after }
 {}
 
 /// Data that were set, and then the sweep of those that they replaced, grow.
 pub fn swept_setting_grows()
     ensures { (note : Notes) (modules owner : ℕ) (old : PlainDataList) (before : PlainLedger) (new : PlainDataList) (after : PlainLedger) →
-      AreNumbered 0 after.births → owner < modules → old.gone ≡ [] → Sets owner old before new after →
-      Grows note modules old before (swept_list new) (swept_ledger note new after) }
+        AreNumbered 0 after.births → owner < modules → old.gone ≡ [] → Sets owner old before new after →
+        Grows note modules old before (swept_list new) (swept_ledger note new after) }
 {}
 
 /// Data that were set await their cleanup, and so do those that they replaced.
 pub fn set_data_await_cleanup()
     ensures { (modules owner : ℕ) (old : PlainDataList) (before : PlainLedger) (new : PlainDataList) (after : PlainLedger) →
-      IsSound before.births before.filed → AreNumbered 0 after.births → owner < modules →
-      AwaitCleanup modules before (old.gone ++ old.live) → Sets owner old before new after →
-      AwaitCleanup modules after (new.gone ++ new.live) }
+        IsSound before.births before.filed → AreNumbered 0 after.births → owner < modules →
+        AwaitCleanup modules before (old.gone ++ old.live) → Sets owner old before new after →
+        AwaitCleanup modules after (new.gone ++ new.live) }
 {}
 
 /// Before the first of some data is cleaned up.
 pub fn cleanup_begins()
     ensures { (note : Notes) (status : ℕ) (ledger : PlainLedger) (all : List PlainDatum) →
-      IsCleaningUp note status ledger all ledger all }
+        IsCleaningUp note status ledger all ledger all }
 {}
 
 /// The next datum gets its receipt.
 pub fn cleanup_goes_on()
     ensures { (note : Notes) (status : ℕ) (before : PlainLedger) (all : List PlainDatum) (now next : PlainLedger)
-      (left rest : List PlainDatum) (d : PlainDatum) (receipt : Receipt) →
-      IsCleaningUp note status before all now left → left ≡ d ∷ rest →
-      receipt ≡ record { id = d.id; status = status; note = note d.owner d.payload status } →
-      next ≡ record now { filed = now.filed ++ record { receipt = receipt; mark = length now.births } ∷ [] } →
-      IsCleaningUp note status before all next rest }
+        (left rest : List PlainDatum) (d : PlainDatum) (receipt : Receipt) →
+        IsCleaningUp note status before all now left → left ≡ d ∷ rest →
+        receipt ≡ record { id = d.id; status = status; note = note d.owner d.payload status } →
+        next ≡ record now { filed = now.filed ++ record { receipt = receipt; mark = length now.births } ∷ [] } →
+        IsCleaningUp note status before all next rest }
 {}
 
 /// Once none is left, all are cleaned up.
 pub fn cleanup_ends()
     ensures { (note : Notes) (status : ℕ) (before : PlainLedger) (all : List PlainDatum) (now : PlainLedger) (left : List PlainDatum) →
-      IsCleaningUp note status before all now left → left ≡ [] → now ≡ ledger_after note status all before }
+        IsCleaningUp note status before all now left → left ≡ [] → now ≡ ledger_after note status all before }
 {}
 
 /// The next of some data that await their cleanup awaits it, and once it has its receipt the others still do.
 pub fn next_awaits_cleanup()
     ensures next { (modules : ℕ) (ledger : PlainLedger) (all rest : List PlainDatum) (d : PlainDatum) →
-      AwaitCleanup modules ledger all → all ≡ d ∷ rest → AwaitsCleanup modules ledger d }
+        AwaitCleanup modules ledger all → all ≡ d ∷ rest → AwaitsCleanup modules ledger d }
     ensures others { (modules : ℕ) (ledger next : PlainLedger) (all rest : List PlainDatum) (d : PlainDatum) (receipt : Receipt) →
-      AwaitCleanup modules ledger all → all ≡ d ∷ rest → receipt.id ≡ d.id →
-      next ≡ record ledger { filed = ledger.filed ++ record { receipt = receipt; mark = length ledger.births } ∷ [] } →
-      AwaitCleanup modules next rest }
+        AwaitCleanup modules ledger all → all ≡ d ∷ rest → receipt.id ≡ d.id →
+        next ≡ record ledger { filed = ledger.filed ++ record { receipt = receipt; mark = length ledger.births } ∷ [] } →
+        AwaitCleanup modules next rest }
 {}
 
 /// Whether data await their cleanup doesn't depend on their order, and the last is the first of the others.
 pub fn reversed_await_cleanup()
     ensures reversed { (modules : ℕ) (ledger : PlainLedger) (all : List PlainDatum) →
-      AwaitCleanup modules ledger all → AwaitCleanup modules ledger (reverse all) }
+        AwaitCleanup modules ledger all → AwaitCleanup modules ledger (reverse all) }
     ensures newest { (all rest : List PlainDatum) (d : PlainDatum) →
-      all ≡ rest ++ d ∷ [] → reverse all ≡ d ∷ reverse rest }
+        all ≡ rest ++ d ∷ [] → reverse all ≡ d ∷ reverse rest }
 {}

@@ -1,0 +1,15 @@
+pub mod Every
+pub mod Naming
+pub mod Looking
+pub mod Standing
+pub mod Tidying
+pub mod Counting
+pub mod OnceMore
+pub mod Sound
+pub mod Lists
+pub mod Keeping
+pub mod Held
+pub mod Exact
+pub mod Once
+pub mod Whole
+pub mod Orderly

@@ -1,0 +1,5 @@
+pub mod Holding
+pub mod Stands
+pub mod Latest
+pub mod Kept
+pub mod Moves
