@@ -1,4 +1,5 @@
 mod basic;
 mod memory;
 mod probe;
+mod prompts;
 mod scene;
