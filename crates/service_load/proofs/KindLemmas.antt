@@ -6,26 +6,14 @@ use Rattle.pam_base.specs.Number.{value_of_digits}
 use Rattle.pam_base.specs.Code.{code_of_word}
 use Rattle.std.specs.Option.{ok_or, is_some}
 use Rattle.std.specs.Result.{result_err}
-use Rattle.pam_base.specs.declared.fault.FaultKind.{FaultKind}
-use Rattle.pam_base.specs.declared.fault.FaultKind.TheVariants.{ReadFailed, BadControl, BadReturnName, BadAction, ZeroJump}
-use Rattle.conf_lex.specs.Rules.{IsFaultOf}
+use Rattle.pam_base.specs.declared.fault.FaultKind.TheVariants.{BadControl, BadReturnName, BadAction, ZeroJump}
 use Rattle.control_words.specs.declared.control.Action.{Action}
 use Rattle.control_words.specs.declared.control.Action.TheVariants as actions
 use Rattle.control_words.specs.declared.bracket.ControlFault.{ControlFault}
 use Rattle.control_words.specs.Bracket.{named_action, jump_of, is_default, action_of_word, fault_of_entry, control_unless, control_of}
 use Rattle.control_words.specs.Entries.{Entry, entries_in}
 use Rattle.control_words.specs.Keyword.{control_of_word}
-use Rattle.service_load.specs.Kinds.{is_read_failed, KindCounts}
-
--- the faults of a text
-pub text_kind : (kind : FaultKind) (line : ℕ) (text : List ℕ) → IsFaultOf kind line text → is_read_failed kind ≡ false
-text_kind ReadFailed line text f = absurd f
-text_kind kind line text f = refl
-
--- with any other fault the count of a vault stays
-pub counts_other : (kind : FaultKind) (before now : ℕ) → is_read_failed kind ≡ false → now ≡ before → KindCounts kind before now
-counts_other ReadFailed before now other same = absurd cc
-counts_other kind before now other same = same
+use Rattle.service_load.specs.Kinds.{is_read_failed}
 
 -- a fault, if there is one, is none of a vault
 abbrev is_other : Option ControlFault → Bool

@@ -3,7 +3,6 @@ use Rattle.std.proofs.Common.{◌≡◌, ℕ, ◌+◌, Bool, true, false, not, c
 use Rattle.std.proofs.lemmas.Bool.{eqb-true}
 use Rattle.pam_base.specs.declared.fault.Refuse.{Refuse}
 use Rattle.pam_base.specs.declared.fault.Refuse.TheVariants as refusals
-use Rattle.pam_base.specs.declared.fault.FaultKind.TheVariants.{ReadFailed}
 use Rattle.pam_outside.specs.Counts.{next_count}
 use Rattle.pam_outside.specs.Files.{VaultState, counted, is_failing, is_folder}
 use Rattle.control_words.specs.declared.nodes.Nodes.{Nodes}
@@ -14,8 +13,7 @@ use Rattle.service_load.specs.declared.rule_file.RuleFile.{RuleFile}
 use Rattle.service_load.specs.declared.rule_type.RuleType.{RuleType}
 use Rattle.service_load.specs.declared.trees.Trees.{Trees}
 use Rattle.service_load.specs.Files.{held, is_absent}
-use Rattle.service_load.specs.FirstFault.{Counts, Stop, fault_at, look}
-use Rattle.service_load.specs.Answers.{IsRefusal}
+use Rattle.service_load.specs.FirstFault.{Counts, Stop, look}
 use Rattle.service_load.specs.Entry.{folder_name}
 use Rattle.service_load.specs.Load.{LoadsBy, LoadsFrom, Loads, loaded_from, has_folder}
 use Rattle.service_load.specs.Names.{path_of}
@@ -153,10 +151,3 @@ loads_all result first mid new root service path found fine found_is path_is cal
     let at_first : Q found = subst P called loads in
     let folder : found ≡ has_folder first root = found_is ∙ ap (λ (p : List ℕ). is_folder p first.files) path_is in
     rw fine (subst Q folder at_first)
-
-pub loads_failed : (r : Refuse LoadFault) (first new : VaultState) (root service : List ℕ) → is_failing first ≡ true → new ≡ counted first → IsRefusal r (fault_at folder_name 0 ReadFailed) → Loads (Err r) first new root service
-loads_failed (refusals.Named f) first new root service failing called refused = rw (failing, called, refused) refl
-loads_failed refusals.NoMemory first new root service failing called refused = tt
-
-pub only_counted : (first mid new : VaultState) → mid ≡ counted first → OnlyCalls mid new → OnlyCalls first new
-only_counted first mid new called only = only ∙ ap (λ (v : VaultState). record v { calls = new.calls }) called
