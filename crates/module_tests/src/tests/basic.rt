@@ -3,7 +3,9 @@ use conv_port::QueueConv;
 use mod_basic::{Debug, Deny, Permit, Rootok};
 use pam_base::{Code, Func, ItemName, Numbers};
 use pam_outside::{FixedClock, MemVault, NapSum};
-use pam_room::{Call, Module, PRELIM_CHECK, Room, Transaction, World, end_room, get_item, set_item};
+use pam_room::{
+    Call, Module, PRELIM_CHECK, Room, Transaction, World, end_room, get_item, set_item,
+};
 use std::alloc::Global;
 use std::test::Fail;
 
@@ -80,19 +82,74 @@ fn deny_fails_each_function_in_its_way(rt: HostRuntime) -> Result<(), Fail> {
 fn debug_answers_what_its_arguments_say(rt: HostRuntime) -> Result<(), Fail> {
     let alloc = rt.alloc();
     for (func, flags, words, want) in [
-        (Func::Authenticate, 0, [b"auth=maxtries".as_slice()].as_slice(), Code::MaxTries),
+        (
+            Func::Authenticate,
+            0,
+            [b"auth=maxtries".as_slice()].as_slice(),
+            Code::MaxTries,
+        ),
         (Func::Authenticate, 0, &[b"cred=cred_err"], Code::Success),
         (Func::Authenticate, 0, &[b"auth=no_code"], Code::Success),
-        (Func::Authenticate, 0, &[b"auth=auth_err", b"auth=PERM_DENIED"], Code::PermDenied),
-        (Func::SetCred, 0, &[b"auth=auth_err", b"cred=cred_unavail"], Code::CredUnavail),
-        (Func::AcctMgmt, 0, &[b"acct=acct_expired"], Code::AcctExpired),
-        (Func::OpenSession, 0, &[b"open_session=session_err"], Code::SessionErr),
-        (Func::CloseSession, 0, &[b"close_session=session_err"], Code::SessionErr),
-        (Func::CloseSession, 0, &[b"open_session=session_err"], Code::Success),
-        (Func::ChAuthTok, PRELIM_CHECK, &[b"prechauthtok=try_again"], Code::TryAgain),
-        (Func::ChAuthTok, PRELIM_CHECK, &[b"chauthtok=authtok_err"], Code::Success),
-        (Func::ChAuthTok, 0x2000, &[b"chauthtok=authtok_err"], Code::AuthtokErr),
-        (Func::ChAuthTok, 0x2000, &[b"prechauthtok=try_again"], Code::Success),
+        (
+            Func::Authenticate,
+            0,
+            &[b"auth=auth_err", b"auth=PERM_DENIED"],
+            Code::PermDenied,
+        ),
+        (
+            Func::SetCred,
+            0,
+            &[b"auth=auth_err", b"cred=cred_unavail"],
+            Code::CredUnavail,
+        ),
+        (
+            Func::AcctMgmt,
+            0,
+            &[b"acct=acct_expired"],
+            Code::AcctExpired,
+        ),
+        (
+            Func::OpenSession,
+            0,
+            &[b"open_session=session_err"],
+            Code::SessionErr,
+        ),
+        (
+            Func::CloseSession,
+            0,
+            &[b"close_session=session_err"],
+            Code::SessionErr,
+        ),
+        (
+            Func::CloseSession,
+            0,
+            &[b"open_session=session_err"],
+            Code::Success,
+        ),
+        (
+            Func::ChAuthTok,
+            PRELIM_CHECK,
+            &[b"prechauthtok=try_again"],
+            Code::TryAgain,
+        ),
+        (
+            Func::ChAuthTok,
+            PRELIM_CHECK,
+            &[b"chauthtok=authtok_err"],
+            Code::Success,
+        ),
+        (
+            Func::ChAuthTok,
+            0x2000,
+            &[b"chauthtok=authtok_err"],
+            Code::AuthtokErr,
+        ),
+        (
+            Func::ChAuthTok,
+            0x2000,
+            &[b"prechauthtok=try_again"],
+            Code::Success,
+        ),
     ] {
         let code = answer(alloc, Box::new(alloc, Debug)?, func, flags, words, 1)?;
         assert_eq!(rt; code, want, "at {func:?} {flags} {words:?}");
@@ -126,7 +183,11 @@ fn permit_makes_an_unknown_user_nobody(rt: HostRuntime) -> Result<(), Fail> {
     let alloc = rt.alloc();
     for (func, before, after) in [
         (Func::Authenticate, None, Some(b"nobody".as_slice())),
-        (Func::Authenticate, Some(b"joe".as_slice()), Some(b"joe".as_slice())),
+        (
+            Func::Authenticate,
+            Some(b"joe".as_slice()),
+            Some(b"joe".as_slice()),
+        ),
         (Func::AcctMgmt, None, None),
     ] {
         let mut mods: Vec<Box<dyn Module>> = Vec::new(alloc);

@@ -110,12 +110,17 @@ fn probe_cuts_long_texts(rt: HostRuntime) -> Result<(), Fail> {
     }
     let outcome = probe(alloc, &[&word], false, 0)?;
     assert_eq!(rt; outcome.code, Code::Success);
-    assert_eq!(rt; outcome.said.as_slice(), [(Style::TextInfo, 512)].as_slice());
+    assert_eq!(rt;
+        outcome.said.as_slice(),
+        [(Style::TextInfo, 512)].as_slice()
+    );
     Ok(())
 }
 
 #[test]
-fn replaced_data_are_cleaned_up_at_once_and_the_others_at_the_end(rt: HostRuntime) -> Result<(), Fail> {
+fn replaced_data_are_cleaned_up_at_once_and_the_others_at_the_end(
+    rt: HostRuntime,
+) -> Result<(), Fail> {
     let alloc = rt.alloc();
     for (words, status, want) in [
         (
@@ -146,14 +151,22 @@ fn replaced_data_are_cleaned_up_at_once_and_the_others_at_the_end(rt: HostRuntim
 fn probe_requests_delays_and_fixes_its_answer(rt: HostRuntime) -> Result<(), Fail> {
     let alloc = rt.alloc();
     for (words, code, delay) in [
-        ([b"delay=100".as_slice(), b"answer=auth_err"].as_slice(), Code::AuthErr, 100),
+        (
+            [b"delay=100".as_slice(), b"answer=auth_err"].as_slice(),
+            Code::AuthErr,
+            100,
+        ),
         (&[b"delay=100", b"delay=20"], Code::Success, 100),
         (&[b"delay=60000001"], Code::Success, 60_000_000),
         (&[b"delay=9999999999"], Code::Success, 60_000_000),
         (&[b"delay=0000000007"], Code::Success, 7),
         (&[b"delay=00000000007"], Code::Success, 0),
         (&[b"delay=", b"delay=1x", b"delay=-1"], Code::Success, 0),
-        (&[b"answer=auth_err", b"answer=perm_denied", b"answer=no"], Code::PermDenied, 0),
+        (
+            &[b"answer=auth_err", b"answer=perm_denied", b"answer=no"],
+            Code::PermDenied,
+            0,
+        ),
         (&[b"answer=INCOMPLETE"], Code::Incomplete, 0),
         (&[b"other", b"answer"], Code::Success, 0),
     ] {

@@ -44,7 +44,7 @@ struct Asked {
 }
 
 // The item, and what was said, after a call.
-fn asked(
+fn outcome_of(
     alloc: Global,
     transaction: &Transaction,
     item: Option<&[u8]>,
@@ -52,7 +52,10 @@ fn asked(
 ) -> Result<Asked, NoMemory> {
     let mut said = Vec::new(alloc);
     for message in transaction.said.items() {
-        said.push((message.style, Text::from_bytes(alloc, message.text.bytes())?))?;
+        said.push((
+            message.style,
+            Text::from_bytes(alloc, message.text.bytes())?,
+        ))?;
     }
     let item = match item {
         Some(text) => Some(Text::from_bytes(alloc, text)?),
@@ -79,7 +82,7 @@ fn user(alloc: Global, user: &[u8], prompt: &[u8], offers: &[&[u8]]) -> Result<A
     }
     let answer = get_user(alloc, &mut transaction, &mut conv);
     let name = get_item(&transaction.items, ItemName::User);
-    let outcome = asked(alloc, &transaction, name, answer);
+    let outcome = outcome_of(alloc, &transaction, name, answer);
     give_up(transaction);
     set?;
     Ok(outcome?)
@@ -91,7 +94,10 @@ fn a_user_is_asked_for_once(rt: HostRuntime) -> Result<(), Fail> {
     let known = user(alloc, b"joe", b"", &[b"sue"])?;
     assert_eq!(rt; known.answer, Ok(()));
     assert!(rt; known.said.is_empty());
-    for (prompt, want) in [(b"".as_slice(), b"login: ".as_slice()), (b"who? ", b"who? ")] {
+    for (prompt, want) in [
+        (b"".as_slice(), b"login: ".as_slice()),
+        (b"who? ", b"who? "),
+    ] {
         let unknown = user(alloc, b"", prompt, &[b"sue"])?;
         assert_eq!(rt; unknown.answer, Ok(()));
         assert_eq!(rt; unknown.said.len(), 1);
@@ -108,7 +114,10 @@ fn a_user_is_asked_for_once(rt: HostRuntime) -> Result<(), Fail> {
 #[test]
 fn a_question_without_reply_is_a_conversation_error(rt: HostRuntime) -> Result<(), Fail> {
     let alloc = rt.alloc();
-    for (offers, put_off) in [([].as_slice(), false), ([b"\\later".as_slice()].as_slice(), true)] {
+    for (offers, put_off) in [
+        ([].as_slice(), false),
+        ([b"\\later".as_slice()].as_slice(), true),
+    ] {
         let outcome = user(alloc, b"", b"", offers)?;
         assert_eq!(rt; outcome.answer, Err(Refuse::Named(ConvErr)));
         assert!(rt; outcome.item.is_none());
@@ -135,15 +144,31 @@ fn a_long_prompt_is_cut(rt: HostRuntime) -> Result<(), Fail> {
 fn each_token_is_asked_for_unseen(rt: HostRuntime) -> Result<(), Fail> {
     let alloc = rt.alloc();
     for (old, prompt, item, other) in [
-        (false, b"Password: ".as_slice(), ItemName::AuthTok, ItemName::OldAuthTok),
-        (true, b"Old password: ", ItemName::OldAuthTok, ItemName::AuthTok),
+        (
+            false,
+            b"Password: ".as_slice(),
+            ItemName::AuthTok,
+            ItemName::OldAuthTok,
+        ),
+        (
+            true,
+            b"Old password: ",
+            ItemName::OldAuthTok,
+            ItemName::AuthTok,
+        ),
     ] {
         let mut conv = queue(alloc, &[b"secret"])?;
         let mut transaction = Transaction::new(alloc, 1);
-        let answer = ask_token(alloc, &mut transaction, &mut conv, old, first_bytes(prompt, 512));
+        let answer = ask_token(
+            alloc,
+            &mut transaction,
+            &mut conv,
+            old,
+            first_bytes(prompt, 512),
+        );
         let is_other_set = transaction.items.get_mod(other) != Ok(None);
         let token = transaction.items.get_mod(item).unwrap_or(None);
-        let outcome = asked(alloc, &transaction, token, answer);
+        let outcome = outcome_of(alloc, &transaction, token, answer);
         give_up(transaction);
         let outcome = outcome?;
         assert_eq!(rt; outcome.answer, Ok(()));
