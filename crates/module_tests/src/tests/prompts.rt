@@ -44,7 +44,7 @@ struct Asked {
 }
 
 // The item, and what was said, after a call.
-fn asked(
+fn outcome_of(
     alloc: Global,
     transaction: &Transaction,
     item: Option<&[u8]>,
@@ -82,7 +82,7 @@ fn user(alloc: Global, user: &[u8], prompt: &[u8], offers: &[&[u8]]) -> Result<A
     }
     let answer = get_user(alloc, &mut transaction, &mut conv);
     let name = get_item(&transaction.items, ItemName::User);
-    let outcome = asked(alloc, &transaction, name, answer);
+    let outcome = outcome_of(alloc, &transaction, name, answer);
     give_up(transaction);
     set?;
     Ok(outcome?)
@@ -168,7 +168,7 @@ fn each_token_is_asked_for_unseen(rt: HostRuntime) -> Result<(), Fail> {
         );
         let is_other_set = transaction.items.get_mod(other) != Ok(None);
         let token = transaction.items.get_mod(item).unwrap_or(None);
-        let outcome = asked(alloc, &transaction, token, answer);
+        let outcome = outcome_of(alloc, &transaction, token, answer);
         give_up(transaction);
         let outcome = outcome?;
         assert_eq!(rt; outcome.answer, Ok(()));
