@@ -1,15 +1,13 @@
 -- A line's answer, by what the chain tells of the line.
-use Rattle.std.proofs.Common.{◌≡◌, ℕ, suc, ◌+◌, ◌<◌, ◌≤◌, Bool, true, false, if◌then◌else◌, Option, Some, None, IfSome, Result, Ok, Err, IfOk, List, [], ◌∷◌, length, map, refl, sym, ◌∙◌, ap, subst, arith}
+use Rattle.std.proofs.Common.{◌≡◌, ℕ, ◌+◌, ◌<◌, ◌≤◌, Bool, true, false, if◌then◌else◌, Option, Some, None, IfSome, Result, Ok, Err, IfOk, List, [], ◌∷◌, length, map, refl, sym, ◌∙◌, ap, subst, arith}
 use Rattle.std.proofs.lemmas.List.{length-map}
 use Rattle.std.specs.Str.{bytes_eq}
 use Rattle.pam_base.specs.declared.call.Func.{Func}
 use Rattle.pam_base.specs.declared.code.Code.{Code}
 use Rattle.control_words.specs.Module.{name_of_module}
 use Rattle.control_words.specs.Stack.{Stack, lines_in}
-use Rattle.control_words.specs.declared.nodes.Rule.{Rule}
 use Rattle.handler_chain.specs.FlatLines.{FlatLine, module_at, module_of, no_rule, number_of_name, rule_at}
 use Rattle.pam_room.specs.State.{State}
-use Rattle.pam_room.specs.Call.{PlainCall}
 use Rattle.pam_room.specs.Module.{Note, Player, Plays, player_of}
 use Rattle.pam_room.specs.Serve.{serve_line}
 use Rattle.pam_room.specs.Serve as room
@@ -55,13 +53,13 @@ module _ {M : Type 0} (label : M → List ℕ) (plays : M → Plays) (note : M �
   line_answered names number place path args s later code within is found at its given answers =
       let names_so : names ≡ names_of (map (player_of label plays note) mods) = is ∙ names_are label plays note mods in
       let number_so : number ≡ module_of (names_of (map (player_of label plays note) mods)) (rule_at stack i) =
-          found ∙ module_is stack names i within ∙ ap (λ (ns : List (List ℕ)). module_of ns (rule_at stack i)) names_so in
+      found ∙ module_is stack names i within ∙ ap (λ (ns : List (List ℕ)). module_of ns (rule_at stack i)) names_so in
       let players : List Player = map (player_of label plays note) mods in
       let first = subst (λ (n : Option ℕ). room.AnswersAs (serve_line players n place path (record { func = func; flags = flags; args = args }) s) code later) number_so answers in
       let second = subst (λ (n : ℕ). room.AnswersAs (serve_line players (module_of (names_of players) (rule_at stack i)) n path (record { func = func; flags = flags; args = args }) s) code later) at first in
       let third = subst (λ (p : List ℕ). room.AnswersAs (serve_line players (module_of (names_of players) (rule_at stack i)) (i + 1) p (record { func = func; flags = flags; args = args }) s) code later) its second in
       let fourth : room.AnswersAs (serve_line players (module_of (names_of players) (rule_at stack i)) (i + 1) (rule_at stack i).path (record { func = func; flags = flags; args = (rule_at stack i).args }) s) code later =
-          subst (λ (a : List (List ℕ)). room.AnswersAs (serve_line players (module_of (names_of players) (rule_at stack i)) (i + 1) (rule_at stack i).path (record { func = func; flags = flags; args = a }) s) code later) given third in
+      subst (λ (a : List (List ℕ)). room.AnswersAs (serve_line players (module_of (names_of players) (rule_at stack i)) (i + 1) (rule_at stack i).path (record { func = func; flags = flags; args = a }) s) code later) given third in
       record { answer_is = fourth.answer_is; state_is = fourth.state_is }
 
   -- whatever it answered

@@ -5,8 +5,7 @@ use Rattle.frozen_chain.specs.Kept.{Answers, kept_at, lines_kept}
 use Rattle.pam_room.specs.State.{State, state_of}
 use Rattle.pam_room.specs.Module.{player_of}
 use Rattle.pam_room.specs.Plain.{plain_room, plain_world}
-use Rattle.stack_walk.specs.Pass.{Answering, Visit, pass_after, pass_state, serving, visit}
-use Rattle.dispatch_core.specs.declared.walker.Walker.{Walker}
+use Rattle.stack_walk.specs.Pass.{Answering, Visit, pass_state, serving, visit}
 use Rattle.dispatch_core.specs.Lines.{answers_by}
 use Rattle.dispatch_core.specs.Passes.{by_place, Keeps, kept_with, taken_with, turned, visits_with, IsAhead}
 use Rattle.dispatch_core.specs.Paths.{HasPaths}
@@ -20,8 +19,7 @@ use Rattle.dispatch_core.proofs.pass.walk.Goals as goal
 
 pub loop-walker-init : goal.loop-walker-init
 loop-walker-init g c =
-    let answers : Answering State = answers_by (map (player_of (λ b. (goal.Module-dyn g (b.vtable, b.value)).label b.value) (λ b. (goal.Module-dyn g (b.vtable, b.value)).plays b.value) (λ b. (goal.Module-dyn g (b.vtable, b.value)).note b.value)) c.args.mods.now) c.args.request.func c.args.request.flags in
-    (
+    let answers : Answering State = answers_by (map (player_of (λ b. (goal.Module-dyn g (b.vtable, b.value)).label b.value) (λ b. (goal.Module-dyn g (b.vtable, b.value)).plays b.value) (λ b. (goal.Module-dyn g (b.vtable, b.value)).note b.value)) c.args.mods.now) c.args.request.func c.args.request.flags in (
       [],
       record {
         goes = λ told. begun c.args.request.kind (serving c.args.request.kind (by_place c.args.follows.now) answers) c.args.chain.now.nodes c.new-walker.result _ c.new-walker.ensures.at c.new-walker.ensures.opinion c.new-walker.ensures.entries;

@@ -24,9 +24,9 @@ invariant-loop-walker g l =
     let room_now : Bool = (goal.Conv-dyn g (l.room.conv.vtable, l.room.conv.value)).conv_tells l.room.conv.value in
     let room_start : Bool = (goal.Conv-dyn g (l.fn.room.conv.vtable, l.fn.room.conv.value)).conv_tells l.fn.room.conv.value in
     let world_now : Bool = ((goal.Vault-dyn g (l.world.vault.vtable, l.world.vault.value)).vault_tells l.world.vault.value && (goal.Clock-dyn g (l.world.clock.vtable, l.world.clock.value)).clock_tells l.world.clock.value)
-        && (goal.Nap-dyn g (l.world.nap.vtable, l.world.nap.value)).nap_tells l.world.nap.value in
+    && (goal.Nap-dyn g (l.world.nap.vtable, l.world.nap.value)).nap_tells l.world.nap.value in
     let world_start : Bool = ((goal.Vault-dyn g (l.fn.world.vault.vtable, l.fn.world.vault.value)).vault_tells l.fn.world.vault.value && (goal.Clock-dyn g (l.fn.world.clock.vtable, l.fn.world.clock.value)).clock_tells l.fn.world.clock.value)
-        && (goal.Nap-dyn g (l.fn.world.nap.vtable, l.fn.world.nap.value)).nap_tells l.fn.world.nap.value in
+    && (goal.Nap-dyn g (l.fn.world.nap.vtable, l.fn.world.nap.value)).nap_tells l.fn.world.nap.value in
     (visits : List Visit) × record {
       goes : IsTrue (room_start && world_start) → walk_on l.request.kind (serving l.request.kind (by_place l.follows) answers) l.fn.chain.nodes l.walker (pass_state l.supplies.given.past visits now)
           ≡ pass_after l.request.kind (by_place l.follows) answers l.fn.chain.nodes l.fn.supplies.given.past start;
