@@ -1,5 +1,5 @@
 -- What a walk over all lines came to, by its last turn.
-use Rattle.std.proofs.Common.{◌≡◌, true, Option, Some, None, is_some, List, [], refl, sym, ◌∙◌, ap, subst}
+use Rattle.std.proofs.Common.{◌≡◌, true, Option, Some, None, is_some, List, refl, sym, ◌∙◌, ap, subst}
 use Rattle.pam_base.specs.declared.code.Code.{Code}
 use Rattle.frozen_chain.specs.Kept.{Answers}
 use Rattle.control_words.specs.Stack.{Stack}
@@ -11,7 +11,7 @@ use Rattle.stack_walk.specs.Walk.{Serving, Walked, walked, halted}
 use Rattle.dispatch_core.specs.declared.walker.Walker.{Walker}
 use Rattle.dispatch_core.specs.Given.{GivenView}
 use Rattle.dispatch_core.specs.Index.{walk_on}
-use Rattle.dispatch_core.specs.Passes.{Keeps, WalksAs, turned}
+use Rattle.dispatch_core.specs.Passes.{Keeps, WalksAs}
 
 module _ {State : Type 0} (w : Walked (PassState State)) (opinion : Opinion) (past : List Code) (visits : List Visit) (state : State) (kept : Answers) (given : GivenView)
     (taken : given.taken ≡ answers_of visits) (keeps : is_some kept ≡ true → Keeps kept visits) where

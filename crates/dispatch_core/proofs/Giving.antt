@@ -1,5 +1,5 @@
 -- The answers that a pass was given.
-use Rattle.std.proofs.Common.{◌≡◌, ℕ, List, [], ◌++◌, Option, Some, take, drop, refl, sym, ◌∙◌, ap, append-nil}
+use Rattle.std.proofs.Common.{◌≡◌, ℕ, List, [], ◌++◌, take, drop, sym, ◌∙◌, ap, append-nil}
 use Rattle.std.proofs.lemmas.List.{take-append-drop}
 use Rattle.pam_base.specs.declared.code.Code.{Code}
 use Rattle.dispatch_core.specs.Given.{GivenView}

@@ -1,15 +1,13 @@
 -- A line's answer, by what the chain tells of the line.
-use Rattle.std.proofs.Common.{◌≡◌, ℕ, suc, ◌+◌, ◌<◌, ◌≤◌, Bool, true, false, if◌then◌else◌, Option, Some, None, IfSome, Result, Ok, Err, IfOk, List, [], ◌∷◌, length, map, refl, sym, ◌∙◌, ap, subst, arith}
+use Rattle.std.proofs.Common.{◌≡◌, ℕ, ◌+◌, ◌<◌, ◌≤◌, Bool, true, false, if◌then◌else◌, Option, Some, None, IfSome, Result, Ok, Err, IfOk, List, [], ◌∷◌, length, map, refl, sym, ◌∙◌, ap, subst, arith}
 use Rattle.std.proofs.lemmas.List.{length-map}
 use Rattle.std.specs.Str.{bytes_eq}
 use Rattle.pam_base.specs.declared.call.Func.{Func}
 use Rattle.pam_base.specs.declared.code.Code.{Code}
 use Rattle.control_words.specs.Module.{name_of_module}
 use Rattle.control_words.specs.Stack.{Stack, lines_in}
-use Rattle.control_words.specs.declared.nodes.Rule.{Rule}
 use Rattle.handler_chain.specs.FlatLines.{FlatLine, module_at, module_of, no_rule, number_of_name, rule_at}
 use Rattle.pam_room.specs.State.{State}
-use Rattle.pam_room.specs.Call.{PlainCall}
 use Rattle.pam_room.specs.Module.{Note, Player, Plays, player_of}
 use Rattle.pam_room.specs.Serve.{serve_line}
 use Rattle.pam_room.specs.Serve as room

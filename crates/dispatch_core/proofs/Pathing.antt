@@ -1,5 +1,5 @@
 -- The paths of lines, as they are copied and taken.
-use Rattle.std.proofs.Common.{◌≡◌, ℕ, ◌+◌, ◌<◌, ◌≤◌, List, length, arith}
+use Rattle.std.proofs.Common.{◌≡◌, ℕ, ◌<◌, ◌≤◌, List, length, arith}
 use Rattle.control_words.specs.Stack.{Stack}
 use Rattle.handler_chain.specs.FlatLines.{rule_at}
 use Rattle.dispatch_core.specs.Paths.{HasPaths, path_in}

@@ -1,10 +1,10 @@
 -- What a pass that keeps has kept, as its visits grow.
-use Rattle.std.proofs.Common.{◌≡◌, ◌≢◌, ℕ, zero, suc, ◌+◌, ◌<◌, ◌≤◌, Bool, true, false, nat_eq, if◌then◌else◌, List, [], ◌∷◌, ◌++◌, length, Option, Some, None, is_some, replicate, slice_get, slice_set, inl, inr, refl, sym, ◌∙◌, ap, add-one, arith, eq-eqb, ne_eqb}
+use Rattle.std.proofs.Common.{◌≡◌, ◌≢◌, ℕ, zero, suc, ◌+◌, ◌<◌, Bool, true, false, nat_eq, if◌then◌else◌, List, [], ◌∷◌, ◌++◌, length, Option, Some, None, is_some, slice_get, slice_set, inl, inr, refl, sym, ◌∙◌, ap, arith, eq-eqb, ne_eqb}
 use Rattle.std.specs.Option.{option_flatten}
 use Rattle.std.proofs.lemmas.Bool.{cases_eq}
 use Rattle.std.proofs.lemmas.List.{length-replicate, length-set}
 use Rattle.pam_base.specs.declared.code.Code.{Code}
-use Rattle.frozen_chain.specs.Kept.{Answers, answer_at, empty_cells, kept_at, lines_kept}
+use Rattle.frozen_chain.specs.Kept.{Answers, empty_cells, kept_at, lines_kept}
 use Rattle.stack_walk.specs.Pass.{Visit, visit, kept_in, answers_of}
 use Rattle.dispatch_core.specs.Passes.{by_place, Keeps}
 

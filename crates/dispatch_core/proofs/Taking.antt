@@ -1,5 +1,5 @@
 -- One turn: the answer of a line, and where the walk is behind it.
-use Rattle.std.proofs.Common.{◌≡◌, ℕ, ◌+◌, ◌<◌, Option, Some, None, is_none, List, [], ◌∷◌, ◌++◌, refl, sym, ◌∙◌, ap, subst}
+use Rattle.std.proofs.Common.{◌≡◌, ◌+◌, ◌<◌, Option, Some, None, is_none, List, [], ◌∷◌, ◌++◌, refl, subst}
 use Rattle.pam_base.specs.declared.code.Code.{Code}
 use Rattle.control_words.specs.Stack.{Stack, lines_in}
 use Rattle.handler_chain.specs.FlatLines.{FlatLine, rule_at}

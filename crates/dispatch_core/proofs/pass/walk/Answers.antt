@@ -5,8 +5,7 @@ use Rattle.frozen_chain.specs.Kept.{Answers, kept_at, lines_kept}
 use Rattle.pam_room.specs.State.{State, state_of}
 use Rattle.pam_room.specs.Module.{player_of}
 use Rattle.pam_room.specs.Plain.{plain_room, plain_world}
-use Rattle.stack_walk.specs.Pass.{Answering, Visit, pass_after, pass_state, serving, visit}
-use Rattle.dispatch_core.specs.declared.walker.Walker.{Walker}
+use Rattle.stack_walk.specs.Pass.{Answering, Visit, pass_state, serving, visit}
 use Rattle.dispatch_core.specs.Lines.{answers_by}
 use Rattle.dispatch_core.specs.Passes.{by_place, Keeps, kept_with, taken_with, turned, visits_with, IsAhead}
 use Rattle.dispatch_core.specs.Paths.{HasPaths}

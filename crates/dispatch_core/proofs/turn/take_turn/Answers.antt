@@ -1,6 +1,5 @@
-use Rattle.std.proofs.Common.{◌+◌, ◌∷◌, [], Option, Some, ◌∙◌, sym, ap, subst, map}
+use Rattle.std.proofs.Common.{◌+◌, Option, ◌∙◌, sym, ap, subst, map}
 use Rattle.pam_base.specs.declared.code.Code.{Code}
-use Rattle.handler_chain.specs.FlatLines.{FlatLine}
 use Rattle.pam_room.specs.State.{State, state_of}
 use Rattle.pam_room.specs.Module.{player_of}
 use Rattle.pam_room.specs.Plain.{plain_room, plain_world}
