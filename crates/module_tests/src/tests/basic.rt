@@ -166,17 +166,12 @@ fn permit_makes_an_unknown_user_nobody(rt: HostRuntime) -> Result<(), Fail> {
         (Func::Authenticate, b"joe", b"joe"),
         (Func::AcctMgmt, b"", b""),
     ] {
-        let scene = Scene {
-            func,
-            user,
-            ..authenticate(&[])
-        };
+        let mut scene = authenticate(&[]);
+        scene.func = func;
+        scene.user = user;
         let outcome = serve_once(alloc, Box::new(alloc, Permit)?, scene)?;
         assert_eq!(rt; outcome.answer, Ok(Code::Success));
-        match outcome.user {
-            Some(user) => assert_eq!(rt; user.bytes(), want, "at {func:?}"),
-            None => assert!(rt; want.is_empty(), "at {func:?}"),
-        }
+        assert_eq!(rt; outcome.user.bytes(), want, "at {func:?}");
     }
     Ok(())
 }

@@ -15,7 +15,7 @@ use std::test::Fail;
 
 /// A call of one module on a new transaction, which is ended after it.
 #[derive(Clone, Copy)]
-pub struct Scene<'a> {
+pub struct Scene<'a, 'b> {
     pub func: Func,
     pub flags: u32,
     /// The arguments of the line.
@@ -23,7 +23,7 @@ pub struct Scene<'a> {
     /// The user id of the calling process.
     pub caller: u32,
     /// USER before the call; it is unset where this is empty.
-    pub user: &'a [u8],
+    pub user: &'b [u8],
     /// Whether the conversation holds a reply.
     pub reply: bool,
     /// The status of the end.
@@ -34,8 +34,8 @@ pub struct Scene<'a> {
 #[derive(Drop)]
 pub struct Outcome {
     pub answer: Result<Code, NoMemory>,
-    /// USER after the call.
-    pub user: Option<Text>,
+    /// USER after the call, empty where it isn't set.
+    pub user: Text,
     /// The styles of what was said, and the lengths of the texts.
     pub said: Vec<(Style, usize)>,
     /// The longest request for a delay, in microseconds.
@@ -49,7 +49,7 @@ pub struct Outcome {
 }
 
 /// authenticate with these arguments, by root, where nothing is set and no reply is there.
-pub fn authenticate<'a>(args: &'a [&'a [u8]]) -> Scene<'a> {
+pub fn authenticate<'a>(args: &'a [&'a [u8]]) -> Scene<'a, 'static> {
     Scene {
         func: Func::Authenticate,
         flags: 0,
@@ -114,10 +114,8 @@ fn outcome_of(
     for message in transaction.said.items() {
         said.push((message.style, message.text.len()))?;
     }
-    let user = match get_item(&transaction.items, ItemName::User) {
-        Some(user) => Some(Text::from_bytes(alloc, user)?),
-        None => None,
-    };
+    let user = get_item(&transaction.items, ItemName::User).unwrap_or(b"");
+    let user = Text::from_bytes(alloc, user)?;
     Ok(Outcome {
         answer,
         user,
