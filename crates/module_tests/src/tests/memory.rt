@@ -5,7 +5,7 @@ use crate::tests::scene::{Scene, authenticate, serve_once};
 use conv_port::Conv;
 use data_cleanup::{Datum, Receipt};
 use pam_base::{Code, NoMemory};
-use pam_outside::{Clock, Vault};
+use pam_outside::{Clock, Vault, current_moment, replace_file};
 use pam_room::{
     Call, Module, Process, Transaction, nothing_is_set, set_data_are_sets, setting_goes_on,
     spend_by_length,
@@ -13,7 +13,8 @@ use pam_room::{
 use std::alloc::Global;
 use std::test::Fail;
 
-// Sets two data, the second in place of the first, and then finds no memory.
+// Sets two data, the second in place of the first, writes whether the moment 5 has come into the file /stamp, and then
+// finds no memory.
 #[derive(Drop)]
 struct Forgetful;
 
@@ -37,14 +38,20 @@ impl Module for Forgetful {
         transaction: &mut Transaction,
         process: &mut Process,
         _conv: &mut dyn Conv,
-        _vault: &mut dyn Vault,
-        _clock: &mut dyn Clock,
+        vault: &mut dyn Vault,
+        clock: &mut dyn Clock,
     ) -> Result<Code, NoMemory> {
         nothing_is_set();
         setting_goes_on();
         set_data_are_sets();
         transaction.set_data(alloc, &mut process.ledger, b"a", b"x")?;
         transaction.set_data(alloc, &mut process.ledger, b"a", b"yy")?;
+        let stamp = if current_moment(&*clock) < 5 {
+            b"early"
+        } else {
+            b"ready"
+        };
+        let _written = replace_file(vault, alloc, b"/stamp", stamp);
         Err(NoMemory)
     }
 
@@ -64,6 +71,7 @@ fn what_was_replaced_is_cleaned_up_also_after_want_of_memory(rt: HostRuntime) ->
     assert_eq!(rt; outcome.answer, Err(NoMemory));
     assert_eq!(rt; outcome.visits, 0);
     assert_eq!(rt; outcome.swept, 1);
+    assert_eq!(rt; outcome.stamp.bytes(), b"ready".as_slice());
     let want = [(0, 0x2000_0000, 1), (1, 5, 2)];
     assert_eq!(rt; outcome.receipts.as_slice(), want.as_slice());
     Ok(())

@@ -5,7 +5,7 @@ ghost use Rattle.pam_room.specs.Stays.{IsReady};
 use conv_port::{Conv, QueueConv};
 use data_cleanup::Ledger;
 use pam_base::{Code, Func, ItemName, NoMemory, Numbers, Style, Text, Texts};
-use pam_outside::{FixedClock, MemVault, NapSum};
+use pam_outside::{FixedClock, MemVault, NapSum, read_file};
 use pam_room::{
     Call, Module, Process, Room, StackLine, Transaction, World, end_room, get_item, serve_line,
     set_item,
@@ -13,7 +13,7 @@ use pam_room::{
 use std::alloc::Global;
 use std::test::Fail;
 
-/// A call of one module on a new transaction, which is ended after it.
+/// A call of one module on a new transaction, which is ended after it, at the moment 5 and over no files.
 #[derive(Clone, Copy)]
 pub struct Scene<'a, 'b> {
     pub func: Func,
@@ -44,6 +44,8 @@ pub struct Outcome {
     pub visits: usize,
     /// How many receipts there were before the end.
     pub swept: usize,
+    /// What stands in the file /stamp, nothing where there is none.
+    pub stamp: Text,
     /// Id, status and note of each receipt, those of the end among them.
     pub receipts: Vec<(u64, u32, u32)>,
 }
@@ -67,7 +69,7 @@ pub fn serve_once(alloc: Global, module: Box<dyn Module>, scene: Scene) -> Resul
     mods.push(module)?;
     let mut world = World {
         vault: Box::new(alloc, MemVault::new(alloc, Numbers::new(alloc)))?,
-        clock: Box::new(alloc, FixedClock::new(0, 0))?,
+        clock: Box::new(alloc, FixedClock::new(5, 0))?,
         nap: Box::new(alloc, NapSum::new())?,
         process: process(alloc, scene.caller),
     };
@@ -95,6 +97,9 @@ pub fn serve_once(alloc: Global, module: Box<dyn Module>, scene: Scene) -> Resul
     let _conv = end_room(&mods, room, &mut world.process, scene.status);
     set?;
     let mut outcome = outcome?;
+    if let Ok(stamp) = read_file(&mut *world.vault, alloc, b"/stamp", 64) {
+        outcome.stamp = stamp;
+    }
     for filed in world.process.ledger.filed() {
         let receipt = filed.receipt;
         outcome
@@ -123,6 +128,7 @@ fn outcome_of(
         delay: transaction.delay.longest(),
         visits: transaction.trail.len(),
         swept: ledger.filed().len(),
+        stamp: Text::new(alloc),
         receipts: Vec::new(alloc),
     })
 }
