@@ -1,11 +1,7 @@
-use crate::tests::scene::{process, serve_first, texts};
-use conv_port::QueueConv;
+use crate::tests::scene::{Scene, authenticate, serve_once};
 use mod_basic::{Debug, Deny, Permit, Rootok};
-use pam_base::{Code, Func, ItemName, Numbers};
-use pam_outside::{FixedClock, MemVault, NapSum};
-use pam_room::{
-    Call, Module, PRELIM_CHECK, Room, Transaction, World, end_room, get_item, set_item,
-};
+use pam_base::{Code, Func};
+use pam_room::{Module, PRELIM_CHECK};
 use std::alloc::Global;
 use std::test::Fail;
 
@@ -18,37 +14,22 @@ const FUNCTIONS: [Func; 6] = [
     Func::ChAuthTok,
 ];
 
-// What a module answers to one call on a new transaction, in a process of this user.
+// What a module answers to one call.
 fn answer(
     alloc: Global,
     module: Box<dyn Module>,
     func: Func,
     flags: u32,
-    words: &[&[u8]],
+    args: &[&[u8]],
     caller: u32,
 ) -> Result<Code, Fail> {
-    let mut mods: Vec<Box<dyn Module>> = Vec::new(alloc);
-    mods.push(module)?;
-    let mut world = World {
-        vault: Box::new(alloc, MemVault::new(alloc, Numbers::new(alloc)))?,
-        clock: Box::new(alloc, FixedClock::new(0, 0))?,
-        nap: Box::new(alloc, NapSum::new())?,
-        process: process(alloc, caller),
-    };
-    let args = texts(alloc, words)?;
-    let conv = Box::new(alloc, QueueConv::new(alloc))?;
-    let mut room = Room {
-        transaction: Transaction::new(alloc, 1),
-        conv,
-    };
-    let call = Call {
+    let scene = Scene {
         func,
         flags,
-        args: &args,
+        caller,
+        ..authenticate(args)
     };
-    let code = serve_first(alloc, &mods, &call, &mut room, &mut world);
-    let _conv = end_room(&mods, room, &mut world.process, 0);
-    Ok(code?)
+    Ok(serve_once(alloc, module, scene)?.answer?)
 }
 
 #[test]
@@ -177,48 +158,20 @@ fn rootok_looks_at_the_caller(rt: HostRuntime) -> Result<(), Fail> {
     Ok(())
 }
 
-// The user after pam_permit served a function, where this user was set before.
 #[test]
 fn permit_makes_an_unknown_user_nobody(rt: HostRuntime) -> Result<(), Fail> {
     let alloc = rt.alloc();
-    for (func, before, after) in [
-        (Func::Authenticate, None, Some(b"nobody".as_slice())),
-        (
-            Func::Authenticate,
-            Some(b"joe".as_slice()),
-            Some(b"joe".as_slice()),
-        ),
-        (Func::AcctMgmt, None, None),
+    for (func, user, want) in [
+        (Func::Authenticate, b"".as_slice(), b"nobody".as_slice()),
+        (Func::Authenticate, b"joe", b"joe"),
+        (Func::AcctMgmt, b"", b""),
     ] {
-        let mut mods: Vec<Box<dyn Module>> = Vec::new(alloc);
-        mods.push(Box::new(alloc, Permit)?)?;
-        let mut world = World {
-            vault: Box::new(alloc, MemVault::new(alloc, Numbers::new(alloc)))?,
-            clock: Box::new(alloc, FixedClock::new(0, 0))?,
-            nap: Box::new(alloc, NapSum::new())?,
-            process: process(alloc, 1),
-        };
-        let args = texts(alloc, &[])?;
-        let conv = Box::new(alloc, QueueConv::new(alloc))?;
-        let mut room = Room {
-            transaction: Transaction::new(alloc, 1),
-            conv,
-        };
-        let set = match before {
-            Some(user) => set_item(&mut room.transaction.items, ItemName::User, user),
-            None => Ok(()),
-        };
-        let call = Call {
-            func,
-            flags: 0,
-            args: &args,
-        };
-        let code = serve_first(alloc, &mods, &call, &mut room, &mut world);
-        let as_wanted = get_item(&room.transaction.items, ItemName::User) == after;
-        let _conv = end_room(&mods, room, &mut world.process, 0);
-        set?;
-        assert_eq!(rt; code, Ok(Code::Success));
-        assert!(rt; as_wanted, "at {func:?}");
+        let mut scene = authenticate(&[]);
+        scene.func = func;
+        scene.user = user;
+        let outcome = serve_once(alloc, Box::new(alloc, Permit)?, scene)?;
+        assert_eq!(rt; outcome.answer, Ok(Code::Success));
+        assert_eq!(rt; outcome.user.bytes(), want, "at {func:?}");
     }
     Ok(())
 }

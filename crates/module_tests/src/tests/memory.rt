@@ -1,19 +1,20 @@
 ghost use Rattle.std.specs.Prelude.{codes};
 ghost use Rattle.pam_room.specs.Module.{answered, length_note};
 
-use crate::tests::scene::{process, serve_first, texts};
-use conv_port::{Conv, QueueConv};
+use crate::tests::scene::{Scene, authenticate, serve_once};
+use conv_port::Conv;
 use data_cleanup::{Datum, Receipt};
-use pam_base::{Code, Func, NoMemory, Numbers};
-use pam_outside::{Clock, FixedClock, MemVault, NapSum, Vault};
+use pam_base::{Code, NoMemory};
+use pam_outside::{Clock, Vault, current_moment, replace_file};
 use pam_room::{
-    Call, Module, Process, Room, Transaction, World, end_room, nothing_is_set, set_data_are_sets,
-    setting_goes_on, spend_by_length,
+    Call, Module, Process, Transaction, nothing_is_set, set_data_are_sets, setting_goes_on,
+    spend_by_length,
 };
 use std::alloc::Global;
 use std::test::Fail;
 
-// Sets two data, the second in place of the first, and then finds no memory.
+// Sets two data, the second in place of the first, writes whether the moment 5 has come into the file /stamp, and then
+// finds no memory.
 #[derive(Drop)]
 struct Forgetful;
 
@@ -37,14 +38,20 @@ impl Module for Forgetful {
         transaction: &mut Transaction,
         process: &mut Process,
         _conv: &mut dyn Conv,
-        _vault: &mut dyn Vault,
-        _clock: &mut dyn Clock,
+        vault: &mut dyn Vault,
+        clock: &mut dyn Clock,
     ) -> Result<Code, NoMemory> {
         nothing_is_set();
         setting_goes_on();
         set_data_are_sets();
         transaction.set_data(alloc, &mut process.ledger, b"a", b"x")?;
         transaction.set_data(alloc, &mut process.ledger, b"a", b"yy")?;
+        let stamp = if current_moment(&*clock) < 5 {
+            b"early"
+        } else {
+            b"ready"
+        };
+        let _written = replace_file(vault, alloc, b"/stamp", stamp);
         Err(NoMemory)
     }
 
@@ -56,38 +63,16 @@ impl Module for Forgetful {
 #[test]
 fn what_was_replaced_is_cleaned_up_also_after_want_of_memory(rt: HostRuntime) -> Result<(), Fail> {
     let alloc = rt.alloc();
-    let mut mods: Vec<Box<dyn Module>> = Vec::new(alloc);
-    mods.push(Box::new(alloc, Forgetful)?)?;
-    let mut world = World {
-        vault: Box::new(alloc, MemVault::new(alloc, Numbers::new(alloc)))?,
-        clock: Box::new(alloc, FixedClock::new(0, 0))?,
-        nap: Box::new(alloc, NapSum::new())?,
-        process: process(alloc, 1),
+    let scene = Scene {
+        status: 5,
+        ..authenticate(&[])
     };
-    let args = texts(alloc, &[])?;
-    let conv = Box::new(alloc, QueueConv::new(alloc))?;
-    let mut room = Room {
-        transaction: Transaction::new(alloc, 1),
-        conv,
-    };
-    let call = Call {
-        func: Func::Authenticate,
-        flags: 0,
-        args: &args,
-    };
-    let code = serve_first(alloc, &mods, &call, &mut room, &mut world);
-    let visits = room.transaction.trail.len();
-    let filed = world.process.ledger.filed().len();
-    let _conv = end_room(&mods, room, &mut world.process, 5);
-    assert_eq!(rt; code, Err(NoMemory));
-    assert_eq!(rt; visits, 0);
-    assert_eq!(rt; filed, 1);
-    let mut receipts = Vec::new(alloc);
-    for filed in world.process.ledger.filed() {
-        let receipt = filed.receipt;
-        receipts.push((receipt.id, receipt.status, receipt.note))?;
-    }
+    let outcome = serve_once(alloc, Box::new(alloc, Forgetful)?, scene)?;
+    assert_eq!(rt; outcome.answer, Err(NoMemory));
+    assert_eq!(rt; outcome.visits, 0);
+    assert_eq!(rt; outcome.swept, 1);
+    assert_eq!(rt; outcome.stamp.bytes(), b"ready".as_slice());
     let want = [(0, 0x2000_0000, 1), (1, 5, 2)];
-    assert_eq!(rt; receipts.as_slice(), want.as_slice());
+    assert_eq!(rt; outcome.receipts.as_slice(), want.as_slice());
     Ok(())
 }

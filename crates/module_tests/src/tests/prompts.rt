@@ -34,11 +34,11 @@ fn queue(alloc: Global, offers: &[&[u8]]) -> Result<QueueConv, Fail> {
     Ok(queue)
 }
 
-// What a call for a user's name came to: its answer, the user, the prompt, and whether it was put off.
+// What a question came to: its answer, the item (empty where it isn't set), what was said, and whether it was put off.
 #[derive(Drop)]
 struct Asked {
     answer: Result<(), Refuse<ConvErr>>,
-    item: Option<Text>,
+    item: Text,
     said: Vec<(Style, Text)>,
     put_off: bool,
 }
@@ -57,10 +57,7 @@ fn outcome_of(
             Text::from_bytes(alloc, message.text.bytes())?,
         ))?;
     }
-    let item = match item {
-        Some(text) => Some(Text::from_bytes(alloc, text)?),
-        None => None,
-    };
+    let item = Text::from_bytes(alloc, item.unwrap_or(b""))?;
     Ok(Asked {
         answer,
         item,
@@ -103,10 +100,7 @@ fn a_user_is_asked_for_once(rt: HostRuntime) -> Result<(), Fail> {
         assert_eq!(rt; unknown.said.len(), 1);
         assert_eq!(rt; unknown.said[0].0, Style::EchoOn);
         assert_eq!(rt; unknown.said[0].1.bytes(), want);
-        match unknown.item {
-            Some(name) => assert_eq!(rt; name.bytes(), b"sue".as_slice()),
-            None => assert!(rt; false, "no user"),
-        }
+        assert_eq!(rt; unknown.item.bytes(), b"sue".as_slice());
     }
     Ok(())
 }
@@ -120,7 +114,7 @@ fn a_question_without_reply_is_a_conversation_error(rt: HostRuntime) -> Result<(
     ] {
         let outcome = user(alloc, b"", b"", offers)?;
         assert_eq!(rt; outcome.answer, Err(Refuse::Named(ConvErr)));
-        assert!(rt; outcome.item.is_none());
+        assert!(rt; outcome.item.is_empty());
         assert_eq!(rt; outcome.said.len(), 1);
         assert_eq!(rt; outcome.put_off, put_off);
     }
@@ -176,10 +170,7 @@ fn each_token_is_asked_for_unseen(rt: HostRuntime) -> Result<(), Fail> {
         assert_eq!(rt; outcome.said.len(), 1);
         assert_eq!(rt; outcome.said[0].0, Style::EchoOff);
         assert_eq!(rt; outcome.said[0].1.bytes(), prompt);
-        match outcome.item {
-            Some(token) => assert_eq!(rt; token.bytes(), b"secret".as_slice()),
-            None => assert!(rt; false, "no token"),
-        }
+        assert_eq!(rt; outcome.item.bytes(), b"secret".as_slice());
     }
     Ok(())
 }
