@@ -1,6 +1,5 @@
 mod codes;
 mod controls;
-mod dispatching;
 mod faults;
 mod items;
 mod lists;

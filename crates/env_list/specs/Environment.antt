@@ -5,7 +5,6 @@ use Rattle.std.specs.List.{find, list_any, before_first, after_first, IsDistinct
 use Rattle.std.specs.Option.{option_map}
 use Rattle.std.specs.Str.{bytes_eq}
 use Rattle.pam_base.specs.Bytes.{has_byte}
-use Rattle.pam_base.specs.declared.fault.BadItem.{BadItem}
 
 -- a name and its value
 pub record Variable : Type 0 where
@@ -62,7 +61,3 @@ is_refused text variables = length (name_in text) == 0 || (is_deletion text && n
 -- the variables after a text that isn't refused
 abbrev pub after_put : List ℕ → List Variable → List Variable
 after_put text variables = if is_deletion text then without (name_in text) variables else with_value (name_in text) (value_in text) variables
-
--- the refusal of a text
-abbrev pub bad_item : BadItem
-bad_item = record {}

@@ -1,6 +1,7 @@
 ghost use Rattle.std.specs.Prelude.{◌≡◌, ◌≢◌, ◌↔◌, ◌==◌, ◌||◌, not, false, [], map, length, None, Err, IfOk, OnOk, OnErr, IsTrue};
 ghost use Rattle.std.specs.Option.{option_copied};
-ghost use Rattle.env_list.specs.Environment.{HaveDifferentNames, is_set, value_of, with_value, without, is_deletion, is_refused, after_put, variable_text, bad_item};
+ghost use Rattle.env_list.specs.Environment.{HaveDifferentNames, is_set, value_of, with_value, without, is_deletion, is_refused, after_put, variable_text};
+ghost use Rattle.pam_base.specs.Fault.{bad_item};
 
 use indexmap::IndexMap;
 use pam_base::{BadItem, NoMemory, Refuse, Text, Texts, first_place};

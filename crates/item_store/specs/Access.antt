@@ -4,7 +4,6 @@ use Rattle.std.specs.Prelude.{Bool, List, [], ◌∷◌, ◌==◌}
 use Rattle.std.specs.List.{list_any}
 use Rattle.pam_base.specs.declared.item.ItemName.{ItemName}
 use Rattle.pam_base.specs.declared.item.ItemName.TheVariants.{Service, Conv, AuthTok, OldAuthTok, FailDelay}
-use Rattle.pam_base.specs.declared.fault.BadItem.{BadItem}
 use Rattle.pam_base.specs.Item.{item_number}
 use Rattle.item_store.specs.declared.access.Access.{Access}
 use Rattle.item_store.specs.declared.access.Access.TheVariants.{ApplicationSets, ApplicationGets, ModuleSets, ModuleGets}
@@ -19,7 +18,3 @@ refused_items ModuleGets = Conv ∷ FailDelay ∷ []
 -- whether the item is among them
 abbrev pub is_refused : Access → ItemName → Bool
 is_refused access item = list_any (λ refused. item_number refused == item_number item) (refused_items access)
-
--- the refusal of an item
-abbrev pub bad_item : BadItem
-bad_item = record {}

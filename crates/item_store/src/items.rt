@@ -1,6 +1,7 @@
 ghost use Rattle.std.specs.Prelude.{◌≡◌, ◌≢◌, ◌↔◌, Some, None, Ok, Err, IsOk, IsErr, IfOk, OnOk, OnErr, IsTrue};
 ghost use Rattle.std.specs.Option.{option_copied};
-ghost use Rattle.item_store.specs.Access.{is_refused, bad_item};
+ghost use Rattle.item_store.specs.Access.{is_refused};
+ghost use Rattle.pam_base.specs.Fault.{bad_item};
 ghost use Rattle.item_store.specs.Items.{no_texts, text_of, with_text, without_tokens};
 
 use crate::access::Access;

@@ -33,8 +33,6 @@ pub enum Refuse<F> {
 /// What is wrong with a configuration. The numbers are printed.
 #[derive(Clone, Copy, Debug, PartialEq, Eq)]
 pub enum FaultKind {
-    /// The configuration holds what this version doesn't read yet.
-    NotBuilt = 0,
     /// A bracket is still open at the end of its line.
     OpenBracket = 1,
     NulByte = 2,
@@ -71,8 +69,6 @@ pub enum FaultKind {
 /// What is wrong with a line of a script.
 #[derive(Clone, Copy, Debug, PartialEq, Eq)]
 pub enum ScriptKind {
-    /// The line has none of the forms that this version reads.
-    NotBuilt = 0,
     /// A word isn't of its form, or there are too few or too many.
     BadWord = 1,
     /// A number isn't of its form.
@@ -108,7 +104,7 @@ impl<F> From<NoMemory> for Refuse<F> {
 }
 
 impl FaultKind {
-    /// The number that is printed, from 0 to 16.
+    /// The number that is printed, from 1 to 16.
     pub fn number(self) -> u32
         ensures { result ≡ fault_number self }
     {
@@ -120,7 +116,6 @@ impl FaultKind {
         ensures { result.now ≡ fault_name self }
     {
         match self {
-            FaultKind::NotBuilt => "NotBuilt",
             FaultKind::OpenBracket => "OpenBracket",
             FaultKind::NulByte => "NulByte",
             FaultKind::RuleTooLong => "RuleTooLong",
@@ -154,7 +149,6 @@ impl ScriptKind {
         ensures { result.now ≡ script_fault_name self }
     {
         match self {
-            ScriptKind::NotBuilt => "NotBuilt",
             ScriptKind::BadWord => "BadWord",
             ScriptKind::BadNumeral => "BadNumeral",
             ScriptKind::LineTooLong => "LineTooLong",

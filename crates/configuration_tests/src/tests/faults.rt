@@ -1,8 +1,7 @@
 use pam_base::{Code, FaultKind, NoMemory, Refuse, ScriptKind};
 
 // The names of the faults of a configuration and of a script, in the order of their numbers.
-static CONFIGURATION: [&str; 17] = [
-    "NotBuilt",
+static CONFIGURATION: [&str; 16] = [
     "OpenBracket",
     "NulByte",
     "RuleTooLong",
@@ -21,18 +20,11 @@ static CONFIGURATION: [&str; 17] = [
     "ReadFailed",
 ];
 
-static SCRIPT: [&str; 5] = [
-    "NotBuilt",
-    "BadWord",
-    "BadNumeral",
-    "LineTooLong",
-    "TooManyLines",
-];
+static SCRIPT: [&str; 4] = ["BadWord", "BadNumeral", "LineTooLong", "TooManyLines"];
 
 #[test]
 fn faults_of_a_configuration_are_printed_by_number_and_name(rt: HostRuntime) {
     let faults = [
-        FaultKind::NotBuilt,
         FaultKind::OpenBracket,
         FaultKind::NulByte,
         FaultKind::RuleTooLong,
@@ -51,7 +43,7 @@ fn faults_of_a_configuration_are_printed_by_number_and_name(rt: HostRuntime) {
         FaultKind::ReadFailed,
     ];
     for (place, fault) in faults.iter().enumerate() {
-        assert_eq!(rt; fault.number() as usize, place);
+        assert_eq!(rt; fault.number() as usize, place + 1);
         assert_eq!(rt; fault.name(), CONFIGURATION[place]);
     }
 }
@@ -59,14 +51,13 @@ fn faults_of_a_configuration_are_printed_by_number_and_name(rt: HostRuntime) {
 #[test]
 fn faults_of_a_script_are_printed_by_number_and_name(rt: HostRuntime) {
     let faults = [
-        ScriptKind::NotBuilt,
         ScriptKind::BadWord,
         ScriptKind::BadNumeral,
         ScriptKind::LineTooLong,
         ScriptKind::TooManyLines,
     ];
     for (place, fault) in faults.iter().enumerate() {
-        assert_eq!(rt; fault.number() as usize, place);
+        assert_eq!(rt; fault.number() as usize, place + 1);
         assert_eq!(rt; fault.name(), SCRIPT[place]);
     }
 }

@@ -1,4 +1,0 @@
-pub mod Trail
-pub mod Opinion
-pub mod Walk
-pub mod Pass
