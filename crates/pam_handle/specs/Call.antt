@@ -1,0 +1,88 @@
+-- What a call of the application comes to, and what of a transaction's calls is common to several (pam_fail_delay(3); that a
+-- call may be put off, and what others answer meanwhile, is this project's own).
+use Rattle.std.specs.Prelude.{◌≡◌, ℕ, Bool, true, false, Option, Some, None, List, if◌then◌else◌, ◌==◌}
+use Rattle.pam_base.specs.declared.code.Code.{Code}
+use Rattle.pam_base.specs.declared.code.Code.TheVariants as codes
+use Rattle.pam_base.specs.declared.call.Func.{Func}
+use Rattle.pam_base.specs.declared.call.Func.TheVariants.{Authenticate, SetCred, AcctMgmt, OpenSession, CloseSession, ChAuthTok}
+use Rattle.item_store.specs.Items.{without_tokens}
+use Rattle.fail_delay.specs.Delay.{asked_delay}
+use Rattle.fail_delay.specs.Wait.{wait_of}
+use Rattle.pam_outside.specs.Time.{rested}
+use Rattle.stack_walk.specs.Route.{KeptAnswers}
+use Rattle.pam_room.specs.State.{PlainRoom, PlainWorld, State, state_of}
+use Rattle.pam_handle.specs.declared.wait.Wait.{Wait}
+use Rattle.pam_handle.specs.Handle.{Pending, PlainHandle, in_room}
+
+-- the code that a call answers, and the transaction and the world after it
+pub record Called : Type 0 where
+  pub code : Code
+  pub handle : PlainHandle
+  pub world : PlainWorld
+
+abbrev pub called : Code → PlainHandle → PlainWorld → Called
+called code h w = record { code = code; handle = h; world = w }
+
+-- a code, a transaction and a world are those of a call
+pub record CallsAs (c : Called) (code : Code) (handle : PlainHandle) (world : PlainWorld) : Type 0 where
+  pub code_is : code ≡ c.code
+  pub handle_is : handle ≡ c.handle
+  pub world_is : world ≡ c.world
+
+-- ---- the room
+
+-- with both tokens unset
+abbrev pub without_its_tokens : PlainRoom → PlainRoom
+without_its_tokens r = record r { transaction = record r.transaction { items = without_tokens r.transaction.items } }
+
+-- with no request for a delay
+abbrev pub without_request : PlainRoom → PlainRoom
+without_request r = record r { transaction = record r.transaction { delay = 0 } }
+
+abbrev pub tokens_cleared : PlainHandle → PlainHandle
+tokens_cleared h = in_room (without_its_tokens h.room) h
+
+abbrev pub request_forgotten : PlainHandle → PlainHandle
+request_forgotten h = in_room (without_request h.room) h
+
+-- ---- calls that were put off
+
+abbrev pub same_func : Func → Func → Bool
+same_func Authenticate Authenticate = true
+same_func SetCred SetCred = true
+same_func AcctMgmt AcctMgmt = true
+same_func OpenSession OpenSession = true
+same_func CloseSession CloseSession = true
+same_func ChAuthTok ChAuthTok = true
+same_func a b = false
+
+-- The call of a function: where another is pending it is aborted and nothing changes; where it is pending itself it goes on
+-- after what it was given; else it begins.
+abbrev pub begun_or_going_on : Option Pending → Func → Called → Called → (Pending → Called) → Called
+begun_or_going_on None func aborted begins goes_on = begins
+begun_or_going_on (Some p) func aborted begins goes_on = if same_func p.func func then goes_on p else aborted
+
+-- what is pending behind a pass: the call, where the pass was put off
+abbrev pub pending_behind : Func → Option KeptAnswers → Option (List Code) → Option Pending
+pending_behind func first None = None
+pending_behind func first (Some past) = Some (record { func = func; past = past; first = first })
+
+-- the request for a delay is forgotten when a pass has ended, and stays where it was put off
+abbrev pub request_behind : Option (List Code) → PlainRoom → PlainRoom
+request_behind None r = without_request r
+request_behind (Some past) r = r
+
+-- ---- the wait after an authentication
+
+-- where there is a wait it is told, and one of more than 0 is rested
+abbrev pub waits : Code → ℕ → Option ℕ → PlainHandle → PlainWorld → Called
+waits code asked None h w = called code h w
+waits code asked (Some n) h w =
+    called code (record h { waited = Some (record { code = code; asked = asked; wait = n }) })
+    (if n == 0 then w else record w { nap = rested w.nap n })
+
+-- `number` is what the application's delay function gives
+abbrev pub waits_after : (Code → ℕ → ℕ) → Code → PlainHandle → PlainWorld → Called
+waits_after number code h w =
+    let asked = asked_delay h.room.transaction.delay w.clock.word in
+    waits code asked (wait_of h.delay_on number code asked) h w

@@ -1,0 +1,51 @@
+-- The calls that run no stack: items, environment, delays, conversations and what is missing (pam_set_item(3), pam_putenv(3),
+-- pam_fail_delay(3); that missing modules are told is this project's own).
+use Rattle.std.specs.Prelude.{ℕ, Bool, ◌||◌, if◌then◌else◌, Option, Some, None, is_some, List, [], ◌∷◌, ◌++◌, max}
+use Rattle.item_store.specs.Items.{ItemTexts, with_text}
+use Rattle.env_list.specs.Environment.{Variable}
+use Rattle.fail_delay.specs.Delay.{counted_request}
+use Rattle.conv_port.specs.Conv.{ConvState}
+use Rattle.control_words.specs.declared.nodes.Rule.{Rule}
+use Rattle.control_words.specs.Module.{name_of_module}
+use Rattle.control_words.specs.Stack.{Stack, none, line, sub}
+use Rattle.handler_chain.specs.FlatLines.{module_of}
+use Rattle.pam_room.specs.State.{PlainRoom, PlainTransaction}
+use Rattle.pam_handle.specs.Handle.{PlainHandle, Stacks, in_room}
+
+abbrev pub with_transaction : PlainTransaction → PlainHandle → PlainHandle
+with_transaction t h = in_room (record h.room { transaction = t }) h
+
+abbrev pub with_items : ItemTexts → PlainHandle → PlainHandle
+with_items items h = with_transaction (record h.room.transaction { items = items }) h
+
+abbrev pub with_environment : List Variable → PlainHandle → PlainHandle
+with_environment env h = with_transaction (record h.room.transaction { env = env }) h
+
+-- a request for a delay, in microseconds
+abbrev pub with_request : ℕ → PlainHandle → PlainHandle
+with_request micros h = with_transaction (record h.room.transaction { delay = max (counted_request micros) h.room.transaction.delay }) h
+
+abbrev pub with_delay_function : Bool → PlainHandle → PlainHandle
+with_delay_function on h = record h { delay_on = on }
+
+abbrev pub with_conversation : ConvState → PlainHandle → PlainHandle
+with_conversation conv h = in_room (record h.room { conv = conv }) h
+
+-- with nothing left to tell of what was said, visited and waited
+abbrev pub all_told : PlainHandle → PlainHandle
+all_told h = record (with_transaction (record h.room.transaction { said = []; trail = [] }) h) { waited = None }
+
+-- ---- what is missing
+
+-- a line whose module isn't there and that isn't silent about it
+abbrev pub missing_of : List (List ℕ) → Rule → List (List ℕ)
+missing_of names rule = if rule.silent || is_some (module_of names rule) then [] else name_of_module rule.path ∷ []
+
+-- the names of the modules that the lines of a stack name and that aren't there, in written order
+abbrev pub missing_in : List (List ℕ) → Stack → List (List ℕ)
+missing_in names none = []
+missing_in names (line rule rest) = missing_of names rule ++ missing_in names rest
+missing_in names (sub inner rest) = missing_in names inner ++ missing_in names rest
+
+abbrev pub missing_from : List (List ℕ) → Stacks → List (List ℕ)
+missing_from names s = missing_in names s.auth ++ (missing_in names s.account ++ (missing_in names s.password ++ missing_in names s.session))

@@ -1,0 +1,133 @@
+-- The six calls that run a stack: pam_authenticate(3), pam_setcred(3), pam_acct_mgmt(3), pam_open_session(3),
+-- pam_close_session(3), pam_chauthtok(3). Which answers the second of two calls follows is the Module Writers' Guide's; that a
+-- call may be put off and goes on is this project's own.
+use Rattle.std.specs.Prelude.{ℕ, Bool, ◌||◌, ◌==◌, if◌then◌else◌, bit_or, Option, Some, None, List, []}
+use Rattle.pam_base.specs.declared.code.Code.{Code}
+use Rattle.pam_base.specs.declared.code.Code.TheVariants as codes
+use Rattle.pam_base.specs.declared.call.Func.{Func}
+use Rattle.pam_base.specs.declared.call.Func.TheVariants.{Authenticate, SetCred, AcctMgmt, OpenSession, CloseSession, ChAuthTok}
+use Rattle.stack_walk.specs.declared.pass_kind.PassKind.TheVariants as kinds
+use Rattle.stack_walk.specs.Route.{KeptAnswers}
+use Rattle.pam_room.specs.Call.{has_flag, prelim_check}
+use Rattle.pam_room.specs.Module.{Player}
+use Rattle.pam_room.specs.State.{PlainWorld, state_of}
+use Rattle.pam_handle.specs.Handle.{Pending, PlainHandle}
+use Rattle.pam_handle.specs.Pass.{Passed, passed, following}
+use Rattle.pam_handle.specs.Call.{Called, called, tokens_cleared, request_forgotten, begun_or_going_on, pending_behind, request_behind, waits_after}
+
+-- PAM_UPDATE_AUTHTOK, the flag of the second pass of a change of token (pam_chauthtok(3))
+abbrev pub update_authtok : ℕ
+update_authtok = 0x2000
+
+-- PAM_ESTABLISH_CRED, which the flags 0 stand for (pam_setcred(3))
+abbrev pub establish_cred : ℕ
+establish_cred = 0x2
+
+abbrev pub credential_flags : ℕ → ℕ
+credential_flags flags = if flags == 0 then establish_cred else flags
+
+-- behind the only pass of a call
+abbrev pub ended : Func → Passed → PlainHandle → Called
+ended func p h = called p.code (record h { room = request_behind p.paused p.state.room; pending = pending_behind func None p.paused }) p.state.world
+
+module _ (players : List Player) where
+  -- ---- pam_authenticate(3)
+
+  -- the wait follows, and then the request is forgotten; the tokens are cleared
+  abbrev pub authenticated : (Code → ℕ → ℕ) → Option (List Code) → Code → PlainHandle → PlainWorld → Called
+  authenticated number (Some past) code h w = called code h w
+  authenticated number None code h w =
+      let waited = waits_after number code (tokens_cleared h) w in
+      called code (request_forgotten waited.handle) waited.world
+
+  abbrev pub authentication : (Code → ℕ → ℕ) → ℕ → List Code → PlainHandle → PlainWorld → Called
+  authentication number flags past h w =
+      let p = passed players Authenticate flags kinds.Keep h.authenticated h.stacks.auth past (state_of h.room w) in
+      authenticated number p.paused p.code (record h { room = p.state.room; authenticated = p.kept; pending = pending_behind Authenticate None p.paused }) p.state.world
+
+  abbrev pub authenticate : (Code → ℕ → ℕ) → ℕ → PlainHandle → PlainWorld → Called
+  authenticate number flags h w = begun_or_going_on h.pending Authenticate (called codes.Abort h w)
+      (authentication number flags [] (tokens_cleared h) w)
+      (λ p. authentication number flags p.past h w)
+
+  -- ---- pam_setcred(3): it goes by what the last authentication kept
+
+  abbrev pub credentials : ℕ → List Code → PlainHandle → PlainWorld → Called
+  credentials flags past h w =
+      let p = passed players SetCred (credential_flags flags) (following h.authenticated) h.authenticated h.stacks.auth past (state_of h.room w) in
+      ended SetCred p (record h { authenticated = p.kept })
+
+  abbrev pub setcred : ℕ → PlainHandle → PlainWorld → Called
+  setcred flags h w = begun_or_going_on h.pending SetCred (called codes.Abort h w) (credentials flags [] h w) (λ p. credentials flags p.past h w)
+
+  -- ---- pam_acct_mgmt(3): its answers aren't kept
+
+  abbrev pub account : ℕ → List Code → PlainHandle → PlainWorld → Called
+  account flags past h w = ended AcctMgmt (passed players AcctMgmt flags kinds.Keep None h.stacks.account past (state_of h.room w)) h
+
+  abbrev pub acct_mgmt : ℕ → PlainHandle → PlainWorld → Called
+  acct_mgmt flags h w = begun_or_going_on h.pending AcctMgmt (called codes.Abort h w) (account flags [] h w) (λ p. account flags p.past h w)
+
+  -- ---- pam_open_session(3), and pam_close_session(3), which goes by what the last opening kept
+
+  abbrev pub opening : ℕ → List Code → PlainHandle → PlainWorld → Called
+  opening flags past h w =
+      let p = passed players OpenSession flags kinds.Keep h.opened h.stacks.session past (state_of h.room w) in
+      ended OpenSession p (record h { opened = p.kept })
+
+  abbrev pub open_session : ℕ → PlainHandle → PlainWorld → Called
+  open_session flags h w = begun_or_going_on h.pending OpenSession (called codes.Abort h w) (opening flags [] h w) (λ p. opening flags p.past h w)
+
+  abbrev pub closing : ℕ → List Code → PlainHandle → PlainWorld → Called
+  closing flags past h w =
+      let p = passed players CloseSession flags (following h.opened) h.opened h.stacks.session past (state_of h.room w) in
+      ended CloseSession p (record h { opened = p.kept })
+
+  abbrev pub close_session : ℕ → PlainHandle → PlainWorld → Called
+  close_session flags h w = begun_or_going_on h.pending CloseSession (called codes.Abort h w) (closing flags [] h w) (λ p. closing flags p.past h w)
+
+  -- ---- pam_chauthtok(3): two passes, the second only where the first gave SUCCESS, and by the answers of the first
+
+  -- behind the last pass: the tokens are cleared and the request is forgotten, unless it was put off
+  abbrev pub changed : Option (List Code) → Code → PlainHandle → PlainWorld → Called
+  changed (Some past) code h w = called code h w
+  changed None code h w = called code (request_forgotten (tokens_cleared h)) w
+
+  abbrev pub update : ℕ → Option KeptAnswers → List Code → PlainHandle → PlainWorld → Called
+  update flags first past h w =
+      let p = passed players ChAuthTok (bit_or flags update_authtok) kinds.Follow first h.stacks.password past (state_of h.room w) in
+      changed p.paused p.code (record h { room = p.state.room; pending = pending_behind ChAuthTok first p.paused }) p.state.world
+
+  abbrev pub behind_check : ℕ → Code → Option (List Code) → Option KeptAnswers → PlainHandle → PlainWorld → Called
+  behind_check flags codes.Success paused kept h w = update flags kept [] h w
+  behind_check flags code paused kept h w = changed paused code h w
+
+  abbrev pub check : ℕ → List Code → PlainHandle → PlainWorld → Called
+  check flags past h w =
+      let p = passed players ChAuthTok (bit_or flags prelim_check) kinds.Keep None h.stacks.password past (state_of h.room w) in
+      behind_check flags p.code p.paused p.kept (record h { room = p.state.room; pending = pending_behind ChAuthTok None p.paused }) p.state.world
+
+  abbrev pub change_goes_on : ℕ → List Code → Option KeptAnswers → PlainHandle → PlainWorld → Called
+  change_goes_on flags past None h w = check flags past h w
+  change_goes_on flags past (Some first) h w = update flags (Some first) past h w
+
+  -- the flags of the two passes are the library's own
+  abbrev pub has_pass_flag : ℕ → Bool
+  has_pass_flag flags = has_flag flags prelim_check || has_flag flags update_authtok
+
+  abbrev pub chauthtok : ℕ → PlainHandle → PlainWorld → Called
+  chauthtok flags h w =
+      if has_pass_flag flags then called codes.SystemErr h w
+      else begun_or_going_on h.pending ChAuthTok (called codes.Abort h w)
+          (check flags [] (tokens_cleared h) w)
+          (λ p. change_goes_on flags p.past p.first h w)
+
+  -- ---- all six
+
+  abbrev pub stack_call : (Code → ℕ → ℕ) → Func → ℕ → PlainHandle → PlainWorld → Called
+  stack_call number Authenticate flags h w = authenticate number flags h w
+  stack_call number SetCred flags h w = setcred flags h w
+  stack_call number AcctMgmt flags h w = acct_mgmt flags h w
+  stack_call number OpenSession flags h w = open_session flags h w
+  stack_call number CloseSession flags h w = close_session flags h w
+  stack_call number ChAuthTok flags h w = chauthtok flags h w

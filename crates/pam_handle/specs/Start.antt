@@ -1,0 +1,44 @@
+-- The start of a transaction (pam_start(3)).
+use Rattle.std.specs.Prelude.{◌≡◌, ℕ, List, Option, Some, None, Result, Ok, Err, false}
+use Rattle.std.specs.Str.{str_to_ascii_lowercase}
+use Rattle.conv_port.specs.Conv.{ConvState}
+use Rattle.pam_outside.specs.Files.{VaultState}
+use Rattle.service_load.specs.declared.load_fault.LoadFault.{LoadFault}
+use Rattle.service_load.specs.FirstFault.{Counts, Stop}
+use Rattle.service_load.specs.Load.{loaded, has_folder}
+use Rattle.service_load.specs.Loading.{texts_of}
+use Rattle.service_load.specs.Tree.{tree}
+use Rattle.pam_room.specs.State.{PlainWorld, new_transaction, room_of}
+use Rattle.pam_handle.specs.Handle.{PlainHandle, Stacks, stacks_of}
+
+-- a transaction of this number in which only SERVICE and, where it is known, USER are set
+abbrev pub new_handle : ℕ → List ℕ → Option (List ℕ) → ConvState → List (List ℕ) → Stacks → PlainHandle
+new_handle number service user conv names stacks = record {
+  room = room_of (record (new_transaction number) { items = record (new_transaction number).items { service = Some (str_to_ascii_lowercase service); user = user } }) conv;
+  stacks = stacks;
+  names = names;
+  authenticated = None;
+  opened = None;
+  delay_on = false;
+  pending = None;
+  waited = None;
+}
+
+-- a start: a transaction, or the first fault of its configuration; of the world only the vault's number of calls changes
+pub record Started : Type 0 where
+  pub answer : Result PlainHandle LoadFault
+  pub world : PlainWorld
+
+abbrev pub with_calls : ℕ → PlainWorld → PlainWorld
+with_calls calls w = record w { vault = record w.vault { calls = calls } }
+
+abbrev pub started_by : (Stacks → PlainHandle) → Result Counts Stop → Stacks → PlainWorld → Started
+started_by open (Ok counts) stacks w = record { answer = Ok (open stacks); world = with_calls counts.calls w }
+started_by open (Err stop) stacks w = record { answer = Err stop.fault; world = with_calls stop.calls w }
+
+-- the stacks that a service has under the root
+abbrev pub stacks_under : VaultState → List ℕ → List ℕ → Stacks
+stacks_under vault root service = stacks_of (tree (texts_of root vault) (has_folder vault root) service)
+
+abbrev pub started : ℕ → List ℕ → Option (List ℕ) → ConvState → List (List ℕ) → PlainWorld → Started
+started number service user conv names w = started_by (new_handle number service user conv names) (loaded w.vault w.process.root service) (stacks_under w.vault w.process.root service) w
