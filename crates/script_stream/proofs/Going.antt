@@ -1,5 +1,5 @@
 -- Turns one after the other.
-use Rattle.std.proofs.Common.{◌≡◌, ℕ, ◌+◌, ◌≤◌, ◌⊎◌, inl, inr, Bool, true, false, List, [], ◌∷◌, ◌++◌, length, Option, Some, None, Result, Ok, Err, refl, sym, ap, subst, ◌∙◌, append_assoc, length-append, arith}
+use Rattle.std.proofs.Common.{◌≡◌, ℕ, ◌+◌, ◌≤◌, ◌⊎◌, inl, inr, Bool, true, false, List, [], ◌++◌, length, Option, Some, None, Result, Ok, Err, refl, sym, ap, ◌∙◌, append_assoc, length-append, arith}
 use Rattle.std.proofs.lemmas.List.{append-nil}
 use Rattle.std.specs.Prelude.{OnOk}
 use Rattle.pam_outside.specs.Streams.{SourceState, SinkState}
@@ -7,8 +7,8 @@ use Rattle.script_stream.specs.declared.ending.Ending.{Ending}
 use Rattle.script_stream.specs.declared.ending.Stop.{Stop}
 use Rattle.script_stream.specs.declared.ending.Stop.TheVariants.{NoMemory}
 use Rattle.script_stream.specs.Looked.{looked}
-use Rattle.script_stream.specs.Run.{LineStep, Run, come_to, with_text, run_lines, run_of}
-use Rattle.script_stream.specs.Turns.{StopsAt, GoesOn, EndsBy, StopsBy, Tells, LastRead, Turns, begun_lines, refusal_of}
+use Rattle.script_stream.specs.Run.{LineStep, Run, with_text, run_lines, run_of}
+use Rattle.script_stream.specs.Turns.{GoesOn, EndsBy, StopsBy, Tells, LastRead, Turns, begun_lines}
 use Rattle.script_stream.proofs.Running.{lines-append}
 
 calls_both : (r : Result (Option Ending) Stop) (p q s : ℕ) (a b : List ℕ) → q ≤ p + length a → OnOk r (s ≤ q + length b) → OnOk r (s ≤ p + length (a ++ b))

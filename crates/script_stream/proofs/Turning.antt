@@ -7,16 +7,14 @@ use Rattle.pam_base.specs.declared.fault.Failed.{Failed}
 use Rattle.pam_base.specs.declared.fault.ScriptKind.{ScriptKind}
 use Rattle.pam_base.specs.Bytes.{has_byte}
 use Rattle.pam_outside.specs.Streams.{SourceState, SinkState}
-use Rattle.script_stream.specs.declared.reader.Found.{Found}
 use Rattle.script_stream.specs.declared.reader.Found.TheVariants.{Line, Rest, End}
-use Rattle.script_stream.specs.declared.ending.Ending.{Ending}
-use Rattle.script_stream.specs.declared.ending.Ending.TheVariants.{Done, ReadFault, Refused}
+use Rattle.script_stream.specs.declared.ending.Ending.TheVariants.{Done, ReadFault}
 use Rattle.script_stream.specs.declared.ending.Stop.{Stop}
 use Rattle.script_stream.specs.declared.ending.Stop.TheVariants.{NoMemory, WriteFault}
 use Rattle.script_stream.specs.Looked.{looked}
 use Rattle.script_stream.specs.Run.{LineStep, Run, come_to, after, step_at, run_lines, run_of}
 use Rattle.script_stream.specs.Taking.{Finds, IsFound, LastGot}
-use Rattle.script_stream.specs.Turns.{StopsAt, ServesTold, GoesOn, EndsBy, StopsBy, Tells, LastRead, Turns, IsLimit, after_line, after_rest, lines_after, held_after}
+use Rattle.script_stream.specs.Turns.{StopsAt, ServesTold, EndsBy, Tells, LastRead, Turns, IsLimit, after_line, after_rest, lines_after, held_after}
 use Rattle.script_stream.proofs.Looking.{looked-line, looked-last}
 use Rattle.script_stream.proofs.Running.{run-line, run-last, run-partial, run-none, lines-one, accepted-fits}
 

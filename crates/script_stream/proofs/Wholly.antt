@@ -1,5 +1,5 @@
 -- Turns from the first byte on are a run.
-use Rattle.std.proofs.Common.{◌≡◌, ℕ, ◌⊎◌, inl, inr, Bool, true, false, List, [], ◌++◌, Some, None, Result, Ok, Err, refl, sym, ap, ◌∙◌, arith}
+use Rattle.std.proofs.Common.{◌≡◌, ℕ, ◌⊎◌, inl, inr, Bool, true, false, List, [], ◌++◌, Some, Result, Ok, Err, refl, sym, ap, ◌∙◌, arith}
 use Rattle.std.proofs.lemmas.List.{append-nil}
 use Rattle.std.specs.Prelude.{OnOk}
 use Rattle.pam_base.specs.declared.fault.ScriptKind.{ScriptKind}
@@ -8,7 +8,7 @@ use Rattle.script_stream.specs.declared.ending.Ending.{Ending}
 use Rattle.script_stream.specs.declared.ending.Ending.TheVariants.{Done, ReadFault, Refused}
 use Rattle.script_stream.specs.declared.ending.Stop.{Stop}
 use Rattle.script_stream.specs.Run.{LineStep, Run, come_to, run_of}
-use Rattle.script_stream.specs.Turns.{EndsBy, Tells, LastRead, Turns}
+use Rattle.script_stream.specs.Turns.{Tells, LastRead, Turns}
 use Rattle.script_stream.specs.Whole.{at_last, Reports, Runs}
 use Rattle.script_stream.proofs.Running.{run-none}
 use Rattle.script_stream.proofs.Refusing.{run-stays}

@@ -7,7 +7,7 @@ use Rattle.script_stream.specs.declared.ending.Ending.TheVariants.{Done, ReadFau
 use Rattle.script_stream.specs.declared.ending.Stop.{Stop}
 use Rattle.script_stream.specs.declared.ending.Stop.TheVariants.{NoMemory, WriteFault}
 use Rattle.script_stream.specs.Looked.{looked}
-use Rattle.script_stream.specs.Run.{LineStep, Run, come_to, step_at, run_lines, run_of}
+use Rattle.script_stream.specs.Run.{LineStep, come_to, step_at, run_lines, run_of}
 
 -- ---- one line
 

@@ -4,7 +4,7 @@ use Rattle.pam_outside.specs.Streams.{SourceState, SinkState}
 use Rattle.script_stream.specs.declared.ending.Ending.{Ending}
 use Rattle.script_stream.specs.declared.ending.Ending.TheVariants.{Done, ReadFault, Refused}
 use Rattle.script_stream.specs.declared.ending.Stop.{Stop}
-use Rattle.script_stream.specs.Run.{LineStep, Run, come_to, run_of}
+use Rattle.script_stream.specs.Run.{LineStep, come_to, run_of}
 use Rattle.script_stream.specs.Turns.{StopsBy, LastRead}
 
 abbrev pub at_last : Result Ending Stop → Result (Option Ending) Stop
