@@ -1,0 +1,8 @@
+mod Rows
+pub mod Taken
+pub mod Looking
+pub mod Running
+pub mod Refusing
+pub mod Turning
+pub mod Going
+pub mod Wholly

@@ -1,0 +1,13 @@
+-- Which lines of a script are looked at, of the bytes that were taken so far.
+use Rattle.std.specs.Prelude.{ℕ, ◌+◌, Bool, List, [], ◌∷◌, ◌++◌, length, ◌||◌, if◌then◌else◌, nat_le, nat_lt}
+use Rattle.pam_base.specs.Lines.{cut}
+
+-- What stands behind the last newline is looked at where the input has ended; before that only where it is one line
+-- too many, or where more than 513 bytes of it were taken. `n` is the number of lines before it.
+unfoldable pub last_looked : ℕ → List ℕ → Bool → List (List ℕ)
+last_looked n [] ended = []
+last_looked n (b ∷ bs) ended = if ended || nat_le 65536 n || nat_lt 513 (length (b ∷ bs)) then (b ∷ bs) ∷ [] else []
+
+-- the lines among some bytes that are looked at, where n lines stand before them
+unfoldable pub looked : ℕ → List ℕ → Bool → List (List ℕ)
+looked n bytes ended = (cut bytes).lines ++ last_looked (n + length (cut bytes).lines) (cut bytes).rest ended
