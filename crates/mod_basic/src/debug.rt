@@ -16,6 +16,13 @@ use std::alloc::Global;
 #[derive(Drop)]
 pub struct Debug;
 
+impl Debug {
+    /// The module; it keeps nothing.
+    pub fn new() -> Self {
+        Debug
+    }
+}
+
 impl Module for Debug {
     ghost label = { λ _. codes "pam_debug" };
 

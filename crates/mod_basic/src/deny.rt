@@ -13,6 +13,13 @@ use std::alloc::Global;
 #[derive(Drop)]
 pub struct Deny;
 
+impl Deny {
+    /// The module; it keeps nothing.
+    pub fn new() -> Self {
+        Deny
+    }
+}
+
 impl Module for Deny {
     ghost label = { λ _. codes "pam_deny" };
 

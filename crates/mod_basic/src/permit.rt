@@ -15,6 +15,13 @@ use std::alloc::Global;
 #[derive(Drop)]
 pub struct Permit;
 
+impl Permit {
+    /// The module; it keeps nothing.
+    pub fn new() -> Self {
+        Permit
+    }
+}
+
 impl Module for Permit {
     ghost label = { λ _. codes "pam_permit" };
 

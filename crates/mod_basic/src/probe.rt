@@ -26,6 +26,13 @@ use std::alloc::Global;
 #[derive(Drop)]
 pub struct Probe;
 
+impl Probe {
+    /// The module; it keeps nothing.
+    pub fn new() -> Self {
+        Probe
+    }
+}
+
 impl Module for Probe {
     ghost label = { λ _. codes "pam_probe" };
 

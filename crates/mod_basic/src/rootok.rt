@@ -13,6 +13,13 @@ use std::alloc::Global;
 #[derive(Drop)]
 pub struct Rootok;
 
+impl Rootok {
+    /// The module; it keeps nothing.
+    pub fn new() -> Self {
+        Rootok
+    }
+}
+
 impl Module for Rootok {
     ghost label = { λ _. codes "pam_rootok" };
 
