@@ -37,22 +37,18 @@ for count in 4096 8192 16384 32768 65536; do
     echo "| $count | $(seconds "$room/script" "$program" run "$room") | $(seconds "$room/script" wc -l) | $before |"
 done
 
-# A start and an end, 200 times.
+# Services of so many lines, in a file that is included twice, since one file may not hold 4,000 of them.
 for count in 1000 4000; do
-    lines "$count" "auth optional p" >"$room/etc/pam.d/long$count"
-    for ((i = 0; i < 200; i++)); do echo "start 1 long$count"; echo "end 1 0"; done >"$room/starts$count"
+    lines $((count / 2)) "auth optional pam_permit" >"$room/etc/pam.d/half$count"
+    lines 2 "auth include half$count" >"$room/etc/pam.d/all$count"
+    for ((i = 0; i < 200; i++)); do echo "start 1 all$count"; echo "end 1 0"; done >"$room/starts$count"
+    { echo "start 1 all$count"; lines 200 "authenticate 1"; echo "end 1 0"; } >"$room/walks$count"
 done
 short=$(seconds "$room/starts1000" "$program" run "$room")
 long=$(seconds "$room/starts4000" "$program" run "$room")
 echo
 echo "200 starts on 1,000 lines: $short; on 4,000 lines: $long; ratio $(awk -v a="$short" -v b="$long" 'BEGIN { printf "%.1f", b / a }')"
-
-# 200 authentications over each.
-for count in 1000 4000; do
-    lines $((count / 2)) "auth optional pam_permit" >"$room/etc/pam.d/half$count"
-    { echo "auth include half$count"; echo "auth include half$count"; } >"$room/etc/pam.d/walk$count"
-    { echo "start 1 walk$count"; lines 200 "authenticate 1"; echo "end 1 0"; } >"$room/walks$count"
-done
 short=$(seconds "$room/walks1000" "$program" run "$room")
 long=$(seconds "$room/walks4000" "$program" run "$room")
-echo "200 authentications over 1,000 lines: $short; over 4,000 lines: $long; microseconds for each line walked and reported: $(awk -v b="$long" 'BEGIN { printf "%.2f", b * 1e6 / (200 * 4000) }')"
+each=$(awk -v b="$long" 'BEGIN { printf "%.2f", b * 1e6 / (200 * 4000) }')
+echo "200 authentications over 1,000 lines: $short; over 4,000 lines: $long; $each microseconds for each line walked and reported"
