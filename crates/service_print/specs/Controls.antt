@@ -1,0 +1,66 @@
+-- How a control is written (pam.conf(5), "the control field"; which of several ways is taken is this project's own).
+use Rattle.std.specs.Prelude.{ℕ, Bool, true, false, List, [], ◌∷◌, ◌++◌, map, codes, decimal, Option, Some, None, ◌==◌, not}
+use Rattle.std.specs.List.{filter, find, list_all}
+use Rattle.std.specs.Option.{unwrap_or}
+use Rattle.std.specs.Str.{str_to_ascii_lowercase}
+use Rattle.pam_base.specs.Code.{all_codes, name_of}
+use Rattle.pam_base.specs.declared.code.Code.{Code}
+use Rattle.pam_base.specs.declared.code.Code.TheVariants.{AuthtokRecoveryErr}
+use Rattle.control_words.specs.declared.control.Action.{Action}
+use Rattle.control_words.specs.declared.control.Action.TheVariants.{Ignore, Bad, Die, Ok, Done, Reset, Jump}
+use Rattle.control_words.specs.Control.{action_at}
+use Rattle.control_words.specs.Keyword.{control_of_word}
+use Rattle.service_print.specs.Tokens.{spaced}
+
+-- the word of an action (pam.conf(5)), of a jump its number
+abbrev pub action_word : Action → List ℕ
+action_word Ignore = codes "ignore"
+action_word Bad = codes "bad"
+action_word Die = codes "die"
+action_word Ok = codes "ok"
+action_word Done = codes "done"
+action_word Reset = codes "reset"
+action_word (Jump number) = decimal number
+
+abbrev pub same_action : Action → Action → Bool
+same_action Ignore Ignore = true
+same_action Bad Bad = true
+same_action Die Die = true
+same_action Ok Ok = true
+same_action Done Done = true
+same_action Reset Reset = true
+same_action (Jump number) (Jump other) = number == other
+same_action action other = false
+
+-- whether two controls have the same action for each code
+unfoldable pub same_control : List Action → List Action → Bool
+same_control control other = list_all (λ code. same_action (action_at control code) (action_at other code)) all_codes
+
+-- whether a keyword stands for a control (pam.conf(5))
+abbrev pub stands_for : List ℕ → List Action → Bool
+stands_for word control = elim (control_of_word word) [ Some table ↦ same_control control table | None ↦ false ]
+
+-- the keyword that stands for a control, if one does
+abbrev pub keyword_of : List Action → Option (List ℕ)
+keyword_of control = find (λ word. stands_for word control) (codes "required" ∷ codes "requisite" ∷ codes "sufficient" ∷ codes "optional" ∷ [])
+
+-- the word of a code (pam.conf(5)): its name in lower case; 21 is `authtok_recover_err` there
+abbrev pub code_word : Code → List ℕ
+code_word AuthtokRecoveryErr = codes "authtok_recover_err"
+code_word code = str_to_ascii_lowercase (name_of code)
+
+-- the entry of a code (pam.conf(5))
+abbrev pub entry_text : List Action → Code → List ℕ
+entry_text control code = code_word code ++ 61 ∷ action_word (action_at control code)
+
+-- whether a code has an entry: one without an entry is bad
+abbrev pub has_entry : List Action → Code → Bool
+has_entry control code = not (same_action (action_at control code) Bad)
+
+-- the entries of those among some codes that have one
+unfoldable pub entries_among : List Action → List Code → List (List ℕ)
+entries_among control codes = map (entry_text control) (filter (has_entry control) codes)
+
+-- a control: the keyword that stands for it, else its entries, in the order of the codes' numbers, in brackets
+unfoldable pub control_text : List Action → List ℕ
+control_text control = unwrap_or (keyword_of control) (91 ∷ (spaced (entries_among control all_codes) ++ 93 ∷ []))

@@ -1,0 +1,13 @@
+//! The one form in which the stacks of a service are printed: its file, and a file for each of its substacks.
+//! What is printed loads to the same stacks.
+#![tactic(auto)]
+
+mod control;
+mod file;
+mod line;
+mod printing;
+mod substack;
+mod token;
+
+pub use file::{File, Files};
+pub use printing::print;

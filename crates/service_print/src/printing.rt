@@ -1,0 +1,58 @@
+ghost use Rattle.std.specs.Prelude.{◌≡◌, IfOk};
+ghost use Rattle.service_print.specs.Printed.{printed, stacks_in};
+
+use crate::file::Files;
+use crate::substack::{add_nodes, empty_file, fill};
+use pam_base::NoMemory;
+use service_load::{RuleType, Trees};
+use std::alloc::Global;
+
+/// The four stacks of a service in one form (`pam.d(5)`): its file, with the lines of auth, account, password
+/// and session, and a file `SERVICE.n` for each substack, numbered from 1 in the order in which they begin.
+///
+/// A line is its type, with `-` where it is silent, its control, its path and its arguments, with one space
+/// between. A control that is a keyword's is that keyword, any other the entries of the codes that aren't bad.
+/// A path or an argument stands in brackets where it would not be read as one token.
+///
+/// Memory for the texts is all that it needs, and want of it the only refusal. Time is linear in the texts.
+pub fn print(alloc: Global, trees: &Trees, service: &[u8]) -> Result<Files, NoMemory>
+    ensures { IfOk result (λ files. files ≡ printed (stacks_in trees.now) service.now) }
+{
+    let mut text = Vec::new(alloc);
+    let mut files = Vec::new(alloc);
+    files.push(empty_file(alloc))?;
+    add_nodes(
+        alloc,
+        service,
+        RuleType::Auth,
+        &trees.auth,
+        &mut text,
+        &mut files,
+    )?;
+    add_nodes(
+        alloc,
+        service,
+        RuleType::Account,
+        &trees.account,
+        &mut text,
+        &mut files,
+    )?;
+    add_nodes(
+        alloc,
+        service,
+        RuleType::Password,
+        &trees.password,
+        &mut text,
+        &mut files,
+    )?;
+    add_nodes(
+        alloc,
+        service,
+        RuleType::Session,
+        &trees.session,
+        &mut text,
+        &mut files,
+    )?;
+    fill(0, Vec::from_slice(alloc, service)?, text, &mut files);
+    Ok(Files::from_vec(files))
+}
