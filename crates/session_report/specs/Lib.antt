@@ -4,4 +4,5 @@ pub mod Visited
 pub mod Cleaned
 pub mod Missing
 pub mod Fault
+pub mod Answered
 pub mod Script

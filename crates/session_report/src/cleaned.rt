@@ -1,5 +1,5 @@
 ghost use Rattle.std.specs.Prelude.{◌≡◌, IfOk, string_bytes};
-ghost use Rattle.session_report.specs.Cleaned.{status_text, cleanup_text};
+ghost use Rattle.session_report.specs.Cleaned.{status_words, cleanup_text};
 
 use data_cleanup::Receipt;
 use pam_base::{NoMemory, quoted};
@@ -23,7 +23,7 @@ pub(crate) fn cleanup_report(
 }
 
 fn status_words(alloc: Global, status: u32) -> Result<String, AllocError>
-    ensures { IfOk result (λ text. string_bytes text ≡ status_text status) }
+    ensures { IfOk result (λ text. string_bytes text ≡ status_words status) }
 {
     format!(in alloc; "{status:08x}")
 }

@@ -2,6 +2,7 @@
 //! and the last line of a run that couldn't go on. Each text is made whole before any of it is written.
 #![tactic(auto)]
 
+mod answered;
 mod cleaned;
 mod code;
 mod fault;

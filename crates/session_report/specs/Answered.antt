@@ -1,0 +1,30 @@
+-- What a step answered (this project's own).
+use Rattle.std.specs.Prelude.{ℕ, List, ◌++◌, length, codes, Option, Some, None}
+use Rattle.std.specs.List.{flat_map}
+use Rattle.std.specs.Fmt.{decimal}
+use Rattle.pam_base.specs.declared.call.Func.{Func}
+use Rattle.pam_base.specs.declared.code.Code.TheVariants.{Abort}
+use Rattle.pam_base.specs.Quote.{quoted_text}
+use Rattle.script_lang.specs.Command.{word_of_func}
+use Rattle.session_report.specs.Code.{code_words}
+
+-- H COMMAND WORDS
+abbrev pub result_text : ℕ → List ℕ → List ℕ → List ℕ
+result_text handle command words = decimal handle ++ (codes " " ++ (command ++ (codes " " ++ (words ++ codes "\n"))))
+
+-- set TEXT, or unset
+abbrev pub value_words : Option (List ℕ) → List ℕ
+value_words (Some text) = codes "set " ++ quoted_text text
+value_words None = codes "unset"
+
+-- ABORT 26 pending NAME
+abbrev pub pending_words : Func → List ℕ
+pending_words func = code_words Abort ++ (codes " pending " ++ word_of_func func)
+
+-- H env N=V
+abbrev pub variable_text : ℕ → List ℕ → List ℕ
+variable_text handle variable = decimal handle ++ (codes " env " ++ (quoted_text variable ++ codes "\n"))
+
+-- a line for each variable, and H envlist COUNT
+abbrev pub environment_text : ℕ → List ℕ → List (List ℕ) → List ℕ
+environment_text handle command variables = flat_map (variable_text handle) variables ++ result_text handle command (decimal (length variables))
