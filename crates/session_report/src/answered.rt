@@ -1,11 +1,38 @@
 ghost use Rattle.std.specs.Prelude.{◌≡◌, IfOk, string_bytes};
 ghost use Rattle.std.specs.List.{flat_map};
-ghost use Rattle.session_report.specs.Answered.{result_text, value_words, pending_words, variable_text, environment_text};
+ghost use Rattle.session_report.specs.Answered.{result_text, value_words, pending_words, variable_text, environment_text, answer_text};
 
 use crate::code::code_words;
+use crate::fault::refused_words;
+use crate::stand_in::Answer;
 use pam_base::{Code, Func, NoMemory, Text, quoted};
 use script_lang::func_word;
 use std::alloc::{AllocError, Global};
+
+/// The lines of an answer to a command.
+pub(crate) fn answer_report(
+    alloc: Global,
+    handle: u32,
+    command: &str,
+    answer: &Answer,
+) -> Result<String, NoMemory>
+    ensures { IfOk result (λ text. string_bytes text ≡ answer_text handle command.now answer.now) }
+{
+    let words = match answer {
+        Answer::Code(code) => code_words(alloc, *code)?,
+        Answer::Refused(fault) => refused_words(alloc, fault)?,
+        Answer::Value(value) => value_words(alloc, value)?,
+        Answer::List(variables) => {
+            return environment_report(alloc, handle, command, variables.items());
+        }
+        Answer::NotOpen => String::from_str(alloc, "not open")?,
+        Answer::AlreadyOpen => String::from_str(alloc, "already open")?,
+        Answer::BadNumber => String::from_str(alloc, "bad number")?,
+        Answer::Pending(func) => pending_words(alloc, *func)?,
+        Answer::Nothing => return Ok(String::new(alloc)),
+    };
+    Ok(result_report(alloc, handle, command, &words)?)
+}
 
 /// The line of a result, as `1 authenticate SUCCESS 0`.
 pub(crate) fn result_report(

@@ -4,12 +4,19 @@
 
 mod answered;
 mod cleaned;
+mod closing;
 mod code;
 mod fault;
 mod missing;
 mod said;
 mod script;
+mod stand_in;
+mod step;
 mod visited;
+mod waited;
 
 pub use fault::refused_report;
+pub use closing::closing_report;
+pub use stand_in::{Answer, Library, Outcome, Wait};
 pub use script::{READ_FAULT, script_report};
+pub use step::step_report;
