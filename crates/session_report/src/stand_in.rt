@@ -13,7 +13,9 @@ pub struct Library {
 
 impl Model for Library {
     ghost use Rattle.std.specs.Prelude.{List, ℕ};
+
     ghost Value = { List (List ℕ) };
+
     ghost view = { λ l. l.names };
 }
 
