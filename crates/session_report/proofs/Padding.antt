@@ -1,0 +1,13 @@
+-- A status is written as the format of eight hexadecimal digits has it.
+use Rattle.std.proofs.Common.{◌≡◌, ℕ, ◌^◌, ◌-◌, ◌++◌, List, length, false, [], refl, arith, ap}
+use Rattle.std.specs.Prelude.{replicate}
+use Rattle.std.specs.Fmt.{digits, padded_integral, format_spec, char_count}
+use Rattle.std.proofs.lemmas.Grind.{common_steps}
+use Rattle.session_report.specs.Cleaned.{status_words}
+
+pub numeral_is_padded : (numeral : List ℕ) → padded_integral (format_spec 32 0 4 8 (2 ^ 64 - 1)) false [] numeral ≡ replicate (8 - length numeral) 48 ++ numeral
+unfolding padded_integral char_count
+numeral_is_padded numeral = grind (arith, common_steps)
+
+pub status_is_padded : (status : ℕ) → padded_integral (format_spec 32 0 4 8 (2 ^ 64 - 1)) false [] (digits 16 false status) ≡ status_words status
+status_is_padded status = numeral_is_padded (digits 16 false status)

@@ -1,0 +1,14 @@
+-- The wait after an authentication, pam_fail_delay(3) (the line is this project's own).
+use Rattle.std.specs.Prelude.{ℕ, List, [], ◌++◌, codes, Option, Some, None}
+use Rattle.std.specs.Fmt.{decimal}
+use Rattle.session_report.specs.declared.stand_in.Wait.{Wait}
+use Rattle.session_report.specs.Code.{code_words}
+
+-- H wait NAME NUMBER ASKED WAIT, both in microseconds
+abbrev pub wait_text : ℕ → Wait → List ℕ
+wait_text handle wait = decimal handle ++ (codes " wait " ++ (code_words wait.code ++ (codes " " ++ (decimal wait.asked ++ (codes " " ++ (decimal wait.wait ++ codes "\n"))))))
+
+-- a line where there was a wait
+abbrev pub waited_text : ℕ → Option Wait → List ℕ
+waited_text handle (Some wait) = wait_text handle wait
+waited_text handle None = []

@@ -1,0 +1,31 @@
+ghost use Rattle.std.specs.Prelude.{◌≡◌, ◌≤◌, length, IfOk, string_bytes};
+ghost use Rattle.session_report.specs.Cleaned.{AreOwned};
+ghost use Rattle.session_report.specs.Closing.{closing_text};
+
+use crate::answered::result_report;
+use crate::cleaned::cleanups_report;
+use crate::code::code_words;
+use crate::stand_in::Library;
+use data_cleanup::Ledger;
+use pam_base::{Code, NoMemory};
+use std::alloc::Global;
+
+/// The lines of a transaction that the program ended with this status, each with its newline: the cleanups behind the
+/// first so many, and `H closed NAME NUMBER`. The ledger is that after the end.
+pub fn closing_report(
+    alloc: Global,
+    library: &Library,
+    ledger: &Ledger,
+    handle: u32,
+    filed_from: u64,
+    status: Code,
+) -> Result<String, NoMemory>
+    requires owned { AreOwned library.now ledger.now.births }
+    requires from { filed_from ≤ length ledger.now.filed }
+    ensures { IfOk result (λ text. string_bytes text ≡ closing_text library.now handle status ledger.now filed_from) }
+{
+    let mut text = cleanups_report(alloc, handle, library, ledger, filed_from)?;
+    let code = code_words(alloc, status)?;
+    text.push_str(&result_report(alloc, handle, "closed", &code)?)?;
+    Ok(text)
+}

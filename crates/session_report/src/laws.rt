@@ -1,0 +1,11 @@
+ghost use Rattle.std.specs.Prelude.{◌≡◌, [], List, ℕ, length};
+ghost use Rattle.pam_base.specs.declared.call.Step.{Step};
+ghost use Rattle.data_cleanup.specs.Ledger.{PlainLedger};
+ghost use Rattle.session_report.specs.declared.stand_in.Answer.TheVariants as answers;
+ghost use Rattle.session_report.specs.StandIn.{answers_only};
+ghost use Rattle.session_report.specs.Step.{step_text};
+
+/// Does nothing. Its contract: a reply that was offered has no line.
+pub fn offered_reply_is_silent()
+    ensures { (names : List (List ℕ)) (step : Step) (ledger : PlainLedger) → step_text names step (answers_only (length ledger.filed) answers.Nothing) ledger ≡ [] }
+{}

@@ -1,0 +1,24 @@
+//! The lines of the report: what a step of the script told and answered, the end of a transaction by the program,
+//! and the last line of a run that couldn't go on. Each text is made whole before any of it is written.
+#![tactic(auto)]
+
+mod answered;
+mod cleaned;
+mod closing;
+mod code;
+mod fault;
+mod laws;
+mod missing;
+mod said;
+mod script;
+mod stand_in;
+mod step;
+mod visited;
+mod waited;
+
+pub use closing::closing_report;
+pub use fault::refused_report;
+pub use laws::offered_reply_is_silent;
+pub use script::{READ_FAULT, script_report};
+pub use stand_in::{Answer, Library, Outcome, Wait};
+pub use step::step_report;

@@ -1,0 +1,17 @@
+ghost use Rattle.std.specs.Prelude.{◌≡◌, IfOk, string_bytes};
+ghost use Rattle.session_report.specs.Script.{script_text};
+
+use pam_base::{NoMemory, ScriptKind};
+use std::alloc::Global;
+
+/// The last line of a run whose script couldn't be read on, with its newline.
+pub const READ_FAULT: &str = "read fault\n";
+
+/// The last line of a run whose script is refused at this line, counted from 1, with its newline.
+pub fn script_report(alloc: Global, line: u32, kind: ScriptKind) -> Result<String, NoMemory>
+    ensures { IfOk result (λ text. string_bytes text ≡ script_text line kind) }
+{
+    let name = kind.name();
+    let number = kind.number();
+    Ok(format!(in alloc; "script {line} {name} {number}\n")?)
+}

@@ -1,0 +1,40 @@
+ghost use Rattle.std.specs.Prelude.{◌≡◌, ◌≤◌, length, IfOk, string_bytes};
+ghost use Rattle.session_report.specs.StandIn.{plain_outcome};
+ghost use Rattle.session_report.specs.Cleaned.{AreOwned};
+ghost use Rattle.session_report.specs.Step.{step_text};
+
+use crate::answered::answer_report;
+use crate::cleaned::cleanups_report;
+use crate::missing::all_missing_report;
+use crate::said::messages_report;
+use crate::stand_in::{Library, Outcome};
+use crate::visited::visits_report;
+use crate::waited::waited_report;
+use data_cleanup::Ledger;
+use pam_base::{NoMemory, Step};
+use script_lang::call_word;
+use std::alloc::Global;
+
+/// The lines of a step, each with its newline: what was said, the lines that were visited, the cleanups, the wait, the
+/// missing modules, and the result. The ledger is that after the step. A reply that was offered has no line.
+pub fn step_report(
+    alloc: Global,
+    library: &Library,
+    ledger: &Ledger,
+    step: &Step,
+    outcome: &Outcome,
+) -> Result<String, NoMemory>
+    requires owned { AreOwned library.now ledger.now.births }
+    requires from { outcome.now.filed_from ≤ length ledger.now.filed }
+    ensures { IfOk result (λ text. string_bytes text ≡ step_text library.now step.now (plain_outcome outcome.now) ledger.now) }
+{
+    let handle = step.number;
+    let command = call_word(&step.call);
+    let mut text = messages_report(alloc, handle, outcome.said.items())?;
+    text.push_str(&visits_report(alloc, handle, outcome.trail.items())?)?;
+    text.push_str(&cleanups_report(alloc, handle, library, ledger, outcome.filed_from)?)?;
+    text.push_str(&waited_report(alloc, handle, &outcome.wait)?)?;
+    text.push_str(&all_missing_report(alloc, handle, outcome.missing.items())?)?;
+    text.push_str(&answer_report(alloc, handle, command, &outcome.answer)?)?;
+    Ok(text)
+}
