@@ -2,6 +2,7 @@
 //! configuration.
 #![tactic(auto)]
 
+mod check;
 mod command;
 mod desk;
 mod program;
@@ -18,6 +19,9 @@ use std::io::ErrorKind;
 use std::process::ExitCode;
 use std::rt::Env;
 use std::{env, io};
+
+#[cfg(test)]
+mod tests;
 
 /// The status where there is no memory for the objects that the program is given.
 const NO_MEMORY: u8 = 4;
