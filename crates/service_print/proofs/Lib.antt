@@ -4,3 +4,4 @@ pub mod Adding
 pub mod Peeling
 pub mod Lining
 pub mod FourStacks
+pub mod Rows
