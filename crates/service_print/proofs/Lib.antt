@@ -5,3 +5,5 @@ pub mod Peeling
 pub mod Lining
 pub mod FourStacks
 pub mod Rows
+pub mod Spelled
+pub mod Lexed
