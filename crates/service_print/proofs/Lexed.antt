@@ -1,7 +1,7 @@
 -- A text of printed lines: its rules are the tokens of the lines, in the lines' order.
-use Rattle.std.proofs.Common.{◌≡◌, ℕ, ◌+◌, ◌≤◌, ◌<◌, Bool, true, false, not, ◌||◌, ◌&&◌, cond, eqb, nat_lt, List, [], ◌∷◌, ◌++◌, length, map, Option, Some, None, Ok, refl, sym, ap, ◌∙◌, subst, arith, append_assoc, append-nil, inl, inr, add-zero, zero-add}
+use Rattle.std.proofs.Common.{◌≡◌, ℕ, ◌+◌, ◌≤◌, ◌<◌, Bool, true, false, not, ◌||◌, ◌&&◌, cond, eqb, nat_lt, nat_le, List, [], ◌∷◌, ◌++◌, length, map, Option, Some, None, Ok, refl, sym, ap, ◌∙◌, subst, arith, append_assoc, append-nil, inl, inr, add-zero, zero-add}
 use Rattle.std.specs.List.{flat_map, list_all, list_any, count_by}
-use Rattle.std.proofs.lemmas.Bool.{cases_Bool, and_parts, and_from, not-true, le-ltb, both_ways, or_from}
+use Rattle.std.proofs.lemmas.Bool.{cases_Bool, and_parts, and_from, not-true, not_from_false, le-ltb, leb-true, or_from, or_parts}
 use Rattle.std.proofs.lemmas.Grind.{flat_map-append}
 use Rattle.std.proofs.lemmas.List.Folds.{list_all-append, list_any-append}
 use Rattle.pam_base.specs.Bytes.{has_byte}
@@ -193,3 +193,134 @@ text_stands (fields ∷ lines) sound =
 
 text_reading : (lines : List Fields) → list_all is_sound_line lines ≡ true → IsReading (lines_text lines) (text_pieces lines)
 text_reading lines sound = record { spelled = text_spelled lines ∙ sym (append-nil (spelling (text_pieces lines))); stand = text_stands lines sound }
+
+-- ---- the rules of a text
+
+lines_body : (body more : List Piece) → list_any is_newline body ≡ false → lines_of_pieces (body ++ newline ∷ more) ≡ body ∷ lines_of_pieces more
+lines_body [] more within = refl
+lines_body (p ∷ ps) more within =
+    let parts = or_parts (is_newline p) (list_any is_newline ps) within in
+    rw (parts.0, lines_body ps more parts.1) refl
+
+text_lines : (lines : List Fields) → lines_of_pieces (text_pieces lines) ≡ map body_pieces lines ++ [] ∷ []
+text_lines [] = refl
+text_lines (fields ∷ lines) =
+    ap lines_of_pieces (append_assoc (body_pieces fields) (newline ∷ []) (text_pieces lines))
+    ∙ lines_body (body_pieces fields) (text_pieces lines) (body_pieces-within fields)
+    ∙ ap (λ (ls : List (List Piece)). body_pieces fields ∷ ls) (text_lines lines)
+
+no_newlines : (text : List ℕ) → list_all is_inner text ≡ true → newlines text ≡ 0
+no_newlines [] all = refl
+no_newlines (b ∷ bs) all =
+    let parts = and_parts (is_inner b) (list_all is_inner bs) all in
+    rw (not-true (eqb b 10) parts.0, no_newlines bs parts.1) refl
+
+-- a sound token has no newline
+plain_inner : (text : List ℕ) → list_all is_plain text ≡ true → list_all is_inner text ≡ true
+plain_inner [] all = refl
+plain_inner (b ∷ bs) all =
+    let parts = and_parts (is_plain b) (list_all is_plain bs) all in
+    and_from (is_inner b) (list_all is_inner bs) (not_from_false (eqb b 10) (plain_parts b parts.0).no_newline) (plain_inner bs parts.1)
+
+some_plain_inner : (text : List ℕ) → is_plain_text text ≡ true → list_all is_inner text ≡ true
+some_plain_inner [] is = refl
+some_plain_inner (b ∷ bs) is = plain_inner (b ∷ bs) (and_parts (not (eqb b 91)) (list_all is_plain (b ∷ bs)) is).1
+
+sound_inner : (bracketed : Bool) (text : List ℕ) → cond bracketed (is_inner_text text) (is_plain_text text) ≡ true → list_all is_inner text ≡ true
+sound_inner true text is = (and_parts (list_all is_inner text) (not (last_is 92 text)) is).0
+sound_inner false text is = some_plain_inner text is
+
+all_sound_inner : (tokens : List Token) → list_all is_sound tokens ≡ true → list_all (all_bytes is_inner) tokens ≡ true
+all_sound_inner [] sound = refl
+all_sound_inner (token ∷ tokens) sound =
+    let parts = and_parts (is_sound token) (list_all is_sound tokens) sound in
+    and_from (all_bytes is_inner token) (list_all (all_bytes is_inner) tokens) (sound_inner token.bracketed token.text parts.0) (all_sound_inner tokens parts.1)
+
+last_space_all : (test : ℕ → Bool) → test 32 ≡ true → (spaced : Bool) → list_all test (cond spaced (32 ∷ []) []) ≡ true
+last_space_all test space true = and_from (test 32) true space refl
+last_space_all test space false = refl
+
+closed_all : (test : ℕ → Bool) → Passes test → (fields : Fields) → list_all (all_bytes test) (tokens_in fields) ≡ true → list_all test (closed_line fields) ≡ true
+closed_all test passes fields all =
+    list_all-append test (line_text fields) (last_space (line_text fields))
+    ∙ and_from (list_all test (line_text fields)) (list_all test (last_space (line_text fields))) (fields_all test passes fields.first fields.more all) (last_space_all test passes.space (ends_in 92 (line_text fields)))
+
+inner_passes : Passes is_inner
+inner_passes = record { opening = refl; backslash = refl; closing = refl; space = refl }
+
+line_newlines : (fields : Fields) → is_sound_line fields ≡ true → newlines (spelling (body_pieces fields)) ≡ 0
+line_newlines fields sound = ap newlines (body_pieces-bytes fields) ∙ no_newlines (closed_line fields) (closed_all is_inner inner_passes fields (all_sound_inner (tokens_in fields) sound))
+
+-- the rules of some lines, the first of which has this number
+abbrev pub raw_rules : ℕ → List Fields → List RawRule
+raw_rules number [] = []
+raw_rules number (fields ∷ lines) = record { line = number; tokens = tokens_in fields } ∷ raw_rules (number + 1) lines
+
+abbrev pub is_short_line : Fields → Bool
+is_short_line fields = nat_le (length (closed_line fields)) 4096
+
+numbered_next : (number : ℕ) (fields : Fields) (rest : List (List Piece)) → is_sound_line fields ≡ true
+    → numbered number (body_pieces fields ∷ rest) ≡ record { first = number; pieces = body_pieces fields } ∷ numbered (number + 1) rest
+numbered_next number fields rest sound =
+    let next : number + newlines (spelling (body_pieces fields)) + 1 ≡ number + 1 = ap (λ (n : ℕ). number + n + 1) (line_newlines fields sound) ∙ ap (λ (n : ℕ). n + 1) (add-zero number) in
+    ap (λ (n : ℕ). record { first = number; pieces = body_pieces fields } ∷ numbered n rest) next
+
+line_fine : (number : ℕ) (fields : Fields) → is_short_line fields ≡ true → line_fault (record { first = number; pieces = body_pieces fields }) ≡ None
+line_fine number fields short =
+    let few : length (spelling (body_pieces fields)) ≤ 4096 = omega (arith, ap length (body_pieces-bytes fields), leb-true (length (closed_line fields)) 4096 short) in
+    rw (le-ltb 4096 (length (spelling (body_pieces fields))) few, body_pieces-closed fields) refl
+
+none_fault : (number : ℕ) (lines : List Fields) → list_all is_sound_line lines ≡ true → list_all is_short_line lines ≡ true → first_fault (numbered number (map body_pieces lines ++ [] ∷ [])) ≡ None
+none_fault number [] sound short = refl
+none_fault number (fields ∷ lines) sound short =
+    let sounds = and_parts (is_sound_line fields) (list_all is_sound_line lines) sound in
+    let shorts = and_parts (is_short_line fields) (list_all is_short_line lines) short in
+    ap first_fault (numbered_next number fields (map body_pieces lines ++ [] ∷ []) sounds.0)
+    ∙ rw (line_fine number fields shorts.0) (none_fault (number + 1) lines sounds.1 shorts.1)
+
+all_rules : (number : ℕ) (lines : List Fields) → list_all is_sound_line lines ≡ true → flat_map line_rules (numbered number (map body_pieces lines ++ [] ∷ [])) ≡ raw_rules number lines
+all_rules number [] sound = refl
+all_rules number (fields ∷ lines) sound =
+    let sounds = and_parts (is_sound_line fields) (list_all is_sound_line lines) sound in
+    ap (flat_map line_rules) (numbered_next number fields (map body_pieces lines ++ [] ∷ []) sounds.0)
+    ∙ rw (body_pieces-tokens fields, all_rules (number + 1) lines sounds.1) refl
+
+abbrev pub OneReading : Type 0
+OneReading = (text : List ℕ) (pieces : List Piece) → IsReading text pieces → pieces ≡ pieces_of text
+
+lines_answer : OneReading → (lines : List Fields) → list_all is_sound_line lines ≡ true → list_all is_short_line lines ≡ true → answer_at 1 (lines_text lines) ≡ Ok (raw_rules 1 lines)
+unfolding answer_at
+lines_answer only lines sound short =
+    rw (← only (lines_text lines) (text_pieces lines) (text_reading lines sound), text_lines lines, none_fault 1 lines sound short, all_rules 1 lines sound) refl
+
+-- a byte that isn't NUL
+abbrev pub is_set : ℕ → Bool
+is_set b = not (eqb b 0)
+
+no_nul : (number : ℕ) (text : List ℕ) → list_all is_set text ≡ true → nul_line number text ≡ None
+no_nul number [] all = refl
+no_nul number (b ∷ bs) all =
+    let parts = and_parts (is_set b) (list_all is_set bs) all in
+    rw (not-true (eqb b 0) parts.0) (no_nul (number + newlines (b ∷ [])) bs parts.1)
+
+set_passes : Passes is_set
+set_passes = record { opening = refl; backslash = refl; closing = refl; space = refl }
+
+abbrev pub is_set_line : Fields → Bool
+is_set_line fields = list_all (all_bytes is_set) (tokens_in fields)
+
+text_set : (lines : List Fields) → list_all is_set_line lines ≡ true → list_all is_set (lines_text lines) ≡ true
+text_set [] all = refl
+text_set (fields ∷ lines) all =
+    let parts = and_parts (is_set_line fields) (list_all is_set_line lines) all in
+    let here : list_all is_set (ended (line_text fields)) ≡ true =
+        ap (list_all is_set) (ended-closed (line_text fields)) ∙ list_all-append is_set (closed_line fields) (10 ∷ [])
+        ∙ and_from (list_all is_set (closed_line fields)) true (closed_all is_set set_passes fields parts.0) refl in
+    list_all-append is_set (ended (line_text fields)) (lines_text lines) ∙ and_from (list_all is_set (ended (line_text fields))) (list_all is_set (lines_text lines)) here (text_set lines parts.1)
+
+-- the rules of a printed text
+pub text_answer : OneReading → (lines : List Fields) → list_all is_sound_line lines ≡ true → list_all is_set_line lines ≡ true → list_all is_short_line lines ≡ true → length (lines_text lines) ≤ 65536
+    → answer_to (lines_text lines) ≡ Ok (raw_rules 1 lines)
+unfolding answer_to
+text_answer only lines sound set short few =
+    rw (le-ltb 65536 (length (lines_text lines)) few, no_nul 1 (lines_text lines) (text_set lines set)) (lines_answer only lines sound short)
