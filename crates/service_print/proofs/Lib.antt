@@ -7,3 +7,4 @@ pub mod FourStacks
 pub mod Rows
 pub mod Spelled
 pub mod Lexed
+pub mod Actions
