@@ -8,3 +8,4 @@ pub mod Rows
 pub mod Spelled
 pub mod Lexed
 pub mod Actions
+pub mod Controlled
