@@ -262,10 +262,10 @@ each_at front (a ∷ back) default =
     in
     rw (at_seam front back a default, more) refl
 
-each_action : (control : List Action) → length control ≡ 32 → map (action_at control) all_codes ≡ control
+pub each_action : (control : List Action) → length control ≡ 32 → map (action_at control) all_codes ≡ control
 each_action control length_is = ap (λ k. map (λ n. get_or control n actions.Bad) (counting 0 k)) (sym length_is) ∙ each_at [] control actions.Bad
 
-map_same : {A B : Type 0} (f g : A → B) (xs : List A) → ((x : A) → f x ≡ g x) → map f xs ≡ map g xs
+pub map_same : {A B : Type 0} (f g : A → B) (xs : List A) → ((x : A) → f x ≡ g x) → map f xs ≡ map g xs
 map_same f g [] same = refl
 map_same f g (x ∷ xs) same = rw (same x, map_same f g xs same) refl
 
@@ -276,7 +276,7 @@ settled : (control : List Action) (entries : List Entry) → length control ≡ 
 settled control entries length_is fine same =
     ap (λ (faults : List ControlFault). control_unless faults entries) fine ∙ ap Ok (map_same (action_among entries) (action_at control) all_codes same ∙ each_action control length_is)
 
-fine_at : (control : List Action) (n : ℕ) → list_all is_fine control ≡ true → is_fine (get_or control n actions.Bad) ≡ true
+pub fine_at : (control : List Action) (n : ℕ) → list_all is_fine control ≡ true → is_fine (get_or control n actions.Bad) ≡ true
 fine_at [] n fine = refl
 fine_at (a ∷ more) zero fine = (and_parts (is_fine a) (list_all is_fine more) fine).0
 fine_at (a ∷ more) (suc n) fine = fine_at more n (and_parts (is_fine a) (list_all is_fine more) fine).1

@@ -9,3 +9,4 @@ pub mod Spelled
 pub mod Lexed
 pub mod Actions
 pub mod Controlled
+pub mod Fielded
