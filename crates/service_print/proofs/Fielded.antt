@@ -154,3 +154,87 @@ spaced_bytes control (code ∷ codes) fine =
 entries_bytes : (control : List Action) (codes : List Code) → list_all is_fine control ≡ true → list_all is_word_byte (spaced (entries_among control codes)) ≡ true
 unfolding entries_among
 entries_bytes control codes fine = spaced_bytes control (filter (has_entry control) codes) fine
+
+keyword_token : (control : List Action) (word : List ℕ) → keyword_of control ≡ Some word → IsKeyword control word → IsControlToken control (plain_token word)
+unfolding control_text
+keyword_token control word found is = record { writes = rw found refl; sound = is.sound; set = is.set; reads = is.reads; no_include = is.no_include; no_substack = is.no_substack }
+
+bracketed_token : (control : List Action) → length control ≡ 32 → list_all is_fine control ≡ true → keyword_of control ≡ None → IsControlToken control (bracket_token (spaced (entries_among control all_codes)))
+unfolding control_text
+bracketed_token control length_is fine none =
+    let text = spaced (entries_among control all_codes) in
+    let bytes : list_all is_word_byte text ≡ true = entries_bytes control all_codes fine in
+    record {
+      writes = rw (none, unescaped text bytes) refl;
+      sound = and_from (list_all is_inner text) (not (last_is 92 text)) (weaken is_word_byte is_inner (inner_by is_word_byte refl) text bytes) (not_from_false (last_is 92 text) (never_last is_word_byte 92 refl text bytes));
+      set = weaken is_word_byte is_set (set_by is_word_byte refl) text bytes;
+      reads = bracket_reads control length_is fine;
+      no_include = refl;
+      no_substack = refl;
+    }
+
+token_is : (control : List Action) (o : Option (List ℕ)) → length control ≡ 32 → list_all is_fine control ≡ true → keyword_of control ≡ o → IsControlToken control (token_by control o)
+token_is control (Some word) length_is fine found = keyword_token control word found (keyword_is control word length_is found)
+token_is control None length_is fine found = bracketed_token control length_is fine found
+
+pub control_token_is : (control : List Action) → length control ≡ 32 → list_all is_fine control ≡ true → IsControlToken control (control_token control)
+unfolding control_token
+control_token_is control length_is fine = token_is control (keyword_of control) length_is fine refl
+
+-- ---- types
+
+pub record IsTypeToken (silent : Bool) (type : RuleType) : Type 0 where
+  pub sound : is_plain_text (type_field silent type) ≡ true
+  pub set : list_all is_set (type_field silent type) ≡ true
+  pub no_include : is_word (codes "@include") (plain_token (type_field silent type)) ≡ false
+  pub reads : type_field_of (plain_token (type_field silent type)) ≡ Some (record { silent = silent; rule_type = type })
+
+pub type_token_is : (silent : Bool) (type : RuleType) → IsTypeToken silent type
+type_token_is true Auth = record { sound = refl; set = refl; no_include = refl; reads = refl }
+type_token_is true type = record { sound = refl; set = refl; no_include = refl; reads = refl }
+type_token_is false Auth = record { sound = refl; set = refl; no_include = refl; reads = refl }
+type_token_is false type = record { sound = refl; set = refl; no_include = refl; reads = refl }
+
+-- ---- paths and arguments
+
+-- what the text of a token is like
+abbrev pub can_stand : List ℕ → Bool
+can_stand text = list_all is_inner text && list_all is_set text && not (wants_brackets text && last_is 92 text)
+
+abbrev pub text_token : List ℕ → Token
+text_token text = record { bracketed = wants_brackets text; text = text }
+
+pub record IsTextToken (text : List ℕ) : Type 0 where
+  pub writes : written (text_token text) ≡ token_text text
+  pub sound : is_sound (text_token text) ≡ true
+  pub set : list_all is_set text ≡ true
+
+-- without brackets each byte is plain
+no_end : (text : List ℕ) → list_any ends_token text ≡ false → list_all is_inner text ≡ true → list_all is_plain text ≡ true
+no_end [] none inner = refl
+no_end (b ∷ bs) none inner =
+    let nones = or_parts (ends_token b) (list_any ends_token bs) none in
+    let inners = and_parts (is_inner b) (list_all is_inner bs) inner in
+    let here : is_plain b ≡ true = not_from_false (is_white b || eqb b 35 || eqb b 10) (or_from (is_white b || eqb b 35) (eqb b 10) nones.0 (not-true (eqb b 10) inners.0)) in
+    and_from (is_plain b) (list_all is_plain bs) here (no_end bs nones.1 inners.1)
+
+plain_sound : (text : List ℕ) → wants_brackets text ≡ false → list_all is_inner text ≡ true → is_plain_text text ≡ true
+plain_sound [] none inner = absurd (true≢false none)
+plain_sound (b ∷ bs) none inner =
+    let parts = or_parts (eqb b 91) (list_any ends_token (b ∷ bs)) none in
+    and_from (not (eqb b 91)) (list_all is_plain (b ∷ bs)) (not_from_false (eqb b 91) parts.0) (no_end (b ∷ bs) parts.1 inner)
+
+not_both : (a b : Bool) → not (a && b) ≡ true → a ≡ true → b ≡ false
+not_both true b is first = not-true b is
+not_both false b is first = absurd (false≢true first)
+
+by_brackets : (text : List ℕ) (bracketed : Bool) → wants_brackets text ≡ bracketed → list_all is_inner text ≡ true → not (wants_brackets text && last_is 92 text) ≡ true → cond bracketed (is_inner_text text) (is_plain_text text) ≡ true
+by_brackets text true wants inner last = and_from (list_all is_inner text) (not (last_is 92 text)) inner (not_from_false (last_is 92 text) (not_both (wants_brackets text) (last_is 92 text) last wants))
+by_brackets text false wants inner last = plain_sound text wants inner
+
+pub text_token_is : (text : List ℕ) → can_stand text ≡ true → IsTextToken text
+unfolding token_text
+text_token_is text can =
+    let outer = and_parts (list_all is_inner text && list_all is_set text) (not (wants_brackets text && last_is 92 text)) can in
+    let parts = and_parts (list_all is_inner text) (list_all is_set text) outer.0 in
+    record { writes = refl; sound = by_brackets text (wants_brackets text) refl parts.0 outer.1; set = parts.1 }

@@ -10,3 +10,5 @@ pub mod Lexed
 pub mod Actions
 pub mod Controlled
 pub mod Fielded
+pub mod Meant
+pub mod Understood
