@@ -12,3 +12,4 @@ pub mod Controlled
 pub mod Fielded
 pub mod Meant
 pub mod Understood
+pub mod Stacked
