@@ -13,3 +13,4 @@ pub mod Fielded
 pub mod Meant
 pub mod Understood
 pub mod Stacked
+pub mod Standing
