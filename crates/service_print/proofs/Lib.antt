@@ -14,3 +14,4 @@ pub mod Meant
 pub mod Understood
 pub mod Stacked
 pub mod Standing
+pub mod Found
