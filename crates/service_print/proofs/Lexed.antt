@@ -230,7 +230,7 @@ sound_inner : (bracketed : Bool) (text : List ℕ) → cond bracketed (is_inner_
 sound_inner true text is = (and_parts (list_all is_inner text) (not (last_is 92 text)) is).0
 sound_inner false text is = some_plain_inner text is
 
-all_sound_inner : (tokens : List Token) → list_all is_sound tokens ≡ true → list_all (all_bytes is_inner) tokens ≡ true
+pub all_sound_inner : (tokens : List Token) → list_all is_sound tokens ≡ true → list_all (all_bytes is_inner) tokens ≡ true
 all_sound_inner [] sound = refl
 all_sound_inner (token ∷ tokens) sound =
     let parts = and_parts (is_sound token) (list_all is_sound tokens) sound in
@@ -240,12 +240,12 @@ last_space_all : (test : ℕ → Bool) → test 32 ≡ true → (spaced : Bool) 
 last_space_all test space true = and_from (test 32) true space refl
 last_space_all test space false = refl
 
-closed_all : (test : ℕ → Bool) → Passes test → (fields : Fields) → list_all (all_bytes test) (tokens_in fields) ≡ true → list_all test (closed_line fields) ≡ true
+pub closed_all : (test : ℕ → Bool) → Passes test → (fields : Fields) → list_all (all_bytes test) (tokens_in fields) ≡ true → list_all test (closed_line fields) ≡ true
 closed_all test passes fields all =
     list_all-append test (line_text fields) (last_space (line_text fields))
     ∙ and_from (list_all test (line_text fields)) (list_all test (last_space (line_text fields))) (fields_all test passes fields.first fields.more all) (last_space_all test passes.space (ends_in 92 (line_text fields)))
 
-inner_passes : Passes is_inner
+pub inner_passes : Passes is_inner
 inner_passes = record { opening = refl; backslash = refl; closing = refl; space = refl }
 
 line_newlines : (fields : Fields) → is_sound_line fields ≡ true → newlines (spelling (body_pieces fields)) ≡ 0

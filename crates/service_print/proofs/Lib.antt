@@ -15,3 +15,4 @@ pub mod Understood
 pub mod Stacked
 pub mod Standing
 pub mod Found
+pub mod Segments
