@@ -16,3 +16,4 @@ pub mod Stacked
 pub mod Standing
 pub mod Found
 pub mod Segments
+pub mod Returned

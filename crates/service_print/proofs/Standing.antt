@@ -112,7 +112,7 @@ pass_rules texts name calls openings lines (rule ∷ rules) fine =
     pass-append texts (counts_with calls openings lines) (checked (plain_file name) rule ∷ []) (map (checked (plain_file name)) rules) openings lines openings lines one (pass_rules texts name one.calls openings lines rules parts.1)
 
 -- a printed file is opened, and its rules are checked
-pass_file : (texts : List ℕ → Option (List ℕ)) (levels : ℕ) (type : RuleType) (opener : Opener) (name : List ℕ) (meanings : List Meaning) (is : IsFile texts name meanings) (calls openings lines openings' lines' : ℕ)
+pub pass_file : (texts : List ℕ → Option (List ℕ)) (levels : ℕ) (type : RuleType) (opener : Opener) (name : List ℕ) (meanings : List Meaning) (is : IsFile texts name meanings) (calls openings lines openings' lines' : ℕ)
     → openings < 256 → ((calls' : ℕ) → Passes texts (counts_with calls' (openings + 1) lines) (meanings_items texts levels type name 1 meanings) openings' lines')
     → Passes texts (counts_with calls openings lines) (items texts (suc levels) type opener (plain_file name)) openings' lines'
 pass_file texts levels type opener name meanings is calls openings lines openings' lines' few more =
