@@ -17,3 +17,4 @@ pub mod Standing
 pub mod Found
 pub mod Segments
 pub mod Returned
+pub mod Reloaded
