@@ -18,3 +18,4 @@ pub mod Found
 pub mod Segments
 pub mod Returned
 pub mod Reloaded
+pub mod Taken
