@@ -19,3 +19,4 @@ pub mod Segments
 pub mod Returned
 pub mod Reloaded
 pub mod Taken
+pub mod Known
