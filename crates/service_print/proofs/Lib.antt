@@ -20,3 +20,4 @@ pub mod Returned
 pub mod Reloaded
 pub mod Taken
 pub mod Known
+pub mod Brought
