@@ -1,10 +1,8 @@
 -- Actions and codes, read back from their words.
-use Rattle.std.proofs.Common.{◌≡◌, ℕ, ◌+◌, ◌≤◌, ◌<◌, Bool, true, false, not, ◌||◌, ◌&&◌, cond, eqb, nat_le, nat_lt, List, [], ◌∷◌, ◌++◌, length, map, get_or, Option, Some, None, Result, Ok, Err, refl, sym, ap, ◌∙◌, arith, inl, inr}
-use Rattle.std.specs.Prelude.{decimal}
+use Rattle.std.proofs.Common.{◌≡◌, ℕ, ◌<◌, Bool, true, false, not, ◌||◌, ◌&&◌, eqb, nat_le, nat_lt, List, [], ◌∷◌, get_or, Some, Result, Ok, Err, refl, ap, arith}
 use Rattle.std.specs.Fmt.{digits}
 use Rattle.std.specs.List.{list_all}
-use Rattle.std.specs.Option.{is_some}
-use Rattle.std.proofs.lemmas.Bool.{agree_below, agree_below_at, and_parts, and_from, leb-true, eqb-true, lt-leb}
+use Rattle.std.proofs.lemmas.Bool.{agree_below_at, and_parts, leb-true, eqb-true, lt-leb}
 use Rattle.pam_base.specs.White.{is_white}
 use Rattle.pam_base.specs.Code.{all_codes, code_of_word, number_of}
 use Rattle.pam_base.specs.declared.code.Code.{Code}
@@ -12,7 +10,7 @@ use Rattle.pam_base.specs.declared.code.Code.TheVariants.{Success}
 use Rattle.control_words.specs.declared.control.Action.{Action}
 use Rattle.control_words.specs.declared.control.Action.TheVariants as actions
 use Rattle.control_words.specs.declared.bracket.ControlFault.{ControlFault}
-use Rattle.control_words.specs.Bracket.{action_of_word, is_default, names}
+use Rattle.control_words.specs.Bracket.{action_of_word, is_default}
 use Rattle.control_words.specs.Entries.{ends_name}
 use Rattle.service_print.specs.Controls.{action_word, same_action, code_word}
 

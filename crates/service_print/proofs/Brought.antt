@@ -1,9 +1,8 @@
 -- What a look without a fault says of the stacks that it passes.
-use Rattle.std.proofs.Common.{◌≡◌, ℕ, zero, suc, ◌+◌, ◌-◌, ◌≤◌, ◌<◌, Bool, true, false, not, ◌||◌, ◌&&◌, cond, eqb, nat_lt, nat_le, max, List, [], ◌∷◌, ◌++◌, length, map, Option, Some, None, Result, Ok, Err, refl, sym, ap, ◌∙◌, subst, arith, append_assoc, append-nil, add-zero, zero-add, inl, inr}
-use Rattle.std.specs.Prelude.{codes}
-use Rattle.std.specs.List.{flat_map, list_all}
+use Rattle.std.proofs.Common.{◌≡◌, ℕ, zero, suc, ◌+◌, ◌-◌, ◌≤◌, ◌<◌, Bool, true, false, cond, eqb, nat_lt, nat_le, List, [], ◌∷◌, ◌++◌, map, Option, Result, Ok, Err, refl, sym, ap, ◌∙◌, subst, arith, add-zero, zero-add, inl, inr}
+use Rattle.std.specs.List.{list_all}
 use Rattle.std.specs.Result.{is_ok}
-use Rattle.std.proofs.lemmas.Bool.{cases_Bool, and_parts, and_from, leb-false, leb-true, ltb-false, true≢false, false≢true, eqb-true, eqb-false}
+use Rattle.std.proofs.lemmas.Bool.{cases_Bool, and_parts, and_from, leb-false, false≢true}
 use Rattle.pam_base.specs.declared.fault.FaultKind.{FaultKind}
 use Rattle.pam_base.specs.Counts.{fails_next}
 use Rattle.conf_lex.specs.declared.token.RawRule.{RawRule}
@@ -12,16 +11,15 @@ use Rattle.control_words.specs.Stack.{Stack, none, line, sub, joined, count, dep
 use Rattle.service_load.specs.declared.rule_type.RuleType.{RuleType}
 use Rattle.service_load.specs.Entry.{entry_of}
 use Rattle.service_load.specs.Files.{plain_file, Held, absent, faulty, holds, held, rules_held, all_fine, is_in_folder}
-use Rattle.service_load.specs.FirstFault.{Counts, Stop, going_on, asked, absent_file, held_file, checked_rule, opened, behind, look}
+use Rattle.service_load.specs.FirstFault.{Counts, Stop, going_on, asked, absent_file, held_file, checked_rule, behind, look}
 use Rattle.service_load.specs.Order.{Opener, as_service, as_other, as_last, by_rule, Item, begin, opening, checked, made, items, other_opener, tree_items}
-use Rattle.service_load.specs.RuleType.{all_types}
 use Rattle.service_load.specs.Tree.{serves, nodes, tree_of}
 use Rattle.service_print.specs.Printed.{subs_in}
 use Rattle.service_print.proofs.Standing.{look-append}
 use Rattle.service_print.proofs.Returned.{openings_for}
-use Rattle.service_print.proofs.Meant.{Meaning, nothing, a_line, an_include, a_substack, is_meant, meant_nodes, meant_items, nodes_from, items_from, IsMeant}
+use Rattle.service_print.proofs.Meant.{Meaning, nothing, a_line, an_include, a_substack, meant_nodes, meant_items, nodes_from, items_from}
 use Rattle.service_print.proofs.Taken.{Reading, good_rule}
-use Rattle.service_print.proofs.Known.{Known, known, held_good}
+use Rattle.service_print.proofs.Known.{known, held_good}
 
 -- ---- parts of a look
 
@@ -39,7 +37,7 @@ split texts fails before front more after is =
     let parts = through (look texts fails before front) (λ c. look texts fails c more) after (sym (look-append texts fails before front more) ∙ is) in
     record { between = parts.0; first = parts.1; second = parts.2 }
 
-nothing_met : (texts : List ℕ → Option (List ℕ)) (fails : List ℕ) (before after : Counts) → look texts fails before [] ≡ Ok after → before ≡ after
+pub nothing_met : (texts : List ℕ → Option (List ℕ)) (fails : List ℕ) (before after : Counts) → look texts fails before [] ≡ Ok after → before ≡ after
 unfolding look
 nothing_met texts fails before after is = cc
 
@@ -97,7 +95,7 @@ as_substack before after stack levels is = record { lines = omega (arith, is.lin
 
 -- ---- single items
 
-past : (b : Bool) (stop : Stop) (more : Result Counts Stop) (after : Counts) → cond b (Err stop) more ≡ Ok after → (b ≡ false) × (more ≡ Ok after)
+pub past : (b : Bool) (stop : Stop) (more : Result Counts Stop) (after : Counts) → cond b (Err stop) more ≡ Ok after → (b ≡ false) × (more ≡ Ok after)
 past true stop more after is = absurd cc
 past false stop more after is = (refl, is)
 
@@ -193,8 +191,8 @@ rules_bring texts fails levels files in_folder type name (rule ∷ rules) good b
     let parts = split texts fails before (meant_items texts levels type name rule.line means.meaning) (items_from texts levels in_folder type name rules) after (ap (look texts fails before) (sym (means.meant.items texts levels type name rules)) ∙ is) in
     subst (λ (s : Stack). Brings before after s levels 0) (sym (means.meant.nodes deeper type rules))
     (brings_both before parts.between after (meant_nodes deeper type means.meaning) (nodes_from deeper in_folder type rules) levels
-        (meant_bring texts fails levels files type name rule.line means.meaning before parts.between parts.first)
-        (rules_bring texts fails levels files in_folder type name rules goods.1 parts.between after parts.second))
+    (meant_bring texts fails levels files type name rule.line means.meaning before parts.between parts.first)
+    (rules_bring texts fails levels files in_folder type name rules goods.1 parts.between after parts.second))
 
 brings_opened : (before between after : Counts) (stack : Stack) (levels : ℕ) → Opened before between → Brings between after stack levels 0 → Brings before after stack (suc levels) 1
 brings_opened before between after stack levels is more = record {

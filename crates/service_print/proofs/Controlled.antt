@@ -1,13 +1,13 @@
 -- A printed control reads back as itself.
-use Rattle.std.proofs.Common.{◌≡◌, ℕ, zero, suc, ◌+◌, ◌-◌, ◌≤◌, ◌<◌, Bool, true, false, not, ◌||◌, ◌&&◌, cond, eqb, nat_lt, List, [], ◌∷◌, ◌++◌, length, map, get_or, take, drop, Option, Some, None, Result, Ok, Err, refl, sym, ap, ◌∙◌, subst, arith, append_assoc, append-nil, length-append, inl, inr}
+use Rattle.std.proofs.Common.{◌≡◌, ℕ, zero, suc, ◌-◌, Bool, true, false, not, cond, eqb, List, [], ◌∷◌, ◌++◌, length, map, get_or, take, drop, Option, Some, None, Ok, refl, sym, ap, ◌∙◌, arith, append_assoc, length-append, inl, inr}
 use Rattle.std.specs.Prelude.{codes}
 use Rattle.std.specs.List.{flat_map, filter, filter_map, list_all, list_any, last_or, position_or_len, before_first}
-use Rattle.std.specs.Option.{option_and_then, option_or, unwrap_or}
-use Rattle.std.specs.Result.{result_ok, result_err}
-use Rattle.std.proofs.lemmas.Bool.{cases_Bool, ne_eqb, and_parts, and_from, not-true, not-false, not_from_false, eqb-true, eq-eqb, ltb-true, or_parts}
+use Rattle.std.specs.Option.{option_and_then}
+use Rattle.std.specs.Result.{result_ok}
+use Rattle.std.proofs.lemmas.Bool.{cases_Bool, ne_eqb, and_parts, and_from, not-true, not-false, eqb-true, or_parts}
 use Rattle.std.proofs.Math.Seq.{take-append_seam, drop-append_seam}
 use Rattle.pam_base.specs.White.{is_white}
-use Rattle.pam_base.specs.Code.{all_codes, code_of_word, number_of}
+use Rattle.pam_base.specs.Code.{all_codes, number_of}
 use Rattle.pam_base.specs.declared.code.Code.{Code}
 use Rattle.pam_base.specs.declared.code.Code.TheVariants.{Success}
 use Rattle.control_words.specs.declared.control.Action.{Action}
@@ -15,11 +15,11 @@ use Rattle.control_words.specs.declared.control.Action.TheVariants as actions
 use Rattle.control_words.specs.declared.bracket.ControlFault.{ControlFault}
 use Rattle.control_words.specs.Control.{action_at}
 use Rattle.control_words.specs.Bracket.{action_of_word, is_default, names, last_action, action_among, fault_of_entry, control_unless, control_of_entries, control_of}
-use Rattle.control_words.specs.Entries.{Entry, FirstEntry, ends_name, is_other, from_first, first_entry, with_name, with_action, entries_behind, entries_in}
+use Rattle.control_words.specs.Entries.{Entry, FirstEntry, ends_name, from_first, first_entry, with_name, with_action, entries_behind, entries_in}
 use Rattle.control_words.specs.Entries.{behind_space as behind_white}
 use Rattle.service_print.specs.Tokens.{behind_space, spaced}
-use Rattle.service_print.specs.Controls.{action_word, same_action, same_control, code_word, entry_text, has_entry, entries_among}
-use Rattle.service_print.proofs.Actions.{same_action-equal, is_name, is_action, is_word_byte, code_at, code_below, code_word-named, code_word-name, code_word-bytes, code_word-other, begins_some, code_word-some, is_fine, ActionRead, action_reads}
+use Rattle.service_print.specs.Controls.{action_word, same_action, code_word, entry_text, has_entry, entries_among}
+use Rattle.service_print.proofs.Actions.{same_action-equal, is_name, is_action, code_at, code_word-named, code_word-name, code_word-other, begins_some, code_word-some, is_fine, action_reads}
 
 -- ---- the front of a text, up to the first byte that passes a test
 
@@ -233,7 +233,7 @@ action_found control codes code among fine =
       | inl y ↦
           (let found : last_found control code codes None ≡ Some (entry_record control code) = found_among control code codes None y ∙ rw among refl in
           let named : last_action (names code) entries ≡ Some (action_at control code) =
-              ap (λ (o : Option Entry). option_and_then (λ (entry : Entry). result_ok (action_of_word entry.action)) o) found ∙ ap result_ok (action_reads (action_at control code) fine).reads in
+          ap (λ (o : Option Entry). option_and_then (λ (entry : Entry). result_ok (action_of_word entry.action)) o) found ∙ ap result_ok (action_reads (action_at control code) fine).reads in
           rw (no_default_action, named) refl)
       | inr n ↦
           (let bad : action_at control code ≡ actions.Bad = same_action-equal (action_at control code) actions.Bad (not-false (same_action (action_at control code) actions.Bad) n) in
@@ -256,9 +256,9 @@ each_at front [] default = refl
 each_at front (a ∷ back) default =
     let longer : length (front ++ a ∷ []) ≡ suc (length front) = omega (arith, length-append front (a ∷ [])) in
     let more : map (λ n. get_or (front ++ a ∷ back) n default) (counting (suc (length front)) (length back)) ≡ back =
-        ap (λ n. map (λ k. get_or (front ++ a ∷ back) k default) (counting n (length back))) (sym longer)
-        ∙ ap (λ (xs : List Action). map (λ k. get_or xs k default) (counting (length (front ++ a ∷ [])) (length back))) (sym (append_assoc front (a ∷ []) back))
-        ∙ each_at (front ++ a ∷ []) back default
+    ap (λ n. map (λ k. get_or (front ++ a ∷ back) k default) (counting n (length back))) (sym longer)
+    ∙ ap (λ (xs : List Action). map (λ k. get_or xs k default) (counting (length (front ++ a ∷ [])) (length back))) (sym (append_assoc front (a ∷ []) back))
+    ∙ each_at (front ++ a ∷ []) back default
     in
     rw (at_seam front back a default, more) refl
 

@@ -1,27 +1,24 @@
 -- The fields of a printed line, as the tokens that they read back as.
-use Rattle.std.proofs.Common.{◌≡◌, ℕ, ◌+◌, ◌≤◌, ◌<◌, Bool, true, false, not, ◌||◌, ◌&&◌, cond, eqb, nat_le, List, [], ◌∷◌, ◌++◌, length, map, Option, Some, None, Result, Ok, Err, refl, sym, ap, ◌∙◌, subst, arith, append-nil, inl, inr, ◌⊎◌}
-use Rattle.std.specs.Prelude.{codes, decimal}
-use Rattle.std.specs.Fmt.{digits}
+use Rattle.std.proofs.Common.{◌≡◌, ℕ, Bool, true, false, not, ◌||◌, ◌&&◌, cond, eqb, List, [], ◌∷◌, length, map, Option, Some, None, Ok, refl, sym, ap, ◌∙◌, inl, inr, ◌⊎◌}
+use Rattle.std.specs.Prelude.{codes}
 use Rattle.std.specs.List.{flat_map, filter, list_all, list_any}
-use Rattle.std.proofs.lemmas.Bool.{cases_Bool, and_parts, and_from, not-true, not-false, not_from_false, not_from_true, or_parts, or_from, eqb-true, both_ways, false≢true, true≢false, agree_below_at}
+use Rattle.std.proofs.lemmas.Bool.{cases_Bool, and_parts, and_from, not-true, not_from_false, or_parts, or_from, eqb-true, both_ways, false≢true, true≢false}
 use Rattle.std.proofs.lemmas.List.Folds.{list_all-append}
 use Rattle.pam_base.specs.White.{is_white}
 use Rattle.pam_base.specs.Code.{all_codes}
-use Rattle.pam_base.specs.ServiceName.{is_name_byte}
 use Rattle.pam_base.specs.declared.code.Code.{Code}
 use Rattle.conf_lex.specs.declared.token.Token.{Token}
 use Rattle.control_words.specs.declared.control.Action.{Action}
-use Rattle.control_words.specs.declared.nodes.Rule.{Rule}
 use Rattle.control_words.specs.Bracket.{control_of}
 use Rattle.control_words.specs.Control.{action_at}
 use Rattle.control_words.specs.Keyword.{required, requisite, sufficient, optional}
 use Rattle.service_load.specs.declared.rule_type.RuleType.{RuleType}
-use Rattle.service_load.specs.declared.rule_type.RuleType.TheVariants.{Auth, Account, Password, Session}
+use Rattle.service_load.specs.declared.rule_type.RuleType.TheVariants.{Auth}
 use Rattle.service_load.specs.RuleType.{is_word, type_field_of}
-use Rattle.service_print.specs.Tokens.{behind_space, spaced, ends_token, wants_brackets, escaped_byte, in_brackets, token_text}
-use Rattle.service_print.specs.Controls.{same_action, same_control, stands_for, keyword_of, entry_text, has_entry, entries_among, control_text, action_word, code_word}
-use Rattle.service_print.specs.Printed.{type_word, type_field}
-use Rattle.service_print.proofs.Spelled.{last_is, is_plain, is_inner, is_plain_text, is_inner_text, is_sound, written, last_is-append}
+use Rattle.service_print.specs.Tokens.{behind_space, spaced, ends_token, wants_brackets, escaped_byte, token_text}
+use Rattle.service_print.specs.Controls.{same_action, same_control, keyword_of, entry_text, has_entry, entries_among, control_text, action_word, code_word}
+use Rattle.service_print.specs.Printed.{type_field}
+use Rattle.service_print.proofs.Spelled.{last_is, is_plain, is_inner, is_plain_text, is_inner_text, is_sound, written}
 use Rattle.service_print.proofs.Lexed.{is_set}
 use Rattle.service_print.proofs.Actions.{same_action-equal, is_fine, is_word_byte, code_word-bytes, action_reads}
 use Rattle.service_print.proofs.Controlled.{each_action, bracket_reads, fine_at}

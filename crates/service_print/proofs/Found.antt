@@ -1,19 +1,16 @@
 -- The files of a printed configuration are found by their names.
-use Rattle.std.proofs.Common.{◌≡◌, ℕ, zero, suc, ◌+◌, ◌-◌, ◌≤◌, ◌<◌, ◌^◌, Bool, true, false, not, ◌&&◌, cond, nat_le, List, [], ◌∷◌, ◌++◌, length, map, Option, Some, None, refl, sym, ap, ◌∙◌, subst, arith, append_assoc, append-nil, length-append, add-zero, inl, inr}
+use Rattle.std.proofs.Common.{◌≡◌, ℕ, ◌+◌, ◌≤◌, ◌<◌, false, List, [], ◌∷◌, ◌++◌, length, map, Option, Some, refl, sym, ap, ◌∙◌, subst, arith, append_assoc, length-append, add-zero, inl, inr}
 use Rattle.std.specs.Prelude.{codes, decimal}
-use Rattle.std.specs.List.{list_all}
 use Rattle.std.specs.Str.{bytes_eq}
-use Rattle.std.proofs.lemmas.Bool.{cases_Bool, and_parts, and_from, leb-true}
+use Rattle.std.proofs.lemmas.Bool.{cases_Bool}
 use Rattle.std.proofs.lemmas.Slice.Eq.{bytes_eq-Decides}
 use Rattle.std.proofs.lemmas.Fmt.{decimal_injective}
-use Rattle.pam_base.specs.Lines.{lines_of}
 use Rattle.pam_outside.specs.Files.{file_at}
-use Rattle.pam_outside.specs.Files.{File as VaultFile}
 use Rattle.control_words.specs.Stack.{Stack, none, line, sub}
 use Rattle.service_load.specs.declared.rule_type.RuleType.{RuleType}
 use Rattle.service_load.specs.Names.{root_before, path_of}
 use Rattle.service_print.specs.declared.file.File.{File}
-use Rattle.service_print.specs.Printed.{numbered, subs_in, substack_file, substack_files, all_substack_files}
+use Rattle.service_print.specs.Printed.{numbered, subs_in, substack_files, all_substack_files}
 use Rattle.service_print.specs.Reload.{placed_file}
 use Rattle.service_print.proofs.Adding.{length-substack_files}
 use Rattle.service_print.proofs.Understood.{in_the_folder}
@@ -66,9 +63,11 @@ pub files_numbered : (type : RuleType) (service : List ℕ) (number : ℕ) (stac
 unfolding substack_files
 files_numbered type service number none = tt
 files_numbered type service number (line rule rest) = files_numbered type service number rest
-files_numbered type service number (sub inner rest) =
-    (refl, numbered-append service (number + 1) (number + 1 + subs_in inner) (substack_files service type (number + 1) inner) (substack_files service type (number + 1 + subs_in inner) rest)
-    (files_numbered type service (number + 1) inner) (omega (arith, length-substack_files service type (number + 1) inner)) (files_numbered type service (number + 1 + subs_in inner) rest))
+files_numbered type service number (sub inner rest) = (
+  refl,
+  numbered-append service (number + 1) (number + 1 + subs_in inner) (substack_files service type (number + 1) inner) (substack_files service type (number + 1 + subs_in inner) rest)
+      (files_numbered type service (number + 1) inner) (omega (arith, length-substack_files service type (number + 1) inner)) (files_numbered type service (number + 1 + subs_in inner) rest),
+)
 
 pub all_numbered : (stack : RuleType → Stack) (service : List ℕ) (number : ℕ) (types : List RuleType) → Numbered service number (all_substack_files stack service number types)
 all_numbered stack service number [] = tt
@@ -101,11 +100,11 @@ pub all_found : (root service : List ℕ) (number : ℕ) (all front files : List
 all_found root service number all front [] is few passed numbers = tt
 all_found root service number all front (file ∷ files) is few passed numbers =
     let here : texts_in root all (in_the_folder file.name) ≡ Some file.text =
-        ap (λ (fs : List File). file_at (path_in root file.name) (map (placed_file root) fs)) is
-        ∙ ap (λ (n : List ℕ). file_at (path_in root n) (map (placed_file root) (front ++ file ∷ files))) numbers.0
-        ∙ passed number (file ∷ files) (omega arith) (omega arith)
-        ∙ ap (λ (n : List ℕ). file_at (path_in root n) (map (placed_file root) (file ∷ files))) (sym numbers.0)
-        ∙ found_first root file files
+    ap (λ (fs : List File). file_at (path_in root file.name) (map (placed_file root) fs)) is
+    ∙ ap (λ (n : List ℕ). file_at (path_in root n) (map (placed_file root) (front ++ file ∷ files))) numbers.0
+    ∙ passed number (file ∷ files) (omega arith) (omega arith)
+    ∙ ap (λ (n : List ℕ). file_at (path_in root n) (map (placed_file root) (file ∷ files))) (sym numbers.0)
+    ∙ found_first root file files
     in
     (here, all_found root service (number + 1) all (front ++ file ∷ []) files (is ∙ sym (append_assoc front (file ∷ []) files)) (omega arith) (passed_one root service number front file (omega arith) passed numbers.0) numbers.1)
 

@@ -1,12 +1,12 @@
 -- What a rule of a text means, and that the lines of a loaded stack can be printed.
-use Rattle.std.proofs.Common.{◌≡◌, ℕ, zero, suc, ◌+◌, ◌≤◌, ◌<◌, Bool, true, false, not, ◌||◌, ◌&&◌, cond, eqb, nat_lt, nat_le, List, [], ◌∷◌, ◌++◌, length, map, Option, Some, None, Result, Ok, Err, refl, sym, ap, ◌∙◌, subst, arith, inl, inr}
+use Rattle.std.proofs.Common.{◌≡◌, ℕ, zero, suc, ◌≤◌, Bool, true, false, not, ◌&&◌, cond, eqb, nat_le, List, [], ◌∷◌, length, map, Option, Some, None, Result, Ok, Err, refl, sym, ap, ◌∙◌, subst, arith, inl, inr}
 use Rattle.std.specs.Prelude.{codes}
 use Rattle.std.specs.Char.{is_ascii_digit}
-use Rattle.std.specs.List.{flat_map, filter_map, list_all, last_or, filter}
+use Rattle.std.specs.List.{filter_map, list_all, last_or, filter}
 use Rattle.std.specs.Option.{option_and_then, option_or, unwrap_or, ok_or}
-use Rattle.std.specs.Result.{result_ok, is_ok}
+use Rattle.std.specs.Result.{result_ok}
 use Rattle.std.specs.Str.{str_eq_ignore_ascii_case}
-use Rattle.std.proofs.lemmas.Bool.{cases_Bool, and_parts, and_from, lt-leb, ltb-true, eqb-false, eqb-true, leb-true, le-leb, false≢true}
+use Rattle.std.proofs.lemmas.Bool.{cases_Bool, and_parts, and_from, eqb-false, eqb-true, le-leb}
 use Rattle.std.proofs.lemmas.List.Folds.{list_all-append}
 use Rattle.pam_base.specs.Code.{all_codes}
 use Rattle.pam_base.specs.Number.{value_of_digits}
@@ -20,19 +20,18 @@ use Rattle.conf_lex.specs.Answer.{answer_to}
 use Rattle.control_words.specs.declared.bracket.ControlFault.{ControlFault}
 use Rattle.control_words.specs.declared.control.Action.{Action}
 use Rattle.control_words.specs.declared.control.Action.TheVariants as actions
-use Rattle.control_words.specs.declared.nodes.Rule.{Rule}
-use Rattle.control_words.specs.Bracket.{fault, named_action, jump_of, action_of_word, is_default, names, last_action, action_among, fault_of_entry, control_unless, control_of_entries, control_of}
+use Rattle.control_words.specs.Bracket.{fault, named_action, jump_of, action_of_word, is_default, names, last_action, action_among, fault_of_entry, control_unless, control_of}
 use Rattle.control_words.specs.Entries.{entries_in}
 use Rattle.control_words.specs.Entries.{Entry as ControlEntry}
 use Rattle.control_words.specs.Keyword.{required, requisite, sufficient, optional, control_of_word}
 use Rattle.control_words.specs.Stack.{Stack, none, line, sub, joined}
 use Rattle.service_load.specs.declared.rule_type.RuleType.{RuleType}
-use Rattle.service_load.specs.Entry.{named_file, file_field, with_control, behind_type, entry_at, with_type, entry_of_tokens, entry_of}
-use Rattle.service_load.specs.Files.{plain_file, rule_without, own_rule, own_rules, held_in_conf, held_for, held_answer, held_text, held, rules_held, is_in_folder}
+use Rattle.service_load.specs.Entry.{named_file, with_control, behind_type, entry_at, with_type, entry_of}
+use Rattle.service_load.specs.Files.{plain_file, rule_without, own_rules, held_in_conf, held_for, held_answer, held_text, held, rules_held, is_in_folder}
 use Rattle.service_load.specs.RuleType.{is_word, type_field_of}
 use Rattle.service_load.specs.Tree.{serves, nodes}
 use Rattle.service_print.proofs.Actions.{is_fine}
-use Rattle.service_print.proofs.Meant.{Meaning, nothing, a_line, an_include, a_substack, is_meant, meant_nodes, meant_items, nodes_from, items_from, IsMeant}
+use Rattle.service_print.proofs.Meant.{Meaning, nothing, a_line, an_include, a_substack, meant_nodes, nodes_from, IsMeant}
 use Rattle.service_print.proofs.Fielded.{can_stand}
 use Rattle.service_print.proofs.Understood.{can_stand_all, IsWritable, AllWritable}
 use Rattle.service_print.proofs.Taken.{Reading, is_good, good_rule, text_good}

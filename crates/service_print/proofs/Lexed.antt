@@ -1,18 +1,17 @@
 -- A text of printed lines: its rules are the tokens of the lines, in the lines' order.
-use Rattle.std.proofs.Common.{◌≡◌, ℕ, ◌+◌, ◌≤◌, ◌<◌, Bool, true, false, not, ◌||◌, ◌&&◌, cond, eqb, nat_lt, nat_le, List, [], ◌∷◌, ◌++◌, length, map, Option, Some, None, Ok, refl, sym, ap, ◌∙◌, subst, arith, append_assoc, append-nil, inl, inr, add-zero, zero-add}
-use Rattle.std.specs.List.{flat_map, list_all, list_any, count_by}
+use Rattle.std.proofs.Common.{◌≡◌, ℕ, ◌+◌, ◌≤◌, Bool, true, false, not, ◌&&◌, cond, eqb, nat_le, List, [], ◌∷◌, ◌++◌, length, map, None, Ok, refl, sym, ap, ◌∙◌, arith, append_assoc, append-nil, inl, inr, add-zero}
+use Rattle.std.specs.List.{flat_map, list_all, list_any}
 use Rattle.std.proofs.lemmas.Bool.{cases_Bool, and_parts, and_from, not-true, not_from_false, le-ltb, leb-true, or_from, or_parts}
 use Rattle.std.proofs.lemmas.Grind.{flat_map-append}
 use Rattle.std.proofs.lemmas.List.Folds.{list_all-append, list_any-append}
-use Rattle.pam_base.specs.Bytes.{has_byte}
 use Rattle.conf_lex.specs.declared.token.Token.{Token}
 use Rattle.conf_lex.specs.declared.token.RawRule.{RawRule}
-use Rattle.conf_lex.specs.Piece.{Piece, white, newline, piece_bytes, piece_tokens, spelling, tokens_of, is_newline, is_open, stands, all_stand, goes_on, join_after_backslash, Reads, IsReading}
+use Rattle.conf_lex.specs.Piece.{Piece, white, newline, piece_bytes, piece_tokens, spelling, tokens_of, is_newline, is_open, stands, all_stand, goes_on, join_after_backslash, IsReading}
 use Rattle.conf_lex.specs.Reading.{pieces_of}
-use Rattle.conf_lex.specs.Rules.{newlines, in_front, lines_of_pieces, numbered, rule_at, line_rules, line_fault, first_fault}
-use Rattle.conf_lex.specs.Lexing.{nul_line, answer_at, answer_of}
+use Rattle.conf_lex.specs.Rules.{newlines, lines_of_pieces, numbered, line_rules, line_fault, first_fault}
+use Rattle.conf_lex.specs.Lexing.{nul_line, answer_at}
 use Rattle.conf_lex.specs.Answer.{answer_to}
-use Rattle.service_print.specs.Tokens.{behind_space, spaced, escaped_byte, in_brackets, ends_in, ended, line_end, text_of}
+use Rattle.service_print.specs.Tokens.{behind_space, spaced, escaped_byte, in_brackets, ends_in, ended, text_of}
 use Rattle.service_print.proofs.Spelled.{last_is, ends_in-last, is_inner, is_plain, is_sound, is_plain_text, is_inner_text, plain_parts, written, fields_text, field_pieces, behind_pieces, field_pieces-bytes, field_pieces-tokens, behind_pieces-within, behind_pieces-closed, fields_stand, piece_of, piece_of-within, piece_of-closed}
 
 -- ---- every byte of a line
@@ -121,15 +120,15 @@ body_pieces-within : (fields : Fields) → list_any is_newline (body_pieces fiel
 body_pieces-within fields =
     list_any-append is_newline (field_pieces fields.first fields.more) (space_piece (ends_in 92 (line_text fields)))
     ∙ or_from (list_any is_newline (field_pieces fields.first fields.more)) (list_any is_newline (space_piece (ends_in 92 (line_text fields))))
-      (or_from (is_newline (piece_of fields.first)) (list_any is_newline (behind_pieces fields.more)) (piece_of-within fields.first) (behind_pieces-within fields.more))
-      (space_piece-within (ends_in 92 (line_text fields)))
+    (or_from (is_newline (piece_of fields.first)) (list_any is_newline (behind_pieces fields.more)) (piece_of-within fields.first) (behind_pieces-within fields.more))
+    (space_piece-within (ends_in 92 (line_text fields)))
 
 body_pieces-closed : (fields : Fields) → list_any is_open (body_pieces fields) ≡ false
 body_pieces-closed fields =
     list_any-append is_open (field_pieces fields.first fields.more) (space_piece (ends_in 92 (line_text fields)))
     ∙ or_from (list_any is_open (field_pieces fields.first fields.more)) (list_any is_open (space_piece (ends_in 92 (line_text fields))))
-      (or_from (is_open (piece_of fields.first)) (list_any is_open (behind_pieces fields.more)) (piece_of-closed fields.first) (behind_pieces-closed fields.more))
-      (space_piece-closed (ends_in 92 (line_text fields)))
+    (or_from (is_open (piece_of fields.first)) (list_any is_open (behind_pieces fields.more)) (piece_of-closed fields.first) (behind_pieces-closed fields.more))
+    (space_piece-closed (ends_in 92 (line_text fields)))
 
 -- ---- pieces that stand
 
@@ -164,8 +163,8 @@ line_stands fields rest sound =
     let parts = and_parts (is_sound fields.first) (list_all is_sound fields.more) sound in
     let spaced = ends_in 92 (line_text fields) in
     let whole = stand-append (field_pieces fields.first fields.more) (end_pieces spaced) rest
-        (fields_stand fields.first fields.more (spelling (end_pieces spaced) ++ rest) parts.0 parts.1 (end_ends spaced rest) (λ y. end_apart spaced rest (ends_in-last (line_text fields) ∙ y)))
-        (end_stands spaced rest)
+    (fields_stand fields.first fields.more (spelling (end_pieces spaced) ++ rest) parts.0 parts.1 (end_ends spaced rest) (λ y. end_apart spaced rest (ends_in-last (line_text fields) ∙ y)))
+    (end_stands spaced rest)
     in
     ap (λ (ps : List Piece). all_stand ps rest) (append_assoc (field_pieces fields.first fields.more) (space_piece spaced) (newline ∷ [])) ∙ whole
 
@@ -182,7 +181,7 @@ text_spelled : (lines : List Fields) → lines_text lines ≡ spelling (text_pie
 text_spelled [] = refl
 text_spelled (fields ∷ lines) =
     let here : ended (line_text fields) ≡ spelling (body_pieces fields ++ newline ∷ []) =
-        ended-closed (line_text fields) ∙ ap (λ (t : List ℕ). t ++ 10 ∷ []) (sym (body_pieces-bytes fields)) ∙ sym (flat_map-append piece_bytes (body_pieces fields) (newline ∷ [])) in
+    ended-closed (line_text fields) ∙ ap (λ (t : List ℕ). t ++ 10 ∷ []) (sym (body_pieces-bytes fields)) ∙ sym (flat_map-append piece_bytes (body_pieces fields) (newline ∷ [])) in
     rw (here, text_spelled lines) (sym (flat_map-append piece_bytes (body_pieces fields ++ newline ∷ []) (text_pieces lines)))
 
 text_stands : (lines : List Fields) → list_all is_sound_line lines ≡ true → all_stand (text_pieces lines) [] ≡ true
@@ -314,8 +313,8 @@ text_set [] all = refl
 text_set (fields ∷ lines) all =
     let parts = and_parts (is_set_line fields) (list_all is_set_line lines) all in
     let here : list_all is_set (ended (line_text fields)) ≡ true =
-        ap (list_all is_set) (ended-closed (line_text fields)) ∙ list_all-append is_set (closed_line fields) (10 ∷ [])
-        ∙ and_from (list_all is_set (closed_line fields)) true (closed_all is_set set_passes fields parts.0) refl in
+    ap (list_all is_set) (ended-closed (line_text fields)) ∙ list_all-append is_set (closed_line fields) (10 ∷ [])
+    ∙ and_from (list_all is_set (closed_line fields)) true (closed_all is_set set_passes fields parts.0) refl in
     list_all-append is_set (ended (line_text fields)) (lines_text lines) ∙ and_from (list_all is_set (ended (line_text fields))) (list_all is_set (lines_text lines)) here (text_set lines parts.1)
 
 -- the rules of a printed text

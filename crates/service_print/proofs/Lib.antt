@@ -21,3 +21,4 @@ pub mod Reloaded
 pub mod Taken
 pub mod Known
 pub mod Brought
+pub mod Loadable

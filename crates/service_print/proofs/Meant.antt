@@ -1,15 +1,13 @@
 -- What a rule of a file means for a stack, and what a load meets by it.
-use Rattle.std.proofs.Common.{◌≡◌, ℕ, ◌+◌, Bool, true, false, not, ◌||◌, ◌&&◌, cond, List, [], ◌∷◌, ◌++◌, length, map, Option, Some, None, Result, Ok, Err, refl, sym, ap, ◌∙◌, inl, inr, append-nil}
+use Rattle.std.proofs.Common.{◌≡◌, ℕ, Bool, true, false, cond, List, [], ◌∷◌, ◌++◌, Option}
 use Rattle.std.specs.Result.{is_ok}
-use Rattle.std.proofs.lemmas.Bool.{cases_Bool}
-use Rattle.conf_lex.specs.declared.token.Token.{Token}
 use Rattle.conf_lex.specs.declared.token.RawRule.{RawRule}
 use Rattle.control_words.specs.declared.nodes.Rule.{Rule}
 use Rattle.control_words.specs.Stack.{Stack, none, line, sub, joined}
 use Rattle.service_load.specs.declared.rule_type.RuleType.{RuleType}
 use Rattle.service_load.specs.Entry.{entry_of}
 use Rattle.service_load.specs.Files.{plain_file, entries_of}
-use Rattle.service_load.specs.Order.{Opener, by_rule, Item, made, items_of, items}
+use Rattle.service_load.specs.Order.{by_rule, Item, made, items_of, items}
 use Rattle.service_load.specs.Tree.{serves, nodes_of}
 
 -- what a rule is: a line, the nodes of a file or a substack of them, for one type or for all; or it has a fault

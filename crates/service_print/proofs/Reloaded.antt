@@ -1,10 +1,10 @@
 -- A vault that has just the printed files loads to the stacks that were printed.
-use Rattle.std.proofs.Common.{◌≡◌, ℕ, zero, suc, ◌+◌, ◌≤◌, ◌<◌, Bool, true, false, not, ◌||◌, ◌&&◌, cond, eqb, nat_lt, nat_le, List, [], ◌∷◌, ◌++◌, length, map, take, Option, Some, None, Result, Ok, Err, refl, sym, ap, ◌∙◌, subst, arith, append_assoc, append-nil, length-append, inl, inr, ◌⊎◌}
+use Rattle.std.proofs.Common.{◌≡◌, ℕ, ◌+◌, ◌≤◌, Bool, true, false, not, ◌&&◌, eqb, nat_lt, nat_le, List, [], ◌∷◌, ◌++◌, length, map, take, Option, None, Ok, refl, sym, ap, ◌∙◌, arith, append_assoc, length-append, inl, inr}
 use Rattle.std.specs.Prelude.{codes, nat_eq, decimal}
-use Rattle.std.specs.List.{list_all, list_any, starts_with}
+use Rattle.std.specs.List.{list_all}
 use Rattle.std.specs.Cmp.Lexicographic.{pointwise}
 use Rattle.std.specs.Str.{bytes_eq, str_to_ascii_lowercase}
-use Rattle.std.proofs.lemmas.Bool.{cases_Bool, and_parts, and_from, and_right, ltb-true, leb-true, eqb-true, eq-eqb, false≢true, true≢false, or_left, or_right}
+use Rattle.std.proofs.lemmas.Bool.{cases_Bool, and_parts, and_right, false≢true, true≢false, or_left, or_right}
 use Rattle.std.proofs.lemmas.Slice.Eq.{bytes_eq-Decides}
 use Rattle.std.proofs.lemmas.List.Folds.{list_any-append}
 use Rattle.std.proofs.Math.Seq.{take-append_seam}
@@ -16,8 +16,8 @@ use Rattle.pam_outside.specs.Files.{File as VaultFile}
 use Rattle.control_words.specs.Stack.{Stack}
 use Rattle.service_load.specs.declared.rule_type.RuleType.{RuleType}
 use Rattle.service_load.specs.Entry.{folder_name}
-use Rattle.service_load.specs.FirstFault.{Counts, Stop, look}
-use Rattle.service_load.specs.Load.{has_folder, loaded_from, loaded}
+use Rattle.service_load.specs.FirstFault.{Counts, look}
+use Rattle.service_load.specs.Load.{has_folder, loaded}
 use Rattle.service_load.specs.Loading.{texts_of}
 use Rattle.service_load.specs.Names.{root_before, path_of}
 use Rattle.service_load.specs.Order.{order}
@@ -28,10 +28,10 @@ use Rattle.service_print.specs.Printed.{numbered, subs_in, substack_files, all_l
 use Rattle.service_print.specs.Reload.{LoadsTo, placed_file, HoldsJust, is_short, IsLowerName}
 use Rattle.service_print.proofs.Adding.{length-substack_files}
 use Rattle.service_print.proofs.Lexed.{OneReading}
-use Rattle.service_print.proofs.Understood.{AllWritable, IsServiceName, in_the_folder}
+use Rattle.service_print.proofs.Understood.{IsServiceName, in_the_folder}
 use Rattle.service_print.proofs.Found.{path_in, found_first, found_later, service_apart, Numbered, all_numbered, AllThere, texts_in, all_found}
-use Rattle.service_print.proofs.Segments.{short_file, stack_files_stand, all_fields, all_meanings, all_subs, service_lines, service_meant, IsPart, part_of}
-use Rattle.service_print.proofs.Returned.{IsPrintable, openings_for, openings_of, OtherIs, Stands, tree_is, pass_order}
+use Rattle.service_print.proofs.Segments.{short_file, stack_files_stand, all_fields, all_meanings, all_subs, service_lines, service_meant, part_of}
+use Rattle.service_print.proofs.Returned.{IsPrintable, openings_of, Stands, tree_is, pass_order}
 
 -- ---- names
 
@@ -121,7 +121,7 @@ below_by folder path rest is =
 folder_there : (root : List ℕ) (file : File) (files : List File) → is_folder (path_of root folder_name) (map (placed_file root) (file ∷ files)) ≡ true
 folder_there root file files =
     let path : path_of root (in_the_folder file.name) ≡ (path_of root folder_name ++ codes "/") ++ file.name =
-        sym (append_assoc (path_of root folder_name) (codes "/") file.name ∙ append_assoc (root_before root) folder_name (codes "/" ++ file.name)) in
+    sym (append_assoc (path_of root folder_name) (codes "/") file.name ∙ append_assoc (root_before root) folder_name (codes "/" ++ file.name)) in
     or_left (is_below (path_of root folder_name) (path_of root (in_the_folder file.name))) (is_folder (path_of root folder_name) (map (placed_file root) files)) (below_by (path_of root folder_name) (path_of root (in_the_folder file.name)) file.name path)
 
 -- ---- the load

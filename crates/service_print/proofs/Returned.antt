@@ -1,39 +1,22 @@
 -- The four printed stacks load to themselves.
-use Rattle.std.proofs.Common.{◌≡◌, ℕ, zero, suc, ◌+◌, ◌-◌, ◌≤◌, ◌<◌, ◌^◌, Bool, true, false, not, ◌||◌, ◌&&◌, cond, eqb, nat_lt, nat_le, List, [], ◌∷◌, ◌++◌, length, map, take, Option, Some, None, Result, Ok, Err, refl, sym, ap, ◌∙◌, subst, arith, append_assoc, append-nil, add-zero, zero-add, add_assoc, inl, inr, ◌⊎◌, length-append}
+use Rattle.std.proofs.Common.{◌≡◌, ℕ, ◌+◌, ◌-◌, ◌≤◌, ◌<◌, ◌^◌, Bool, true, false, cond, eqb, nat_lt, List, [], ◌∷◌, ◌++◌, Option, None, Ok, refl, sym, ap, ◌∙◌, subst, arith, append-nil, add-zero, zero-add, add_assoc, inl, inr, ◌⊎◌}
 use Rattle.std.specs.Prelude.{codes}
-use Rattle.std.specs.List.{flat_map, list_all, list_any, starts_with}
-use Rattle.std.specs.Str.{bytes_eq, str_to_ascii_lowercase}
-use Rattle.std.proofs.lemmas.Bool.{cases_Bool, and_parts, and_from, and_right, lt-leb, le-ltb, ltb-true, leb-true, eqb-true, false≢true, or_left}
-use Rattle.std.proofs.lemmas.Slice.Eq.{bytes_eq-Decides}
-use Rattle.std.proofs.Math.Seq.{take-append_seam}
-use Rattle.pam_base.specs.Bytes.{has_byte}
-use Rattle.pam_base.specs.Counts.{next_count, fails_next}
-use Rattle.pam_base.specs.ServiceName.{is_name_byte, is_service_name}
-use Rattle.pam_base.specs.declared.fault.FaultKind.TheVariants.{ReadFailed}
-use Rattle.pam_outside.specs.Files.{VaultState, file_at, is_below, is_folder, is_failing}
-use Rattle.pam_outside.specs.Files.{File as VaultFile}
-use Rattle.control_words.specs.Stack.{Stack, none, line, sub, joined, count, depth, lines_in}
+use Rattle.std.specs.List.{flat_map}
+use Rattle.std.specs.Str.{str_to_ascii_lowercase}
+use Rattle.std.proofs.lemmas.Bool.{cases_Bool, and_right, lt-leb, eqb-true}
+use Rattle.pam_base.specs.Counts.{next_count}
+use Rattle.control_words.specs.Stack.{Stack, none, line, sub, count, depth, lines_in}
 use Rattle.service_load.specs.declared.rule_type.RuleType.{RuleType}
-use Rattle.service_load.specs.declared.rule_type.RuleType.TheVariants.{Auth, Account, Password, Session}
-use Rattle.service_load.specs.Entry.{folder_name}
-use Rattle.service_load.specs.Files.{plain_file, service_file, Held, absent, holds, held, held_text, rules_held, is_absent}
-use Rattle.service_load.specs.FirstFault.{Counts, Stop, fault_at, going_on, look}
-use Rattle.service_load.specs.Load.{has_folder, loaded_from, loaded}
-use Rattle.service_load.specs.Loading.{texts_of}
-use Rattle.service_load.specs.Names.{root_before, path_of}
-use Rattle.service_load.specs.Order.{Opener, as_service, as_other, as_last, Item, begin, opening, checked, items, other_opener, tree_items, order}
-use Rattle.service_load.specs.RuleType.{same_type, all_types}
+use Rattle.service_load.specs.Files.{plain_file, Held, is_absent}
+use Rattle.service_load.specs.FirstFault.{Counts, look}
+use Rattle.service_load.specs.Order.{Opener, as_service, as_other, as_last, Item, begin, items, other_opener, tree_items, order}
+use Rattle.service_load.specs.RuleType.{all_types}
 use Rattle.service_load.specs.Tree.{nodes, tree_of, tree}
-use Rattle.service_print.specs.declared.file.File.{File}
-use Rattle.service_print.specs.Printed.{numbered, subs_in, substack_files, all_lines, all_substack_files, service_text, printed}
-use Rattle.service_print.specs.Reload.{LoadsTo, placed_file, HoldsJust, is_short, IsLowerName}
-use Rattle.service_print.proofs.Lexed.{OneReading}
-use Rattle.service_print.proofs.Meant.{Meaning}
-use Rattle.service_print.proofs.Understood.{AllWritable, IsServiceName, in_the_folder}
-use Rattle.service_print.proofs.Stacked.{meanings_from, meanings_nodes, meanings_items, IsFile, file_nodes, file_met}
+use Rattle.service_print.specs.Printed.{subs_in}
+use Rattle.service_print.proofs.Understood.{AllWritable, in_the_folder}
+use Rattle.service_print.proofs.Stacked.{IsFile, file_nodes}
 use Rattle.service_print.proofs.Standing.{Stand, stack_stands, Passes, counts_with, pass-append, pass_none, pass_file, pass_stack}
-use Rattle.service_print.proofs.Found.{path_in, found_first, found_later, service_apart, Numbered, all_numbered, AllThere, texts_in, all_found}
-use Rattle.service_print.proofs.Segments.{short_file, stack_files_stand, all_fields, all_meanings, all_subs, service_lines, service_meant, IsPart, part_of}
+use Rattle.service_print.proofs.Segments.{all_meanings, part_of}
 
 -- what four stacks are like that can be printed and load again
 pub record IsPrintable (stack : RuleType → Stack) : Type 0 where
@@ -102,8 +85,8 @@ module _ (texts : List ℕ → Option (List ℕ)) (service : List ℕ) (stack : 
       let same = part.items texts 16 (in_the_folder service) 1 in
       pass_file texts 16 type opener (in_the_folder service) (all_meanings stack service 1 all_types) stands.file calls openings 0 (openings + 1 + subs_in (stack type)) (lines_in (stack type)) (omega arith)
       (λ calls'.
-        let along = pass_stack texts type service part.start 16 (stack type) (in_the_folder service) same.first calls' (openings + 1) 0 (is.deep type) (stands.subs type) few (omega (arith, is.few type)) in
-        record { calls = along.calls; looks = ap (look texts [] (counts_with calls' (openings + 1) 0)) same.same ∙ along.looks ∙ ap (λ n. Ok (counts_with along.calls (openings + 1 + subs_in (stack type)) n)) (zero-add (lines_in (stack type))) })
+      let along = pass_stack texts type service part.start 16 (stack type) (in_the_folder service) same.first calls' (openings + 1) 0 (is.deep type) (stands.subs type) few (omega (arith, is.few type)) in
+      record { calls = along.calls; looks = ap (look texts [] (counts_with calls' (openings + 1) 0)) same.same ∙ along.looks ∙ ap (λ n. Ok (counts_with along.calls (openings + 1 + subs_in (stack type)) n)) (zero-add (lines_in (stack type))) })
 
   pass_absent : (type : RuleType) (calls openings : ℕ) → openings < 256 → texts (in_the_folder (codes "other")) ≡ None
       → Passes texts (counts_with calls openings 0) (items texts 17 type as_other (plain_file (in_the_folder (codes "other")))) (openings + 1) 0
@@ -167,7 +150,7 @@ module _ (texts : List ℕ → Option (List ℕ)) (service : List ℕ) (stack : 
             let two = pass_own stands is type as_service one.calls openings (omega (arith, few, extra)) in
             let three = pass_other stands is type two.calls (openings + 1 + subs_in (stack type)) (omega (arith, few, extra)) (eqb-true (count (stack type)) 0 y) in
             let three' : Passes texts (counts_with two.calls (openings + 1 + subs_in (stack type)) (lines_in (stack type))) (items texts 17 type as_other (plain_file (in_the_folder (codes "other")))) (openings + 1 + subs_in (stack type) + 1) 0 =
-                subst (λ n. Passes texts (counts_with two.calls (openings + 1 + subs_in (stack type)) n) (items texts 17 type as_other (plain_file (in_the_folder (codes "other")))) (openings + 1 + subs_in (stack type) + 1) 0) (sym no_lines) three in
+            subst (λ n. Passes texts (counts_with two.calls (openings + 1 + subs_in (stack type)) n) (items texts 17 type as_other (plain_file (in_the_folder (codes "other")))) (openings + 1 + subs_in (stack type) + 1) 0) (sym no_lines) three in
             let both = pass-append texts (counts_with one.calls openings 0) (own_file_items type) (items texts 17 type as_other (plain_file (in_the_folder (codes "other")))) (openings + 1 + subs_in (stack type)) (lines_in (stack type)) (openings + 1 + subs_in (stack type) + 1) 0 two three' in
             let whole = pass-append texts (counts_with calls openings lines) (begin ∷ []) (own_file_items type ++ items texts 17 type as_other (plain_file (in_the_folder (codes "other")))) openings 0 (openings + 1 + subs_in (stack type) + 1) 0 one both in
             let sum : openings + 1 + subs_in (stack type) + 1 ≡ openings + openings_for (stack type) = omega (arith, extra) in
@@ -202,6 +185,7 @@ module _ (texts : List ℕ → Option (List ℕ)) (service : List ℕ) (stack : 
   pub pass_order : Stands texts service stack → IsPrintable stack → str_to_ascii_lowercase service ≡ service → openings_of stack all_types ≤ 256 → (calls : ℕ)
       → (counts : Counts) × (look texts [] (counts_with calls 0 0) (order texts true service) ≡ Ok counts)
   pass_order stands is lower few calls =
-      let all = pass_trees stands is all_types calls 0 0 (omega (arith, few)) in
-      (counts_with all.1.calls (0 + openings_of stack all_types) all.0,
-      ap (λ (s : List ℕ). look texts [] (counts_with calls 0 0) (flat_map (tree_items texts (plain_file (in_the_folder s)) (plain_file (in_the_folder (codes "other")))) all_types)) lower ∙ all.1.looks)
+      let all = pass_trees stands is all_types calls 0 0 (omega (arith, few)) in (
+        counts_with all.1.calls (0 + openings_of stack all_types) all.0,
+        ap (λ (s : List ℕ). look texts [] (counts_with calls 0 0) (flat_map (tree_items texts (plain_file (in_the_folder s)) (plain_file (in_the_folder (codes "other")))) all_types)) lower ∙ all.1.looks,
+      )

@@ -9,7 +9,7 @@ use Rattle.control_words.specs.Entries.{entries_in, entries_behind}
 use Rattle.control_words.specs.Keyword.{required, optional}
 use Rattle.control_words.specs.Stack.{Stack, none, line, sub}
 use Rattle.service_load.specs.declared.rule_type.RuleType.{RuleType}
-use Rattle.service_load.specs.declared.rule_type.RuleType.TheVariants.{Auth, Account, Password, Session}
+use Rattle.service_load.specs.declared.rule_type.RuleType.TheVariants.{Auth, Session}
 use Rattle.service_print.specs.declared.file.File.{File}
 use Rattle.service_print.specs.Tokens.{token_text, ended}
 use Rattle.service_print.specs.Controls.{same_control, entries_among, control_text}

@@ -1,7 +1,7 @@
 -- The four stacks in one file: each type has its own lines there.
-use Rattle.std.proofs.Common.{◌≡◌, ℕ, zero, suc, ◌+◌, ◌-◌, ◌≤◌, ◌<◌, Bool, true, false, not, ◌||◌, ◌&&◌, cond, eqb, nat_le, List, [], ◌∷◌, ◌++◌, length, map, Option, Some, None, refl, sym, ap, ◌∙◌, subst, arith, append_assoc, append-nil, add-zero, inl, inr}
-use Rattle.std.specs.List.{list_all, list_any}
-use Rattle.std.proofs.lemmas.Bool.{cases_Bool, and_parts, and_from, not-true, not_from_false, leb-true, le-leb, or_from}
+use Rattle.std.proofs.Common.{◌≡◌, ℕ, ◌+◌, ◌≤◌, Bool, true, false, not, eqb, nat_le, List, [], ◌∷◌, ◌++◌, length, Option, Some, refl, sym, ap, ◌∙◌, subst, arith, append_assoc, append-nil, add-zero}
+use Rattle.std.specs.List.{list_all}
+use Rattle.std.proofs.lemmas.Bool.{and_parts, and_from, not-true, leb-true, or_from}
 use Rattle.std.proofs.lemmas.List.Folds.{list_all-append}
 use Rattle.pam_base.specs.Bytes.{has_byte}
 use Rattle.pam_base.specs.Lines.{lines_of, lines_of-line}
@@ -11,13 +11,13 @@ use Rattle.service_load.specs.declared.rule_type.RuleType.TheVariants.{Auth, Acc
 use Rattle.service_load.specs.Order.{Item}
 use Rattle.service_load.specs.RuleType.{same_type, all_types}
 use Rattle.service_print.specs.declared.file.File.{File}
-use Rattle.service_print.specs.Tokens.{ended, text_of}
-use Rattle.service_print.specs.Printed.{numbered, subs_in, substack_file, substack_files, all_lines, all_substack_files}
+use Rattle.service_print.specs.Tokens.{text_of}
+use Rattle.service_print.specs.Printed.{subs_in, substack_file, substack_files, all_lines, all_substack_files}
 use Rattle.service_print.specs.Printed.{lines_of as stack_lines_of}
 use Rattle.service_print.specs.Reload.{is_short}
 use Rattle.service_print.proofs.Spelled.{is_inner}
 use Rattle.service_print.proofs.Lexed.{Fields, tokens_in, line_text, lines_text, closed_line, ended-closed, closed_all, inner_passes, all_sound_inner, is_sound_line, is_short_line, OneReading}
-use Rattle.service_print.proofs.Meant.{Meaning, a_line, a_substack, is_meant, meant_nodes, meant_items}
+use Rattle.service_print.proofs.Meant.{Meaning, is_meant, meant_nodes, meant_items}
 use Rattle.service_print.proofs.Understood.{AllWritable, IsServiceName, in_the_folder}
 use Rattle.service_print.proofs.Stacked.{fields_from, meanings_from, AreLines, stack_lines, lines-append, stack_meant, meanings_nodes, meanings_items, lines_sound, lines_text_is, IsFile, is_file}
 use Rattle.service_print.proofs.Standing.{Stand}
@@ -40,9 +40,9 @@ lines_short (f ∷ fs) sound short =
     let parts = and_parts (is_sound_line f) (list_all is_sound_line fs) sound in
     let inner : list_all is_inner (closed_line f) ≡ true = closed_all is_inner inner_passes f (all_sound_inner (tokens_in f) parts.0) in
     let cut : lines_of (lines_text (f ∷ fs)) ≡ closed_line f ∷ lines_of (lines_text fs) =
-        ap (λ (t : List ℕ). lines_of (t ++ lines_text fs)) (ended-closed (line_text f))
-        ∙ ap lines_of (append_assoc (closed_line f) (10 ∷ []) (lines_text fs))
-        ∙ lines_of-line (closed_line f) (lines_text fs) (no_newline_byte (closed_line f) inner)
+    ap (λ (t : List ℕ). lines_of (t ++ lines_text fs)) (ended-closed (line_text f))
+    ∙ ap lines_of (append_assoc (closed_line f) (10 ∷ []) (lines_text fs))
+    ∙ lines_of-line (closed_line f) (lines_text fs) (no_newline_byte (closed_line f) inner)
     in
     let shorts = and_parts (is_short_text (closed_line f)) (list_all is_short_text (lines_of (lines_text fs))) (ap (list_all is_short_text) (sym cut) ∙ short) in
     and_from (is_short_line f) (list_all is_short_line fs) shorts.0 (lines_short fs parts.1 shorts.1)
@@ -68,11 +68,12 @@ stack_files_stand only texts type service number (sub inner rest) is writable fe
     let behind = substack_files service type (number + 1 + subs_in inner) rest in
     let theres = there-parts texts within behind there.1 in
     let first = and_parts (is_short (substack_file service type number inner)) (list_all is_short (within ++ behind)) short in
-    let shorts = and_parts (list_all is_short within) (list_all is_short behind) (sym (list_all-append is_short within behind) ∙ first.1) in
-    (short_file only texts (substack_file service type number inner) (fields_from type service (number + 1) inner) (stack_lines_of service type (number + 1) inner) (meanings_from type service (number + 1) inner)
-        (stack_lines type service (number + 1) inner is writable.0 (omega arith)) (stack_meant type service (number + 1) inner) refl first.0 there.0,
-    stack_files_stand only texts type service (number + 1) inner is writable.0 (omega arith) theres.0 shorts.0,
-    stack_files_stand only texts type service (number + 1 + subs_in inner) rest is writable.1 (omega arith) theres.1 shorts.1)
+    let shorts = and_parts (list_all is_short within) (list_all is_short behind) (sym (list_all-append is_short within behind) ∙ first.1) in (
+      short_file only texts (substack_file service type number inner) (fields_from type service (number + 1) inner) (stack_lines_of service type (number + 1) inner) (meanings_from type service (number + 1) inner)
+          (stack_lines type service (number + 1) inner is writable.0 (omega arith)) (stack_meant type service (number + 1) inner) refl first.0 there.0,
+      stack_files_stand only texts type service (number + 1) inner is writable.0 (omega arith) theres.0 shorts.0,
+      stack_files_stand only texts type service (number + 1 + subs_in inner) rest is writable.1 (omega arith) theres.1 shorts.1,
+    )
 
 -- ---- the lines of several stacks
 

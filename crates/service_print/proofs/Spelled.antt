@@ -1,11 +1,11 @@
 -- Tokens as they are written: each is a piece of the text that it is written in.
-use Rattle.std.proofs.Common.{◌≡◌, ℕ, ◌+◌, ◌-◌, Bool, true, false, not, ◌||◌, ◌&&◌, cond, eqb, List, [], ◌∷◌, ◌++◌, length, map, Option, Some, None, refl, sym, ap, ◌∙◌, arith, append_assoc, append-nil, inl, inr}
+use Rattle.std.proofs.Common.{◌≡◌, ℕ, ◌-◌, Bool, true, false, not, ◌||◌, ◌&&◌, cond, eqb, List, [], ◌∷◌, ◌++◌, length, map, Some, None, refl, sym, ap, ◌∙◌, arith, append-nil, inl, inr}
 use Rattle.std.specs.List.{flat_map, list_all, list_any}
 use Rattle.std.proofs.lemmas.Bool.{cases_Bool, not_from_false, cond-false, false≢true, both_ways, not-true, or_parts, and_parts, and_from, eqb-true}
 use Rattle.pam_base.specs.White.{is_white}
 use Rattle.conf_lex.specs.declared.token.Token.{Token}
-use Rattle.conf_lex.specs.Piece.{Join, return_feed, BracketUnit, escaped, single, unit_bytes, unit_text, unit_stands, units_bytes, units_text, units_stand, Piece, plain, bracket, white, newline, piece_bytes, piece_tokens, spelling, tokens_of, begins_with, at_line_end, join_after_backslash, begins_join, is_single, goes_on, all_go_on, stands, all_stand, is_newline, is_open}
-use Rattle.service_print.specs.Tokens.{behind_space, spaced, escaped_byte, in_brackets, ends_in, ended, line_end}
+use Rattle.conf_lex.specs.Piece.{return_feed, BracketUnit, escaped, single, unit_bytes, unit_text, unit_stands, units_bytes, units_text, units_stand, Piece, plain, bracket, white, piece_bytes, piece_tokens, spelling, tokens_of, begins_with, join_after_backslash, begins_join, is_single, goes_on, all_go_on, stands, all_stand, is_newline, is_open}
+use Rattle.service_print.specs.Tokens.{behind_space, spaced, escaped_byte, in_brackets, ends_in}
 
 -- ---- the last byte
 

@@ -1,24 +1,21 @@
 -- A printed stack: what its lines mean, and the files of its substacks.
-use Rattle.std.proofs.Common.{◌≡◌, ℕ, zero, suc, ◌+◌, ◌-◌, ◌≤◌, ◌<◌, Bool, true, false, not, ◌||◌, ◌&&◌, cond, eqb, List, [], ◌∷◌, ◌++◌, length, map, Option, Some, None, Result, Ok, Err, refl, sym, ap, ◌∙◌, subst, arith, append_assoc, append-nil, inl, inr}
-use Rattle.std.specs.List.{flat_map, list_all, list_any}
+use Rattle.std.proofs.Common.{◌≡◌, ℕ, suc, ◌+◌, ◌-◌, ◌≤◌, true, List, [], ◌∷◌, ◌++◌, length, map, Option, Some, None, Ok, refl, sym, ap, ◌∙◌, subst, arith}
+use Rattle.std.specs.List.{list_all}
 use Rattle.std.specs.Result.{is_ok}
-use Rattle.std.proofs.lemmas.Bool.{cases_Bool, and_parts, and_from, false≢true}
+use Rattle.std.proofs.lemmas.Bool.{and_parts, and_from}
 use Rattle.conf_lex.specs.declared.token.RawRule.{RawRule}
 use Rattle.conf_lex.specs.Answer.{answer_to}
-use Rattle.control_words.specs.declared.nodes.Rule.{Rule}
-use Rattle.control_words.specs.Stack.{Stack, none, line, sub, joined, depth}
+use Rattle.control_words.specs.Stack.{Stack, none, line, sub, joined}
 use Rattle.service_load.specs.declared.rule_type.RuleType.{RuleType}
-use Rattle.service_load.specs.declared.rule_type.RuleType.TheVariants.{Auth, Account, Password, Session}
 use Rattle.service_load.specs.Entry.{entry_of}
-use Rattle.service_load.specs.Files.{plain_file, Held, holds, held, held_answer, own_rule, own_rules, rules_held, entries_of, all_fine, is_in_folder}
-use Rattle.service_load.specs.Order.{Opener, by_rule, Item, opening, checked, made, items_of, file_items, items}
-use Rattle.service_load.specs.RuleType.{same_type}
-use Rattle.service_load.specs.Tree.{serves, nodes_of, nodes}
+use Rattle.service_load.specs.Files.{plain_file, Held, holds, held, own_rules, rules_held, entries_of, all_fine}
+use Rattle.service_load.specs.Order.{Opener, Item, opening, checked, file_items, items}
+use Rattle.service_load.specs.Tree.{nodes_of, nodes}
 use Rattle.service_print.specs.Tokens.{text_of}
-use Rattle.service_print.specs.Printed.{rule_line, substack_line, numbered, subs_in, lines_of}
+use Rattle.service_print.specs.Printed.{numbered, subs_in, lines_of}
 use Rattle.service_print.proofs.Lexed.{Fields, tokens_in, line_text, lines_text, is_sound_line, is_set_line, is_short_line, raw_rules, OneReading, text_answer}
-use Rattle.service_print.proofs.Meant.{Meaning, nothing, a_line, an_include, a_substack, is_meant, meant_nodes, meant_items, nodes_from, items_from, IsMeant}
-use Rattle.service_print.proofs.Understood.{IsWritable, AllWritable, rule_tokens, IsLine, rule_is_line, IsServiceName, substack_tokens, in_the_folder, substack_is_line}
+use Rattle.service_print.proofs.Meant.{Meaning, a_line, a_substack, is_meant, meant_nodes, meant_items, nodes_from, items_from}
+use Rattle.service_print.proofs.Understood.{AllWritable, rule_tokens, IsLine, rule_is_line, IsServiceName, substack_tokens, in_the_folder, substack_is_line}
 
 -- ---- the lines of a stack
 

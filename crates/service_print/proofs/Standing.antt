@@ -1,23 +1,21 @@
 -- Where the files of its substacks stand, a printed stack comes to itself, and a load along it meets no fault.
-use Rattle.std.proofs.Common.{◌≡◌, ℕ, zero, suc, ◌+◌, ◌-◌, ◌≤◌, ◌<◌, Bool, true, false, not, ◌||◌, ◌&&◌, cond, eqb, nat_lt, nat_le, ◌^◌, List, [], ◌∷◌, ◌++◌, length, map, Option, Some, None, Result, Ok, Err, refl, sym, ap, ◌∙◌, subst, arith, append_assoc, append-nil, add-zero, inl, inr}
-use Rattle.std.specs.List.{flat_map, list_all, list_any}
+use Rattle.std.proofs.Common.{◌≡◌, ℕ, zero, suc, ◌+◌, ◌-◌, ◌≤◌, ◌<◌, true, false, nat_lt, ◌^◌, List, [], ◌∷◌, ◌++◌, map, Option, Result, Ok, Err, refl, ap, ◌∙◌, arith, add-zero}
 use Rattle.std.specs.Result.{is_ok}
-use Rattle.std.proofs.lemmas.Bool.{cases_Bool, and_parts, and_from, and_right, lt-leb, le-ltb, false≢true}
+use Rattle.std.proofs.lemmas.Bool.{and_parts, and_right, lt-leb, le-ltb, false≢true}
 use Rattle.pam_base.specs.declared.fault.FaultKind.{FaultKind}
-use Rattle.pam_base.specs.Counts.{next_count, fails_next}
+use Rattle.pam_base.specs.Counts.{next_count}
 use Rattle.conf_lex.specs.declared.token.RawRule.{RawRule}
-use Rattle.control_words.specs.declared.nodes.Rule.{Rule}
-use Rattle.control_words.specs.Stack.{Stack, none, line, sub, joined, depth, lines_in}
+use Rattle.control_words.specs.Stack.{Stack, none, line, sub, depth, lines_in}
 use Rattle.service_load.specs.declared.rule_type.RuleType.{RuleType}
-use Rattle.service_load.specs.declared.rule_type.RuleType.TheVariants.{Auth, Account, Password, Session}
+use Rattle.service_load.specs.declared.rule_type.RuleType.TheVariants.{Auth}
 use Rattle.service_load.specs.Entry.{entry_of}
-use Rattle.service_load.specs.Files.{plain_file, Held, holds, held, all_fine, is_in_folder}
-use Rattle.service_load.specs.FirstFault.{Counts, Stop, going_on, asked, held_file, checked_rule, opened, behind, look}
+use Rattle.service_load.specs.Files.{plain_file, holds, held, all_fine}
+use Rattle.service_load.specs.FirstFault.{Counts, Stop, going_on, checked_rule, behind, look}
 use Rattle.service_load.specs.Order.{Opener, by_rule, Item, opening, checked, made, items}
 use Rattle.service_load.specs.RuleType.{same_type}
 use Rattle.service_load.specs.Tree.{nodes}
 use Rattle.service_print.specs.Printed.{numbered, subs_in}
-use Rattle.service_print.proofs.Meant.{Meaning, a_line, a_substack, meant_nodes, meant_items}
+use Rattle.service_print.proofs.Meant.{Meaning}
 use Rattle.service_print.proofs.Understood.{in_the_folder}
 use Rattle.service_print.proofs.Stacked.{meanings_from, meanings_nodes, meanings_items, IsFile, file_nodes, file_met}
 
@@ -44,8 +42,8 @@ stack_stands texts type service number levels (line rule rest) deep stand =
 stack_stands texts type service number zero (sub inner rest) deep stand = absurd (omega arith)
 stack_stands texts type service number (suc levels) (sub inner rest) deep stand =
     let inside : nodes texts (suc levels) type (plain_file (in_the_folder (numbered service number))) ≡ inner =
-        file_nodes texts levels type (in_the_folder (numbered service number)) (meanings_from type service (number + 1) inner) stand.0
-        ∙ stack_stands texts type service (number + 1) levels inner (omega arith) stand.1
+    file_nodes texts levels type (in_the_folder (numbered service number)) (meanings_from type service (number + 1) inner) stand.0
+    ∙ stack_stands texts type service (number + 1) levels inner (omega arith) stand.1
     in
     let more = stack_stands texts type service (number + 1 + subs_in inner) (suc levels) rest (omega arith) stand.2 in
     rw (same_type-self type, inside) (ap (sub inner) more)
@@ -139,7 +137,7 @@ pass_stack texts type service number zero (sub inner rest) name first calls open
 pass_stack texts type service number (suc levels) (sub inner rest) name first calls openings lines deep stand few short =
     let file = in_the_folder (numbered service number) in
     let inside = pass_file texts levels type (by_rule name first) file (meanings_from type service (number + 1) inner) stand.0 calls openings lines (openings + 1 + subs_in inner) (lines + lines_in inner) (omega arith)
-        (λ calls'. pass_stack texts type service (number + 1) levels inner file 1 calls' (openings + 1) lines (omega arith) stand.1 (omega arith) (omega arith))
+    (λ calls'. pass_stack texts type service (number + 1) levels inner file 1 calls' (openings + 1) lines (omega arith) stand.1 (omega arith) (omega arith))
     in
     let more = pass_stack texts type service (number + 1 + subs_in inner) (suc levels) rest name (first + 1) inside.calls (openings + 1 + subs_in inner) (lines + lines_in inner) (omega arith) stand.2 (omega arith) (omega arith) in
     let sum : openings + 1 + subs_in inner + subs_in rest ≡ openings + (subs_in inner + 1 + subs_in rest) = omega arith in

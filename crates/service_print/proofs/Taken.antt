@@ -1,20 +1,20 @@
 -- The tokens of a text's rules can be printed.
-use Rattle.std.proofs.Common.{◌≡◌, ℕ, zero, suc, ◌+◌, ◌≤◌, ◌<◌, Bool, true, false, not, ◌||◌, ◌&&◌, cond, eqb, nat_lt, nat_le, List, [], ◌∷◌, ◌++◌, length, map, Option, Some, None, Result, Ok, Err, refl, sym, ap, ◌∙◌, subst, arith, append_assoc, append-nil, inl, inr, ◌⊎◌}
+use Rattle.std.proofs.Common.{◌≡◌, ℕ, ◌+◌, Bool, true, false, not, ◌||◌, ◌&&◌, cond, eqb, nat_lt, List, [], ◌∷◌, ◌++◌, length, Option, Some, None, Ok, Err, refl, sym, ap, ◌∙◌, append-nil, inl, inr}
 use Rattle.std.specs.List.{flat_map, list_all, list_any}
-use Rattle.std.proofs.lemmas.Bool.{cases_Bool, and_parts, and_from, not-true, not-false, not_from_false, not_from_true, or_parts, or_from, eqb-true, false≢true, true≢false, and_left, and_right}
+use Rattle.std.proofs.lemmas.Bool.{cases_Bool, and_parts, and_from, not-true, not_from_false, or_parts, or_from, false≢true, true≢false, and_left, and_right}
 use Rattle.std.proofs.lemmas.List.Folds.{list_all-append}
 use Rattle.pam_base.specs.White.{is_white}
 use Rattle.pam_base.specs.declared.fault.FaultKind.TheVariants.{FileTooLong}
 use Rattle.conf_lex.specs.declared.token.Token.{Token}
 use Rattle.conf_lex.specs.declared.token.RawRule.{RawRule}
 use Rattle.conf_lex.specs.declared.token.LexFault.{LexFault}
-use Rattle.conf_lex.specs.Piece.{Join, feed, return_feed, join_bytes, BracketUnit, escaped, joined, single, unit_bytes, unit_text, units_bytes, units_text, unit_stands, units_stand, is_single, begins_with, begins_join, at_line_end, goes_on, all_go_on, Piece, newline, white, join, plain, bracket, open_bracket, comment, piece_bytes, piece_tokens, spelling, tokens_of, stands, all_stand, is_newline, IsReading}
+use Rattle.conf_lex.specs.Piece.{BracketUnit, escaped, joined, single, unit_bytes, unit_text, units_bytes, units_text, unit_stands, units_stand, is_single, begins_with, begins_join, at_line_end, goes_on, all_go_on, Piece, newline, white, join, plain, bracket, open_bracket, comment, piece_bytes, piece_tokens, spelling, tokens_of, stands, all_stand, is_newline, IsReading}
 use Rattle.conf_lex.specs.Reading.{pieces_of}
-use Rattle.conf_lex.specs.Rules.{newlines, JoinedLine, in_front, lines_of_pieces, numbered, rule_at, line_rules, first_fault}
-use Rattle.conf_lex.specs.Lexing.{nul_line, given, answer_at, answer_of}
+use Rattle.conf_lex.specs.Rules.{newlines, in_front, lines_of_pieces, numbered, rule_at, line_rules, first_fault}
+use Rattle.conf_lex.specs.Lexing.{nul_line, given, answer_at}
 use Rattle.conf_lex.specs.Answer.{answer_unless_nul, answer_to}
 use Rattle.service_print.specs.Tokens.{ends_token, wants_brackets}
-use Rattle.service_print.proofs.Spelled.{last_is, is_inner, is_plain, last_is-append}
+use Rattle.service_print.proofs.Spelled.{last_is, is_inner, last_is-append}
 use Rattle.service_print.proofs.Lexed.{is_set}
 use Rattle.service_print.proofs.Fielded.{can_stand}
 

@@ -1,30 +1,23 @@
 -- The rules of printed lines say what was printed.
-use Rattle.std.proofs.Common.{◌≡◌, ℕ, ◌+◌, ◌≤◌, ◌<◌, Bool, true, false, not, ◌||◌, ◌&&◌, cond, eqb, List, [], ◌∷◌, ◌++◌, length, map, Option, Some, None, Result, Ok, Err, refl, sym, ap, ◌∙◌, arith, inl, inr}
+use Rattle.std.proofs.Common.{◌≡◌, ℕ, ◌<◌, Bool, true, false, List, [], ◌∷◌, ◌++◌, length, map, Some, refl, sym, ap, ◌∙◌}
 use Rattle.std.specs.Prelude.{codes, decimal}
 use Rattle.std.specs.Fmt.{digits}
-use Rattle.std.specs.List.{flat_map, list_all}
-use Rattle.std.proofs.lemmas.Bool.{cases_Bool, and_parts, and_from, not_from_false, agree_below_at}
+use Rattle.std.specs.List.{list_all}
+use Rattle.std.proofs.lemmas.Bool.{and_parts, and_from, agree_below_at}
 use Rattle.std.proofs.lemmas.List.Folds.{list_all-append}
 use Rattle.pam_base.specs.ServiceName.{is_name_byte}
-use Rattle.pam_base.specs.declared.fault.FaultKind.{FaultKind}
 use Rattle.conf_lex.specs.declared.token.Token.{Token}
-use Rattle.conf_lex.specs.declared.token.RawRule.{RawRule}
-use Rattle.control_words.specs.declared.bracket.ControlFault.{ControlFault}
-use Rattle.control_words.specs.declared.control.Action.{Action}
 use Rattle.control_words.specs.declared.nodes.Rule.{Rule}
-use Rattle.control_words.specs.Bracket.{control_of}
 use Rattle.control_words.specs.Stack.{Stack, none, line, sub}
 use Rattle.service_load.specs.declared.rule_type.RuleType.{RuleType}
 use Rattle.service_load.specs.Entry.{named_file, entry_of}
-use Rattle.service_load.specs.RuleType.{is_word, type_field_of}
-use Rattle.service_print.specs.Tokens.{behind_space, spaced, token_text}
-use Rattle.service_print.specs.Controls.{control_text}
-use Rattle.service_print.specs.Printed.{type_word, type_field, rule_fields, rule_line, substack_line, numbered, subs_in, lines_of}
-use Rattle.service_print.proofs.Spelled.{is_plain, is_plain_text, is_sound, written}
-use Rattle.service_print.proofs.Lexed.{Fields, tokens_in, line_text, is_sound_line, is_set, is_set_line, all_bytes, raw_rules}
+use Rattle.service_print.specs.Tokens.{token_text}
+use Rattle.service_print.specs.Printed.{type_field, rule_line, substack_line, numbered}
+use Rattle.service_print.proofs.Spelled.{is_plain_text, is_sound, written}
+use Rattle.service_print.proofs.Lexed.{Fields, tokens_in, line_text, is_sound_line, is_set, is_set_line, all_bytes}
 use Rattle.service_print.proofs.Actions.{is_fine}
 use Rattle.service_print.proofs.Meant.{Meaning, a_line, a_substack, IsMeant}
-use Rattle.service_print.proofs.Fielded.{apart, weaken, IsPlainTest, plain_by, plain_text_by, set_by, IsControlToken, control_token, control_token_is, plain_token, IsTypeToken, type_token_is, can_stand, text_token, IsTextToken, text_token_is}
+use Rattle.service_print.proofs.Fielded.{apart, weaken, IsPlainTest, plain_text_by, set_by, control_token, control_token_is, plain_token, type_token_is, can_stand, text_token, text_token_is}
 
 -- ---- what a rule is like that can be printed
 
