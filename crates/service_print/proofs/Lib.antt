@@ -22,3 +22,4 @@ pub mod Taken
 pub mod Known
 pub mod Brought
 pub mod Loadable
+pub mod Calling

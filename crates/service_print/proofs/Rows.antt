@@ -13,7 +13,7 @@ use Rattle.service_load.specs.declared.rule_type.RuleType.TheVariants.{Auth, Ses
 use Rattle.service_print.specs.declared.file.File.{File}
 use Rattle.service_print.specs.Tokens.{token_text, ended}
 use Rattle.service_print.specs.Controls.{same_control, entries_among, control_text}
-use Rattle.service_print.specs.Printed.{rule_line, substack_line, numbered, lines_of, substack_files, printed}
+use Rattle.service_print.specs.Printed.{rule_line, substack_line, numbered, list_lines, substack_files, printed}
 
 -- the control of some entries
 control : List ℕ → List Action
@@ -49,7 +49,7 @@ written rule text = printed (of_auth (line rule none)) (codes "t") ≡ file (cod
 with_substack :
     printed (of_auth (line (rule required (codes "pam_permit.so") (codes "a" ∷ [])) (sub (line (rule (control (codes "success=ok")) (codes "pam_deny.so") (codes "x y" ∷ [])) none) none))) (codes "t")
     ≡ file (codes "t") (codes "auth required pam_permit.so a\nauth substack t.1\n") ∷ file (codes "t.1") (codes "auth [success=ok] pam_deny.so [x y]\n") ∷ []
-unfolding control rule one file of_auth two_stacks written printed lines_of substack_files numbered substack_line rule_line token_text ended same_control entries_among control_text digits entries_in entries_behind
+unfolding control rule one file of_auth two_stacks written printed list_lines substack_files numbered substack_line rule_line token_text ended same_control entries_among control_text digits entries_in entries_behind
 with_substack = refl
 
 -- substacks in one another and in two types: each before those inside it, and these before the next of its list
@@ -60,53 +60,53 @@ numbered_depth_first :
     ∷ file (codes "t.2") (codes "auth required a\n")
     ∷ file (codes "t.3") (codes "session required d\n")
     ∷ []
-unfolding control rule one file of_auth two_stacks written printed lines_of substack_files numbered substack_line rule_line token_text ended same_control entries_among control_text digits entries_in entries_behind
+unfolding control rule one file of_auth two_stacks written printed list_lines substack_files numbered substack_line rule_line token_text ended same_control entries_among control_text digits entries_in entries_behind
 numbered_depth_first = refl
 
 -- a substack without nodes has an empty file
 empty_substack : printed (of_auth (sub none none)) (codes "t") ≡ file (codes "t") (codes "auth substack t.1\n") ∷ file (codes "t.1") [] ∷ []
-unfolding control rule one file of_auth two_stacks written printed lines_of substack_files numbered substack_line rule_line token_text ended same_control entries_among control_text digits entries_in entries_behind
+unfolding control rule one file of_auth two_stacks written printed list_lines substack_files numbered substack_line rule_line token_text ended same_control entries_among control_text digits entries_in entries_behind
 empty_substack = refl
 
 -- a service without nodes
 nothing : printed (of_auth none) (codes "t") ≡ file (codes "t") [] ∷ []
-unfolding control rule one file of_auth two_stacks written printed lines_of substack_files numbered substack_line rule_line token_text ended same_control entries_among control_text digits entries_in entries_behind
+unfolding control rule one file of_auth two_stacks written printed list_lines substack_files numbered substack_line rule_line token_text ended same_control entries_among control_text digits entries_in entries_behind
 nothing = refl
 
 -- a silent rule
 silent : written (record { silent = true; control = optional; path = codes "m"; args = [] }) (codes "-auth optional m\n")
-unfolding control rule one file of_auth two_stacks written printed lines_of substack_files numbered substack_line rule_line token_text ended same_control entries_among control_text digits entries_in entries_behind
+unfolding control rule one file of_auth two_stacks written printed list_lines substack_files numbered substack_line rule_line token_text ended same_control entries_among control_text digits entries_in entries_behind
 silent = refl
 
 -- the entries of a keyword are the keyword, whatever their order
 as_keyword : written (rule (control (codes "default=die ignore=ignore new_authtok_reqd=ok success=ok")) (codes "m") []) (codes "auth requisite m\n")
-unfolding control rule one file of_auth two_stacks written printed lines_of substack_files numbered substack_line rule_line token_text ended same_control entries_among control_text digits entries_in entries_behind
+unfolding control rule one file of_auth two_stacks written printed list_lines substack_files numbered substack_line rule_line token_text ended same_control entries_among control_text digits entries_in entries_behind
 as_keyword = refl
 
 -- those of a keyword but for one code are all entries whose action isn't bad, in the order of the codes
 one_code_off : written (rule (control (codes "abort=die success=ok new_authtok_reqd=ok ignore=ignore default=bad")) (codes "m") []) (codes "auth [success=ok new_authtok_reqd=ok ignore=ignore abort=die] m\n")
-unfolding control rule one file of_auth two_stacks written printed lines_of substack_files numbered substack_line rule_line token_text ended same_control entries_among control_text digits entries_in entries_behind
+unfolding control rule one file of_auth two_stacks written printed list_lines substack_files numbered substack_line rule_line token_text ended same_control entries_among control_text digits entries_in entries_behind
 one_code_off = refl
 
 -- a control that is bad for every code, and one with jumps; code 21 has the word of pam.conf(5)
 all_bad : written (rule (control []) (codes "m") []) (codes "auth [] m\n")
-unfolding control rule one file of_auth two_stacks written printed lines_of substack_files numbered substack_line rule_line token_text ended same_control entries_among control_text digits entries_in entries_behind
+unfolding control rule one file of_auth two_stacks written printed list_lines substack_files numbered substack_line rule_line token_text ended same_control entries_among control_text digits entries_in entries_behind
 all_bad = refl
 
 jumps : written (rule (control (codes "AUTHTOK_RECOVERY_ERR=007 auth_err=255 ignore=reset")) (codes "m") []) (codes "auth [auth_err=255 authtok_recover_err=7 ignore=reset] m\n")
-unfolding control rule one file of_auth two_stacks written printed lines_of substack_files numbered substack_line rule_line token_text ended same_control entries_among control_text digits entries_in entries_behind
+unfolding control rule one file of_auth two_stacks written printed list_lines substack_files numbered substack_line rule_line token_text ended same_control entries_among control_text digits entries_in entries_behind
 jumps = refl
 
 -- what would not be read as one token stands in brackets, where `]` is escaped
 brackets : written (rule required (codes "[m") ([] ∷ codes "a]b" ∷ codes "a] b" ∷ codes "a#b" ∷ codes "a\tb" ∷ [])) (codes "auth required [[m] [] a]b [a\\] b] [a#b] [a\tb]\n")
-unfolding control rule one file of_auth two_stacks written printed lines_of substack_files numbered substack_line rule_line token_text ended same_control entries_among control_text digits entries_in entries_behind
+unfolding control rule one file of_auth two_stacks written printed list_lines substack_files numbered substack_line rule_line token_text ended same_control entries_among control_text digits entries_in entries_behind
 brackets = refl
 
 -- a backslash at the end of the last token has a space behind it, at the end of another none but the one between
 last_backslash : written (rule required (codes "m\\") (codes "a\\" ∷ codes "b\\" ∷ [])) (codes "auth required m\\ a\\ b\\ \n")
-unfolding control rule one file of_auth two_stacks written printed lines_of substack_files numbered substack_line rule_line token_text ended same_control entries_among control_text digits entries_in entries_behind
+unfolding control rule one file of_auth two_stacks written printed list_lines substack_files numbered substack_line rule_line token_text ended same_control entries_among control_text digits entries_in entries_behind
 last_backslash = refl
 
 path_backslash : written (rule required (codes "m\\") []) (codes "auth required m\\ \n")
-unfolding control rule one file of_auth two_stacks written printed lines_of substack_files numbered substack_line rule_line token_text ended same_control entries_among control_text digits entries_in entries_behind
+unfolding control rule one file of_auth two_stacks written printed list_lines substack_files numbered substack_line rule_line token_text ended same_control entries_among control_text digits entries_in entries_behind
 path_backslash = refl

@@ -13,7 +13,7 @@ use Rattle.service_load.specs.RuleType.{same_type, all_types}
 use Rattle.service_print.specs.declared.file.File.{File}
 use Rattle.service_print.specs.Tokens.{text_of}
 use Rattle.service_print.specs.Printed.{subs_in, substack_file, substack_files, all_lines, all_substack_files}
-use Rattle.service_print.specs.Printed.{lines_of as stack_lines_of}
+use Rattle.service_print.specs.Printed.{list_lines}
 use Rattle.service_print.specs.Reload.{is_short}
 use Rattle.service_print.proofs.Spelled.{is_inner}
 use Rattle.service_print.proofs.Lexed.{Fields, tokens_in, line_text, lines_text, closed_line, ended-closed, closed_all, inner_passes, all_sound_inner, is_sound_line, is_short_line, OneReading}
@@ -69,7 +69,7 @@ stack_files_stand only texts type service number (sub inner rest) is writable fe
     let theres = there-parts texts within behind there.1 in
     let first = and_parts (is_short (substack_file service type number inner)) (list_all is_short (within ++ behind)) short in
     let shorts = and_parts (list_all is_short within) (list_all is_short behind) (sym (list_all-append is_short within behind) ∙ first.1) in (
-      short_file only texts (substack_file service type number inner) (fields_from type service (number + 1) inner) (stack_lines_of service type (number + 1) inner) (meanings_from type service (number + 1) inner)
+      short_file only texts (substack_file service type number inner) (fields_from type service (number + 1) inner) (list_lines service type (number + 1) inner) (meanings_from type service (number + 1) inner)
           (stack_lines type service (number + 1) inner is writable.0 (omega arith)) (stack_meant type service (number + 1) inner) refl first.0 there.0,
       stack_files_stand only texts type service (number + 1) inner is writable.0 (omega arith) theres.0 shorts.0,
       stack_files_stand only texts type service (number + 1 + subs_in inner) rest is writable.1 (omega arith) theres.1 shorts.1,
@@ -95,7 +95,7 @@ module _ (stack : RuleType → Stack) (service : List ℕ) where
       → AreLines (all_fields number types) (all_lines stack service number types) (all_meanings number types)
   service_lines number [] is writable few = tt
   service_lines number (type ∷ types) is writable few =
-      lines-append (fields_from type service number (stack type)) (all_fields (number + subs_in (stack type)) types) (stack_lines_of service type number (stack type)) (all_lines stack service (number + subs_in (stack type)) types)
+      lines-append (fields_from type service number (stack type)) (all_fields (number + subs_in (stack type)) types) (list_lines service type number (stack type)) (all_lines stack service (number + subs_in (stack type)) types)
       (meanings_from type service number (stack type)) (all_meanings (number + subs_in (stack type)) types)
       (stack_lines type service number (stack type) is (writable type) (omega arith)) (service_lines (number + subs_in (stack type)) types is writable (omega arith))
 

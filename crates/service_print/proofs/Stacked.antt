@@ -12,7 +12,7 @@ use Rattle.service_load.specs.Files.{plain_file, Held, holds, held, own_rules, r
 use Rattle.service_load.specs.Order.{Opener, Item, opening, checked, file_items, items}
 use Rattle.service_load.specs.Tree.{nodes_of, nodes}
 use Rattle.service_print.specs.Tokens.{text_of}
-use Rattle.service_print.specs.Printed.{numbered, subs_in, lines_of}
+use Rattle.service_print.specs.Printed.{numbered, subs_in, list_lines}
 use Rattle.service_print.proofs.Lexed.{Fields, tokens_in, line_text, lines_text, is_sound_line, is_set_line, is_short_line, raw_rules, OneReading, text_answer}
 use Rattle.service_print.proofs.Meant.{Meaning, a_line, a_substack, is_meant, meant_nodes, meant_items, nodes_from, items_from}
 use Rattle.service_print.proofs.Understood.{AllWritable, rule_tokens, IsLine, rule_is_line, IsServiceName, substack_tokens, in_the_folder, substack_is_line}
@@ -36,8 +36,8 @@ AreLines (fields ∷ more) (text ∷ texts) (meaning ∷ meanings) = IsLine fiel
 AreLines _ _ _ = ⊥
 
 pub stack_lines : (type : RuleType) (service : List ℕ) (number : ℕ) (stack : Stack) → IsServiceName service → AllWritable stack → number + subs_in stack ≤ 256
-    → AreLines (fields_from type service number stack) (lines_of service type number stack) (meanings_from type service number stack)
-unfolding lines_of
+    → AreLines (fields_from type service number stack) (list_lines service type number stack) (meanings_from type service number stack)
+unfolding list_lines
 stack_lines type service number none is writable few = tt
 stack_lines type service number (line rule rest) is writable few = (rule_is_line type rule writable.0, stack_lines type service number rest is writable.1 few)
 stack_lines type service number (sub inner rest) is writable few =
