@@ -6,7 +6,7 @@ use Rattle.service_load.specs.declared.rule_type.RuleType.{RuleType}
 use Rattle.service_load.specs.RuleType.{all_types}
 use Rattle.service_print.specs.declared.file.File.{File}
 use Rattle.service_print.specs.Tokens.{ended, text_of}
-use Rattle.service_print.specs.Printed.{empty_file, subs_in, lines_of, substack_files, all_lines, all_substack_files, service_text, printed}
+use Rattle.service_print.specs.Printed.{empty_file, subs_in, list_lines, substack_files, all_lines, all_substack_files, service_text, printed}
 use Rattle.service_print.proofs.Adding.{length-substack_files}
 
 pub text_of-append : (lines more : List (List ℕ)) → text_of (lines ++ more) ≡ text_of lines ++ text_of more
@@ -22,10 +22,10 @@ pub printing_start : (stack : RuleType → Stack) (service text : List ℕ) (non
 printing_start stack service text none files empty text_is none_is empty_is files_is = rw (text_is, files_is, none_is, empty_is) (record { texts = refl; filed = refl })
 
 pub printing_step : (stack : RuleType → Stack) (service : List ℕ) (type : RuleType) (types : List RuleType) (text new : List ℕ) (files more : List File) → IsPrinting stack service (type ∷ types) text files
-    → new ≡ text ++ text_of (lines_of service type (length files) (stack type)) → more ≡ files ++ substack_files service type (length files) (stack type) → IsPrinting stack service types new more
+    → new ≡ text ++ text_of (list_lines service type (length files) (stack type)) → more ≡ files ++ substack_files service type (length files) (stack type) → IsPrinting stack service types new more
 printing_step stack service type types text new files more was added filed =
     let number : length more ≡ length files + subs_in (stack type) = omega (arith, ap length filed, length-append files (substack_files service type (length files) (stack type)), length-substack_files service type (length files) (stack type)) in
-    let lines = lines_of service type (length files) (stack type) in
+    let lines = list_lines service type (length files) (stack type) in
     let later = all_lines stack service (length files + subs_in (stack type)) types in
     let inside = substack_files service type (length files) (stack type) in
     let last = all_substack_files stack service (length files + subs_in (stack type)) types in

@@ -1,3 +1,4 @@
 pub mod Tokens
 pub mod Controls
 pub mod Printed
+pub mod Reload

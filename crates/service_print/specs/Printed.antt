@@ -49,14 +49,14 @@ subs_in (sub inner rest) = subs_in inner + 1 + subs_in rest
 
 module _ (service : List ℕ) (type : RuleType) where
   -- the lines of a list of nodes, whose first substack has this number: a substack comes before those inside it, and these before the next node of its list
-  unfoldable pub lines_of : ℕ → Stack → List (List ℕ)
-  lines_of number none = []
-  lines_of number (line rule rest) = rule_line type rule ∷ lines_of number rest
-  lines_of number (sub inner rest) = substack_line type (numbered service number) ∷ lines_of (number + 1 + subs_in inner) rest
+  unfoldable pub list_lines : ℕ → Stack → List (List ℕ)
+  list_lines number none = []
+  list_lines number (line rule rest) = rule_line type rule ∷ list_lines number rest
+  list_lines number (sub inner rest) = substack_line type (numbered service number) ∷ list_lines (number + 1 + subs_in inner) rest
 
   -- the file of a substack with this number: what its nodes are, those in it numbered from the next number on
   abbrev pub substack_file : ℕ → Stack → File
-  substack_file number inner = record { name = numbered service number; text = text_of (lines_of (number + 1) inner) }
+  substack_file number inner = record { name = numbered service number; text = text_of (list_lines (number + 1) inner) }
 
   -- the files of its substacks, in the order of their numbers
   unfoldable pub substack_files : ℕ → Stack → List File
@@ -69,7 +69,7 @@ module _ (service : List ℕ) (type : RuleType) where
 abbrev pub all_lines : (RuleType → Stack) → List ℕ → ℕ → List RuleType → List (List ℕ)
 all_lines stack service number [] = []
 all_lines stack service number (type ∷ types) =
-    lines_of service type number (stack type) ++ all_lines stack service (number + subs_in (stack type)) types
+    list_lines service type number (stack type) ++ all_lines stack service (number + subs_in (stack type)) types
 
 -- the files of their substacks
 abbrev pub all_substack_files : (RuleType → Stack) → List ℕ → ℕ → List RuleType → List File

@@ -4,10 +4,12 @@
 
 mod control;
 mod file;
+mod laws;
 mod line;
 mod printing;
 mod substack;
 mod token;
 
 pub use file::{File, Files};
+pub use laws::printed_is_loaded;
 pub use printing::print;

@@ -1,7 +1,7 @@
 ghost use Rattle.std.specs.Prelude.{◌≡◌, ◌<◌, ◌++◌, length, slice_set, OnOk};
 ghost use Rattle.control_words.specs.Stack.{stack_of};
 ghost use Rattle.service_print.specs.Tokens.{ended, text_of};
-ghost use Rattle.service_print.specs.Printed.{empty_file, lines_of, numbered, rule_line, substack_files, substack_line};
+ghost use Rattle.service_print.specs.Printed.{empty_file, list_lines, numbered, rule_line, substack_files, substack_line};
 
 use crate::file::File;
 use crate::line::{numbered, rule_line, substack_line};
@@ -71,7 +71,7 @@ pub fn add_nodes(
     files: &mut Vec<File>,
 ) -> Result<(), NoMemory>
     ensures lines { OnOk result (text.new.items ≡ text.old.items
-        ++ text_of (lines_of service.now rule_type (length files.old.items) (stack_of nodes.now.vec.items))) }
+        ++ text_of (list_lines service.now rule_type (length files.old.items) (stack_of nodes.now.vec.items))) }
     ensures files { OnOk result (files.new.items ≡ files.old.items
         ++ substack_files service.now rule_type (length files.old.items) (stack_of nodes.now.vec.items)) }
 {

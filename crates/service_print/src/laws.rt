@@ -1,0 +1,36 @@
+ghost use Rattle.std.specs.Prelude.{◌≡◌, ℕ, List, Ok, Result, true};
+ghost use Rattle.std.specs.List.{list_all};
+ghost use Rattle.pam_base.specs.declared.fault.Refuse.{Refuse};
+ghost use Rattle.pam_outside.specs.Files.{VaultState};
+ghost use Rattle.control_words.specs.Stack.{Stack};
+ghost use Rattle.service_load.specs.declared.load_fault.LoadFault.{LoadFault};
+ghost use Rattle.service_load.specs.declared.rule_type.RuleType.{RuleType};
+ghost use Rattle.service_load.specs.declared.trees.Trees.{Trees};
+ghost use Rattle.service_load.specs.Load.{Loads};
+ghost use Rattle.service_print.specs.Printed.{printed, stacks_in};
+ghost use Rattle.service_print.specs.Reload.{Gives, HoldsJust, IsLowerName, LoadsTo, is_short};
+
+use conf_lex::one_reading;
+
+/// What is printed loads to the same stacks: where four stacks are what some service comes to, somewhere, and
+/// they are printed for a service, then in a vault of just the printed files, none of whose calls is to fail,
+/// that service comes to the same four stacks, unless a printed file has more than 65,536 bytes or a line of
+/// more than 4,096. No other limit can be met: what is printed has as many lines, is nested no deeper and needs
+/// no more openings than what was loaded.
+pub fn printed_is_loaded()
+    ensures stacks { (stack : RuleType → Stack) (origin : VaultState) (origin_root once : List ℕ) →
+        LoadsTo origin origin_root once stack →
+        (vault : VaultState) (root service : List ℕ) →
+        IsLowerName service → HoldsJust vault root (printed stack service) →
+        list_all is_short (printed stack service) ≡ true →
+        LoadsTo vault root service stack }
+    // The same of three calls: `load`, `print`, and `load` again.
+    ensures calls { (trees : Trees) (origin behind : VaultState) (origin_root once : List ℕ) →
+        Loads (Ok trees) origin behind origin_root once →
+        (again : Result Trees (Refuse LoadFault)) (vault after : VaultState) (root service : List ℕ) →
+        IsLowerName service → HoldsJust vault root (printed (stacks_in trees) service) →
+        list_all is_short (printed (stacks_in trees) service) ≡ true →
+        Loads again vault after root service → Gives again (stacks_in trees) }
+{
+    one_reading();
+}
