@@ -108,6 +108,7 @@ fn walk_all(
         (state_of (⟦<Room as RoomTold>⟧.plain room.old) (⟦<World as WorldTold>⟧.plain world.old)))
         code keeps.new paused.new (state_of (⟦<Room as RoomTold>⟧.plain room.new) (⟦<World as WorldTold>⟧.plain world.new))) }
     ensures paused { OnErr result (paused.new ≡ None) }
+    ensures put_off { IfOk result (λ code. IsTrue (is_some paused.new) → code ≡ Code.Incomplete) }
     ensures nodes { chain.new.nodes ≡ chain.old.nodes }
     ensures names { chain.new.names ≡ chain.old.names }
     ensures looks { OnOk result (chain.new.looks + 4 * length room.old.transaction.trail.visits
@@ -155,7 +156,7 @@ fn settle(kind: PassKind, kept: &mut Kept, keeps: Kept, answered: bool)
 /// One pass over a stack (`pam.conf(5)`): the module of each line that it comes to serves the call, and the visit is
 /// added to the trail. It acts by the answers that are kept, where it follows, and goes on behind those of the call
 /// that it was put off in. Its code is INCOMPLETE where a line puts it off; then the answers that it was given are
-/// paused. Behind a pass that keeps, its answers are kept; behind a loose one none are.
+/// paused, and behind no other code are any. Behind a pass that keeps, its answers are kept; behind a loose one none are.
 ///
 /// It takes all memory of its own before the first module serves. After want of memory a pass that keeps has nothing
 /// kept, any other leaves what was kept, nothing is paused, and no datum waits for its cleanup.
@@ -182,6 +183,7 @@ pub fn dispatch(
         kept.old code kept.new paused.new (state_of (⟦<Room as RoomTold>⟧.plain room.new) (⟦<World as WorldTold>⟧.plain world.new))) }
     ensures kept { OnErr result (kept.new ≡ kept_failed kind kept.old) }
     ensures paused { OnErr result (paused.new ≡ None) }
+    ensures put_off { IfOk result (λ code. IsTrue (is_some paused.new) → code ≡ Code.Incomplete) }
     ensures nodes { chain.new.nodes ≡ chain.old.nodes }
     ensures names { chain.new.names ≡ chain.old.names }
     ensures looks { OnOk result (chain.new.looks + 4 * length room.old.transaction.trail.visits
