@@ -19,6 +19,10 @@ use Rattle.pam_handle.specs.Call.{Called, called, tokens_cleared, request_forgot
 abbrev pub update_authtok : ℕ
 update_authtok = 0x2000
 
+-- whether flags hold one of those of the two passes of a change of token, which are the library's own
+abbrev pub has_pass_flag : ℕ → Bool
+has_pass_flag flags = has_flag flags prelim_check || has_flag flags update_authtok
+
 -- PAM_ESTABLISH_CRED, which the flags 0 stand for (pam_setcred(3))
 abbrev pub establish_cred : ℕ
 establish_cred = 0x2
@@ -111,16 +115,12 @@ module _ (players : List Player) where
   change_goes_on flags past None h w = check flags past h w
   change_goes_on flags past (Some first) h w = update flags (Some first) past h w
 
-  -- the flags of the two passes are the library's own
-  abbrev pub has_pass_flag : ℕ → Bool
-  has_pass_flag flags = has_flag flags prelim_check || has_flag flags update_authtok
-
   abbrev pub chauthtok : ℕ → PlainHandle → PlainWorld → Called
   chauthtok flags h w =
       if has_pass_flag flags then called codes.SystemErr h w
       else begun_or_going_on h.pending ChAuthTok (called codes.Abort h w)
-          (check flags [] (tokens_cleared h) w)
-          (λ p. change_goes_on flags p.past p.first h w)
+      (check flags [] (tokens_cleared h) w)
+      (λ p. change_goes_on flags p.past p.first h w)
 
   -- ---- all six
 
