@@ -1,5 +1,5 @@
 -- What stands of a transaction after its calls in any world, also after want of memory (this project's own).
-use Rattle.std.specs.Prelude.{◌≡◌, ℕ, ◌≤◌, Option, None, Some}
+use Rattle.std.specs.Prelude.{◌≡◌, ℕ, ◌≤◌, Bool, false, Option, None, Some, IfSome}
 use Rattle.pam_base.specs.declared.code.Code.{Code}
 use Rattle.pam_base.specs.declared.code.Code.TheVariants as codes
 use Rattle.pam_base.specs.declared.call.Func.{Func}
@@ -10,6 +10,7 @@ use Rattle.fail_delay.specs.Wait.{wait_of}
 use Rattle.dispatch_core.specs.AnyWorld.{GoesSoundly}
 use Rattle.pam_room.specs.State.{PlainProcess}
 use Rattle.stack_walk.specs.Route.{KeptAnswers}
+use Rattle.pam_handle.specs.declared.wait.Wait.{Wait}
 use Rattle.pam_handle.specs.Handle.{PlainHandle, Pending}
 use Rattle.pam_handle.specs.Call.{waited_by}
 
@@ -62,14 +63,18 @@ LeavesPending func code old new None = (new.room.transaction.delay ≡ 0) × Cle
 LeavesPending func code old new (Some p) =
     (p.func ≡ func) × (code ≡ codes.Incomplete) × (old.room.transaction.delay ≤ new.room.transaction.delay) × (new.waited ≡ old.waited)
 
--- Of what an authentication that has ended waited, only which delay it asked for and what the application's delay function made
--- of it isn't known.
-pub record Waits (code : Code) (old new : PlainHandle) : Type 0 where
+-- Of what was waited behind the code of an authentication, only which delay it asked for and what the application's delay function
+-- made of it isn't known; where that is off, the delay that was asked for was waited.
+pub record WaitsFor (code : Code) (delay_on : Bool) (old new : Option Wait) : Type 0 where
   pub asked : ℕ
-  pub given : ℕ
+  pub wait : Option ℕ
   pub asked_bound : asked ≤ 90000000
-  pub given_bound : given ≤ 60000000
-  pub waited : new.waited ≡ waited_by code asked (wait_of old.delay_on (λ _ _. given) code asked) old.waited
+  pub wait_bound : IfSome wait (λ n. n ≤ 90000000)
+  pub off : (number : Code → ℕ → ℕ) → delay_on ≡ false → wait ≡ wait_of false number code asked
+  pub told : new ≡ waited_by code asked wait old
+
+abbrev pub Waits : Code → PlainHandle → PlainHandle → Type 0
+Waits code old new = WaitsFor code old.delay_on old.waited new.waited
 
 -- ---- want of memory
 

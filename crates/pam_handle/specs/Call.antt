@@ -1,11 +1,11 @@
 -- What a call of the application comes to, and what of a transaction's calls is common to several (pam_fail_delay(3); that a
 -- call may be put off, and what others answer meanwhile, is this project's own).
-use Rattle.std.specs.Prelude.{◌≡◌, ℕ, Bool, true, false, not, Option, Some, None, List, if◌then◌else◌, ◌==◌}
+use Rattle.std.specs.Prelude.{◌≡◌, ℕ, Bool, true, false, not, Option, Some, None, List, [], if◌then◌else◌, ◌==◌}
 use Rattle.pam_base.specs.declared.code.Code.{Code}
 use Rattle.pam_base.specs.declared.code.Code.TheVariants as codes
 use Rattle.pam_base.specs.declared.call.Func.{Func}
 use Rattle.pam_base.specs.declared.call.Func.TheVariants.{Authenticate, SetCred, AcctMgmt, OpenSession, CloseSession, ChAuthTok}
-use Rattle.item_store.specs.Items.{without_tokens}
+use Rattle.item_store.specs.Items.{ItemTexts, without_tokens}
 use Rattle.fail_delay.specs.Delay.{asked_delay}
 use Rattle.fail_delay.specs.Wait.{wait_of}
 use Rattle.pam_outside.specs.Time.{rested}
@@ -66,6 +66,20 @@ begun_or_going_on (Some p) func aborted begins goes_on = if same_func p.func fun
 abbrev pub pending_func : Option Pending → Option Func
 pending_func None = None
 pending_func (Some p) = Some p.func
+
+-- the answers that the call that is pending was given, and those of the first pass of a change of token; none where nothing is pending
+abbrev pub past_in : Option Pending → List Code
+past_in None = []
+past_in (Some p) = p.past
+
+abbrev pub first_in : Option Pending → Option KeptAnswers
+first_in None = None
+first_in (Some p) = p.first
+
+-- the items when a call that clears the tokens takes them up: it clears them where it begins
+abbrev pub items_begun : Option Pending → ItemTexts → ItemTexts
+items_begun None items = without_tokens items
+items_begun (Some p) items = items
 
 -- whether another call than this function's is pending
 abbrev pub is_other_pending : Option Pending → Func → Bool

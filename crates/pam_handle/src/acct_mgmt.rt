@@ -9,9 +9,13 @@ ghost use Rattle.pam_handle.specs.StackCalls.{acct_mgmt};
 
 use crate::gear::{Gear, GearTold};
 use crate::handle::Handle;
+use crate::pass::pass;
+use crate::pending::taken_up;
 use data_cleanup::nothing_grows;
+use frozen_chain::Kept;
 use pam_base::{Code, Func, NoMemory};
 use pam_room::{Room, RoomTold, World, WorldTold};
+use stack_walk::PassKind;
 use std::alloc::Global;
 
 impl Handle {
@@ -51,8 +55,21 @@ impl Handle {
         if self.is_other_pending(Func::AcctMgmt) {
             return Ok(Code::Abort);
         }
-        self.pending = None;
-        self.room.transaction.delay.forget();
-        Err(NoMemory)
+        let (mut paused, _) = taken_up(self.pending.take());
+        let mut kept = Kept::none();
+        let result = pass(
+            alloc,
+            gear,
+            &mut self.chains.account,
+            Func::AcctMgmt,
+            flags,
+            PassKind::Keep,
+            &mut kept,
+            &mut paused,
+            &mut self.room,
+            world,
+        );
+        self.settle(Func::AcctMgmt, paused, Kept::none());
+        result
     }
 }

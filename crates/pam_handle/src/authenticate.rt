@@ -10,10 +10,16 @@ ghost use Rattle.pam_handle.specs.StackCalls.{authenticate};
 
 use crate::gear::{Gear, GearTold};
 use crate::handle::Handle;
+use crate::pass::pass;
+use crate::pending::{clear_unless_pending, taken_up};
+use crate::put_off::PutOff;
+use crate::waiting::wait;
 use data_cleanup::nothing_grows;
 use fail_delay::{DelayFn, DelayTold};
+use frozen_chain::Kept;
 use pam_base::{Code, Func, NoMemory};
 use pam_room::{Room, RoomTold, World, WorldTold};
+use stack_walk::PassKind;
 use std::alloc::Global;
 
 impl Handle {
@@ -58,10 +64,40 @@ impl Handle {
         if self.is_other_pending(Func::Authenticate) {
             return Ok(Code::Abort);
         }
-        self.pending = None;
-        self.room.transaction.delay.forget();
+        clear_unless_pending(&mut self.room.transaction.items, &self.pending);
+        let (mut paused, _) = taken_up(self.pending.take());
+        let result = pass(
+            alloc,
+            gear,
+            &mut self.chains.auth,
+            Func::Authenticate,
+            flags,
+            PassKind::Keep,
+            &mut self.authenticated,
+            &mut paused,
+            &mut self.room,
+            world,
+        );
+        if !paused.is_none() {
+            self.pending = Some(PutOff {
+                func: Func::Authenticate,
+                paused,
+                first: Kept::none(),
+            });
+            return result;
+        }
         self.room.transaction.items.clear_tokens();
-        self.authenticated.drop_all();
-        Err(NoMemory)
+        let longest = self.room.transaction.delay.longest();
+        self.room.transaction.delay.forget();
+        let code = result?;
+        wait(
+            gear,
+            world,
+            self.delay_on,
+            longest,
+            code,
+            &mut self.waited,
+        );
+        Ok(code)
     }
 }

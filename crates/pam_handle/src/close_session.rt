@@ -9,7 +9,10 @@ ghost use Rattle.pam_handle.specs.StackCalls.{close_session};
 
 use crate::gear::{Gear, GearTold};
 use crate::handle::Handle;
+use crate::pass::{following, pass};
+use crate::pending::taken_up;
 use data_cleanup::nothing_grows;
+use frozen_chain::Kept;
 use pam_base::{Code, Func, NoMemory};
 use pam_room::{Room, RoomTold, World, WorldTold};
 use std::alloc::Global;
@@ -52,8 +55,21 @@ impl Handle {
         if self.is_other_pending(Func::CloseSession) {
             return Ok(Code::Abort);
         }
-        self.pending = None;
-        self.room.transaction.delay.forget();
-        Err(NoMemory)
+        let (mut paused, _) = taken_up(self.pending.take());
+        let kind = following(&self.opened);
+        let result = pass(
+            alloc,
+            gear,
+            &mut self.chains.session,
+            Func::CloseSession,
+            flags,
+            kind,
+            &mut self.opened,
+            &mut paused,
+            &mut self.room,
+            world,
+        );
+        self.settle(Func::CloseSession, paused, Kept::none());
+        result
     }
 }

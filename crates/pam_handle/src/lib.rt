@@ -18,12 +18,14 @@ mod handle;
 mod items;
 mod missing;
 mod open_session;
+mod pass;
 mod pending;
 mod put_off;
 mod setcred;
 mod start;
 mod take_told;
 mod wait;
+mod waiting;
 
 pub use gear::{Gear, GearTold};
 pub use handle::Handle;

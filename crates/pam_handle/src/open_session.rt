@@ -9,9 +9,13 @@ ghost use Rattle.pam_handle.specs.StackCalls.{open_session};
 
 use crate::gear::{Gear, GearTold};
 use crate::handle::Handle;
+use crate::pass::pass;
+use crate::pending::taken_up;
 use data_cleanup::nothing_grows;
+use frozen_chain::Kept;
 use pam_base::{Code, Func, NoMemory};
 use pam_room::{Room, RoomTold, World, WorldTold};
+use stack_walk::PassKind;
 use std::alloc::Global;
 
 impl Handle {
@@ -51,9 +55,20 @@ impl Handle {
         if self.is_other_pending(Func::OpenSession) {
             return Ok(Code::Abort);
         }
-        self.pending = None;
-        self.room.transaction.delay.forget();
-        self.opened.drop_all();
-        Err(NoMemory)
+        let (mut paused, _) = taken_up(self.pending.take());
+        let result = pass(
+            alloc,
+            gear,
+            &mut self.chains.session,
+            Func::OpenSession,
+            flags,
+            PassKind::Keep,
+            &mut self.opened,
+            &mut paused,
+            &mut self.room,
+            world,
+        );
+        self.settle(Func::OpenSession, paused, Kept::none());
+        result
     }
 }

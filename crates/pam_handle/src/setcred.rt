@@ -7,9 +7,13 @@ ghost use Rattle.pam_handle.specs.Call.{CallsAs, is_other_pending};
 ghost use Rattle.pam_handle.specs.Plain.{plain_handle, room_in};
 ghost use Rattle.pam_handle.specs.StackCalls.{setcred};
 
+use crate::flags::credential_flags;
 use crate::gear::{Gear, GearTold};
 use crate::handle::Handle;
+use crate::pass::{following, pass};
+use crate::pending::taken_up;
 use data_cleanup::nothing_grows;
+use frozen_chain::Kept;
 use pam_base::{Code, Func, NoMemory};
 use pam_room::{Room, RoomTold, World, WorldTold};
 use std::alloc::Global;
@@ -52,8 +56,21 @@ impl Handle {
         if self.is_other_pending(Func::SetCred) {
             return Ok(Code::Abort);
         }
-        self.pending = None;
-        self.room.transaction.delay.forget();
-        Err(NoMemory)
+        let (mut paused, _) = taken_up(self.pending.take());
+        let kind = following(&self.authenticated);
+        let result = pass(
+            alloc,
+            gear,
+            &mut self.chains.auth,
+            Func::SetCred,
+            credential_flags(flags),
+            kind,
+            &mut self.authenticated,
+            &mut paused,
+            &mut self.room,
+            world,
+        );
+        self.settle(Func::SetCred, paused, Kept::none());
+        result
     }
 }
