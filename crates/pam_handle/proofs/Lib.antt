@@ -1,3 +1,4 @@
 mod Passing
 mod Calling
 mod Resting
+mod Authenticating

@@ -34,15 +34,20 @@ credential_flags flags = if flags == 0 then establish_cred else flags
 abbrev pub ended : Func → Passed → PlainHandle → Called
 ended func p h = called p.code (record h { room = request_behind p.paused p.state.room; pending = pending_behind func None p.paused }) p.state.world
 
+-- behind the pass of an authentication: the tokens are cleared, the wait follows, and then the request is forgotten, unless it was put off
+abbrev pub authenticated : (Code → ℕ → ℕ) → Option (List Code) → Code → PlainHandle → PlainWorld → Called
+authenticated number (Some past) code h w = called code h w
+authenticated number None code h w =
+    let waited = waits_after number code (tokens_cleared h) w in
+    called code (request_forgotten waited.handle) waited.world
+
+-- behind the last pass of a change of token: the tokens are cleared and the request is forgotten, unless it was put off
+abbrev pub changed : Option (List Code) → Code → PlainHandle → PlainWorld → Called
+changed (Some past) code h w = called code h w
+changed None code h w = called code (request_forgotten (tokens_cleared h)) w
+
 module _ (players : List Player) where
   -- ---- pam_authenticate(3)
-
-  -- the wait follows, and then the request is forgotten; the tokens are cleared
-  abbrev pub authenticated : (Code → ℕ → ℕ) → Option (List Code) → Code → PlainHandle → PlainWorld → Called
-  authenticated number (Some past) code h w = called code h w
-  authenticated number None code h w =
-      let waited = waits_after number code (tokens_cleared h) w in
-      called code (request_forgotten waited.handle) waited.world
 
   abbrev pub authentication : (Code → ℕ → ℕ) → ℕ → List Code → PlainHandle → PlainWorld → Called
   authentication number flags past h w =
@@ -91,11 +96,6 @@ module _ (players : List Player) where
   close_session flags h w = begun_or_going_on h.pending CloseSession (called codes.Abort h w) (closing flags [] h w) (λ p. closing flags p.past h w)
 
   -- ---- pam_chauthtok(3): two passes, the second only where the first gave SUCCESS, and by the answers of the first
-
-  -- behind the last pass: the tokens are cleared and the request is forgotten, unless it was put off
-  abbrev pub changed : Option (List Code) → Code → PlainHandle → PlainWorld → Called
-  changed (Some past) code h w = called code h w
-  changed None code h w = called code (request_forgotten (tokens_cleared h)) w
 
   abbrev pub update : ℕ → Option KeptAnswers → List Code → PlainHandle → PlainWorld → Called
   update flags first past h w =
