@@ -2,3 +2,4 @@ mod Passing
 mod Calling
 mod Resting
 mod Authenticating
+mod Changing

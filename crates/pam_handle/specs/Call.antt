@@ -96,6 +96,11 @@ abbrev pub request_behind : Option (List Code) → PlainRoom → PlainRoom
 request_behind None r = without_request r
 request_behind (Some past) r = r
 
+-- and so are the tokens of a call that clears them
+abbrev pub items_behind : Option (List Code) → ItemTexts → ItemTexts
+items_behind None items = without_tokens items
+items_behind (Some past) items = items
+
 -- ---- the wait after an authentication
 
 -- a wait, where there is one, takes the place of what was to be told of an earlier one

@@ -1,7 +1,7 @@
 ghost use Rattle.std.specs.Prelude.{◌≡◌, false, None};
 ghost use Rattle.std.specs.Option.{option_map};
 ghost use Rattle.dispatch_core.specs.Given.{past_of};
-ghost use Rattle.pam_handle.specs.Call.{first_in, is_other_pending, items_begun, past_in, pending_behind, pending_func, request_behind, same_func};
+ghost use Rattle.pam_handle.specs.Call.{first_in, is_other_pending, items_begun, items_behind, past_in, pending_behind, pending_func, request_behind, same_func};
 ghost use Rattle.pam_handle.specs.Pass.{kept_answers};
 ghost use Rattle.pam_handle.specs.Plain.{pending_of, plain_handle, room_in};
 
@@ -73,6 +73,15 @@ pub(crate) fn clear_unless_pending(items: &mut Items, pending: &Option<PutOff>)
     ensures { items.new ≡ items_begun (option_map pending_of pending.now) items.old }
 {
     if pending.is_none() {
+        items.clear_tokens();
+    }
+}
+
+/// Clears the tokens behind a call that has ended, and not behind one that was put off.
+pub(crate) fn clear_unless_put_off(items: &mut Items, paused: &Paused)
+    ensures { items.new ≡ items_behind paused.now items.old }
+{
+    if paused.is_none() {
         items.clear_tokens();
     }
 }
