@@ -67,3 +67,8 @@ pass_told (Ok code) found players func flags kind old new stack past s paused st
     passes_to players func flags kind old new stack past s code paused state
     (subst (λ (ps : List Player). LeavesAs kind (pass_after kind (by_place old) (answers_by ps func flags) stack past s) old code new paused state) e l)
 pass_told (Err none) found players func flags kind old new stack past s paused state e l = tt
+
+pub names_given : {M : Type 0} (result : Result (List (List ℕ)) NoMemory) (label : M → List ℕ) (plays : M → Plays) (note : M → Note) (found mods : List M) → found ≡ mods
+    → IfOk result (λ names. names ≡ map label found) → IfOk result (λ names. names ≡ names_of (map (player_of label plays note) mods))
+names_given (Ok names) label plays note found mods e n = n ∙ ap (map label) e ∙ sym (names_of_players label plays note mods)
+names_given (Err none) label plays note found mods e n = tt

@@ -20,6 +20,7 @@ mod missing;
 mod open_session;
 mod pass;
 mod pending;
+mod prepare;
 mod put_off;
 mod setcred;
 mod start;
