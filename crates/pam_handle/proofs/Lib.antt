@@ -3,3 +3,4 @@ mod Calling
 mod Resting
 mod Authenticating
 mod Changing
+mod Lacking
