@@ -42,7 +42,7 @@ goes_with_tokens (Some p) func aborted run again h e same = runs (same_func p.fu
 pub passed_on : (number : Code → ℕ → ℕ) (p : Passed) (h : PlainHandle) (code : Code) (kept : Option KeptAnswers) (paused : Option (List Code)) (room : PlainRoom) (world : PlainWorld)
     → PassesTo p code kept paused (state_of room world)
     → authenticated number paused code (record h { room = room; authenticated = kept; pending = pending_behind Authenticate None paused }) world
-      ≡ authenticated number p.paused p.code (record h { room = p.state.room; authenticated = p.kept; pending = pending_behind Authenticate None p.paused }) p.state.world
+    ≡ authenticated number p.paused p.code (record h { room = p.state.room; authenticated = p.kept; pending = pending_behind Authenticate None p.paused }) p.state.world
 passed_on number p h code kept paused room world e =
     ap (λ (c : Code). authenticated number paused c (record h { room = room; authenticated = kept; pending = pending_behind Authenticate None paused }) world) e.code_is
     ∙ ap (λ (k : Option KeptAnswers). authenticated number paused p.code (record h { room = room; authenticated = k; pending = pending_behind Authenticate None paused }) world) e.kept_is
@@ -52,7 +52,7 @@ passed_on number p h code kept paused room world e =
 -- behind a pass that has ended
 waited_behind : (number : Code → ℕ → ℕ) (code : Code) (h : PlainHandle) (w last : PlainWorld) (longest : ℕ) (waited : Option Wait) → longest ≡ h.room.transaction.delay
     → (waited ≡ waited_by code (asked_delay longest w.clock.word) (wait_of h.delay_on number code (asked_delay longest w.clock.word)) h.waited)
-      × (last ≡ rested_by (wait_of h.delay_on number code (asked_delay longest w.clock.word)) w)
+    × (last ≡ rested_by (wait_of h.delay_on number code (asked_delay longest w.clock.word)) w)
     → CallsAs (authenticated number None code h w) code (record (request_forgotten (tokens_cleared h)) { waited = waited }) last
 waited_behind number code h w last longest waited l e = record {
   code_is = refl;
@@ -66,7 +66,7 @@ pub authenticated_as : (players : List Player) (number : Code → ℕ → ℕ) (
     → is_other_pending h.pending Authenticate ≡ false → given ≡ past_in h.pending → items ≡ items_begun h.pending h.room.transaction.items → paused ≡ None
     → PassesTo (passed players Authenticate flags Keep h.authenticated h.stacks.auth given (state_of (with_items items h).room w)) code kept paused (state_of room world) → longest ≡ room.transaction.delay
     → (waited ≡ waited_by code (asked_delay longest world.clock.word) (wait_of h.delay_on number code (asked_delay longest world.clock.word)) h.waited)
-      × (last ≡ rested_by (wait_of h.delay_on number code (asked_delay longest world.clock.word)) world)
+    × (last ≡ rested_by (wait_of h.delay_on number code (asked_delay longest world.clock.word)) world)
     → new ≡ record (request_forgotten (tokens_cleared (record h { room = room; authenticated = kept; pending = None }))) { waited = waited }
     → CallsAs (authenticate players number flags h w) code new last
 authenticated_as players number flags h w given items code kept paused room world last longest waited new other g i over e l waits n =

@@ -45,7 +45,7 @@ goes_on_anew players flags past (Some first) h w e = absurd (false_true (sym e))
 behind_success : (players : List Player) (flags : ℕ) (h : PlainHandle) (p : Passed) (code : Code) (kept : Option KeptAnswers) (paused : Option (List Code)) (room : PlainRoom) (world : PlainWorld)
     → PassesTo p code kept paused (state_of room world) → code ≡ Success → paused ≡ None
     → behind_check players flags p.code p.paused p.kept (record h { room = p.state.room; pending = pending_behind ChAuthTok None p.paused }) p.state.world
-      ≡ update players flags kept (past_of paused) (record h { room = room; pending = None }) world
+    ≡ update players flags kept (past_of paused) (record h { room = room; pending = None }) world
 behind_success players flags h p code kept paused room world e success over =
     ap (λ (s : State). behind_check players flags p.code p.paused p.kept (record h { room = s.room; pending = pending_behind ChAuthTok None p.paused }) s.world) (sym e.state_is)
     ∙ ap (λ (o : Option (List Code)). behind_check players flags p.code o p.kept (record h { room = room; pending = pending_behind ChAuthTok None o }) world) (sym e.paused_is ∙ over)
@@ -87,13 +87,13 @@ room_behind paused r = request_behind paused (room_with (items_behind paused r.t
 
 changed_is : (paused : Option (List Code)) (first : Option KeptAnswers) (code : Code) (h : PlainHandle) (room : PlainRoom) (world : PlainWorld)
     → CallsAs (changed paused code (record h { room = room; pending = pending_behind ChAuthTok first paused }) world) code
-      (record h { room = room_behind paused room; pending = pending_behind ChAuthTok first paused }) world
+    (record h { room = room_behind paused room; pending = pending_behind ChAuthTok first paused }) world
 changed_is None first code h room world = record { code_is = refl; handle_is = refl; world_is = refl }
 changed_is (Some past) first code h room world = record { code_is = refl; handle_is = refl; world_is = refl }
 
 goes_change : (pending : Option Pending) (aborted : Called) (players : List Player) (flags : ℕ) (h : PlainHandle) (w : PlainWorld) → is_other_pending pending ChAuthTok ≡ false
     → begun_or_going_on pending ChAuthTok aborted (check players flags [] (tokens_cleared h) w) (λ p. change_goes_on players flags p.past p.first h w)
-      ≡ change_goes_on players flags (past_in pending) (first_in pending) (with_items (items_begun pending h.room.transaction.items) h) w
+    ≡ change_goes_on players flags (past_in pending) (first_in pending) (with_items (items_begun pending h.room.transaction.items) h) w
 goes_change None aborted players flags h w e = refl
 goes_change (Some p) aborted players flags h w e = runs (same_func p.func ChAuthTok) _ _ e
 

@@ -4,7 +4,7 @@ use Rattle.std.proofs.lemmas.List.{append-nil, length-append}
 use Rattle.control_words.specs.declared.nodes.Rule.{Rule}
 use Rattle.control_words.specs.Module.{name_of_module}
 use Rattle.control_words.specs.Stack.{Stack, none, line, sub, lines_in}
-use Rattle.handler_chain.specs.FlatLines.{FlatLine, at_line, flat_lines, module_at, module_of, no_rule, of_first, pending, rule_at}
+use Rattle.handler_chain.specs.FlatLines.{FlatLine, flat_lines, module_at, module_of, no_rule, of_first, pending, rule_at}
 use Rattle.pam_handle.specs.Items.{missing_in, missing_of}
 
 -- what is missing of some lines
@@ -35,7 +35,7 @@ flat_length level opens (sub inner rest) =
 -- the line of an index, and what stands behind it
 lines_from : (names : List (List ℕ)) (i : ℕ) (ls : List FlatLine) → i < length ls
     → (missing_lines names (drop i ls) ≡ missing_of names (of_first no_rule (λ (l : FlatLine). l.rule) (drop i ls)) ++ missing_lines names (drop (suc i) ls))
-      × (of_first None (λ (l : FlatLine). module_of names l.rule) (drop i ls) ≡ module_of names (of_first no_rule (λ (l : FlatLine). l.rule) (drop i ls)))
+    × (of_first None (λ (l : FlatLine). module_of names l.rule) (drop i ls) ≡ module_of names (of_first no_rule (λ (l : FlatLine). l.rule) (drop i ls)))
 lines_from names i [] within = absurd (omega (arith, within))
 lines_from names zero (l ∷ ls) within = (refl, refl)
 lines_from names (suc i) (l ∷ ls) within = lines_from names i ls (omega (arith, within))

@@ -4,3 +4,4 @@ mod Resting
 mod Authenticating
 mod Changing
 mod Lacking
+mod Rows

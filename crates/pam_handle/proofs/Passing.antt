@@ -1,11 +1,11 @@
 -- A pass over a chain, with cells for what it keeps, is a pass over a stack, with a function of places.
-use Rattle.std.proofs.Common.{◌≡◌, ℕ, zero, suc, List, [], ◌∷◌, Option, Some, None, Result, Ok, Err, IfOk, Bool, true, false, is_some, map, length, refl, sym, ◌∙◌, ap, subst}
+use Rattle.std.proofs.Common.{◌≡◌, ℕ, zero, suc, List, [], ◌∷◌, Option, Some, None, Result, Ok, Err, IfOk, true, false, map, refl, sym, ◌∙◌, ap, subst}
 use Rattle.std.proofs.Math.Path.{fun_ext}
 use Rattle.pam_base.specs.declared.code.Code.{Code}
 use Rattle.pam_base.specs.declared.call.Func.{Func}
 use Rattle.pam_base.specs.declared.fault.NoMemory.{NoMemory}
 use Rattle.control_words.specs.Stack.{Stack}
-use Rattle.frozen_chain.specs.Kept.{Answers, answer_at}
+use Rattle.frozen_chain.specs.Kept.{Answers}
 use Rattle.stack_walk.specs.declared.pass_kind.PassKind.{PassKind}
 use Rattle.stack_walk.specs.declared.pass_kind.PassKind.TheVariants.{Keep, Follow, Loose}
 use Rattle.stack_walk.specs.Pass.{PassState, Visit, kept_in, pass_after}

@@ -2,7 +2,6 @@
 use Rattle.std.specs.Option.{option_map}
 use Rattle.std.specs.declared.alloc.Global.{Global}
 use Rattle.std.specs.declared.dyn_box.DynBox.{DynBox}
-use Rattle.frozen_chain.specs.Kept.{Answers}
 use Rattle.dispatch_core.specs.Given.{past_of}
 use Rattle.pam_room.specs.State.{PlainRoom}
 use Rattle.pam_room.specs.declared.room.Room.{Room}

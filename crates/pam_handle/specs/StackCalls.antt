@@ -11,7 +11,7 @@ use Rattle.stack_walk.specs.Route.{KeptAnswers}
 use Rattle.pam_room.specs.Call.{has_flag, prelim_check}
 use Rattle.pam_room.specs.Module.{Player}
 use Rattle.pam_room.specs.State.{PlainWorld, state_of}
-use Rattle.pam_handle.specs.Handle.{Pending, PlainHandle}
+use Rattle.pam_handle.specs.Handle.{PlainHandle}
 use Rattle.pam_handle.specs.Pass.{Passed, passed, following}
 use Rattle.pam_handle.specs.Call.{Called, called, tokens_cleared, request_forgotten, begun_or_going_on, pending_behind, request_behind, waits_after}
 

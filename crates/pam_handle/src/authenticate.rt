@@ -90,14 +90,7 @@ impl Handle {
         let longest = self.room.transaction.delay.longest();
         self.room.transaction.delay.forget();
         let code = result?;
-        wait(
-            gear,
-            world,
-            self.delay_on,
-            longest,
-            code,
-            &mut self.waited,
-        );
+        wait(gear, world, self.delay_on, longest, code, &mut self.waited);
         Ok(code)
     }
 }

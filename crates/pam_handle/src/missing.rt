@@ -37,12 +37,7 @@ fn add_missing(alloc: Global, chain: &Chain, names: &mut Texts) -> Result<(), No
     Ok(())
 }
 
-fn add_if_missing(
-    alloc: Global,
-    chain: &Chain,
-    i: usize,
-    names: &mut Texts,
-) -> Result<(), NoMemory>
+fn add_if_missing(alloc: Global, chain: &Chain, i: usize, names: &mut Texts) -> Result<(), NoMemory>
     requires { i < lines_in chain.now.nodes }
     ensures { OnOk result (names.new ≡ names.old ++ missing_of chain.now.names (rule_at chain.now.nodes i)) }
 {

@@ -95,13 +95,7 @@ fn prepare(
 }
 
 // It takes no memory, since what it makes can't be dropped.
-fn opened(
-    alloc: Global,
-    number: u32,
-    items: Items,
-    chains: Chains,
-    conv: Box<dyn Conv>,
-) -> Handle
+fn opened(alloc: Global, number: u32, items: Items, chains: Chains, conv: Box<dyn Conv>) -> Handle
     ensures conv { (room_in result).conv ≡ conv }
     ensures plain { plain_handle ⟦<Room as RoomTold>⟧.plain result ≡ handle_with number items (conv_holds conv) chains.auth.names (stacks_in chains) }
 {

@@ -1,7 +1,5 @@
-use Rattle.std.proofs.Common.{◌≡◌, List, map, refl, sym, ◌∙◌}
+use Rattle.std.proofs.Common.{sym, ◌∙◌}
 use Rattle.dispatch_core.specs.Given.{past_of}
-use Rattle.pam_room.specs.Module.{player_of}
-use Rattle.pam_room.specs.Plain.{plain_world}
 use Rattle.pam_handle.proofs.Changing.{goes_on_anew, goes_on_held, if_ok_from}
 use Rattle.pam_handle.proofs.chauthtok.change.Goals as goal
 

@@ -1,4 +1,4 @@
-use Rattle.std.proofs.Common.{◌≡◌, List, None, map, refl, sym, ◌∙◌}
+use Rattle.std.proofs.Common.{None, map, refl, sym, ◌∙◌}
 use Rattle.dispatch_core.specs.Given.{past_of}
 use Rattle.pam_room.specs.Module.{player_of}
 use Rattle.pam_room.specs.Plain.{plain_room, plain_world}

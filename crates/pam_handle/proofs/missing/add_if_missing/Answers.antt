@@ -1,4 +1,4 @@
-use Rattle.std.proofs.Common.{◌≡◌, List, ℕ, ◌++◌, not, sym, ◌∙◌, ap}
+use Rattle.std.proofs.Common.{List, ℕ, ◌++◌, not, ◌∙◌, ap}
 use Rattle.control_words.specs.Module.{name_of_module}
 use Rattle.handler_chain.specs.FlatLines.{rule_at}
 use Rattle.pam_handle.proofs.Lacking.{adds_name, module_is}

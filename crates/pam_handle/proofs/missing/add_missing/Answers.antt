@@ -1,4 +1,4 @@
-use Rattle.std.proofs.Common.{◌≡◌, ◌++◌, ap, arith}
+use Rattle.std.proofs.Common.{◌++◌, ap, arith}
 use Rattle.pam_handle.proofs.Lacking.{all_lines, missing_flat, one_line}
 use Rattle.pam_handle.proofs.missing.add_missing.Goals as goal
 

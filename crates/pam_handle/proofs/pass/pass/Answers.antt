@@ -1,4 +1,4 @@
-use Rattle.std.proofs.Common.{◌≡◌, List, map, refl, sym, ◌∙◌, ap}
+use Rattle.std.proofs.Common.{map, ◌∙◌, ap}
 use Rattle.pam_room.specs.Module.{player_of}
 use Rattle.dispatch_core.specs.Given.{past_of}
 use Rattle.pam_handle.proofs.Passing.{names_of_players, pass_told}

@@ -1,4 +1,3 @@
-use Rattle.std.proofs.Common.{◌≡◌}
 use Rattle.pam_handle.proofs.Passing.{names_given}
 use Rattle.pam_handle.proofs.prepare.module_names.Goals as goal
 

@@ -1,5 +1,4 @@
-use Rattle.std.proofs.Common.{◌≡◌, ℕ, Some, None, refl, sym, ◌∙◌, ap}
-use Rattle.pam_room.specs.Plain.{plain_world}
+use Rattle.std.proofs.Common.{Some, None, refl, sym, ◌∙◌, ap}
 use Rattle.pam_room.specs.State.{PlainWorld}
 use Rattle.pam_handle.specs.Call.{rested_by}
 use Rattle.pam_handle.proofs.Resting.{waited_some}

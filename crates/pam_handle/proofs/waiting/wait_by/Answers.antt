@@ -1,4 +1,3 @@
-use Rattle.std.proofs.Common.{◌≡◌}
 use Rattle.pam_handle.proofs.waiting.wait_by.Goals as goal
 
 pub returns-then-delay_on-clause-wait : goal.returns-then-delay_on-clause-wait

@@ -1,4 +1,4 @@
-use Rattle.std.proofs.Common.{◌≡◌, List, Option, None, map, refl, sym, ◌∙◌, ap}
+use Rattle.std.proofs.Common.{Option, None, map, refl, sym, ◌∙◌, ap}
 use Rattle.std.specs.Option.{option_map}
 use Rattle.pam_base.specs.declared.call.Func.TheVariants.{AcctMgmt}
 use Rattle.pam_room.specs.Module.{player_of}
@@ -6,10 +6,10 @@ use Rattle.pam_room.specs.Plain.{plain_room, plain_world}
 use Rattle.pam_room.specs.State.{state_of}
 use Rattle.pam_handle.specs.Call.{past_in}
 use Rattle.pam_handle.specs.Handle.{PlainHandle}
-use Rattle.pam_handle.specs.Pass.{following, kept_answers, passed}
+use Rattle.pam_handle.specs.Pass.{kept_answers, passed}
 use Rattle.pam_handle.specs.Plain.{pending_of, plain_handle}
 use Rattle.pam_handle.specs.declared.put_off.PutOff.{PutOff}
-use Rattle.pam_handle.proofs.Calling.{failed, followed_failed, on_err, ran_once}
+use Rattle.pam_handle.proofs.Calling.{ran_once}
 use Rattle.pam_handle.proofs.handle.Handle.acct_mgmt.Goals as goal
 use Rattle.stack_walk.specs.declared.pass_kind.PassKind.TheVariants.{Keep}
 

@@ -1,13 +1,10 @@
-use Rattle.std.proofs.Common.{◌≡◌, List, Option, None, map, refl, sym, ◌∙◌, ap}
+use Rattle.std.proofs.Common.{Option, map, refl, sym, ◌∙◌, ap}
 use Rattle.std.specs.Option.{option_map}
-use Rattle.pam_base.specs.declared.call.Func.TheVariants.{Authenticate}
-use Rattle.stack_walk.specs.declared.pass_kind.PassKind.TheVariants.{Keep}
 use Rattle.pam_room.specs.Module.{player_of}
 use Rattle.pam_room.specs.Plain.{plain_room, plain_world}
-use Rattle.pam_room.specs.State.{state_of}
 use Rattle.pam_handle.specs.Call.{past_in}
 use Rattle.pam_handle.specs.Handle.{PlainHandle}
-use Rattle.pam_handle.specs.Pass.{kept_answers, passed}
+use Rattle.pam_handle.specs.Pass.{kept_answers}
 use Rattle.pam_handle.specs.Plain.{pending_of, plain_handle}
 use Rattle.pam_handle.specs.declared.put_off.PutOff.{PutOff}
 use Rattle.pam_handle.proofs.Authenticating.{authenticated_as, none_there, tells_beside}

@@ -1,4 +1,4 @@
-use Rattle.std.proofs.Common.{◌≡◌, List, Option, map, refl, sym, ◌∙◌, ap}
+use Rattle.std.proofs.Common.{Option, map, refl, sym, ◌∙◌, ap}
 use Rattle.std.specs.Option.{option_map}
 use Rattle.pam_base.specs.declared.call.Func.TheVariants.{CloseSession}
 use Rattle.pam_room.specs.Module.{player_of}
