@@ -1,16 +1,15 @@
 -- What a call of the application comes to, and what of a transaction's calls is common to several (pam_fail_delay(3); that a
 -- call may be put off, and what others answer meanwhile, is this project's own).
-use Rattle.std.specs.Prelude.{◌≡◌, ℕ, Bool, true, false, Option, Some, None, List, if◌then◌else◌, ◌==◌}
+use Rattle.std.specs.Prelude.{◌≡◌, ℕ, Bool, true, false, not, Option, Some, None, List, [], if◌then◌else◌, ◌==◌}
 use Rattle.pam_base.specs.declared.code.Code.{Code}
-use Rattle.pam_base.specs.declared.code.Code.TheVariants as codes
 use Rattle.pam_base.specs.declared.call.Func.{Func}
 use Rattle.pam_base.specs.declared.call.Func.TheVariants.{Authenticate, SetCred, AcctMgmt, OpenSession, CloseSession, ChAuthTok}
-use Rattle.item_store.specs.Items.{without_tokens}
+use Rattle.item_store.specs.Items.{ItemTexts, without_tokens}
 use Rattle.fail_delay.specs.Delay.{asked_delay}
 use Rattle.fail_delay.specs.Wait.{wait_of}
 use Rattle.pam_outside.specs.Time.{rested}
 use Rattle.stack_walk.specs.Route.{KeptAnswers}
-use Rattle.pam_room.specs.State.{PlainRoom, PlainWorld, State, state_of}
+use Rattle.pam_room.specs.State.{PlainRoom, PlainWorld}
 use Rattle.pam_handle.specs.declared.wait.Wait.{Wait}
 use Rattle.pam_handle.specs.Handle.{Pending, PlainHandle, in_room}
 
@@ -62,6 +61,30 @@ abbrev pub begun_or_going_on : Option Pending → Func → Called → Called →
 begun_or_going_on None func aborted begins goes_on = begins
 begun_or_going_on (Some p) func aborted begins goes_on = if same_func p.func func then goes_on p else aborted
 
+-- the function of the call that is pending
+abbrev pub pending_func : Option Pending → Option Func
+pending_func None = None
+pending_func (Some p) = Some p.func
+
+-- the answers that the call that is pending was given, and those of the first pass of a change of token; none where nothing is pending
+abbrev pub past_in : Option Pending → List Code
+past_in None = []
+past_in (Some p) = p.past
+
+abbrev pub first_in : Option Pending → Option KeptAnswers
+first_in None = None
+first_in (Some p) = p.first
+
+-- the items when a call that clears the tokens takes them up: it clears them where it begins
+abbrev pub items_begun : Option Pending → ItemTexts → ItemTexts
+items_begun None items = without_tokens items
+items_begun (Some p) items = items
+
+-- whether another call than this function's is pending
+abbrev pub is_other_pending : Option Pending → Func → Bool
+is_other_pending None func = false
+is_other_pending (Some p) func = not (same_func p.func func)
+
 -- what is pending behind a pass: the call, where the pass was put off
 abbrev pub pending_behind : Func → Option KeptAnswers → Option (List Code) → Option Pending
 pending_behind func first None = None
@@ -72,14 +95,25 @@ abbrev pub request_behind : Option (List Code) → PlainRoom → PlainRoom
 request_behind None r = without_request r
 request_behind (Some past) r = r
 
+-- and so are the tokens of a call that clears them
+abbrev pub items_behind : Option (List Code) → ItemTexts → ItemTexts
+items_behind None items = without_tokens items
+items_behind (Some past) items = items
+
 -- ---- the wait after an authentication
 
--- where there is a wait it is told, and one of more than 0 is rested
+-- a wait, where there is one, takes the place of what was to be told of an earlier one
+abbrev pub waited_by : Code → ℕ → Option ℕ → Option Wait → Option Wait
+waited_by code asked None before = before
+waited_by code asked (Some n) before = Some (record { code = code; asked = asked; wait = n })
+
+-- a wait of more than 0 is rested
+abbrev pub rested_by : Option ℕ → PlainWorld → PlainWorld
+rested_by None w = w
+rested_by (Some n) w = if n == 0 then w else record w { nap = rested w.nap n }
+
 abbrev pub waits : Code → ℕ → Option ℕ → PlainHandle → PlainWorld → Called
-waits code asked None h w = called code h w
-waits code asked (Some n) h w =
-    called code (record h { waited = Some (record { code = code; asked = asked; wait = n }) })
-    (if n == 0 then w else record w { nap = rested w.nap n })
+waits code asked wait h w = called code (record h { waited = waited_by code asked wait h.waited }) (rested_by wait w)
 
 -- `number` is what the application's delay function gives
 abbrev pub waits_after : (Code → ℕ → ℕ) → Code → PlainHandle → PlainWorld → Called

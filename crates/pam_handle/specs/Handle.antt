@@ -1,5 +1,5 @@
 -- An open transaction as a plain record (pam_start(3); that a call may be put off is this project's own).
-use Rattle.std.specs.Prelude.{ℕ, Bool, List, [], Option, None, false}
+use Rattle.std.specs.Prelude.{ℕ, Bool, List, Option}
 use Rattle.pam_base.specs.declared.code.Code.{Code}
 use Rattle.pam_base.specs.declared.call.Func.{Func}
 use Rattle.control_words.specs.Stack.{Stack}

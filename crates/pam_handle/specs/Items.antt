@@ -1,7 +1,7 @@
 -- The calls that run no stack: items, environment, delays, conversations and what is missing (pam_set_item(3), pam_putenv(3),
 -- pam_fail_delay(3); that missing modules are told is this project's own).
-use Rattle.std.specs.Prelude.{ℕ, Bool, ◌||◌, if◌then◌else◌, Option, Some, None, is_some, List, [], ◌∷◌, ◌++◌, max}
-use Rattle.item_store.specs.Items.{ItemTexts, with_text}
+use Rattle.std.specs.Prelude.{ℕ, Bool, ◌||◌, if◌then◌else◌, None, is_some, List, [], ◌∷◌, ◌++◌, max}
+use Rattle.item_store.specs.Items.{ItemTexts}
 use Rattle.env_list.specs.Environment.{Variable}
 use Rattle.fail_delay.specs.Delay.{counted_request}
 use Rattle.conv_port.specs.Conv.{ConvState}
@@ -9,7 +9,7 @@ use Rattle.control_words.specs.declared.nodes.Rule.{Rule}
 use Rattle.control_words.specs.Module.{name_of_module}
 use Rattle.control_words.specs.Stack.{Stack, none, line, sub}
 use Rattle.handler_chain.specs.FlatLines.{module_of}
-use Rattle.pam_room.specs.State.{PlainRoom, PlainTransaction}
+use Rattle.pam_room.specs.State.{PlainTransaction}
 use Rattle.pam_handle.specs.Handle.{PlainHandle, Stacks, in_room}
 
 abbrev pub with_transaction : PlainTransaction → PlainHandle → PlainHandle

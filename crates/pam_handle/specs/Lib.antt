@@ -6,3 +6,4 @@ pub mod Items
 pub mod Start
 pub mod End
 pub mod AnyWorld
+pub mod Plain

@@ -47,3 +47,10 @@ passed players func flags kind kept stack past s = passed_by kind kept (pass_aft
 abbrev pub following : Option KeptAnswers → PassKind
 following None = kinds.Loose
 following (Some kept) = kinds.Follow
+
+-- a code, what is kept and what is paused behind a pass, and a state are those of a pass
+pub record PassesTo (p : Passed) (code : Code) (kept : Option KeptAnswers) (paused : Option (List Code)) (state : State) : Type 0 where
+  pub code_is : code ≡ p.code
+  pub kept_is : kept ≡ p.kept
+  pub paused_is : paused ≡ p.paused
+  pub state_is : state ≡ p.state

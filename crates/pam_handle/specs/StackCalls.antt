@@ -11,13 +11,17 @@ use Rattle.stack_walk.specs.Route.{KeptAnswers}
 use Rattle.pam_room.specs.Call.{has_flag, prelim_check}
 use Rattle.pam_room.specs.Module.{Player}
 use Rattle.pam_room.specs.State.{PlainWorld, state_of}
-use Rattle.pam_handle.specs.Handle.{Pending, PlainHandle}
+use Rattle.pam_handle.specs.Handle.{PlainHandle}
 use Rattle.pam_handle.specs.Pass.{Passed, passed, following}
 use Rattle.pam_handle.specs.Call.{Called, called, tokens_cleared, request_forgotten, begun_or_going_on, pending_behind, request_behind, waits_after}
 
 -- PAM_UPDATE_AUTHTOK, the flag of the second pass of a change of token (pam_chauthtok(3))
 abbrev pub update_authtok : ℕ
 update_authtok = 0x2000
+
+-- whether flags hold one of those of the two passes of a change of token, which are the library's own
+abbrev pub has_pass_flag : ℕ → Bool
+has_pass_flag flags = has_flag flags prelim_check || has_flag flags update_authtok
 
 -- PAM_ESTABLISH_CRED, which the flags 0 stand for (pam_setcred(3))
 abbrev pub establish_cred : ℕ
@@ -30,15 +34,20 @@ credential_flags flags = if flags == 0 then establish_cred else flags
 abbrev pub ended : Func → Passed → PlainHandle → Called
 ended func p h = called p.code (record h { room = request_behind p.paused p.state.room; pending = pending_behind func None p.paused }) p.state.world
 
+-- behind the pass of an authentication: the tokens are cleared, the wait follows, and then the request is forgotten, unless it was put off
+abbrev pub authenticated : (Code → ℕ → ℕ) → Option (List Code) → Code → PlainHandle → PlainWorld → Called
+authenticated number (Some past) code h w = called code h w
+authenticated number None code h w =
+    let waited = waits_after number code (tokens_cleared h) w in
+    called code (request_forgotten waited.handle) waited.world
+
+-- behind the last pass of a change of token: the tokens are cleared and the request is forgotten, unless it was put off
+abbrev pub changed : Option (List Code) → Code → PlainHandle → PlainWorld → Called
+changed (Some past) code h w = called code h w
+changed None code h w = called code (request_forgotten (tokens_cleared h)) w
+
 module _ (players : List Player) where
   -- ---- pam_authenticate(3)
-
-  -- the wait follows, and then the request is forgotten; the tokens are cleared
-  abbrev pub authenticated : (Code → ℕ → ℕ) → Option (List Code) → Code → PlainHandle → PlainWorld → Called
-  authenticated number (Some past) code h w = called code h w
-  authenticated number None code h w =
-      let waited = waits_after number code (tokens_cleared h) w in
-      called code (request_forgotten waited.handle) waited.world
 
   abbrev pub authentication : (Code → ℕ → ℕ) → ℕ → List Code → PlainHandle → PlainWorld → Called
   authentication number flags past h w =
@@ -88,11 +97,6 @@ module _ (players : List Player) where
 
   -- ---- pam_chauthtok(3): two passes, the second only where the first gave SUCCESS, and by the answers of the first
 
-  -- behind the last pass: the tokens are cleared and the request is forgotten, unless it was put off
-  abbrev pub changed : Option (List Code) → Code → PlainHandle → PlainWorld → Called
-  changed (Some past) code h w = called code h w
-  changed None code h w = called code (request_forgotten (tokens_cleared h)) w
-
   abbrev pub update : ℕ → Option KeptAnswers → List Code → PlainHandle → PlainWorld → Called
   update flags first past h w =
       let p = passed players ChAuthTok (bit_or flags update_authtok) kinds.Follow first h.stacks.password past (state_of h.room w) in
@@ -111,16 +115,12 @@ module _ (players : List Player) where
   change_goes_on flags past None h w = check flags past h w
   change_goes_on flags past (Some first) h w = update flags (Some first) past h w
 
-  -- the flags of the two passes are the library's own
-  abbrev pub has_pass_flag : ℕ → Bool
-  has_pass_flag flags = has_flag flags prelim_check || has_flag flags update_authtok
-
   abbrev pub chauthtok : ℕ → PlainHandle → PlainWorld → Called
   chauthtok flags h w =
       if has_pass_flag flags then called codes.SystemErr h w
       else begun_or_going_on h.pending ChAuthTok (called codes.Abort h w)
-          (check flags [] (tokens_cleared h) w)
-          (λ p. change_goes_on flags p.past p.first h w)
+      (check flags [] (tokens_cleared h) w)
+      (λ p. change_goes_on flags p.past p.first h w)
 
   -- ---- all six
 

@@ -1,20 +1,31 @@
 -- The start of a transaction (pam_start(3)).
 use Rattle.std.specs.Prelude.{◌≡◌, ℕ, List, Option, Some, None, Result, Ok, Err, false}
 use Rattle.std.specs.Str.{str_to_ascii_lowercase}
+use Rattle.pam_base.specs.declared.fault.Refuse.{Refuse}
+use Rattle.pam_base.specs.declared.fault.Refuse.TheVariants.{NoMemory, Named}
 use Rattle.conv_port.specs.Conv.{ConvState}
 use Rattle.pam_outside.specs.Files.{VaultState}
 use Rattle.service_load.specs.declared.load_fault.LoadFault.{LoadFault}
 use Rattle.service_load.specs.FirstFault.{Counts, Stop}
 use Rattle.service_load.specs.Load.{loaded, has_folder}
-use Rattle.service_load.specs.Loading.{texts_of}
+use Rattle.service_load.specs.Loading.{texts_of, CountsFaults}
 use Rattle.service_load.specs.Tree.{tree}
+use Rattle.service_load.specs.declared.trees.Trees.{Trees}
+use Rattle.control_words.specs.Stack.{stack_of}
+use Rattle.item_store.specs.Items.{ItemTexts, no_texts}
 use Rattle.pam_room.specs.State.{PlainWorld, new_transaction, room_of}
+use Rattle.pam_handle.specs.declared.chains.Chains.{Chains}
+use Rattle.pam_handle.specs.Plain.{stacks_in}
 use Rattle.pam_handle.specs.Handle.{PlainHandle, Stacks, stacks_of}
 
--- a transaction of this number in which only SERVICE and, where it is known, USER are set
-abbrev pub new_handle : ℕ → List ℕ → Option (List ℕ) → ConvState → List (List ℕ) → Stacks → PlainHandle
-new_handle number service user conv names stacks = record {
-  room = room_of (record (new_transaction number) { items = record (new_transaction number).items { service = Some (str_to_ascii_lowercase service); user = user } }) conv;
+-- only SERVICE and, where it is known, USER are set
+abbrev pub first_texts : List ℕ → Option (List ℕ) → ItemTexts
+first_texts service user = record no_texts { service = Some (str_to_ascii_lowercase service); user = user }
+
+-- a transaction of this number with these items, in which nothing else is set
+abbrev pub handle_with : ℕ → ItemTexts → ConvState → List (List ℕ) → Stacks → PlainHandle
+handle_with number items conv names stacks = record {
+  room = room_of (record (new_transaction number) { items = items }) conv;
   stacks = stacks;
   names = names;
   authenticated = None;
@@ -23,6 +34,13 @@ new_handle number service user conv names stacks = record {
   pending = None;
   waited = None;
 }
+
+abbrev pub new_handle : ℕ → List ℕ → Option (List ℕ) → ConvState → List (List ℕ) → Stacks → PlainHandle
+new_handle number service user conv names stacks = handle_with number (first_texts service user) conv names stacks
+
+-- the stacks that the trees of a load are
+abbrev pub stacks_of_trees : Trees → Stacks
+stacks_of_trees trees = record { auth = stack_of trees.auth.vec.items; account = stack_of trees.account.vec.items; password = stack_of trees.password.vec.items; session = stack_of trees.session.vec.items }
 
 -- a start: a transaction, or the first fault of its configuration; of the world only the vault's number of calls changes
 pub record Started : Type 0 where
@@ -33,8 +51,8 @@ abbrev pub with_calls : ℕ → PlainWorld → PlainWorld
 with_calls calls w = record w { vault = record w.vault { calls = calls } }
 
 abbrev pub started_by : (Stacks → PlainHandle) → Result Counts Stop → Stacks → PlainWorld → Started
-started_by open (Ok counts) stacks w = record { answer = Ok (open stacks); world = with_calls counts.calls w }
-started_by open (Err stop) stacks w = record { answer = Err stop.fault; world = with_calls stop.calls w }
+started_by opened (Ok counts) stacks w = record { answer = Ok (opened stacks); world = with_calls counts.calls w }
+started_by opened (Err stop) stacks w = record { answer = Err stop.fault; world = with_calls stop.calls w }
 
 -- the stacks that a service has under the root
 abbrev pub stacks_under : VaultState → List ℕ → List ℕ → Stacks
@@ -42,3 +60,25 @@ stacks_under vault root service = stacks_of (tree (texts_of root vault) (has_fol
 
 abbrev pub started : ℕ → List ℕ → Option (List ℕ) → ConvState → List (List ℕ) → PlainWorld → Started
 started number service user conv names w = started_by (new_handle number service user conv names) (loaded w.vault w.process.root service) (stacks_under w.vault w.process.root service) w
+
+-- ---- what a start gives
+
+-- the transaction that it opens, and the world after it
+pub record Opens (s : Started) (handle : PlainHandle) (world : PlainWorld) : Type 0 where
+  pub handle_is : s.answer ≡ Ok handle
+  pub world_is : world ≡ s.world
+
+-- why it refuses, and the world after it; want of memory is free
+abbrev pub Refuses : Started → Refuse LoadFault → PlainWorld → Type 0
+Refuses s (Named fault) world = (s.answer ≡ Err fault) × (world ≡ s.world)
+Refuses s NoMemory world = Unit {0}
+
+-- in any world: the vault's count of faults rises where a file couldn't be read, and with no other fault
+abbrev pub RefusalCounts : Refuse LoadFault → ℕ → ℕ → Type 0
+RefusalCounts why before after = CountsFaults {A = Unit {0}} (Err why) before after
+
+-- the stacks of a service that has no fault, with the calls of the vault, or why it has none
+abbrev pub Prepares : {A : Type 0} → Result (A × Chains) (Refuse LoadFault) → PlainWorld → VaultState → List ℕ → Type 0
+Prepares (Ok parts) w new service = (counts : Counts) × (loaded w.vault w.process.root service ≡ Ok counts) × (new.calls ≡ counts.calls) × (stacks_in parts.1 ≡ stacks_under w.vault w.process.root service)
+Prepares (Err (Named fault)) w new service = loaded w.vault w.process.root service ≡ Err (record { fault = fault; calls = new.calls })
+Prepares (Err NoMemory) w new service = Unit {0}

@@ -1,0 +1,81 @@
+-- What an authentication comes to, of its pass and of the wait behind it.
+use Rattle.std.proofs.Common.{◌≡◌, ℕ, List, [], Option, Some, None, Bool, true, false, ◌&&◌, is_none, IsTrue, refl, sym, ◌∙◌, ap, subst}
+use Rattle.fail_delay.specs.Delay.{asked_delay}
+use Rattle.fail_delay.specs.Wait.{wait_of}
+use Rattle.item_store.specs.Items.{ItemTexts}
+use Rattle.pam_base.specs.declared.code.Code.{Code}
+use Rattle.pam_base.specs.declared.call.Func.{Func}
+use Rattle.pam_base.specs.declared.call.Func.TheVariants.{Authenticate}
+use Rattle.stack_walk.specs.Route.{KeptAnswers}
+use Rattle.pam_base.specs.declared.code.Code.TheVariants.{Abort}
+use Rattle.stack_walk.specs.declared.pass_kind.PassKind.TheVariants.{Keep}
+use Rattle.pam_room.specs.Module.{Player}
+use Rattle.pam_room.specs.State.{PlainRoom, PlainWorld, State, state_of}
+use Rattle.pam_handle.specs.declared.wait.Wait.{Wait}
+use Rattle.pam_handle.specs.Handle.{Pending, PlainHandle}
+use Rattle.pam_handle.specs.Items.{with_items}
+use Rattle.pam_handle.specs.Pass.{Passed, PassesTo, passed}
+use Rattle.pam_handle.specs.Call.{Called, CallsAs, called, begun_or_going_on, is_other_pending, items_begun, past_in, pending_behind, request_forgotten, rested_by, tokens_cleared, same_func, waited_by}
+use Rattle.pam_handle.specs.StackCalls.{authenticate, authenticated, authentication}
+use Rattle.pam_handle.proofs.Calling.{runs}
+
+false_true : false ≡ true → ⊥
+false_true e = (cc)
+
+pub none_there : (o : Option (List Code)) → is_none o ≡ true → o ≡ None
+none_there None e = refl
+none_there (Some past) e = absurd (false_true e)
+
+-- what tells beside another tells
+pub tells_beside : (a b c : Bool) → c ≡ b → IsTrue (a && b) → IsTrue c
+tells_beside true b c e t = subst (λ (x : Bool). IsTrue x) (sym e) t
+tells_beside false b c e t = absurd (false_true t)
+
+-- a call that clears the tokens where it begins and isn't aborted runs, after what it was given
+pub goes_with_tokens : (pending : Option Pending) (func : Func) (aborted : Called) (run : List Code → PlainHandle → Called) (again : Pending → Called) (h : PlainHandle)
+    → is_other_pending pending func ≡ false → ((p : Pending) → again p ≡ run p.past h)
+    → begun_or_going_on pending func aborted (run [] (tokens_cleared h)) again ≡ run (past_in pending) (with_items (items_begun pending h.room.transaction.items) h)
+goes_with_tokens None func aborted run again h e same = refl
+goes_with_tokens (Some p) func aborted run again h e same = runs (same_func p.func func) _ _ e ∙ same p
+
+-- the pass of an authentication, by what it gave
+pub passed_on : (number : Code → ℕ → ℕ) (p : Passed) (h : PlainHandle) (code : Code) (kept : Option KeptAnswers) (paused : Option (List Code)) (room : PlainRoom) (world : PlainWorld)
+    → PassesTo p code kept paused (state_of room world)
+    → authenticated number paused code (record h { room = room; authenticated = kept; pending = pending_behind Authenticate None paused }) world
+    ≡ authenticated number p.paused p.code (record h { room = p.state.room; authenticated = p.kept; pending = pending_behind Authenticate None p.paused }) p.state.world
+passed_on number p h code kept paused room world e =
+    ap (λ (c : Code). authenticated number paused c (record h { room = room; authenticated = kept; pending = pending_behind Authenticate None paused }) world) e.code_is
+    ∙ ap (λ (k : Option KeptAnswers). authenticated number paused p.code (record h { room = room; authenticated = k; pending = pending_behind Authenticate None paused }) world) e.kept_is
+    ∙ ap (λ (o : Option (List Code)). authenticated number o p.code (record h { room = room; authenticated = p.kept; pending = pending_behind Authenticate None o }) world) e.paused_is
+    ∙ ap (λ (s : State). authenticated number p.paused p.code (record h { room = s.room; authenticated = p.kept; pending = pending_behind Authenticate None p.paused }) s.world) e.state_is
+
+-- behind a pass that has ended
+waited_behind : (number : Code → ℕ → ℕ) (code : Code) (h : PlainHandle) (w last : PlainWorld) (longest : ℕ) (waited : Option Wait) → longest ≡ h.room.transaction.delay
+    → (waited ≡ waited_by code (asked_delay longest w.clock.word) (wait_of h.delay_on number code (asked_delay longest w.clock.word)) h.waited)
+    × (last ≡ rested_by (wait_of h.delay_on number code (asked_delay longest w.clock.word)) w)
+    → CallsAs (authenticated number None code h w) code (record (request_forgotten (tokens_cleared h)) { waited = waited }) last
+waited_behind number code h w last longest waited l e = record {
+  code_is = refl;
+  handle_is = ap (λ (o : Option Wait). record (request_forgotten (tokens_cleared h)) { waited = o }) (e.0
+      ∙ ap (λ (n : ℕ). waited_by code (asked_delay n w.clock.word) (wait_of h.delay_on number code (asked_delay n w.clock.word)) h.waited) l);
+  world_is = e.1 ∙ ap (λ (n : ℕ). rested_by (wait_of h.delay_on number code (asked_delay n w.clock.word)) w) l;
+}
+
+pub authenticated_as : (players : List Player) (number : Code → ℕ → ℕ) (flags : ℕ) (h : PlainHandle) (w : PlainWorld)
+    (given : List Code) (items : ItemTexts) (code : Code) (kept : Option KeptAnswers) (paused : Option (List Code)) (room : PlainRoom) (world last : PlainWorld) (longest : ℕ) (waited : Option Wait) (new : PlainHandle)
+    → is_other_pending h.pending Authenticate ≡ false → given ≡ past_in h.pending → items ≡ items_begun h.pending h.room.transaction.items → paused ≡ None
+    → PassesTo (passed players Authenticate flags Keep h.authenticated h.stacks.auth given (state_of (with_items items h).room w)) code kept paused (state_of room world) → longest ≡ room.transaction.delay
+    → (waited ≡ waited_by code (asked_delay longest world.clock.word) (wait_of h.delay_on number code (asked_delay longest world.clock.word)) h.waited)
+    × (last ≡ rested_by (wait_of h.delay_on number code (asked_delay longest world.clock.word)) world)
+    → new ≡ record (request_forgotten (tokens_cleared (record h { room = room; authenticated = kept; pending = None }))) { waited = waited }
+    → CallsAs (authenticate players number flags h w) code new last
+authenticated_as players number flags h w given items code kept paused room world last longest waited new other g i over e l waits n =
+    let act : List Code → PlainHandle → Called = λ past begun. authentication players number flags past begun w in
+    subst (λ (x : PlainHandle). CallsAs (authenticate players number flags h w) code x last) (sym n)
+    (subst (λ (c : Called). CallsAs c code (record (request_forgotten (tokens_cleared (record h { room = room; authenticated = kept; pending = None }))) { waited = waited }) last)
+    (ap (λ (o : Option (List Code)). authenticated number o code (record h { room = room; authenticated = kept; pending = pending_behind Authenticate None o }) world) (sym over)
+    ∙ passed_on number (passed players Authenticate flags Keep h.authenticated h.stacks.auth given (state_of (with_items items h).room w)) h code kept paused room world e
+    ∙ ap (λ (past : List Code). act past (with_items items h)) g
+    ∙ ap (λ (texts : ItemTexts). act (past_in h.pending) (with_items texts h)) i
+    ∙ sym (goes_with_tokens h.pending Authenticate (called Abort h w) act (λ p. authentication players number flags p.past h w) h other (λ p. refl)))
+    (waited_behind number code (record h { room = room; authenticated = kept; pending = None }) world last longest waited l waits))

@@ -1,0 +1,74 @@
+-- A pass over a chain, with cells for what it keeps, is a pass over a stack, with a function of places.
+use Rattle.std.proofs.Common.{◌≡◌, ℕ, zero, suc, List, [], ◌∷◌, Option, Some, None, Result, Ok, Err, IfOk, true, false, map, refl, sym, ◌∙◌, ap, subst}
+use Rattle.std.proofs.Math.Path.{fun_ext}
+use Rattle.pam_base.specs.declared.code.Code.{Code}
+use Rattle.pam_base.specs.declared.call.Func.{Func}
+use Rattle.pam_base.specs.declared.fault.NoMemory.{NoMemory}
+use Rattle.control_words.specs.Stack.{Stack}
+use Rattle.frozen_chain.specs.Kept.{Answers}
+use Rattle.stack_walk.specs.declared.pass_kind.PassKind.{PassKind}
+use Rattle.stack_walk.specs.declared.pass_kind.PassKind.TheVariants.{Keep, Follow, Loose}
+use Rattle.stack_walk.specs.Pass.{PassState, Visit, kept_in, pass_after}
+use Rattle.stack_walk.specs.Walk.{Walked, code_of}
+use Rattle.stack_walk.specs.Route.{KeptAnswers}
+use Rattle.dispatch_core.specs.Lines.{answers_by, names_of}
+use Rattle.dispatch_core.specs.Passes.{by_place, paused_after, KeepsAfter, KeepsAll, LeavesAs}
+use Rattle.pam_room.specs.State.{State}
+use Rattle.pam_room.specs.Module.{Player, Plays, Note, player_of}
+use Rattle.pam_handle.specs.Pass.{PassesTo, answers_held, kept_answers, kept_behind, passed}
+
+none_by_place : (place : ℕ) → by_place None place ≡ None
+none_by_place zero = refl
+none_by_place (suc i) = refl
+
+-- the answers of cells, where none are held too
+held_by_place : (cells : Answers) → by_place cells ≡ answers_held (kept_answers cells)
+held_by_place None = fun_ext (λ place. none_by_place place)
+held_by_place (Some cells) = refl
+
+none_held : false ≡ true → ⊥
+none_held e = (cc)
+
+kept_all : (cells : Answers) (visits : List Visit) → KeepsAll cells visits → kept_answers cells ≡ Some (kept_in visits)
+kept_all None visits k = absurd (none_held k.0)
+kept_all (Some cells) visits k = ap Some (fun_ext k.1)
+
+kept_after : (kind : PassKind) (visits : List Visit) (old new : Answers) → KeepsAfter kind visits old new → kept_answers new ≡ kept_behind kind visits (kept_answers old)
+kept_after Keep visits old new k = kept_all new visits k
+kept_after Follow visits old new k = ap kept_answers k
+kept_after Loose visits old new k = ap kept_answers k
+
+same_pass : (players : List Player) (func : Func) (flags : ℕ) (kind : PassKind) (cells : Answers) (stack : Stack) (past : List Code) (s : State)
+    → pass_after kind (by_place cells) (answers_by players func flags) stack past s ≡ pass_after kind (answers_held (kept_answers cells)) (answers_by players func flags) stack past s
+same_pass players func flags kind cells stack past s =
+    ap (λ (kept : KeptAnswers). pass_after kind kept (answers_by players func flags) stack past s) (held_by_place cells)
+
+passes_to : (players : List Player) (func : Func) (flags : ℕ) (kind : PassKind) (old new : Answers) (stack : Stack) (past : List Code) (s : State)
+    (code : Code) (paused : Option (List Code)) (state : State)
+    → LeavesAs kind (pass_after kind (by_place old) (answers_by players func flags) stack past s) old code new paused state
+    → PassesTo (passed players func flags kind (kept_answers old) stack past s) code (kept_answers new) paused state
+passes_to players func flags kind old new stack past s code paused state l = record {
+  code_is = l.code_is ∙ ap code_of (same_pass players func flags kind old stack past s);
+  kept_is = kept_after kind _ old new l.kept_is ∙ ap (λ (w : Walked (PassState State)). kept_behind kind w.state.visits (kept_answers old)) (same_pass players func flags kind old stack past s);
+  paused_is = l.paused_is ∙ ap (λ (w : Walked (PassState State)). paused_after w) (same_pass players func flags kind old stack past s);
+  state_is = l.state_is ∙ ap (λ (w : Walked (PassState State)). w.state.state) (same_pass players func flags kind old stack past s);
+}
+
+-- the names of modules, as players
+pub names_of_players : {M : Type 0} (label : M → List ℕ) (plays : M → Plays) (note : M → Note) (mods : List M) → names_of (map (player_of label plays note) mods) ≡ map label mods
+names_of_players label plays note [] = refl
+names_of_players label plays note (m ∷ mods) = ap (λ (names : List (List ℕ)). label m ∷ names) (names_of_players label plays note mods)
+
+pub pass_told : (result : Result Code NoMemory) (found players : List Player) (func : Func) (flags : ℕ) (kind : PassKind) (old new : Answers) (stack : Stack) (past : List Code) (s : State)
+    (paused : Option (List Code)) (state : State) → found ≡ players
+    → IfOk result (λ code. LeavesAs kind (pass_after kind (by_place old) (answers_by found func flags) stack past s) old code new paused state)
+    → IfOk result (λ code. PassesTo (passed players func flags kind (kept_answers old) stack past s) code (kept_answers new) paused state)
+pass_told (Ok code) found players func flags kind old new stack past s paused state e l =
+    passes_to players func flags kind old new stack past s code paused state
+    (subst (λ (ps : List Player). LeavesAs kind (pass_after kind (by_place old) (answers_by ps func flags) stack past s) old code new paused state) e l)
+pass_told (Err none) found players func flags kind old new stack past s paused state e l = tt
+
+pub names_given : {M : Type 0} (result : Result (List (List ℕ)) NoMemory) (label : M → List ℕ) (plays : M → Plays) (note : M → Note) (found mods : List M) → found ≡ mods
+    → IfOk result (λ names. names ≡ map label found) → IfOk result (λ names. names ≡ names_of (map (player_of label plays note) mods))
+names_given (Ok names) label plays note found mods e n = n ∙ ap (map label) e ∙ sym (names_of_players label plays note mods)
+names_given (Err none) label plays note found mods e n = tt

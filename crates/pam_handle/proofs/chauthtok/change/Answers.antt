@@ -1,0 +1,12 @@
+use Rattle.std.proofs.Common.{sym, ◌∙◌}
+use Rattle.dispatch_core.specs.Given.{past_of}
+use Rattle.pam_handle.proofs.Changing.{goes_on_anew, goes_on_held, if_ok_from}
+use Rattle.pam_handle.proofs.chauthtok.change.Goals as goal
+
+pub returns-then-held-clause-told : goal.returns-then-held-clause-told
+returns-then-held-clause-told g c = λ told h room stack.
+    if_ok_from c.update.result _ _ _ (goes_on_held _ c.args.flags (past_of c.args.paused.now) c.args.first.now h _ (sym c.held.ensures ∙ c.if-held.true)) (c.update.ensures.told told h room stack)
+
+pub returns-else-held-clause-told : goal.returns-else-held-clause-told
+returns-else-held-clause-told g c = λ told h room stack.
+    if_ok_from c.check.result _ _ _ (goes_on_anew _ c.args.flags (past_of c.args.paused.now) c.args.first.now h _ (sym c.held.ensures ∙ c.if-held.false)) (c.check.ensures.told told h room stack)

@@ -1,0 +1,47 @@
+use Rattle.std.proofs.Common.{Option, map, length, refl, sym, ◌∙◌, ap}
+use Rattle.std.specs.Option.{option_map}
+use Rattle.pam_room.specs.Module.{notes_of, player_of}
+use Rattle.pam_room.specs.Plain.{plain_room, plain_world}
+use Rattle.pam_handle.specs.Call.{first_in, past_in}
+use Rattle.pam_handle.specs.Handle.{PlainHandle}
+use Rattle.pam_handle.specs.Items.{with_items}
+use Rattle.pam_handle.specs.Pass.{kept_answers}
+use Rattle.pam_handle.specs.Plain.{pending_of, plain_handle}
+use Rattle.pam_handle.specs.declared.put_off.PutOff.{PutOff}
+use Rattle.pam_handle.proofs.Changing.{change_sound, changed_as, failed_change}
+use Rattle.pam_handle.proofs.handle.Handle.chauthtok.Goals as goal
+
+pub returns-clause-told : goal.returns-clause-told
+returns-clause-told g c = λ told.
+    let h : PlainHandle = plain_handle (plain_room (λ b. (goal.Conv-dyn g (b.vtable, b.value)).conv_holds b.value)) c.args.self.now in
+    let w = plain_world (λ b. (goal.Vault-dyn g (b.vtable, b.value)).vault_holds b.value) (λ b. (goal.Clock-dyn g (b.vtable, b.value)).clock_holds b.value) (λ b. (goal.Nap-dyn g (b.vtable, b.value)).nap_holds b.value) c.args.world.now in
+    let players = map (player_of (λ b. (goal.Module-dyn g (b.vtable, b.value)).label b.value) (λ b. (goal.Module-dyn g (b.vtable, b.value)).plays b.value) (λ b. (goal.Module-dyn g (b.vtable, b.value)).note b.value)) c.args.gear.now.mods.items in
+    changed_as c.change-result.result players c.args.flags h w _ _ c.clear_unless_pending.new.items (kept_answers c.change-result.new.first) c.change-result.new.paused
+    (plain_room (λ b. (goal.Conv-dyn g (b.vtable, b.value)).conv_holds b.value) c.change-result.new.room) _ _
+    (sym c.has_pass_flag.ensures ∙ c.if-has_pass_flag.false) (sym c.is_other_pending.ensures ∙ c.if-is_other_pending.false)
+    (c.taken_up-paused.ensures.past ∙ ap (λ (p : Option PutOff). past_in (option_map pending_of p)) c.take.ensures.value)
+    (c.taken_up-paused.ensures.first ∙ ap (λ (p : Option PutOff). first_in (option_map pending_of p)) c.take.ensures.value)
+    c.clear_unless_pending.ensures (c.change-result.ensures.told told (with_items c.clear_unless_pending.new.items h) refl refl)
+    (c.settle.ensures.plain ∙ rw (c.change-result.ensures.nodes, c.clear_unless_put_off.ensures) refl)
+
+pub returns-clause-err : goal.returns-clause-err
+returns-clause-err g c =
+    let h : PlainHandle = plain_handle (plain_room (λ b. (goal.Conv-dyn g (b.vtable, b.value)).conv_holds b.value)) c.args.self.now in
+    failed_change c.change-result.result (kept_answers c.change-result.new.first) c.change-result.new.paused (plain_room (λ b. (goal.Conv-dyn g (b.vtable, b.value)).conv_holds b.value) c.change-result.new.room) h _ c.change-result.ensures.paused
+    (c.settle.ensures.plain ∙ rw (c.change-result.ensures.nodes, c.clear_unless_put_off.ensures) refl)
+
+pub returns-clause-others : goal.returns-clause-others
+returns-clause-others g c = record {
+  authenticated = ap (λ (h : PlainHandle). h.authenticated) c.settle.ensures.plain;
+  opened = ap (λ (h : PlainHandle). h.opened) c.settle.ensures.plain;
+  waited = ap (λ (h : PlainHandle). h.waited) c.settle.ensures.plain;
+}
+
+pub returns-clause-sound : goal.returns-clause-sound
+returns-clause-sound g c =
+    let h : PlainHandle = plain_handle (plain_room (λ b. (goal.Conv-dyn g (b.vtable, b.value)).conv_holds b.value)) c.args.self.now in
+    let players = map (player_of (λ b. (goal.Module-dyn g (b.vtable, b.value)).label b.value) (λ b. (goal.Module-dyn g (b.vtable, b.value)).plays b.value) (λ b. (goal.Module-dyn g (b.vtable, b.value)).note b.value)) c.args.gear.now.mods.items in
+    change_sound (notes_of players) (length players) h _ c.clear_unless_pending.new.items (kept_answers c.change-result.new.first) c.change-result.new.paused (plain_room (λ b. (goal.Conv-dyn g (b.vtable, b.value)).conv_holds b.value) c.change-result.new.room) _ _
+    c.clear_unless_pending.ensures
+    (c.settle.ensures.plain ∙ rw (c.change-result.ensures.nodes, c.clear_unless_put_off.ensures) refl)
+    c.change-result.ensures.sound

@@ -1,0 +1,14 @@
+use Rattle.std.proofs.Common.{map, ◌∙◌, ap}
+use Rattle.pam_room.specs.Module.{player_of}
+use Rattle.dispatch_core.specs.Given.{past_of}
+use Rattle.pam_handle.proofs.Passing.{names_of_players, pass_told}
+use Rattle.pam_handle.proofs.pass.pass.Goals as goal
+
+pub dispatch-requires-clause-names : goal.dispatch-requires-clause-names
+dispatch-requires-clause-names g c = rw c.deref.ensures.value (c.requires.names ∙ names_of_players _ _ _ c.args.gear.now.mods.items)
+
+pub returns-clause-told : goal.returns-clause-told
+returns-clause-told g c = λ told.
+    pass_told c.dispatch.result _ _ c.args.func c.args.flags c.args.kind c.args.kept.now c.dispatch.new.kept c.args.chain.now.nodes (past_of c.args.paused.now) _ c.dispatch.new.paused _
+    (ap (map (player_of (λ b. (goal.Module-dyn g (b.vtable, b.value)).label b.value) (λ b. (goal.Module-dyn g (b.vtable, b.value)).plays b.value) (λ b. (goal.Module-dyn g (b.vtable, b.value)).note b.value))) c.deref.ensures.value)
+    (c.dispatch.ensures.told told)

@@ -1,0 +1,41 @@
+-- The plain record of a transaction's struct (this project's own).
+use Rattle.std.specs.Option.{option_map}
+use Rattle.std.specs.declared.alloc.Global.{Global}
+use Rattle.std.specs.declared.dyn_box.DynBox.{DynBox}
+use Rattle.dispatch_core.specs.Given.{past_of}
+use Rattle.pam_room.specs.State.{PlainRoom}
+use Rattle.pam_room.specs.declared.room.Room.{Room}
+use Rattle.pam_handle.specs.declared.chains.Chains.{Chains}
+use Rattle.pam_handle.specs.declared.handle.Handle.{Handle}
+use Rattle.pam_handle.specs.declared.put_off.PutOff.{PutOff}
+use Rattle.pam_handle.specs.Handle.{PlainHandle, Pending, Stacks}
+use Rattle.pam_handle.specs.Pass.{kept_answers}
+
+-- the stacks that four chains were made from
+abbrev pub stacks_in : Chains → Stacks
+stacks_in c = record { auth = c.auth.nodes; account = c.account.nodes; password = c.password.nodes; session = c.session.nodes }
+
+abbrev pub pending_of : PutOff → Pending
+pending_of p = record { func = p.func; past = past_of p.paused; first = kept_answers p.first }
+
+-- what stands in a box, with the type that it is of
+abbrev pub in_box : {X : Type 0} {V : X → Type 0} → DynBox X Global V → (x : X) × V x
+in_box b = (b.vtable, b.value)
+
+module _ {X : Type 0} {V : X → Type 0} where
+  -- the room of a transaction
+  abbrev pub room_in : Handle X V → Room X V
+  room_in h = h.room
+
+  -- what it holds, by what its room does: all but what the conversation holds is right in any world
+  abbrev pub plain_handle : (Room X V → PlainRoom) → Handle X V → PlainHandle
+  plain_handle room h = record {
+    room = room h.room;
+    stacks = stacks_in h.chains;
+    names = h.chains.auth.names;
+    authenticated = kept_answers h.authenticated;
+    opened = kept_answers h.opened;
+    delay_on = h.delay_on;
+    pending = option_map pending_of h.pending;
+    waited = h.waited;
+  }

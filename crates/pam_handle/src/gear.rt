@@ -1,0 +1,26 @@
+use fail_delay::DelayFn;
+use pam_room::Module;
+
+/// What an application brings to all its transactions: the modules, which a line finds by their names, and its delay
+/// function (PAM_FAIL_DELAY of `pam_fail_delay(3)`).
+#[derive(Drop)]
+pub struct Gear {
+    pub mods: Vec<Box<dyn Module>>,
+    pub delay: DelayFn,
+}
+
+/// Names the modules of a gear, for contracts.
+pub trait GearTold {
+    ghost use Rattle.std.specs.Prelude.{List};
+    ghost use Rattle.pam_room.specs.Module.{Player};
+
+    /// Its modules, in order.
+    ghost players: { Self → List Player };
+}
+
+impl GearTold for Gear {
+    ghost use Rattle.std.specs.Prelude.{map};
+    ghost use Rattle.pam_room.specs.Module.{player_of};
+
+    ghost players = { λ g. map (player_of (λ b. (Module-box b).label b.value) (λ b. (Module-box b).plays b.value) (λ b. (Module-box b).note b.value)) g.mods.items };
+}

@@ -1,0 +1,36 @@
+ghost use Rattle.std.specs.Prelude.{◌≡◌, ◌≢◌, ◌↔◌, None, Err, IfOk, IsErr, OnOk, OnErr, IsTrue};
+ghost use Rattle.std.specs.Option.{option_copied};
+ghost use Rattle.item_store.specs.Access.{is_refused};
+ghost use Rattle.item_store.specs.Items.{text_of, with_text};
+ghost use Rattle.item_store.specs.declared.access.Access.TheVariants.{ApplicationGets, ApplicationSets};
+ghost use Rattle.pam_base.specs.Fault.{bad_item};
+ghost use Rattle.pam_handle.specs.Items.{with_items};
+ghost use Rattle.pam_handle.specs.Plain.{plain_handle, room_in};
+
+use crate::handle::Handle;
+use pam_base::{BadItem, ItemName, Refuse};
+use pam_room::{Room, RoomTold};
+
+impl Handle {
+    /// `pam_set_item(3)`: a copy of the value, or with None the item is unset, which takes no memory. BadItem exactly for
+    /// SERVICE, which the start alone sets, for the tokens, which are the modules', and for CONV and FAIL_DELAY, which have
+    /// calls of their own. After a refusal and without memory all is as it was. A call that is pending stays so.
+    pub fn set_item(&mut self, item: ItemName, value: Option<&[u8]>) -> Result<(), Refuse<BadItem>>
+        ensures tells { ⟦<Room as RoomTold>⟧.tells (room_in self.new) ≡ ⟦<Room as RoomTold>⟧.tells (room_in self.old) }
+        ensures ok { OnOk result ((plain_handle ⟦<Room as RoomTold>⟧.plain self.new) ≡ with_items
+            (with_text (plain_handle ⟦<Room as RoomTold>⟧.plain self.old).room.transaction.items item (option_copied value.entry)) (plain_handle ⟦<Room as RoomTold>⟧.plain self.old)) }
+        ensures err { OnErr result (self.new ≡ self.old) }
+        ensures bad_item { (result ≡ Err (Refuse.Named bad_item)) ↔ IsTrue (is_refused ApplicationSets item) }
+        ensures unset { value.entry ≡ None → result ≢ Err Refuse.NoMemory }
+    {
+        self.room.transaction.items.set_app(item, value)
+    }
+
+    /// `pam_get_item(3)`; None where the item isn't set. BadItem exactly for the tokens, CONV and FAIL_DELAY.
+    pub fn get_item(&self, item: ItemName) -> Result<Option<&[u8]>, BadItem>
+        ensures ok { IfOk result (λ text. option_copied text ≡ text_of (plain_handle ⟦<Room as RoomTold>⟧.plain self.now).room.transaction.items item) }
+        ensures bad_item { IsErr result ↔ IsTrue (is_refused ApplicationGets item) }
+    {
+        self.room.transaction.items.get_app(item)
+    }
+}

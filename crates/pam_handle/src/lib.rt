@@ -1,0 +1,35 @@
+//! One transaction of an application (the Application Developers' Guide): its start, the six calls that run a stack, its
+//! items, environment, delays and conversation, and its end. A stack call may be put off, and goes on when it is called
+//! again.
+#![tactic(auto)]
+
+mod acct_mgmt;
+mod authenticate;
+mod chains;
+mod chauthtok;
+mod close_session;
+mod conversation;
+mod delay;
+mod end;
+mod environment;
+mod flags;
+mod gear;
+mod handle;
+mod items;
+mod missing;
+mod open_session;
+mod pass;
+mod pending;
+mod prepare;
+mod put_off;
+mod setcred;
+mod start;
+mod take_told;
+mod wait;
+mod waiting;
+
+pub use gear::{Gear, GearTold};
+pub use handle::Handle;
+pub use start::StartRefused;
+pub use take_told::Told;
+pub use wait::Wait;

@@ -1,0 +1,49 @@
+ghost use Rattle.std.specs.Prelude.{◌≡◌, ◌<◌, ◌++◌, IfOk, OnOk};
+ghost use Rattle.control_words.specs.Stack.{lines_in};
+ghost use Rattle.handler_chain.specs.FlatLines.{rule_at};
+ghost use Rattle.pam_handle.specs.Items.{missing_from, missing_in, missing_of};
+ghost use Rattle.pam_handle.specs.Plain.{plain_handle};
+
+use crate::handle::Handle;
+use control_words::module_name;
+use handler_chain::Chain;
+use pam_base::{NoMemory, Text, Texts};
+use pam_room::{Room, RoomTold};
+use std::alloc::Global;
+
+impl Handle {
+    /// The names of the modules that lines name and that the gear of the start didn't have, in the order of the stacks auth,
+    /// account, password and session, and in each in written order. A name stands as often as it is missing; a line that is
+    /// silent about its module (a `-` before its type, `pam.conf(5)`) adds none.
+    pub fn missing(&self, alloc: Global) -> Result<Texts, NoMemory>
+        ensures { IfOk result (λ names. names ≡ missing_from (plain_handle ⟦<Room as RoomTold>⟧.plain self.now).names (plain_handle ⟦<Room as RoomTold>⟧.plain self.now).stacks) }
+    {
+        let mut names = Texts::new(alloc);
+        add_missing(alloc, &self.chains.auth, &mut names)?;
+        add_missing(alloc, &self.chains.account, &mut names)?;
+        add_missing(alloc, &self.chains.password, &mut names)?;
+        add_missing(alloc, &self.chains.session, &mut names)?;
+        Ok(names)
+    }
+}
+
+// Adds the names of the modules that are missing in one stack.
+fn add_missing(alloc: Global, chain: &Chain, names: &mut Texts) -> Result<(), NoMemory>
+    ensures { OnOk result (names.new ≡ names.old ++ missing_in chain.now.names chain.now.nodes) }
+{
+    for i in 0..chain.len() {
+        add_if_missing(alloc, chain, i, names)?;
+    }
+    Ok(())
+}
+
+fn add_if_missing(alloc: Global, chain: &Chain, i: usize, names: &mut Texts) -> Result<(), NoMemory>
+    requires { i < lines_in chain.now.nodes }
+    ensures { OnOk result (names.new ≡ names.old ++ missing_of chain.now.names (rule_at chain.now.nodes i)) }
+{
+    if !chain.silent(i) && chain.module(i).is_none() {
+        let name = module_name(chain.path(i).bytes());
+        names.push(Text::from_bytes(alloc, name)?)?;
+    }
+    Ok(())
+}

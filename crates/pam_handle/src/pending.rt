@@ -1,0 +1,93 @@
+ghost use Rattle.std.specs.Prelude.{◌≡◌, false, None};
+ghost use Rattle.std.specs.Option.{option_map};
+ghost use Rattle.dispatch_core.specs.Given.{past_of};
+ghost use Rattle.pam_handle.specs.Call.{first_in, is_other_pending, items_begun, items_behind, past_in, pending_behind, pending_func, request_behind, same_func};
+ghost use Rattle.pam_handle.specs.Pass.{kept_answers};
+ghost use Rattle.pam_handle.specs.Plain.{pending_of, plain_handle, room_in};
+
+use crate::handle::Handle;
+use crate::put_off::PutOff;
+use dispatch_core::Paused;
+use frozen_chain::Kept;
+use item_store::Items;
+use pam_base::Func;
+use pam_room::{Room, RoomTold};
+
+impl Handle {
+    /// The function of the stack call that is pending, if one is: one that was put off, and that goes on when it is
+    /// called again. Until then the others answer ABORT.
+    pub fn pending(&self) -> Option<Func>
+        ensures { result ≡ pending_func (plain_handle ⟦<Room as RoomTold>⟧.plain self.now).pending }
+    {
+        match &self.pending {
+            Some(put_off) => Some(put_off.func),
+            None => None,
+        }
+    }
+
+    // Whether another call than this one is pending.
+    pub(crate) fn is_other_pending(&self, func: Func) -> bool
+        ensures { result ≡ is_other_pending (plain_handle ⟦<Room as RoomTold>⟧.plain self.now).pending func }
+    {
+        match &self.pending {
+            Some(put_off) => !is_same(put_off.func, func),
+            None => false,
+        }
+    }
+
+    // Behind a pass: the call is pending where it was put off, else the request for a delay is forgotten.
+    pub(crate) fn settle(&mut self, func: Func, paused: Paused, first: Kept)
+        requires { (plain_handle ⟦<Room as RoomTold>⟧.plain self.old).pending ≡ None }
+        ensures tells { ⟦<Room as RoomTold>⟧.tells (room_in self.new) ≡ ⟦<Room as RoomTold>⟧.tells (room_in self.old) }
+        ensures plain { plain_handle ⟦<Room as RoomTold>⟧.plain self.new ≡ record (plain_handle ⟦<Room as RoomTold>⟧.plain self.old) {
+          room = request_behind paused (plain_handle ⟦<Room as RoomTold>⟧.plain self.old).room;
+          pending = pending_behind func (kept_answers first) paused;
+        } }
+    {
+        if paused.is_none() {
+            self.room.transaction.delay.forget();
+        } else {
+            self.pending = Some(PutOff {
+                func,
+                paused,
+                first,
+            });
+        }
+    }
+}
+
+/// What the call that is pending goes on with: the answers that it was given, and for the second pass of a change of token
+/// those that the first one kept. Nothing of both where nothing is pending.
+pub(crate) fn taken_up(pending: Option<PutOff>) -> (Paused, Kept)
+    ensures past { past_of result.0 ≡ past_in (option_map pending_of pending) }
+    ensures first { kept_answers result.1 ≡ first_in (option_map pending_of pending) }
+{
+    match pending {
+        Some(put_off) => (put_off.paused, put_off.first),
+        None => (Paused::none(), Kept::none()),
+    }
+}
+
+/// Clears the tokens before a call that begins, and not before one that goes on.
+pub(crate) fn clear_unless_pending(items: &mut Items, pending: &Option<PutOff>)
+    ensures { items.new ≡ items_begun (option_map pending_of pending.now) items.old }
+{
+    if pending.is_none() {
+        items.clear_tokens();
+    }
+}
+
+/// Clears the tokens behind a call that has ended, and not behind one that was put off.
+pub(crate) fn clear_unless_put_off(items: &mut Items, paused: &Paused)
+    ensures { items.new ≡ items_behind paused.now items.old }
+{
+    if paused.is_none() {
+        items.clear_tokens();
+    }
+}
+
+fn is_same(a: Func, b: Func) -> bool
+    ensures { result ≡ same_func a b }
+{
+    a == b
+}

@@ -1,0 +1,78 @@
+ghost use Rattle.std.specs.Prelude.{◌≡◌, ◌<◌, ◌^◌, Some, map, length, IfOk};
+ghost use Rattle.std.specs.Option.{option_copied};
+ghost use Rattle.std.specs.Str.{str_to_ascii_lowercase};
+ghost use Rattle.dispatch_core.specs.Lines.{names_of};
+ghost use Rattle.service_load.specs.Load.{AreBounded};
+ghost use Rattle.pam_handle.specs.Plain.{stacks_in};
+ghost use Rattle.pam_handle.specs.Start.{first_texts, stacks_of_trees};
+
+use crate::chains::Chains;
+use crate::gear::{Gear, GearTold};
+use handler_chain::flatten;
+use item_store::Items;
+use pam_base::{ItemName, NoMemory, Text, Texts};
+use pam_room::{Module, set_item};
+use service_load::Trees;
+use std::alloc::Global;
+
+/// The items of a transaction that is started: SERVICE, in lower case, and where it is known USER.
+pub(crate) fn first_items(
+    alloc: Global,
+    service: &[u8],
+    user: Option<&[u8]>,
+) -> Result<Items, NoMemory>
+    ensures { IfOk result (λ items. items ≡ first_texts service.now (option_copied user.entry)) }
+{
+    let mut items = Items::new(alloc);
+    items.set_service(lowercase(alloc, service)?.bytes())?;
+    if let Some(user) = user {
+        set_item(&mut items, ItemName::User, user)?;
+    }
+    Ok(items)
+}
+
+fn lowercase(alloc: Global, word: &[u8]) -> Result<Text, NoMemory>
+    ensures { IfOk result (λ text. text ≡ str_to_ascii_lowercase word.now) }
+{
+    let mut text = Vec::from_slice(alloc, word)?;
+    text.as_mut_slice().make_ascii_lowercase();
+    Ok(Text::from_vec(text))
+}
+
+/// The names of a gear's modules, in order.
+pub(crate) fn module_names(alloc: Global, gear: &Gear) -> Result<Texts, NoMemory>
+    ensures { IfOk result (λ names. names ≡ names_of (⟦<Gear as GearTold>⟧.players gear.now)) }
+{
+    names_in(alloc, &gear.mods)
+}
+
+fn names_in(alloc: Global, mods: &[Box<dyn Module>]) -> Result<Texts, NoMemory>
+    ensures { IfOk result (λ names. names ≡ map label mods.now) }
+{
+    let mut names = Texts::new(alloc);
+    for handler in mods {
+        names.push(Text::from_bytes(alloc, name_of(handler))?)?;
+    }
+    Ok(names)
+}
+
+fn name_of(handler: &Box<dyn Module>) -> &[u8]
+    ensures { result.now ≡ label handler.now }
+{
+    handler.name()
+}
+
+/// The stacks of a service, laid flat for modules with these names.
+pub(crate) fn lay_flat(alloc: Global, trees: &Trees, names: &Texts) -> Result<Chains, NoMemory>
+    requires bounded { AreBounded trees.now }
+    requires few { length names.now < 2 ^ 32 }
+    ensures stacks { IfOk result (λ chains. stacks_in chains ≡ stacks_of_trees trees.now) }
+    ensures names { IfOk result (λ chains. chains.auth.names ≡ names.now) }
+{
+    Ok(Chains {
+        auth: flatten(alloc, &trees.auth, names)?,
+        account: flatten(alloc, &trees.account, names)?,
+        password: flatten(alloc, &trees.password, names)?,
+        session: flatten(alloc, &trees.session, names)?,
+    })
+}

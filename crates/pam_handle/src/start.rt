@@ -1,0 +1,113 @@
+ghost use Rattle.std.specs.Prelude.{◌≡◌, ◌<◌, ◌^◌, ◌+◌, ℕ, Result, Err, IsTrue, IfOk, IfErr, MatchResult, length};
+ghost use Rattle.std.specs.Option.{option_copied};
+ghost use Rattle.pam_base.specs.ServiceName.{is_service_name};
+ghost use Rattle.dispatch_core.specs.Lines.{names_of};
+ghost use Rattle.pam_room.specs.Stays.{IsReady};
+ghost use Rattle.service_load.specs.Loading.{CountsFaults, OnlyCalls};
+ghost use Rattle.pam_handle.specs.Plain.{in_box, plain_handle, room_in, stacks_in};
+ghost use Rattle.pam_handle.specs.Start.{Opens, Prepares, RefusalCounts, Refuses, first_texts, handle_with, new_handle, started};
+
+use crate::chains::Chains;
+use crate::gear::{Gear, GearTold};
+use crate::handle::Handle;
+use crate::prepare::{first_items, lay_flat, module_names};
+use conv_port::Conv;
+use frozen_chain::Kept;
+use item_store::Items;
+use pam_base::Refuse;
+use pam_room::{Room, RoomTold, Transaction, World, WorldTold};
+use service_load::{LoadFault, load};
+use std::alloc::Global;
+
+/// A start that was refused: the conversation, as it was handed in, and why.
+#[derive(Drop)]
+pub struct StartRefused {
+    pub conv: Box<dyn Conv>,
+    pub why: Refuse<LoadFault>,
+}
+
+impl Handle {
+    /// Starts a transaction (`pam_start(3)`) of this number: the stacks of the service are loaded, and laid flat for the
+    /// gear's modules. SERVICE, in lower case, and where it is known USER are set and nothing else; the delay function is off.
+    ///
+    /// It is refused exactly as `load` is, or without memory, and then gives the conversation back. Refused or not, of the
+    /// world only what the vault counts changes.
+    pub fn start(
+        alloc: Global,
+        gear: &Gear,
+        world: &mut World,
+        number: u32,
+        service: &[u8],
+        user: Option<&[u8]>,
+        conv: Box<dyn Conv>,
+    ) -> Result<Handle, StartRefused>
+        requires service { IsTrue (is_service_name service.now) }
+        requires few { length (⟦<Gear as GearTold>⟧.players gear.now) < 2 ^ 32 }
+        ensures conv { IfOk result (λ handle. (room_in handle).conv ≡ conv) }
+        ensures given_back { IfErr result (λ refused. refused.conv ≡ conv) }
+        ensures tells { ⟦<World as WorldTold>⟧.tells world.new ≡ ⟦<World as WorldTold>⟧.tells world.old }
+        ensures told { IsTrue (vault_tells (in_box world.old.vault)) →
+            (let s = started number service.now (option_copied user.entry) (conv_holds conv) (names_of (⟦<Gear as GearTold>⟧.players gear.now)) (⟦<World as WorldTold>⟧.plain world.old) in
+            MatchResult result (λ handle. Opens s (plain_handle ⟦<Room as RoomTold>⟧.plain handle) (⟦<World as WorldTold>⟧.plain world.new)) (λ refused. Refuses s refused.why (⟦<World as WorldTold>⟧.plain world.new))) }
+        ensures calls { IsTrue (vault_tells (in_box world.old.vault)) → OnlyCalls (⟦<World as WorldTold>⟧.plain world.old).vault (⟦<World as WorldTold>⟧.plain world.new).vault }
+        ensures fresh { IfOk result (λ handle. plain_handle ⟦<Room as RoomTold>⟧.plain handle ≡ new_handle number service.now (option_copied user.entry) (conv_holds conv)
+            (names_of (⟦<Gear as GearTold>⟧.players gear.now)) (plain_handle ⟦<Room as RoomTold>⟧.plain handle).stacks) }
+        ensures ready { IfOk result (λ handle. IsReady (length (⟦<Gear as GearTold>⟧.players gear.now)) (plain_handle ⟦<Room as RoomTold>⟧.plain handle).room.transaction (⟦<World as WorldTold>⟧.plain world.new).process) }
+        ensures others { world.new ≡ record world.old { vault = world.new.vault } }
+        ensures vault_tells { vault_tells (in_box world.new.vault) ≡ vault_tells (in_box world.old.vault) }
+        ensures faults { MatchResult result (λ _. vault_faults (in_box world.new.vault) ≡ vault_faults (in_box world.old.vault)) (λ refused. RefusalCounts refused.why (vault_faults (in_box world.old.vault)) (vault_faults (in_box world.new.vault))) }
+    {
+        match prepare(alloc, gear, world, service, user) {
+            Ok((items, chains)) => Ok(opened(alloc, number, items, chains, conv)),
+            Err(why) => Err(StartRefused { conv, why }),
+        }
+    }
+}
+
+// All that can be refused of a start: the items and the stacks of the transaction.
+fn prepare(
+    alloc: Global,
+    gear: &Gear,
+    world: &mut World,
+    service: &[u8],
+    user: Option<&[u8]>,
+) -> Result<(Items, Chains), Refuse<LoadFault>>
+    requires { length (⟦<Gear as GearTold>⟧.players gear.now) < 2 ^ 32 }
+    ensures tells { ⟦<World as WorldTold>⟧.tells world.new ≡ ⟦<World as WorldTold>⟧.tells world.old }
+    ensures told { IsTrue (vault_tells (in_box world.old.vault)) → Prepares result (⟦<World as WorldTold>⟧.plain world.old) (⟦<World as WorldTold>⟧.plain world.new).vault service.now }
+    ensures calls { IsTrue (vault_tells (in_box world.old.vault)) → OnlyCalls (⟦<World as WorldTold>⟧.plain world.old).vault (⟦<World as WorldTold>⟧.plain world.new).vault }
+    ensures items { IfOk result (λ parts. parts.0 ≡ first_texts service.now (option_copied user.entry)) }
+    ensures names { IfOk result (λ parts. parts.1.auth.names ≡ names_of (⟦<Gear as GearTold>⟧.players gear.now)) }
+    ensures others { world.new ≡ record world.old { vault = world.new.vault } }
+    ensures vault_tells { vault_tells (in_box world.new.vault) ≡ vault_tells (in_box world.old.vault) }
+    ensures faults { CountsFaults result (vault_faults (in_box world.old.vault)) (vault_faults (in_box world.new.vault)) }
+{
+    let trees = load(
+        alloc,
+        &mut *world.vault,
+        world.process.root.bytes(),
+        service,
+    )?;
+    let names = module_names(alloc, gear)?;
+    let chains = lay_flat(alloc, &trees, &names)?;
+    let items = first_items(alloc, service, user)?;
+    Ok((items, chains))
+}
+
+// It takes no memory, since what it makes can't be dropped.
+fn opened(alloc: Global, number: u32, items: Items, chains: Chains, conv: Box<dyn Conv>) -> Handle
+    ensures conv { (room_in result).conv ≡ conv }
+    ensures plain { plain_handle ⟦<Room as RoomTold>⟧.plain result ≡ handle_with number items (conv_holds conv) chains.auth.names (stacks_in chains) }
+{
+    let mut transaction = Transaction::new(alloc, number);
+    transaction.items = items;
+    Handle {
+        room: Room { transaction, conv },
+        chains,
+        authenticated: Kept::none(),
+        opened: Kept::none(),
+        delay_on: false,
+        pending: None,
+        waited: None,
+    }
+}

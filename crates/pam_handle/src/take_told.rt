@@ -1,0 +1,36 @@
+ghost use Rattle.std.specs.Prelude.{◌≡◌};
+ghost use Rattle.pam_handle.specs.Items.{all_told};
+ghost use Rattle.pam_handle.specs.Plain.{plain_handle, room_in};
+
+use crate::handle::Handle;
+use crate::wait::Wait;
+use conv_port::Messages;
+use pam_room::{Room, RoomTold, Visits};
+use std::alloc::Global;
+use std::mem;
+
+/// What a transaction has to tell: the messages that were handed to the conversation, the lines that were visited, both in
+/// order, and the last wait.
+#[derive(Debug, Drop)]
+pub struct Told {
+    pub said: Messages,
+    pub trail: Visits,
+    pub wait: Option<Wait>,
+}
+
+impl Handle {
+    /// What was said, visited and waited since it was last called. It alone empties them. It takes no memory.
+    pub fn take_told(&mut self, alloc: Global) -> Told
+        ensures tells { ⟦<Room as RoomTold>⟧.tells (room_in self.new) ≡ ⟦<Room as RoomTold>⟧.tells (room_in self.old) }
+        ensures said { result.said ≡ (plain_handle ⟦<Room as RoomTold>⟧.plain self.old).room.transaction.said }
+        ensures trail { result.trail.visits ≡ (plain_handle ⟦<Room as RoomTold>⟧.plain self.old).room.transaction.trail }
+        ensures wait { result.wait ≡ (plain_handle ⟦<Room as RoomTold>⟧.plain self.old).waited }
+        ensures emptied { plain_handle ⟦<Room as RoomTold>⟧.plain self.new ≡ all_told (plain_handle ⟦<Room as RoomTold>⟧.plain self.old) }
+    {
+        let transaction = &mut self.room.transaction;
+        let said = mem::replace(&mut transaction.said, Messages::new(alloc));
+        let trail = mem::replace(&mut transaction.trail, Visits::new(alloc));
+        let wait = self.waited.take();
+        Told { said, trail, wait }
+    }
+}
