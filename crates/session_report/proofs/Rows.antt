@@ -7,8 +7,7 @@ use Rattle.pam_base.specs.declared.code.Code.TheVariants.{Success, AuthErr, Conv
 use Rattle.pam_base.specs.declared.call.Func.TheVariants.{Authenticate}
 use Rattle.pam_base.specs.declared.call.AppCall.{AppCall}
 use Rattle.pam_base.specs.declared.call.AppCall.TheVariants as calls
-use Rattle.pam_base.specs.declared.call.Step.{Step}
-use Rattle.pam_base.specs.declared.item.ItemName.TheVariants.{Service, Tty, AuthTok}
+use Rattle.pam_base.specs.declared.item.ItemName.TheVariants.{Tty, AuthTok}
 use Rattle.pam_base.specs.declared.style.Style.TheVariants.{EchoOff, EchoOn}
 use Rattle.pam_base.specs.declared.fault.FaultKind.TheVariants.{ZeroJump, ReadFailed}
 use Rattle.pam_base.specs.declared.fault.ScriptKind.TheVariants.{BadWord}
@@ -17,9 +16,9 @@ use Rattle.data_cleanup.specs.Ledger.{PlainLedger}
 use Rattle.data_cleanup.specs.declared.datum.Birth.{Birth}
 use Rattle.data_cleanup.specs.declared.receipt.Filed.{Filed}
 use Rattle.pam_room.specs.declared.visits.Visit.{Visit}
-use Rattle.session_report.specs.declared.stand_in.Answer.{Answer}
-use Rattle.session_report.specs.declared.stand_in.Answer.TheVariants as answers
-use Rattle.session_report.specs.StandIn.{PlainOutcome, answers_only}
+use Rattle.pam_library.specs.declared.outcome.Answer.{Answer}
+use Rattle.pam_library.specs.declared.outcome.Answer.TheVariants as answers
+use Rattle.pam_library.specs.Outcome.{PlainOutcome, answers_only}
 use Rattle.session_report.specs.Fault.{refused_text}
 use Rattle.session_report.specs.Cleaned.{status_words}
 use Rattle.session_report.specs.Step.{step_text}

@@ -6,8 +6,8 @@ use Rattle.pam_base.specs.declared.call.Func.{Func}
 use Rattle.pam_base.specs.declared.code.Code.TheVariants.{Abort}
 use Rattle.pam_base.specs.Quote.{quoted_text}
 use Rattle.script_lang.specs.Command.{word_of_func}
-use Rattle.session_report.specs.declared.stand_in.Answer.{Answer}
-use Rattle.session_report.specs.declared.stand_in.Answer.TheVariants as answers
+use Rattle.pam_library.specs.declared.outcome.Answer.{Answer}
+use Rattle.pam_library.specs.declared.outcome.Answer.TheVariants as answers
 use Rattle.session_report.specs.Code.{code_words}
 use Rattle.session_report.specs.Fault.{refused_words}
 

@@ -12,24 +12,24 @@ use Rattle.data_cleanup.specs.declared.receipt.Filed.{Filed}
 abbrev pub status_words : ℕ → List ℕ
 status_words status = let numeral = digits 16 false status in replicate (8 - length numeral) 48 ++ numeral
 
--- H clean ID STATUS NOTE MODULE DATUM, of a receipt, the name of its datum's owner, and the datum's own
+-- H clean ID STATUS NOTE MODULE DATUM: a receipt, the name of its datum's owner, and the datum's own name
 abbrev pub cleanup_text : ℕ → Receipt → List ℕ → List ℕ → List ℕ
 cleanup_text handle receipt owner datum = decimal handle ++ (codes " clean " ++ (decimal receipt.id ++ (codes " " ++ (status_words receipt.status ++ (codes " " ++ (decimal receipt.note ++ (codes " " ++ (quoted_text owner ++ (codes " " ++ (quoted_text datum ++ codes "\n"))))))))))
 
 module _ (handle : ℕ) (names : List (List ℕ)) where
-  -- modules have names, by their numbers from 0
-  abbrev pub born_text : Receipt → Option Birth → List ℕ
-  born_text receipt (Some birth) = cleanup_text handle receipt (unwrap_or (slice_get names birth.owner) []) birth.name
-  born_text receipt None = []
+  -- the line of a receipt and its datum's birth, whose owner has its name at its number, from 0
+  abbrev pub receipt_text : Receipt → Option Birth → List ℕ
+  receipt_text receipt (Some birth) = cleanup_text handle receipt (unwrap_or (slice_get names birth.owner) []) birth.name
+  receipt_text receipt None = []
 
   -- births are numbered by their places, from 0
   abbrev pub filed_text : List Birth → Filed → List ℕ
-  filed_text births filed = born_text filed.receipt (slice_get births filed.receipt.id)
+  filed_text births filed = receipt_text filed.receipt (slice_get births filed.receipt.id)
 
   -- a line for each receipt of the ledger behind the first so many
   abbrev pub cleanups_text : PlainLedger → ℕ → List ℕ
   cleanups_text ledger filed_from = flat_map (filed_text ledger.births) (drop filed_from ledger.filed)
 
--- each datum was set by one of these modules
-abbrev pub AreOwned : List (List ℕ) → List Birth → Type 0
-AreOwned names births = AllByRecursion (λ (birth : Birth). birth.owner < length names) births
+-- each datum was set by one of so many modules
+abbrev pub AreOwned : ℕ → List Birth → Type 0
+AreOwned modules births = AllByRecursion (λ (birth : Birth). birth.owner < modules) births

@@ -6,6 +6,6 @@ use Rattle.session_report.specs.Code.{code_words}
 use Rattle.session_report.specs.Cleaned.{cleanups_text}
 use Rattle.session_report.specs.Answered.{result_text}
 
--- the receipts behind the first so many, and H closed NAME NUMBER
+-- its receipts, those of the ledger behind the first so many, and H closed NAME NUMBER
 abbrev pub closing_text : List (List ℕ) → ℕ → Code → PlainLedger → ℕ → List ℕ
 closing_text names handle status ledger filed_from = cleanups_text handle names ledger filed_from ++ result_text handle (codes "closed") (code_words status)

@@ -1,11 +1,10 @@
 pub mod Code
-pub mod Fault
-pub mod StandIn
 pub mod Said
 pub mod Visited
 pub mod Cleaned
 pub mod Waited
 pub mod Missing
+pub mod Fault
 pub mod Answered
 pub mod Step
 pub mod Closing

@@ -1,5 +1,5 @@
 -- The modules that lines of a started service name and that aren't there (this project's own).
-use Rattle.std.specs.Prelude.{List, ℕ, ◌++◌, codes}
+use Rattle.std.specs.Prelude.{ℕ, List, ◌++◌, codes}
 use Rattle.std.specs.List.{flat_map}
 use Rattle.std.specs.Fmt.{decimal}
 use Rattle.pam_base.specs.Quote.{quoted_text}

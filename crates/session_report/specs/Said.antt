@@ -1,5 +1,5 @@
 -- What modules said and asked in a step (this project's own; the styles are those of pam_conv(3)).
-use Rattle.std.specs.Prelude.{List, ℕ, ◌++◌, codes}
+use Rattle.std.specs.Prelude.{ℕ, List, ◌++◌, codes}
 use Rattle.std.specs.List.{flat_map}
 use Rattle.std.specs.Fmt.{decimal}
 use Rattle.pam_base.specs.Quote.{quoted_text}

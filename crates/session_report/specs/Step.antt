@@ -3,7 +3,7 @@ use Rattle.std.specs.Prelude.{ℕ, List, ◌++◌}
 use Rattle.pam_base.specs.declared.call.Step.{Step}
 use Rattle.data_cleanup.specs.Ledger.{PlainLedger}
 use Rattle.script_lang.specs.Command.{word_of_call}
-use Rattle.session_report.specs.StandIn.{PlainOutcome}
+use Rattle.pam_library.specs.Outcome.{PlainOutcome}
 use Rattle.session_report.specs.Said.{messages_text}
 use Rattle.session_report.specs.Visited.{visits_text}
 use Rattle.session_report.specs.Cleaned.{cleanups_text}

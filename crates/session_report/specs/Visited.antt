@@ -1,5 +1,5 @@
 -- The lines of a stack that a step came to (this project's own).
-use Rattle.std.specs.Prelude.{List, ℕ, ◌++◌, codes}
+use Rattle.std.specs.Prelude.{ℕ, List, ◌++◌, codes}
 use Rattle.std.specs.List.{flat_map}
 use Rattle.std.specs.Fmt.{decimal}
 use Rattle.pam_base.specs.Quote.{quoted_text}

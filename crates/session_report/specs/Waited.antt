@@ -1,7 +1,7 @@
 -- The wait after an authentication, pam_fail_delay(3) (the line is this project's own).
 use Rattle.std.specs.Prelude.{ℕ, List, [], ◌++◌, codes, Option, Some, None}
 use Rattle.std.specs.Fmt.{decimal}
-use Rattle.session_report.specs.declared.stand_in.Wait.{Wait}
+use Rattle.pam_handle.specs.declared.wait.Wait.{Wait}
 use Rattle.session_report.specs.Code.{code_words}
 
 -- H wait NAME NUMBER ASKED WAIT, both in microseconds

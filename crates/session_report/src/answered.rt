@@ -4,8 +4,8 @@ ghost use Rattle.session_report.specs.Answered.{result_text, value_words, pendin
 
 use crate::code::code_words;
 use crate::fault::refused_words;
-use crate::stand_in::Answer;
 use pam_base::{Code, Func, NoMemory, Text, quoted};
+use pam_library::Answer;
 use script_lang::func_word;
 use std::alloc::{AllocError, Global};
 
@@ -46,7 +46,7 @@ pub(crate) fn result_report(
     format!(in alloc; "{handle} {command} {words}\n")
 }
 
-pub(crate) fn value_words(alloc: Global, value: &Option<Text>) -> Result<String, NoMemory>
+fn value_words(alloc: Global, value: &Option<Text>) -> Result<String, NoMemory>
     ensures { IfOk result (λ text. string_bytes text ≡ value_words value.now) }
 {
     match value {
@@ -58,7 +58,7 @@ pub(crate) fn value_words(alloc: Global, value: &Option<Text>) -> Result<String,
     }
 }
 
-pub(crate) fn pending_words(alloc: Global, func: Func) -> Result<String, AllocError>
+fn pending_words(alloc: Global, func: Func) -> Result<String, AllocError>
     ensures { IfOk result (λ text. string_bytes text ≡ pending_words func) }
 {
     let abort = code_words(alloc, Code::Abort)?;
@@ -66,8 +66,8 @@ pub(crate) fn pending_words(alloc: Global, func: Func) -> Result<String, AllocEr
     format!(in alloc; "{abort} pending {call}")
 }
 
-/// A line for each variable, in order, and the line of their number.
-pub(crate) fn environment_report(
+// A line for each variable, in order, and the line of their number.
+fn environment_report(
     alloc: Global,
     handle: u32,
     command: &str,

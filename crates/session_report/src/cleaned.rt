@@ -1,14 +1,16 @@
 ghost use Rattle.std.specs.Prelude.{◌≡◌, ◌<◌, ◌≤◌, length, IfOk, string_bytes};
-ghost use Rattle.std.specs.List.{AllByRecursion};
-ghost use Rattle.data_cleanup.specs.declared.datum.Birth.{Birth};
+ghost use Rattle.dispatch_core.specs.Lines.{names_of};
+ghost use Rattle.pam_library.specs.Plain.{gear_in};
 ghost use Rattle.session_report.specs.Cleaned.{status_words, cleanup_text, filed_text, cleanups_text, AreOwned};
 
-use crate::stand_in::Library;
 use data_cleanup::{Births, Filed, Ledger, Receipt};
 use pam_base::{NoMemory, quoted};
+use pam_handle::{Gear, GearTold};
+use pam_library::Library;
 use std::alloc::{AllocError, Global};
 
-/// A line for each receipt of the ledger behind the first so many, in order.
+/// A line for each receipt of the ledger behind the first so many, in order. Each birth's owner is one of the library's
+/// modules.
 pub(crate) fn cleanups_report(
     alloc: Global,
     handle: u32,
@@ -16,9 +18,9 @@ pub(crate) fn cleanups_report(
     ledger: &Ledger,
     filed_from: u64,
 ) -> Result<String, NoMemory>
-    requires owned { AreOwned library.now ledger.now.births }
+    requires owned { AreOwned (length (⟦<Gear as GearTold>⟧.players (gear_in library.now))) ledger.now.births }
     requires from { filed_from ≤ length ledger.now.filed }
-    ensures { IfOk result (λ text. string_bytes text ≡ cleanups_text handle library.now ledger.now filed_from) }
+    ensures { IfOk result (λ text. string_bytes text ≡ cleanups_text handle (names_of (⟦<Gear as GearTold>⟧.players (gear_in library.now))) ledger.now filed_from) }
 {
     ledger.sound();
     let births = ledger.births();
@@ -29,6 +31,7 @@ pub(crate) fn cleanups_report(
     Ok(text)
 }
 
+// The line of a receipt, whose birth has its id as its place.
 fn filed_report(
     alloc: Global,
     handle: u32,
@@ -36,9 +39,9 @@ fn filed_report(
     births: &Births,
     filed: &Filed,
 ) -> Result<String, NoMemory>
-    requires owned { AreOwned library.now births.now }
+    requires owned { AreOwned (length (⟦<Gear as GearTold>⟧.players (gear_in library.now))) births.now }
     requires born { filed.now.receipt.id < length births.now }
-    ensures { IfOk result (λ text. string_bytes text ≡ filed_text handle library.now births.now filed.now) }
+    ensures { IfOk result (λ text. string_bytes text ≡ filed_text handle (names_of (⟦<Gear as GearTold>⟧.players (gear_in library.now))) births.now filed.now) }
 {
     let birth = births.at(filed.receipt.id as usize);
     let owner = library.module_name(birth.owner);

@@ -1,13 +1,16 @@
 ghost use Rattle.std.specs.Prelude.{◌≡◌, ◌≤◌, length, IfOk, string_bytes};
+ghost use Rattle.dispatch_core.specs.Lines.{names_of};
+ghost use Rattle.pam_library.specs.Plain.{gear_in};
 ghost use Rattle.session_report.specs.Cleaned.{AreOwned};
 ghost use Rattle.session_report.specs.Closing.{closing_text};
 
 use crate::answered::result_report;
 use crate::cleaned::cleanups_report;
 use crate::code::code_words;
-use crate::stand_in::Library;
 use data_cleanup::Ledger;
 use pam_base::{Code, NoMemory};
+use pam_handle::{Gear, GearTold};
+use pam_library::Library;
 use std::alloc::Global;
 
 /// The lines of a transaction that the program ended with this status, each with its newline: the cleanups behind the
@@ -20,9 +23,9 @@ pub fn closing_report(
     filed_from: u64,
     status: Code,
 ) -> Result<String, NoMemory>
-    requires owned { AreOwned library.now ledger.now.births }
+    requires owned { AreOwned (length (⟦<Gear as GearTold>⟧.players (gear_in library.now))) ledger.now.births }
     requires from { filed_from ≤ length ledger.now.filed }
-    ensures { IfOk result (λ text. string_bytes text ≡ closing_text library.now handle status ledger.now filed_from) }
+    ensures { IfOk result (λ text. string_bytes text ≡ closing_text (names_of (⟦<Gear as GearTold>⟧.players (gear_in library.now))) handle status ledger.now filed_from) }
 {
     let mut text = cleanups_report(alloc, handle, library, ledger, filed_from)?;
     let code = code_words(alloc, status)?;

@@ -1,8 +1,8 @@
 ghost use Rattle.std.specs.Prelude.{◌≡◌, [], List, ℕ, length};
 ghost use Rattle.pam_base.specs.declared.call.Step.{Step};
 ghost use Rattle.data_cleanup.specs.Ledger.{PlainLedger};
-ghost use Rattle.session_report.specs.declared.stand_in.Answer.TheVariants as answers;
-ghost use Rattle.session_report.specs.StandIn.{answers_only};
+ghost use Rattle.pam_library.specs.declared.outcome.Answer.TheVariants as answers;
+ghost use Rattle.pam_library.specs.Outcome.{answers_only};
 ghost use Rattle.session_report.specs.Step.{step_text};
 
 /// Does nothing. Its contract: a reply that was offered has no line.

@@ -1,11 +1,15 @@
 ghost use Rattle.std.specs.Prelude.{◌≡◌, IfOk, string_bytes};
-ghost use Rattle.session_report.specs.Script.{script_text};
+ghost use Rattle.session_report.specs.Script.{script_text, read_fault_text};
 
 use pam_base::{NoMemory, ScriptKind};
 use std::alloc::Global;
 
 /// The last line of a run whose script couldn't be read on, with its newline.
-pub const READ_FAULT: &str = "read fault\n";
+pub fn read_fault_report() -> &'static str
+    ensures { result.now ≡ read_fault_text }
+{
+    "read fault\n"
+}
 
 /// The last line of a run whose script is refused at this line, counted from 1, with its newline.
 pub fn script_report(alloc: Global, line: u32, kind: ScriptKind) -> Result<String, NoMemory>

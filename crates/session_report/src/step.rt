@@ -1,5 +1,7 @@
 ghost use Rattle.std.specs.Prelude.{◌≡◌, ◌≤◌, length, IfOk, string_bytes};
-ghost use Rattle.session_report.specs.StandIn.{plain_outcome};
+ghost use Rattle.dispatch_core.specs.Lines.{names_of};
+ghost use Rattle.pam_library.specs.Outcome.{plain_outcome};
+ghost use Rattle.pam_library.specs.Plain.{gear_in};
 ghost use Rattle.session_report.specs.Cleaned.{AreOwned};
 ghost use Rattle.session_report.specs.Step.{step_text};
 
@@ -7,16 +9,18 @@ use crate::answered::answer_report;
 use crate::cleaned::cleanups_report;
 use crate::missing::all_missing_report;
 use crate::said::messages_report;
-use crate::stand_in::{Library, Outcome};
 use crate::visited::visits_report;
 use crate::waited::waited_report;
 use data_cleanup::Ledger;
 use pam_base::{NoMemory, Step};
+use pam_handle::{Gear, GearTold};
+use pam_library::{Library, Outcome};
 use script_lang::call_word;
 use std::alloc::Global;
 
 /// The lines of a step, each with its newline: what was said, the lines that were visited, the cleanups, the wait, the
-/// missing modules, and the result. The ledger is that after the step. A reply that was offered has no line.
+/// missing modules, and the result. Library and ledger are those after the step, of which the outcome tells. A reply that
+/// was offered has no line.
 pub fn step_report(
     alloc: Global,
     library: &Library,
@@ -24,9 +28,9 @@ pub fn step_report(
     step: &Step,
     outcome: &Outcome,
 ) -> Result<String, NoMemory>
-    requires owned { AreOwned library.now ledger.now.births }
+    requires owned { AreOwned (length (⟦<Gear as GearTold>⟧.players (gear_in library.now))) ledger.now.births }
     requires from { outcome.now.filed_from ≤ length ledger.now.filed }
-    ensures { IfOk result (λ text. string_bytes text ≡ step_text library.now step.now (plain_outcome outcome.now) ledger.now) }
+    ensures { IfOk result (λ text. string_bytes text ≡ step_text (names_of (⟦<Gear as GearTold>⟧.players (gear_in library.now))) step.now (plain_outcome outcome.now) ledger.now) }
 {
     let handle = step.number;
     let command = call_word(&step.call);

@@ -2,7 +2,7 @@ ghost use Rattle.std.specs.Prelude.{◌≡◌, IfOk, string_bytes};
 ghost use Rattle.session_report.specs.Waited.{wait_text, waited_text};
 
 use crate::code::code_words;
-use crate::stand_in::Wait;
+use pam_handle::Wait;
 use std::alloc::{AllocError, Global};
 
 /// The line of a wait, where there was one.

@@ -1,4 +1,4 @@
-use Rattle.std.proofs.Common.{rules, ◌≡◌, IfOk, string_bytes, sym, arith}
+use Rattle.std.proofs.Common.{rules}
 use Rattle.session_report.proofs.cleaned.status_words.Goals as goal
 use Rattle.session_report.proofs.Padding.{status_is_padded}
 
