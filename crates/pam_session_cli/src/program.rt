@@ -1,14 +1,43 @@
-ghost use Rattle.std.specs.Prelude.{◌≡◌, ◌≤◌, ◌<◌, ◌^◌, ℕ, length, []};
+ghost use Rattle.std.specs.Prelude.{◌≡◌, ◌≢◌, ◌⊎◌, ◌≤◌, ◌<◌, ◌^◌, ◌&&◌, ℕ, List, [], None, Some, IsSome, IsTrue, length};
 ghost use Rattle.pam_base.specs.declared.code.Code.{Code};
-ghost use Rattle.fail_delay.specs.DelayFn.{GivesOneNumber};
+ghost use Rattle.fail_delay.specs.DelayFn.{GivesOneNumber, IsNumberGiven};
+ghost use Rattle.pam_outside.specs.Counts.{Rose};
+ghost use Rattle.session_run.specs.State.{setting_of};
+ghost use Rattle.pam_session_cli.specs.Check.{check_of};
+ghost use Rattle.pam_session_cli.specs.Command.{request_of, runs, checks};
+ghost use Rattle.pam_session_cli.specs.Run.{Completes, IsDone, IsRefused, IsStatus, IsUnread, Runs, opening};
+ghost use Rattle.pam_session_cli.specs.Status.{ChecksBy, IsCheckStatus, WritesUsage};
 
-use crate::desk::Desk;
-use fail_delay::DelayRule;
-use pam_base::Code;
-use pam_outside::{Sink, Source};
-use pam_room::World;
+use crate::check::{Found, check};
+use crate::command::{Request, request_in};
+use crate::desk::{Desk, DeskTold};
+use fail_delay::{DelayFn, DelayRule};
+use pam_base::{Code, Failed, NoMemory, Text};
+use pam_handle::Gear;
+use pam_library::Library;
+use pam_outside::{Sink, Source, write_all};
+use pam_room::{World, WorldTold};
+use script_stream::{Ending, Stop};
+use session_run::run_script;
 use std::alloc::Global;
 
+const USAGE: &str = "usage: pamsess run ROOT | check ROOT SERVICE\n";
+
+/// The program `pamsess`. `words` are those of the command line, without the program's name:
+///
+/// - `run ROOT` reads the calls of a script, applies each to its transaction, of sixteen, with the configuration under
+///   a root, and writes what it did before the next one is looked at; what is open at the end is ended, the lowest
+///   number first. It begins at the moment 0 with the random word 0.
+/// - `check ROOT SERVICE` prints the configuration of a service, or its first fault, and changes nothing of the world
+///   but what the vault counts.
+///
+/// ROOT is a word that isn't empty and doesn't begin with `-`. It answers the program's status: 0, the script was read
+/// to its end, or the configuration printed; 2, the words are others, so only a line on the usage is written; 3, the
+/// configuration is refused; 4, memory ran out; 5, the script couldn't be read on; 6, a write failed, and what is
+/// written is a front of a report; 7, a line of the script is refused. On every way out each transaction that is open
+/// is ended: with SUCCESS, BUF_ERR (4), SYSTEM_ERR (5 and 6) or ABORT (7).
+///
+/// The delay function is to answer one number for each code and each delay of at most 90 seconds, of at most 60 seconds.
 pub fn pamsess<S: Source, K: Sink>(
     alloc: Global,
     words: &[String],
@@ -23,7 +52,26 @@ pub fn pamsess<S: Source, K: Sink>(
     requires one_number { GivesOneNumber (DelayRule.post desk.delay) }
     requires no_births { world.old.process.ledger.births ≡ [] }
     requires no_receipts { world.old.process.ledger.filed ≡ [] }
+
+    // Where the words are run ROOT, and all objects tell: with status 0 the whole script was read, and its report is
+    // written.
+    ensures done { (root : List ℕ) (number : Code → ℕ → ℕ) → request_of words.now ≡ Some (runs root) → IsNumberGiven (DelayRule.post desk.delay) number →
+        IsTrue (S.source_tells script.old) → IsTrue (K.sink_tells out.old) → IsTrue (⟦<World as WorldTold>⟧.tells world.old && ⟦<Desk as DeskTold>⟧.tells desk) → result ≡ 0 →
+        IsDone (setting_of (⟦<Desk as DeskTold>⟧.players desk) number) (opening (⟦<Desk as DeskTold>⟧.slots desk) root (⟦<World as WorldTold>⟧.plain world.old)) (⟦<World as WorldTold>⟧.plain world.new)
+        (S.source_holds script.old) (S.source_holds script.new) (K.sink_holds out.old) (K.sink_holds out.new) }
 {
-    let Desk { mods, convs, delay } = desk;
-    4
+    match request_in(words) {
+        None => usage(out),
+        Some(Request::Run(root)) => run(alloc, root.as_bytes(), script, out, world, desk),
+        Some(Request::Check(root, service)) => {
+            let found = check(
+                alloc,
+                root.as_bytes(),
+                service.as_bytes(),
+                out,
+                &mut *world.vault,
+            );
+            status_of_check(found)
+        }
+    }
 }
