@@ -30,3 +30,6 @@ pub record WritesUsage (status : ℕ) (old new : SinkState) : Type 0 where
   pub written : new.written ≡ old.written ++ front
   pub all : status ≡ 2 → front ≡ usage
   pub calls : new.calls ≤ old.calls + length front + 1
+
+abbrev pub IsCheckStatus : ℕ → Type 0
+IsCheckStatus n = (result : Result Found Stop) × (n ≡ check_status result)

@@ -53,12 +53,60 @@ pub fn pamsess<S: Source, K: Sink>(
     requires no_births { world.old.process.ledger.births ≡ [] }
     requires no_receipts { world.old.process.ledger.filed ≡ [] }
 
-    // Where the words are run ROOT, and all objects tell: with status 0 the whole script was read, and its report is
-    // written.
+    // Where the words are run ROOT, and all objects tell: with status 0 the whole script was read, its report is written,
+    // and the world is the one behind it.
     ensures done { (root : List ℕ) (number : Code → ℕ → ℕ) → request_of words.now ≡ Some (runs root) → IsNumberGiven (DelayRule.post desk.delay) number →
         IsTrue (S.source_tells script.old) → IsTrue (K.sink_tells out.old) → IsTrue (⟦<World as WorldTold>⟧.tells world.old && ⟦<Desk as DeskTold>⟧.tells desk) → result ≡ 0 →
         IsDone (setting_of (⟦<Desk as DeskTold>⟧.players desk) number) (opening (⟦<Desk as DeskTold>⟧.slots desk) root (⟦<World as WorldTold>⟧.plain world.old)) (⟦<World as WorldTold>⟧.plain world.new)
         (S.source_holds script.old) (S.source_holds script.new) (K.sink_holds out.old) (K.sink_holds out.new) }
+    // With status 7 the whole script is refused for the line that the report ends with. At most a buffer was taken with
+    // that line: the bytes taken before it hold no line that is refused.
+    ensures refused { (root : List ℕ) (number : Code → ℕ → ℕ) → request_of words.now ≡ Some (runs root) → IsNumberGiven (DelayRule.post desk.delay) number →
+        IsTrue (S.source_tells script.old) → IsTrue (K.sink_tells out.old) → IsTrue (⟦<World as WorldTold>⟧.tells world.old && ⟦<Desk as DeskTold>⟧.tells desk) → result ≡ 7 →
+        IsRefused (setting_of (⟦<Desk as DeskTold>⟧.players desk) number) (opening (⟦<Desk as DeskTold>⟧.slots desk) root (⟦<World as WorldTold>⟧.plain world.old)) (⟦<World as WorldTold>⟧.plain world.new)
+        (S.source_holds script.old) (S.source_holds script.new) (K.sink_holds out.old) (K.sink_holds out.new) }
+    // With status 5 the lines that were read whole are reported.
+    ensures unread { (root : List ℕ) (number : Code → ℕ → ℕ) → request_of words.now ≡ Some (runs root) → IsNumberGiven (DelayRule.post desk.delay) number →
+        IsTrue (S.source_tells script.old) → IsTrue (K.sink_tells out.old) → IsTrue (⟦<World as WorldTold>⟧.tells world.old && ⟦<Desk as DeskTold>⟧.tells desk) → result ≡ 5 →
+        IsUnread (setting_of (⟦<Desk as DeskTold>⟧.players desk) number) (opening (⟦<Desk as DeskTold>⟧.slots desk) root (⟦<World as WorldTold>⟧.plain world.old)) (⟦<World as WorldTold>⟧.plain world.new)
+        (S.source_holds script.old) (S.source_holds script.new) (K.sink_holds out.old) (K.sink_holds out.new) }
+    // By any status, 4 and 6 too: what was read and written, how often, and the world behind it.
+    ensures told { (root : List ℕ) (number : Code → ℕ → ℕ) → request_of words.now ≡ Some (runs root) → IsNumberGiven (DelayRule.post desk.delay) number →
+        IsTrue (S.source_tells script.old) → IsTrue (K.sink_tells out.old) → IsTrue (⟦<World as WorldTold>⟧.tells world.old && ⟦<Desk as DeskTold>⟧.tells desk) →
+        Runs (setting_of (⟦<Desk as DeskTold>⟧.players desk) number) result (⟦<Desk as DeskTold>⟧.slots desk) root (⟦<World as WorldTold>⟧.plain world.old) (⟦<World as WorldTold>⟧.plain world.new)
+        (S.source_holds script.old) (S.source_holds script.new) (K.sink_holds out.old) (K.sink_holds out.new) }
+    ensures statuses { (root : List ℕ) → request_of words.now ≡ Some (runs root) → IsStatus result }
+    // No run gives up by itself.
+    ensures complete { (root : List ℕ) (number : Code → ℕ → ℕ) → request_of words.now ≡ Some (runs root) → IsNumberGiven (DelayRule.post desk.delay) number →
+        IsTrue (S.source_tells script.old) → IsTrue (K.sink_tells out.old) → IsTrue (⟦<World as WorldTold>⟧.tells world.old && ⟦<Desk as DeskTold>⟧.tells desk) →
+        Completes result (Rose (S.source_faults script.old) (S.source_faults script.new)) (Rose (K.sink_faults out.old) (K.sink_faults out.new))
+        (setting_of (⟦<Desk as DeskTold>⟧.players desk) number) (opening (⟦<Desk as DeskTold>⟧.slots desk) root (⟦<World as WorldTold>⟧.plain world.old)) (S.source_holds script.old) }
+
+    // Where the words are check ROOT SERVICE, the configuration is written, or its first fault.
+    ensures checked { (root service : List ℕ) → request_of words.now ≡ Some (checks root service) → IsTrue (K.sink_tells out.old) → IsTrue (vault_tells (in_box world.old.vault)) →
+        ChecksBy result (check_of (vault_holds (in_box world.old.vault)) root service) (K.sink_holds out.old) (K.sink_holds out.new) (vault_holds (in_box world.new.vault)) }
+    ensures check_statuses { (root service : List ℕ) → request_of words.now ≡ Some (checks root service) → IsCheckStatus result }
+    ensures check_stays { (root service : List ℕ) → request_of words.now ≡ Some (checks root service) →
+        (world.new ≡ record world.old { vault = world.new.vault }) × (script.new ≡ script.old) }
+    ensures check_calls { (root service : List ℕ) → request_of words.now ≡ Some (checks root service) → IsTrue (vault_tells (in_box world.old.vault)) →
+        OnlyCalls (vault_holds (in_box world.old.vault)) (vault_holds (in_box world.new.vault)) }
+
+    // Where they are neither, the usage line is written.
+    ensures usage { request_of words.now ≡ None → IsTrue (K.sink_tells out.old) → WritesUsage result (K.sink_holds out.old) (K.sink_holds out.new) }
+    ensures usage_status { request_of words.now ≡ None → (result ≡ 2) ⊎ (result ≡ 6) }
+    ensures usage_stays { request_of words.now ≡ None → (script.new ≡ script.old) × (world.new ≡ world.old) }
+
+    // The causes, in any world.
+    ensures words_only { result ≡ 2 → request_of words.now ≡ None }
+    ensures read_fault { result ≡ 5 → Rose (S.source_faults script.old) (S.source_faults script.new) }
+    ensures no_read_fault { (result ≡ 0) ⊎ (result ≡ 7) → S.source_faults script.new ≡ S.source_faults script.old }
+    ensures write_fault { result ≡ 6 → Rose (K.sink_faults out.old) (K.sink_faults out.new) }
+    ensures no_write_fault { result ≢ 6 → K.sink_faults out.new ≡ K.sink_faults out.old }
+
+    // What tells before the run tells after it, and every datum that was set has its receipt.
+    ensures source_tells { S.source_tells script.new ≡ S.source_tells script.old }
+    ensures sink_tells { K.sink_tells out.new ≡ K.sink_tells out.old }
+    ensures world_tells { ⟦<World as WorldTold>⟧.tells world.new ≡ ⟦<World as WorldTold>⟧.tells world.old }
 {
     match request_in(words) {
         None => usage(out),
@@ -73,5 +121,30 @@ pub fn pamsess<S: Source, K: Sink>(
             );
             status_of_check(found)
         }
+    }
+}
+
+// Writes the line on the usage.
+fn usage<K: Sink>(out: &mut K) -> u8
+    ensures told { IsTrue (K.sink_tells out.old) → WritesUsage result (K.sink_holds out.old) (K.sink_holds out.new) }
+    ensures status { (result ≡ 2) ⊎ (result ≡ 6) }
+    ensures tells { K.sink_tells out.new ≡ K.sink_tells out.old }
+    ensures write_fault { result ≡ 6 → Rose (K.sink_faults out.old) (K.sink_faults out.new) }
+    ensures no_write_fault { result ≢ 6 → K.sink_faults out.new ≡ K.sink_faults out.old }
+{
+    match write_all(out, USAGE.as_bytes()) {
+        Ok(()) => 2,
+        Err(Failed) => 6,
+    }
+}
+
+fn status_of_check(found: Result<Found, Stop>) -> u8
+    ensures { result ≡ check_status found }
+{
+    match found {
+        Ok(Found::Configured) => 0,
+        Ok(Found::Refused) => 3,
+        Err(Stop::NoMemory) => 4,
+        Err(Stop::WriteFault) => 6,
     }
 }
