@@ -18,6 +18,9 @@ use Rattle.session_run.specs.Whole.{RunsScript, ending_status, last_words}
 abbrev pub under_root : List ℕ → PlainWorld → PlainWorld
 under_root root w = record w { clock = record { moment = 0; word = 0 }; process = record w.process { root = root } }
 
+pub record IsUnder (root : List ℕ) (old new : PlainWorld) : Type 0 where
+  pub world_is : new ≡ under_root root old
+
 -- before the first line: sixteen closed places
 abbrev pub opening : List PlainSlot → List ℕ → PlainWorld → RunState
 opening slots root w = state_of slots (under_root root w)
@@ -28,10 +31,10 @@ run_over setting start bytes ended = run_of (line_step setting) 0 start bytes en
 
 -- the report of a run that ends so: its lines', the closings, and the last line; and the world behind it
 abbrev pub report_of : Setting → Ending → Run RunState → List ℕ
-report_of setting ending r = r.text ++ last_words setting ending r.lines r.last
+report_of setting ending r = r.text ++ last_words setting.players ending r.lines r.last
 
 abbrev pub world_behind : Setting → Ending → Run RunState → PlainWorld
-world_behind setting ending r = (all_closed setting (ending_status ending) r.last).world
+world_behind setting ending r = (all_closed setting.players (ending_status ending) r.last).world
 
 -- the report of this run is written whole, and the world is the one behind it
 pub record IsReported (setting : Setting) (ending : Ending) (r : Run RunState) (world : PlainWorld) (p q : SinkState) : Type 0 where
