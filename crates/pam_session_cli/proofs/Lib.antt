@@ -1,1 +1,3 @@
 pub mod Checking
+pub mod Statuses
+pub mod Telling

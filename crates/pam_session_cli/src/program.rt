@@ -1,14 +1,48 @@
-ghost use Rattle.std.specs.Prelude.{◌≡◌, ◌≤◌, ◌<◌, ◌^◌, ℕ, length, []};
+ghost use Rattle.std.specs.Prelude.{◌≡◌, ◌≢◌, ◌⊎◌, ◌≤◌, ◌<◌, ◌^◌, ◌&&◌, ℕ, List, [], None, Some, IsSome, IsTrue, length};
 ghost use Rattle.pam_base.specs.declared.code.Code.{Code};
-ghost use Rattle.fail_delay.specs.DelayFn.{GivesOneNumber};
+ghost use Rattle.fail_delay.specs.DelayFn.{GivesOneNumber, IsNumberGiven};
+ghost use Rattle.pam_outside.specs.Counts.{Rose};
+ghost use Rattle.session_run.specs.State.{setting_of};
+ghost use Rattle.dispatch_core.specs.Lines.{names_of};
+ghost use Rattle.pam_handle.specs.Plain.{in_box};
+ghost use Rattle.pam_library.specs.Plain.{gear_in};
+ghost use Rattle.pam_library.specs.Sound.{IsSound};
+ghost use Rattle.service_load.specs.Loading.{OnlyCalls};
+ghost use Rattle.pam_session_cli.specs.Check.{check_of};
+ghost use Rattle.pam_session_cli.specs.Command.{request_of, runs, checks};
+ghost use Rattle.pam_session_cli.specs.Run.{Completes, IsBegun, IsDone, IsRefused, IsStatus, IsUnder, IsUnread, Runs, opening, status_of};
+ghost use Rattle.pam_session_cli.specs.Status.{ChecksBy, IsCheckStatus, WritesUsage, check_status};
 
-use crate::desk::Desk;
-use fail_delay::DelayRule;
-use pam_base::Code;
-use pam_outside::{Sink, Source};
-use pam_room::World;
+use crate::check::{Found, check};
+use crate::command::{Request, request_in};
+use crate::desk::{Desk, DeskTold};
+use fail_delay::{DelayFn, DelayRule, DelayTold};
+use pam_base::{Code, Failed, Text};
+use pam_handle::{Gear, GearTold};
+use pam_library::{Library, LibraryTold, closed_places_stand_for_none};
+use pam_outside::{Sink, Source, set_moment, set_word, write_all};
+use pam_room::{World, WorldTold};
+use script_stream::{Ending, Stop};
+use session_run::run_script;
 use std::alloc::Global;
 
+const USAGE: &str = "usage: pamsess run ROOT | check ROOT SERVICE\n";
+
+/// The program `pamsess`. `words` are those of the command line, without the program's name:
+///
+/// - `run ROOT` reads the calls of a script, applies each to its transaction, of sixteen, with the configuration under
+///   a root, and writes what it did before the next one is looked at; what is open at the end is ended, the lowest
+///   number first. It begins at the moment 0 with the random word 0.
+/// - `check ROOT SERVICE` prints the configuration of a service, or its first fault, and changes nothing of the world
+///   but what the vault counts.
+///
+/// ROOT is a word that isn't empty and doesn't begin with `-`. It answers the program's status: 0, the script was read
+/// to its end, or the configuration printed; 2, the words are others, so only a line on the usage is written; 3, the
+/// configuration is refused; 4, memory ran out; 5, the script couldn't be read on; 6, a write failed, and what is
+/// written is a front of a report; 7, a line of the script is refused. On every way out each transaction that is open
+/// is ended: with SUCCESS, BUF_ERR (4), SYSTEM_ERR (5 and 6) or ABORT (7).
+///
+/// The delay function is to answer one number for each code and each delay of at most 90 seconds, of at most 60 seconds.
 pub fn pamsess<S: Source, K: Sink>(
     alloc: Global,
     words: &[String],
@@ -23,7 +57,195 @@ pub fn pamsess<S: Source, K: Sink>(
     requires one_number { GivesOneNumber (DelayRule.post desk.delay) }
     requires no_births { world.old.process.ledger.births ≡ [] }
     requires no_receipts { world.old.process.ledger.filed ≡ [] }
+
+    // Where the words are run ROOT, and all objects tell: with status 0 the whole script was read, its report is written,
+    // and the world is the one behind it.
+    ensures done { (root : List ℕ) (number : Code → ℕ → ℕ) → request_of words.now ≡ Some (runs root) → IsNumberGiven (DelayRule.post desk.delay) number →
+        IsTrue (S.source_tells script.old) → IsTrue (K.sink_tells out.old) → IsTrue (⟦<World as WorldTold>⟧.tells world.old && ⟦<Desk as DeskTold>⟧.tells desk) → result ≡ 0 →
+        IsDone (setting_of (⟦<Desk as DeskTold>⟧.players desk) number) (opening (⟦<Desk as DeskTold>⟧.slots desk) root (⟦<World as WorldTold>⟧.plain world.old)) (⟦<World as WorldTold>⟧.plain world.new)
+        (S.source_holds script.old) (S.source_holds script.new) (K.sink_holds out.old) (K.sink_holds out.new) }
+    // With status 7 the whole script is refused for the line that the report ends with. At most a buffer was taken with
+    // that line: the bytes taken before it hold no line that is refused.
+    ensures refused { (root : List ℕ) (number : Code → ℕ → ℕ) → request_of words.now ≡ Some (runs root) → IsNumberGiven (DelayRule.post desk.delay) number →
+        IsTrue (S.source_tells script.old) → IsTrue (K.sink_tells out.old) → IsTrue (⟦<World as WorldTold>⟧.tells world.old && ⟦<Desk as DeskTold>⟧.tells desk) → result ≡ 7 →
+        IsRefused (setting_of (⟦<Desk as DeskTold>⟧.players desk) number) (opening (⟦<Desk as DeskTold>⟧.slots desk) root (⟦<World as WorldTold>⟧.plain world.old)) (⟦<World as WorldTold>⟧.plain world.new)
+        (S.source_holds script.old) (S.source_holds script.new) (K.sink_holds out.old) (K.sink_holds out.new) }
+    // With status 5 the lines that were read whole are reported.
+    ensures unread { (root : List ℕ) (number : Code → ℕ → ℕ) → request_of words.now ≡ Some (runs root) → IsNumberGiven (DelayRule.post desk.delay) number →
+        IsTrue (S.source_tells script.old) → IsTrue (K.sink_tells out.old) → IsTrue (⟦<World as WorldTold>⟧.tells world.old && ⟦<Desk as DeskTold>⟧.tells desk) → result ≡ 5 →
+        IsUnread (setting_of (⟦<Desk as DeskTold>⟧.players desk) number) (opening (⟦<Desk as DeskTold>⟧.slots desk) root (⟦<World as WorldTold>⟧.plain world.old)) (⟦<World as WorldTold>⟧.plain world.new)
+        (S.source_holds script.old) (S.source_holds script.new) (K.sink_holds out.old) (K.sink_holds out.new) }
+    // By any status, 4 and 6 too: what was read and written, how often, and the world behind it.
+    ensures told { (root : List ℕ) (number : Code → ℕ → ℕ) → request_of words.now ≡ Some (runs root) → IsNumberGiven (DelayRule.post desk.delay) number →
+        IsTrue (S.source_tells script.old) → IsTrue (K.sink_tells out.old) → IsTrue (⟦<World as WorldTold>⟧.tells world.old && ⟦<Desk as DeskTold>⟧.tells desk) →
+        Runs (setting_of (⟦<Desk as DeskTold>⟧.players desk) number) result (⟦<Desk as DeskTold>⟧.slots desk) root (⟦<World as WorldTold>⟧.plain world.old) (⟦<World as WorldTold>⟧.plain world.new)
+        (S.source_holds script.old) (S.source_holds script.new) (K.sink_holds out.old) (K.sink_holds out.new) }
+    ensures statuses { (root : List ℕ) → request_of words.now ≡ Some (runs root) → IsStatus result }
+    // No run gives up by itself.
+    ensures complete { (root : List ℕ) (number : Code → ℕ → ℕ) → request_of words.now ≡ Some (runs root) → IsNumberGiven (DelayRule.post desk.delay) number →
+        IsTrue (S.source_tells script.old) → IsTrue (K.sink_tells out.old) → IsTrue (⟦<World as WorldTold>⟧.tells world.old && ⟦<Desk as DeskTold>⟧.tells desk) →
+        Completes result (Rose (S.source_faults script.old) (S.source_faults script.new)) (Rose (K.sink_faults out.old) (K.sink_faults out.new))
+        (setting_of (⟦<Desk as DeskTold>⟧.players desk) number) (opening (⟦<Desk as DeskTold>⟧.slots desk) root (⟦<World as WorldTold>⟧.plain world.old)) (S.source_holds script.old) }
+
+    // Where the words are check ROOT SERVICE, the configuration is written, or its first fault.
+    ensures checked { (root service : List ℕ) → request_of words.now ≡ Some (checks root service) → IsTrue (K.sink_tells out.old) → IsTrue (vault_tells (in_box world.old.vault)) →
+        ChecksBy result (check_of (vault_holds (in_box world.old.vault)) root service) (K.sink_holds out.old) (K.sink_holds out.new) (vault_holds (in_box world.new.vault)) }
+    ensures check_statuses { (root service : List ℕ) → request_of words.now ≡ Some (checks root service) → IsCheckStatus result }
+    ensures check_stays { (root service : List ℕ) → request_of words.now ≡ Some (checks root service) →
+        (world.new ≡ record world.old { vault = world.new.vault }) × (script.new ≡ script.old) }
+    ensures check_calls { (root service : List ℕ) → request_of words.now ≡ Some (checks root service) → IsTrue (vault_tells (in_box world.old.vault)) →
+        OnlyCalls (vault_holds (in_box world.old.vault)) (vault_holds (in_box world.new.vault)) }
+
+    // Where they are neither, the usage line is written.
+    ensures usage { request_of words.now ≡ None → IsTrue (K.sink_tells out.old) → WritesUsage result (K.sink_holds out.old) (K.sink_holds out.new) }
+    ensures usage_status { request_of words.now ≡ None → (result ≡ 2) ⊎ (result ≡ 6) }
+    ensures usage_stays { request_of words.now ≡ None → (script.new ≡ script.old) × (world.new ≡ world.old) }
+
+    // The causes, in any world.
+    ensures words_only { result ≡ 2 → request_of words.now ≡ None }
+    ensures read_fault { result ≡ 5 → Rose (S.source_faults script.old) (S.source_faults script.new) }
+    ensures no_read_fault { (result ≡ 0) ⊎ (result ≡ 7) → S.source_faults script.new ≡ S.source_faults script.old }
+    ensures write_fault { result ≡ 6 → Rose (K.sink_faults out.old) (K.sink_faults out.new) }
+    ensures no_write_fault { result ≢ 6 → K.sink_faults out.new ≡ K.sink_faults out.old }
+
+    // What tells before the run tells after it, and every datum that was set has its receipt.
+    ensures source_tells { S.source_tells script.new ≡ S.source_tells script.old }
+    ensures sink_tells { K.sink_tells out.new ≡ K.sink_tells out.old }
+    ensures world_tells { ⟦<World as WorldTold>⟧.tells world.new ≡ ⟦<World as WorldTold>⟧.tells world.old }
 {
+    match request_in(words) {
+        None => usage(out),
+        Some(Request::Run(root)) => run(alloc, root.as_bytes(), script, out, world, desk),
+        Some(Request::Check(root, service)) => {
+            let found = check(
+                alloc,
+                root.as_bytes(),
+                service.as_bytes(),
+                out,
+                &mut *world.vault,
+            );
+            status_of_check(found)
+        }
+    }
+}
+
+// Runs the lines of a script under a root, over sixteen places with the desk's conversations.
+fn run<S: Source, K: Sink>(
+    alloc: Global,
+    root: &[u8],
+    script: &mut S,
+    out: &mut K,
+    world: &mut World,
+    desk: Desk,
+) -> u8
+    requires sixteen { length desk.convs.items ≡ 16 }
+    requires few { length desk.mods.items < 2 ^ 32 }
+    requires callable { (code : Code) (asked : ℕ) → asked ≤ 90000000 → DelayRule.pre desk.delay code asked }
+    requires one_number { GivesOneNumber (DelayRule.post desk.delay) }
+    requires no_births { world.old.process.ledger.births ≡ [] }
+    requires no_receipts { world.old.process.ledger.filed ≡ [] }
+    ensures told { (number : Code → ℕ → ℕ) → IsNumberGiven (DelayRule.post desk.delay) number →
+        IsTrue (S.source_tells script.old) → IsTrue (K.sink_tells out.old) → IsTrue (⟦<World as WorldTold>⟧.tells world.old && ⟦<Desk as DeskTold>⟧.tells desk) →
+        Runs (setting_of (⟦<Desk as DeskTold>⟧.players desk) number) result (⟦<Desk as DeskTold>⟧.slots desk) root.now (⟦<World as WorldTold>⟧.plain world.old) (⟦<World as WorldTold>⟧.plain world.new)
+        (S.source_holds script.old) (S.source_holds script.new) (K.sink_holds out.old) (K.sink_holds out.new) }
+    ensures statuses { IsStatus result }
+    ensures read_fault { result ≡ 5 → Rose (S.source_faults script.old) (S.source_faults script.new) }
+    ensures no_read_fault { (result ≡ 0) ⊎ (result ≡ 7) → S.source_faults script.new ≡ S.source_faults script.old }
+    ensures write_fault { result ≡ 6 → Rose (K.sink_faults out.old) (K.sink_faults out.new) }
+    ensures no_write_fault { result ≢ 6 → K.sink_faults out.new ≡ K.sink_faults out.old }
+    ensures source_tells { S.source_tells script.new ≡ S.source_tells script.old }
+    ensures sink_tells { K.sink_tells out.new ≡ K.sink_tells out.old }
+    ensures world_tells { ⟦<World as WorldTold>⟧.tells world.new ≡ ⟦<World as WorldTold>⟧.tells world.old }
+{
+    closed_places_stand_for_none();
+    let Ok(root) = Text::from_bytes(alloc, root) else {
+        return status_of(Err(Stop::NoMemory));
+    };
     let Desk { mods, convs, delay } = desk;
-    4
+    let gear = Gear {
+        mods,
+        delay: DelayFn::new(delay),
+    };
+    let Ok(library) = Library::new(alloc, gear, convs) else {
+        return status_of(Err(Stop::NoMemory));
+    };
+    run_over(alloc, library, root, script, out, world)
+}
+
+// Runs them over a library in which no transaction is open.
+fn run_over<S: Source, K: Sink>(
+    alloc: Global,
+    library: Library,
+    root: Text,
+    script: &mut S,
+    out: &mut K,
+    world: &mut World,
+) -> u8
+    requires { IsSound (names_of (⟦<Gear as GearTold>⟧.players (gear_in library))) (length (⟦<Gear as GearTold>⟧.players (gear_in library))) (⟦<Library as LibraryTold>⟧.slots library) world.old.process.ledger }
+    ensures told { (number : Code → ℕ → ℕ) → ⟦<DelayFn as DelayTold>⟧.delay_is (gear_in library).delay number →
+        IsTrue (S.source_tells script.old) → IsTrue (K.sink_tells out.old) → IsTrue (⟦<World as WorldTold>⟧.tells world.old && ⟦<Library as LibraryTold>⟧.tells library) →
+        IsBegun (setting_of (⟦<Gear as GearTold>⟧.players (gear_in library)) number) result (opening (⟦<Library as LibraryTold>⟧.slots library) root (⟦<World as WorldTold>⟧.plain world.old)) (⟦<World as WorldTold>⟧.plain world.new)
+        (S.source_holds script.old) (S.source_holds script.new) (K.sink_holds out.old) (K.sink_holds out.new) }
+    ensures statuses { IsStatus result }
+    ensures read_fault { result ≡ 5 → Rose (S.source_faults script.old) (S.source_faults script.new) }
+    ensures no_read_fault { (result ≡ 0) ⊎ (result ≡ 7) → S.source_faults script.new ≡ S.source_faults script.old }
+    ensures write_fault { result ≡ 6 → Rose (K.sink_faults out.old) (K.sink_faults out.new) }
+    ensures no_write_fault { result ≢ 6 → K.sink_faults out.new ≡ K.sink_faults out.old }
+    ensures source_tells { S.source_tells script.new ≡ S.source_tells script.old }
+    ensures sink_tells { K.sink_tells out.new ≡ K.sink_tells out.old }
+    ensures world_tells { ⟦<World as WorldTold>⟧.tells world.new ≡ ⟦<World as WorldTold>⟧.tells world.old }
+{
+    go_under(world, root);
+    let mut library = library;
+    let result = run_script(alloc, &mut library, script, out, world);
+    library.dismiss();
+    status_of(result)
+}
+
+// Puts the world under a root, at the moment 0 and with the random word 0.
+fn go_under(world: &mut World, root: Text)
+    ensures tells { ⟦<World as WorldTold>⟧.tells world.new ≡ ⟦<World as WorldTold>⟧.tells world.old }
+    ensures told { IsTrue (⟦<World as WorldTold>⟧.tells world.old) → IsUnder root (⟦<World as WorldTold>⟧.plain world.old) (⟦<World as WorldTold>⟧.plain world.new) }
+    ensures ledger { world.new.process.ledger ≡ world.old.process.ledger }
+{
+    world.process.root = root;
+    set_moment(&mut *world.clock, 0);
+    set_word(&mut *world.clock, 0);
+}
+
+fn status_of(run: Result<Ending, Stop>) -> u8
+    ensures { result ≡ status_of run }
+{
+    match run {
+        Ok(Ending::Done) => 0,
+        Err(Stop::NoMemory) => 4,
+        Ok(Ending::ReadFault) => 5,
+        Err(Stop::WriteFault) => 6,
+        Ok(Ending::Refused(_)) => 7,
+    }
+}
+
+// Writes the line on the usage.
+fn usage<K: Sink>(out: &mut K) -> u8
+    ensures told { IsTrue (K.sink_tells out.old) → WritesUsage result (K.sink_holds out.old) (K.sink_holds out.new) }
+    ensures status { (result ≡ 2) ⊎ (result ≡ 6) }
+    ensures tells { K.sink_tells out.new ≡ K.sink_tells out.old }
+    ensures write_fault { result ≡ 6 → Rose (K.sink_faults out.old) (K.sink_faults out.new) }
+    ensures no_write_fault { result ≢ 6 → K.sink_faults out.new ≡ K.sink_faults out.old }
+{
+    match write_all(out, USAGE.as_bytes()) {
+        Ok(()) => 2,
+        Err(Failed) => 6,
+    }
+}
+
+fn status_of_check(found: Result<Found, Stop>) -> u8
+    ensures { result ≡ check_status found }
+{
+    match found {
+        Ok(Found::Configured) => 0,
+        Ok(Found::Refused) => 3,
+        Err(Stop::NoMemory) => 4,
+        Err(Stop::WriteFault) => 6,
+    }
 }

@@ -1,0 +1,134 @@
+-- What a run that was begun, or wasn't, says by its status.
+use Rattle.std.proofs.Common.{◌≡◌, ◌⊎◌, inl, inr, ℕ, suc, Bool, true, false, ◌&&◌, IsTrue, List, [], ◌∷◌, ◌++◌, length, map, Option, Some, None, Result, Ok, Err, refl, sym, ap, ap₂, ◌∙◌, subst, subst₂, arith}
+use Rattle.conv_port.specs.Conv.{ConvState}
+use Rattle.data_cleanup.specs.Ledger.{PlainLedger}
+use Rattle.pam_outside.specs.Streams.{SourceState, SinkState}
+use Rattle.pam_room.specs.State.{PlainWorld}
+use Rattle.pam_library.specs.Slots.{PlainSlot, closed}
+use Rattle.pam_library.specs.Sound.{IsSound}
+use Rattle.script_stream.specs.declared.ending.Ending.{Ending}
+use Rattle.script_stream.specs.declared.ending.Ending.TheVariants.{Done, ReadFault, Refused}
+use Rattle.script_stream.specs.declared.ending.Stop.{Stop}
+use Rattle.script_stream.specs.declared.ending.Stop.TheVariants.{NoMemory, WriteFault}
+use Rattle.session_run.specs.State.{Setting, RunState, state_of}
+use Rattle.session_run.specs.Whole.{RunsScript}
+use Rattle.pam_session_cli.specs.Command.{Request, runs}
+use Rattle.pam_session_cli.specs.Run.{Completes, IsBegun, IsDone, IsNotBegun, IsRefused, IsUnder, IsUnread, Runs, opening, run_over, status_of}
+use Rattle.pam_session_cli.proofs.Statuses.{done_whole, refused_whole, unread_whole}
+
+pub both_left : (a b : Bool) → IsTrue (a && b) → IsTrue a
+both_left true b both = refl
+both_left false b both = both
+
+pub both_right : (a b : Bool) → IsTrue (a && b) → IsTrue b
+both_right true b both = both
+both_right false b both = absurd (cc)
+
+pub both_true : (a b : Bool) → IsTrue a → IsTrue b → IsTrue (a && b)
+both_true true b left right = right
+both_true false b left right = left
+
+-- ---- before the first line
+
+map-closed : {B : Type 0} (holds : B → ConvState) (convs : List B) → map closed (map holds convs) ≡ map (λ b. closed (holds b)) convs
+map-closed holds [] = refl
+map-closed holds (b ∷ convs) = ap (λ (t : List PlainSlot). closed (holds b) ∷ t) (map-closed holds convs)
+
+length-map : {B C : Type 0} (f : B → C) (bs : List B) → length (map f bs) ≡ length bs
+length-map f [] = refl
+length-map f (b ∷ bs) = ap (λ (n : ℕ). suc n) (length-map f bs)
+
+no_entries : (ledger : PlainLedger) → ledger.births ≡ [] → ledger.filed ≡ [] → record { births = []; filed = [] } ≡ ledger
+no_entries ledger births filed = ap₂ (λ b f. record { births = b; filed = f }) (sym births) (sym filed)
+
+pub sound_at_first : {B : Type 0} (holds : B → ConvState) (convs : List B) (names : List (List ℕ)) (modules : ℕ) (slots : List PlainSlot) (ledger : PlainLedger)
+    → ((states : List ConvState) → length states ≡ 16 → IsSound names modules (map closed states) (record { births = []; filed = [] }))
+    → length convs ≡ 16 → slots ≡ map (λ b. closed (holds b)) convs → ledger.births ≡ [] → ledger.filed ≡ []
+    → IsSound names modules slots ledger
+sound_at_first holds convs names modules slots ledger law sixteen are births filed =
+    subst₂ (IsSound names modules) (map-closed holds convs ∙ sym are) (no_entries ledger births filed) (law (map holds convs) (length-map holds convs ∙ sixteen))
+
+module _ (setting : Setting) (slots ends : List PlainSlot) (root : List ℕ) (old now new : PlainWorld) (x y : SourceState) (p q : SinkState) where
+  pub begun : (result : Result Ending Stop) (status : ℕ) → status ≡ status_of result → IsUnder root old now
+      → RunsScript setting result (state_of slots now) (state_of ends new) x y p q → IsBegun setting status (opening slots root old) new x y p q
+  begun result status is under ran = record {
+    result = result;
+    is = is;
+    end = state_of ends new;
+    world_is = refl;
+    runs = subst (λ (w : PlainWorld). RunsScript setting result (state_of slots w) (state_of ends new) x y p q) under.world_is ran;
+  }
+
+-- ---- by the status
+
+module _ (setting : Setting) (start end : RunState) (x y : SourceState) (p q : SinkState) where
+  done_by : (result : Result Ending Stop) → RunsScript setting result start end x y p q → status_of result ≡ 0 → IsDone setting start end.world x y p q
+  done_by (Ok Done) ran is = done_whole setting start end x y p q ran
+  done_by (Ok ReadFault) ran is = absurd (omega (arith, is))
+  done_by (Ok (Refused kind)) ran is = absurd (omega (arith, is))
+  done_by (Err NoMemory) ran is = absurd (omega (arith, is))
+  done_by (Err WriteFault) ran is = absurd (omega (arith, is))
+
+  refused_by : (result : Result Ending Stop) → RunsScript setting result start end x y p q → status_of result ≡ 7 → IsRefused setting start end.world x y p q
+  refused_by (Ok Done) ran is = absurd (omega (arith, is))
+  refused_by (Ok ReadFault) ran is = absurd (omega (arith, is))
+  refused_by (Ok (Refused kind)) ran is = refused_whole setting start end x y p q kind ran
+  refused_by (Err NoMemory) ran is = absurd (omega (arith, is))
+  refused_by (Err WriteFault) ran is = absurd (omega (arith, is))
+
+  unread_by : (result : Result Ending Stop) → RunsScript setting result start end x y p q → status_of result ≡ 5 → IsUnread setting start end.world x y p q
+  unread_by (Ok Done) ran is = absurd (omega (arith, is))
+  unread_by (Ok ReadFault) ran is = unread_whole setting start end x y p q ran
+  unread_by (Ok (Refused kind)) ran is = absurd (omega (arith, is))
+  unread_by (Err NoMemory) ran is = absurd (omega (arith, is))
+  unread_by (Err WriteFault) ran is = absurd (omega (arith, is))
+
+  completes_by : (R W : Type 0) (result : Result Ending Stop) → RunsScript setting result start end x y p q → (status_of result ≡ 5 → R) → (status_of result ≡ 6 → W) → Completes (status_of result) R W setting start x
+  completes_by R W (Ok Done) ran read write accepted no_read no_write = inl refl
+  completes_by R W (Ok ReadFault) ran read write accepted no_read no_write = absurd (no_read (read refl))
+  completes_by R W (Ok (Refused kind)) ran read write accepted no_read no_write =
+      let e : None ≡ Some kind = sym accepted ∙ ap (λ r. r.refused) ran.outcome.comes.0 in
+      absurd (cc)
+  completes_by R W (Err NoMemory) ran read write accepted no_read no_write = inr refl
+  completes_by R W (Err WriteFault) ran read write accepted no_read no_write = absurd (no_write (write refl))
+
+module _ (setting : Setting) (status : ℕ) (slots : List PlainSlot) (root asked : List ℕ) (old new : PlainWorld) (x y : SourceState) (p q : SinkState) (same : root ≡ asked) where
+  pub runs_asked : Runs setting status slots root old new x y p q → Runs setting status slots asked old new x y p q
+  runs_asked ran = subst (λ (r : List ℕ). Runs setting status slots r old new x y p q) same ran
+
+  done_of : Runs setting status slots asked old new x y p q → status ≡ 0 → IsDone setting (opening slots asked old) new x y p q
+  done_of (inl b) is = subst (λ (w : PlainWorld). IsDone setting (opening slots asked old) w x y p q) (sym b.world_is) (done_by setting (opening slots asked old) b.end x y p q b.result b.runs (sym b.is ∙ is))
+  done_of (inr n) is = absurd (omega (arith, n.0, is))
+
+  refused_of : Runs setting status slots asked old new x y p q → status ≡ 7 → IsRefused setting (opening slots asked old) new x y p q
+  refused_of (inl b) is = subst (λ (w : PlainWorld). IsRefused setting (opening slots asked old) w x y p q) (sym b.world_is) (refused_by setting (opening slots asked old) b.end x y p q b.result b.runs (sym b.is ∙ is))
+  refused_of (inr n) is = absurd (omega (arith, n.0, is))
+
+  unread_of : Runs setting status slots asked old new x y p q → status ≡ 5 → IsUnread setting (opening slots asked old) new x y p q
+  unread_of (inl b) is = subst (λ (w : PlainWorld). IsUnread setting (opening slots asked old) w x y p q) (sym b.world_is) (unread_by setting (opening slots asked old) b.end x y p q b.result b.runs (sym b.is ∙ is))
+  unread_of (inr n) is = absurd (omega (arith, n.0, is))
+
+  completes_of : (R W : Type 0) → Runs setting status slots asked old new x y p q → (status ≡ 5 → R) → (status ≡ 6 → W) → Completes status R W setting (opening slots asked old) x
+  completes_of R W (inl b) read write =
+      subst (λ (n : ℕ). Completes n R W setting (opening slots asked old) x) (sym b.is)
+      (completes_by setting (opening slots asked old) b.end x y p q R W b.result b.runs (λ e. read (b.is ∙ e)) (λ e. write (b.is ∙ e)))
+  completes_of R W (inr n) read write = λ accepted no_read no_write. inr n.0
+
+  pub done_asked : Runs setting status slots root old new x y p q → status ≡ 0 → IsDone setting (opening slots asked old) new x y p q
+  done_asked ran is = done_of (runs_asked ran) is
+
+  pub refused_asked : Runs setting status slots root old new x y p q → status ≡ 7 → IsRefused setting (opening slots asked old) new x y p q
+  refused_asked ran is = refused_of (runs_asked ran) is
+
+  pub unread_asked : Runs setting status slots root old new x y p q → status ≡ 5 → IsUnread setting (opening slots asked old) new x y p q
+  unread_asked ran is = unread_of (runs_asked ran) is
+
+  pub completes_asked : (R W : Type 0) → Runs setting status slots root old new x y p q → (status ≡ 5 → R) → (status ≡ 6 → W) → Completes status R W setting (opening slots asked old) x
+  completes_asked R W ran read write = completes_of R W (runs_asked ran) read write
+
+-- the root that was asked for is the one that was found
+pub asked_root : (found given asked : List ℕ) (request : Option Request) → Some (runs found) ≡ request → request ≡ Some (runs asked) → given ≡ found → given ≡ asked
+asked_root found given asked request is same taken =
+    let e : Some (runs found) ≡ Some (runs asked) = is ∙ same in
+    let f : found ≡ asked = cc in
+    taken ∙ f

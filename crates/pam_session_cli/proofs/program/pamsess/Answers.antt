@@ -1,0 +1,22 @@
+use Rattle.pam_session_cli.proofs.Telling.{asked_root, runs_asked, done_asked, refused_asked, unread_asked, completes_asked}
+use Rattle.pam_session_cli.proofs.program.pamsess.Goals as goal
+
+pub returns-in-Some-Run-clause-done : goal.returns-in-Some-Run-clause-done
+returns-in-Some-Run-clause-done g c root number asked given source sink both is =
+    done_asked _ _ _ _ _ _ _ _ _ _ _ (asked_root c.in-Some-Run.root.now _ root _ (rw c.in-Some-Run.field-0-is at c.in-Some-Run.ensures) asked c.as_bytes.ensures.value) (c.run.ensures.told number given source sink both) is
+
+pub returns-in-Some-Run-clause-refused : goal.returns-in-Some-Run-clause-refused
+returns-in-Some-Run-clause-refused g c root number asked given source sink both is =
+    refused_asked _ _ _ _ _ _ _ _ _ _ _ (asked_root c.in-Some-Run.root.now _ root _ (rw c.in-Some-Run.field-0-is at c.in-Some-Run.ensures) asked c.as_bytes.ensures.value) (c.run.ensures.told number given source sink both) is
+
+pub returns-in-Some-Run-clause-unread : goal.returns-in-Some-Run-clause-unread
+returns-in-Some-Run-clause-unread g c root number asked given source sink both is =
+    unread_asked _ _ _ _ _ _ _ _ _ _ _ (asked_root c.in-Some-Run.root.now _ root _ (rw c.in-Some-Run.field-0-is at c.in-Some-Run.ensures) asked c.as_bytes.ensures.value) (c.run.ensures.told number given source sink both) is
+
+pub returns-in-Some-Run-clause-told : goal.returns-in-Some-Run-clause-told
+returns-in-Some-Run-clause-told g c root number asked given source sink both =
+    runs_asked _ _ _ _ _ _ _ _ _ _ _ (asked_root c.in-Some-Run.root.now _ root _ (rw c.in-Some-Run.field-0-is at c.in-Some-Run.ensures) asked c.as_bytes.ensures.value) (c.run.ensures.told number given source sink both)
+
+pub returns-in-Some-Run-clause-complete : goal.returns-in-Some-Run-clause-complete
+returns-in-Some-Run-clause-complete g c root number asked given source sink both =
+    completes_asked _ _ _ _ _ _ _ _ _ _ _ (asked_root c.in-Some-Run.root.now _ root _ (rw c.in-Some-Run.field-0-is at c.in-Some-Run.ensures) asked c.as_bytes.ensures.value) _ _ (c.run.ensures.told number given source sink both) c.run.ensures.read_fault c.run.ensures.write_fault

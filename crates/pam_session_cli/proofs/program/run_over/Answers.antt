@@ -1,0 +1,8 @@
+use Rattle.std.proofs.Common.{◌∙◌}
+use Rattle.pam_session_cli.proofs.Telling.{begun, both_left, both_right, both_true}
+use Rattle.pam_session_cli.proofs.program.run_over.Goals as goal
+
+pub returns-clause-told : goal.returns-clause-told
+returns-clause-told g c number given source sink both =
+    begun _ _ _ _ _ _ _ _ _ _ _ _ _ c.status_of.ensures (c.go_under.ensures.told (both_left _ _ both))
+    (c.run_script-result.ensures.told number given (both_true _ _ (both_right _ _ both) (c.go_under.ensures.tells ∙ both_left _ _ both)) source sink)
