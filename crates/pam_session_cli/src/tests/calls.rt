@@ -126,7 +126,7 @@ pub static CALLS: [Row; 21] = [
     Row {
         files: &[(b"/r/etc/pam.d/t", b"auth required pam_permit.so\nauth required pam_probe.so ask=Q\n")],
         script: b"start 1 t joe\nreply 1 \\later\nreply 1 a\nauthenticate 1\nsetcred 1 2\nauthenticate 1\nend 1 0\n",
-        output: b"1 start SUCCESS 0\n1 line 1 pam_permit SUCCESS 0\n1 say 2 Q\n1 line 2 pam_probe INCOMPLETE 31\n1 authenticate INCOMPLETE 31\n1 setcred ABORT 26 pending authenticate\n1 say 2 Q\n1 line 2 pam_probe SUCCESS 0\n1 authenticate SUCCESS 0\n1 end SUCCESS 0\n",
+        output: b"1 start SUCCESS 0\n1 say 2 Q\n1 line 1 pam_permit SUCCESS 0\n1 line 2 pam_probe INCOMPLETE 31\n1 authenticate INCOMPLETE 31\n1 setcred ABORT 26 pending authenticate\n1 say 2 Q\n1 line 2 pam_probe SUCCESS 0\n1 authenticate SUCCESS 0\n1 end SUCCESS 0\n",
         ..RUN
     },
     // Sixteen numbers, each for one transaction at a time.
