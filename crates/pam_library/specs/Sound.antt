@@ -1,6 +1,8 @@
 -- What holds between two calls of a library (this project's own).
 use Rattle.std.specs.Prelude.{◌≡◌, ℕ, ◌<◌, List, Option, Some, length}
+use Rattle.std.specs.List.{AllByRecursion}
 use Rattle.data_cleanup.specs.Ledger.{PlainLedger}
+use Rattle.data_cleanup.specs.declared.datum.Birth.{Birth}
 use Rattle.data_due.specs.Kept.{AreHeld}
 use Rattle.pam_handle.specs.Handle.{PlainHandle}
 use Rattle.pam_library.specs.Slots.{PlainSlot, open, slot_at, lists_of}
@@ -15,7 +17,9 @@ pub record ArePlaced (names : List (List ℕ)) (slots : List PlainSlot) : Type 0
   pub sixteen : length slots ≡ 16
   pub each : (number : ℕ) (h : PlainHandle) → slot_at slots number ≡ Some (open h) → IsPlaced names number h
 
--- and the births without a receipt are exactly the data of the open transactions, each of its place's number
+-- the births without a receipt are exactly the data of the open transactions, each of its place's number, and every birth has one
+-- of the modules as its owner
 pub record IsSound (names : List (List ℕ)) (modules : ℕ) (slots : List PlainSlot) (ledger : PlainLedger) : Type 0 where
   pub placed : ArePlaced names slots
   pub held : AreHeld modules 17 ledger (lists_of slots)
+  pub owned : AllByRecursion (λ (b : Birth). b.owner < modules) ledger.births
