@@ -4,3 +4,6 @@ pub mod SlotStep
 pub mod Step
 pub mod Closing
 pub mod Sound
+pub mod AnyWorld
+pub mod SideBySide
+pub mod Calls
