@@ -6,7 +6,6 @@ use Rattle.pam_base.specs.declared.call.Func.{Func}
 use Rattle.pam_base.specs.declared.call.Func.TheVariants as funcs
 use Rattle.pam_base.specs.declared.call.AppCall.{AppCall}
 use Rattle.pam_base.specs.declared.call.AppCall.TheVariants as calls
-use Rattle.pam_base.specs.declared.call.Step.{Step}
 use Rattle.env_list.specs.Environment.{is_deletion}
 use Rattle.conv_port.specs.Conv.{ConvState}
 use Rattle.data_cleanup.specs.DataList.{PlainDataList}
@@ -149,8 +148,8 @@ abbrev pub end_of_call : ℕ → AppCall → List Event
 end_of_call number (calls.End status) = ends number status ∷ []
 end_of_call number call = []
 
--- the end that a step is, if it is one
-abbrev pub end_in : Option PlainSlot → Step → List Event
-end_in (Some (opened h)) step = end_of_call step.number step.call
-end_in (Some (closed conv)) step = []
-end_in None step = []
+-- the end that a call on a place of a number is, if it is one
+abbrev pub end_at : Option PlainSlot → ℕ → AppCall → List Event
+end_at (Some (opened h)) number call = end_of_call number call
+end_at (Some (closed conv)) number call = []
+end_at None number call = []

@@ -2,6 +2,11 @@
 //! leaves every other as it was.
 #![tactic(auto)]
 
+mod laws;
 mod outcome;
 
+pub use laws::{
+    calls_stand_for_their_events, closed_places_stand_for_none, one_place_moves,
+    places_stand_side_by_side,
+};
 pub use outcome::{Answer, Outcome};

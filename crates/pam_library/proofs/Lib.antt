@@ -1,0 +1,4 @@
+pub mod Placing
+pub mod Neighbours
+pub mod Following
+pub mod Spending
