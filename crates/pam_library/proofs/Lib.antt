@@ -2,3 +2,4 @@ pub mod Placing
 pub mod Neighbours
 pub mod Following
 pub mod Spending
+mod Rows
