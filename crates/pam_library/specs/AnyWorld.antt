@@ -6,7 +6,10 @@ use Rattle.pam_base.specs.declared.call.Func.{Func}
 use Rattle.pam_base.specs.declared.call.Func.TheVariants as funcs
 use Rattle.pam_base.specs.declared.call.AppCall.{AppCall}
 use Rattle.pam_base.specs.declared.call.AppCall.TheVariants as calls
+use Rattle.item_store.specs.Access.{is_refused as is_refused_item}
+use Rattle.item_store.specs.declared.access.Access.TheVariants.{ApplicationSets, ApplicationGets}
 use Rattle.env_list.specs.Environment.{is_deletion}
+use Rattle.service_load.specs.Kinds.{KindCounts}
 use Rattle.conv_port.specs.Conv.{ConvState}
 use Rattle.data_cleanup.specs.DataList.{PlainDataList}
 use Rattle.data_cleanup.specs.Ledger.{PlainLedger}
@@ -65,6 +68,64 @@ needs_outside call = false
 -- A step stays inside where its call does, or where it is refused.
 abbrev pub stays_inside : Option PlainSlot → AppCall → Bool
 stays_inside slot call = if is_some (refusal slot call) then true else not (needs_outside call)
+
+-- the calls that touch the world
+abbrev pub touches_world : AppCall → Bool
+touches_world (calls.End status) = true
+touches_world (calls.Reply text) = false
+touches_world call = needs_outside call
+
+-- a step leaves the world where its call doesn't touch it, or where it is refused
+abbrev pub leaves_world : Option PlainSlot → AppCall → Bool
+leaves_world slot call = if is_some (refusal slot call) then true else not (touches_world call)
+
+-- ---- which answers a call can have where it isn't refused by that
+
+abbrev pub is_code : Answer → Bool
+is_code (answers.Code code) = true
+is_code answer = false
+
+abbrev pub is_refused : Answer → Bool
+is_refused (answers.Refused fault) = true
+is_refused answer = false
+
+abbrev pub is_value : Answer → Bool
+is_value (answers.Value value) = true
+is_value answer = false
+
+abbrev pub is_list : Answer → Bool
+is_list (answers.List texts) = true
+is_list answer = false
+
+abbrev pub succeeds_or_bad_item : Bool → Answer
+succeeds_or_bad_item bad = answers.Code (if bad then codes.BadItem else codes.Success)
+
+abbrev pub GetsItem : Bool → Answer → Type 0
+GetsItem true answer = answer ≡ answers.Code codes.BadItem
+GetsItem false answer = IsTrue (is_value answer)
+
+abbrev pub CanAnswer : AppCall → Answer → Type 0
+CanAnswer (calls.Start service user) answer = (answer ≡ answers.Code codes.Success) ⊎ IsTrue (is_refused answer)
+CanAnswer (calls.End status) answer = answer ≡ answers.Code codes.Success
+CanAnswer (calls.SetItem item value) answer = answer ≡ succeeds_or_bad_item (is_refused_item ApplicationSets item)
+CanAnswer (calls.GetItem item) answer = GetsItem (is_refused_item ApplicationGets item) answer
+CanAnswer (calls.PutEnv text) answer = (answer ≡ answers.Code codes.Success) ⊎ (answer ≡ answers.Code codes.BadItem)
+CanAnswer (calls.GetEnv name) answer = IsTrue (is_value answer)
+CanAnswer calls.EnvList answer = IsTrue (is_list answer)
+CanAnswer (calls.FailDelay micros) answer = answer ≡ answers.Code codes.Success
+CanAnswer (calls.DelayFn on) answer = answer ≡ answers.Code codes.Success
+CanAnswer (calls.Reply text) answer = answer ≡ answers.Nothing
+CanAnswer call answer = IsTrue (is_code answer)
+
+-- the answer of a step, in any world: by number, place and pending call where they refuse it, else one of its call's
+abbrev pub AnswersBy : Option Answer → AppCall → Answer → Type 0
+AnswersBy (Some refused) call answer = answer ≡ refused
+AnswersBy None call answer = CanAnswer call answer
+
+-- in any world: where a start is refused, the vault's count of faults rises where a file couldn't be read, and with no other fault
+abbrev pub CountsRefusal : Answer → ℕ → ℕ → Type 0
+CountsRefusal (answers.Refused fault) before now = KindCounts fault.kind before now
+CountsRefusal answer before now = Unit {0}
 
 -- ---- memory
 

@@ -7,3 +7,5 @@ pub mod Sound
 pub mod AnyWorld
 pub mod SideBySide
 pub mod Calls
+pub mod Plain
+pub mod InPlace

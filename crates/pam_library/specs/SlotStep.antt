@@ -1,6 +1,6 @@
 -- One call on one place (the calls of the Application Developers' Guide; that a call may be put off, the delay function and the
 -- replies are this project's own).
-use Rattle.std.specs.Prelude.{ℕ, Bool, false, ◌||◌, if◌then◌else◌, List, [], ◌∷◌, ◌++◌, map, length, Option, Some, None, Result, Ok, Err}
+use Rattle.std.specs.Prelude.{◌≡◌, ℕ, Bool, false, if◌then◌else◌, List, [], ◌∷◌, ◌++◌, map, length, Option, Some, None, Result, Ok, Err}
 use Rattle.pam_base.specs.declared.code.Code.{Code}
 use Rattle.pam_base.specs.declared.code.Code.TheVariants as codes
 use Rattle.pam_base.specs.declared.call.Func.{Func}
@@ -14,13 +14,12 @@ use Rattle.item_store.specs.declared.access.Access.TheVariants.{ApplicationSets,
 use Rattle.env_list.specs.Environment.{is_refused as is_refused_text, after_put, value_of, variable_text}
 use Rattle.conv_port.specs.Conv.{ConvState, offer_taken}
 use Rattle.service_load.specs.declared.load_fault.LoadFault.{LoadFault}
-use Rattle.pam_room.specs.Call.{has_flag, prelim_check}
 use Rattle.pam_room.specs.Module.{Player, notes_of}
 use Rattle.pam_room.specs.State.{PlainWorld}
 use Rattle.dispatch_core.specs.Lines.{names_of}
 use Rattle.pam_handle.specs.Handle.{PlainHandle, Pending}
 use Rattle.pam_handle.specs.Call.{Called, same_func}
-use Rattle.pam_handle.specs.StackCalls.{stack_call, update_authtok}
+use Rattle.pam_handle.specs.StackCalls.{stack_call, has_pass_flag}
 use Rattle.pam_handle.specs.Items.{with_items, with_environment, with_request, with_delay_function, with_conversation, all_told, missing_from}
 use Rattle.pam_handle.specs.Start.{Started, started}
 use Rattle.pam_handle.specs.End.{world_after_end}
@@ -34,6 +33,12 @@ pub record SlotStepped : Type 0 where
   pub slot : PlainSlot
   pub world : PlainWorld
   pub outcome : PlainOutcome
+
+-- an outcome, a place and a world are those of a step
+pub record SlotStepsAs (s : SlotStepped) (outcome : PlainOutcome) (slot : PlainSlot) (world : PlainWorld) : Type 0 where
+  pub outcome_is : outcome ≡ s.outcome
+  pub slot_is : slot ≡ s.slot
+  pub world_is : world ≡ s.world
 
 abbrev pub filed_in : PlainWorld → ℕ
 filed_in w = length w.process.ledger.filed
@@ -82,7 +87,7 @@ told_by filed answer c = record {
 
 -- the flags of the two passes of a change of token are refused first
 abbrev pub is_refused_for_flags : Func → ℕ → Bool
-is_refused_for_flags funcs.ChAuthTok flags = has_flag flags prelim_check || has_flag flags update_authtok
+is_refused_for_flags funcs.ChAuthTok flags = has_pass_flag flags
 is_refused_for_flags func flags = false
 
 -- another call that is pending

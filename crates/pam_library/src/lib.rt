@@ -3,10 +3,13 @@
 #![tactic(auto)]
 
 mod laws;
+mod library;
 mod outcome;
+mod slot;
 
 pub use laws::{
     calls_stand_for_their_events, closed_places_stand_for_none, one_place_moves,
     places_stand_side_by_side,
 };
+pub use library::{Library, LibraryTold};
 pub use outcome::{Answer, Outcome};

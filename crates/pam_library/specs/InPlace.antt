@@ -1,0 +1,37 @@
+-- What a call on one place comes to, in one record for the private functions that do it.
+use Rattle.std.specs.Prelude.{◌≡◌, ℕ, Bool, true, ◌&&◌, IsTrue, IsOk, OnErr, IfOk, Option, Some, Result, length}
+use Rattle.pam_base.specs.declared.code.Code.{Code}
+use Rattle.pam_base.specs.declared.call.AppCall.{AppCall}
+use Rattle.pam_base.specs.declared.fault.NoMemory.{NoMemory}
+use Rattle.dispatch_core.specs.Lines.{names_of}
+use Rattle.pam_room.specs.Module.{Player, notes_of}
+use Rattle.pam_room.specs.State.{PlainWorld, PlainProcess}
+use Rattle.pam_room.specs.Stays.{IsReady}
+use Rattle.pam_library.specs.declared.outcome.Outcome.{Outcome}
+use Rattle.pam_library.specs.Outcome.{plain_outcome}
+use Rattle.pam_library.specs.Slots.{PlainSlot, closed, opened, data_in}
+use Rattle.pam_library.specs.SlotStep.{SlotStepsAs, slot_step}
+use Rattle.pam_library.specs.Sound.{IsAtPlace}
+use Rattle.pam_library.specs.AnyWorld.{AnswersBy, Fails, SpendsAt, refusal, stays_inside, takes_no_memory}
+use Rattle.std.specs.Prelude.{List}
+
+-- a place that may be called: an open transaction is the one of its number, and its data await their cleanup
+abbrev pub IsReadyAt : ℕ → PlainSlot → PlainProcess → Type 0
+IsReadyAt modules (closed conv) process = Unit {0}
+IsReadyAt modules (opened h) process = IsReady modules h.room.transaction process
+
+-- a call on the place of a number, in any world and in one that tells
+pub record GoesInPlace (players : List Player) (gives : (Code → ℕ → ℕ) → Type 0) (tells world_tells : Bool) (number : ℕ) (call : AppCall)
+    (old : PlainSlot) (before : PlainWorld) (result : Result Outcome NoMemory) (new : PlainSlot) (after : PlainWorld) : Type 0 where
+  pub told : (number_of : Code → ℕ → ℕ) → gives number_of → IsTrue (tells && world_tells) →
+      IfOk result (λ o. SlotStepsAs (slot_step players number_of number old before call) (plain_outcome o) new after)
+  pub alone : (number_of : Code → ℕ → ℕ) → stays_inside (Some old) call ≡ true →
+      IfOk result (λ o. SlotStepsAs (slot_step players number_of number old before call) (plain_outcome o) new after)
+  pub answers : IfOk result (λ o. AnswersBy (refusal (Some old) call) call o.answer)
+  pub filed_from : IfOk result (λ o. o.filed_from ≡ length before.process.ledger.filed)
+  pub succeeds : takes_no_memory (Some old) call ≡ true → IsOk result
+  pub fails : OnErr result (Fails tells call old new)
+  pub placed : IsAtPlace (names_of players) number new
+  pub spends : SpendsAt (notes_of players) (length players) (Some old) call (data_in number (Some old)) before.process.ledger (data_in number (Some new)) after.process.ledger
+  pub root : after.process.root ≡ before.process.root
+  pub caller : after.process.caller ≡ before.process.caller
