@@ -1,19 +1,22 @@
 -- What a call on one place comes to, in one record for the private functions that do it.
-use Rattle.std.specs.Prelude.{◌≡◌, ℕ, Bool, true, ◌&&◌, IsTrue, IsOk, OnErr, IfOk, Option, Some, Result, length}
+use Rattle.std.specs.Prelude.{◌≡◌, ℕ, Bool, true, ◌&&◌, IsTrue, IsOk, OnErr, IfOk, List, Some, Result, length}
 use Rattle.pam_base.specs.declared.code.Code.{Code}
+use Rattle.pam_base.specs.declared.call.Func.{Func}
+use Rattle.pam_base.specs.declared.call.Func.TheVariants as funcs
 use Rattle.pam_base.specs.declared.call.AppCall.{AppCall}
+use Rattle.pam_base.specs.declared.call.AppCall.TheVariants as calls
 use Rattle.pam_base.specs.declared.fault.NoMemory.{NoMemory}
 use Rattle.dispatch_core.specs.Lines.{names_of}
 use Rattle.pam_room.specs.Module.{Player, notes_of}
 use Rattle.pam_room.specs.State.{PlainWorld, PlainProcess}
 use Rattle.pam_room.specs.Stays.{IsReady}
+use Rattle.pam_handle.specs.Handle.{PlainHandle}
 use Rattle.pam_library.specs.declared.outcome.Outcome.{Outcome}
 use Rattle.pam_library.specs.Outcome.{plain_outcome}
 use Rattle.pam_library.specs.Slots.{PlainSlot, closed, opened, data_in}
-use Rattle.pam_library.specs.SlotStep.{SlotStepsAs, slot_step}
+use Rattle.pam_library.specs.SlotStep.{SlotStepsAs, filed_in, open_step, slot_step}
 use Rattle.pam_library.specs.Sound.{IsAtPlace}
-use Rattle.pam_library.specs.AnyWorld.{AnswersBy, Fails, SpendsAt, refusal, stays_inside, takes_no_memory}
-use Rattle.std.specs.Prelude.{List}
+use Rattle.pam_library.specs.AnyWorld.{AnswersBy, CanAnswer, Fails, SpendsAt, is_free, refusal, stays_inside, takes_no_memory}
 
 -- a place that may be called: an open transaction is the one of its number, and its data await their cleanup
 abbrev pub IsReadyAt : ℕ → PlainSlot → PlainProcess → Type 0
@@ -35,3 +38,24 @@ pub record GoesInPlace (players : List Player) (gives : (Code → ℕ → ℕ) �
   pub spends : SpendsAt (notes_of players) (length players) (Some old) call (data_in number (Some old)) before.process.ledger (data_in number (Some new)) after.process.ledger
   pub root : after.process.root ≡ before.process.root
   pub caller : after.process.caller ≡ before.process.caller
+
+-- A call that stays inside an open transaction which told all that it had to tell: it is exact in any world.
+pub record GoesInside (call : AppCall) (filed : ℕ) (old : PlainHandle) (result : Result Outcome NoMemory) (new : PlainHandle) : Type 0 where
+  pub steps : (players : List Player) (number_of : Code → ℕ → ℕ) (w : PlainWorld) → filed_in w ≡ filed →
+      IfOk result (λ o. SlotStepsAs (open_step players number_of old w call) (plain_outcome o) (opened new) w)
+  pub answers : IfOk result (λ o. CanAnswer call o.answer)
+  pub filed_from : IfOk result (λ o. o.filed_from ≡ filed)
+  pub succeeds : is_free call ≡ true → IsOk result
+  pub fails : OnErr result (new ≡ old)
+  pub datums : new.room.transaction.datums ≡ old.room.transaction.datums
+  pub handle : new.room.transaction.handle ≡ old.room.transaction.handle
+  pub names : new.names ≡ old.names
+
+-- the application's call of a stack function
+abbrev pub stack_app_call : Func → ℕ → AppCall
+stack_app_call funcs.Authenticate flags = calls.Authenticate flags
+stack_app_call funcs.SetCred flags = calls.SetCred flags
+stack_app_call funcs.AcctMgmt flags = calls.AcctMgmt flags
+stack_app_call funcs.OpenSession flags = calls.OpenSession flags
+stack_app_call funcs.CloseSession flags = calls.CloseSession flags
+stack_app_call funcs.ChAuthTok flags = calls.ChAuthTok flags

@@ -6,6 +6,8 @@ mod laws;
 mod library;
 mod outcome;
 mod slot;
+mod texts;
+mod values;
 
 pub use laws::{
     calls_stand_for_their_events, closed_places_stand_for_none, one_place_moves,

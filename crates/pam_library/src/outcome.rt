@@ -1,8 +1,12 @@
+ghost use Rattle.std.specs.Prelude.{◌≡◌, []};
+ghost use Rattle.pam_library.specs.Outcome.{answers_only, plain_outcome};
+
 use conv_port::Messages;
 use pam_base::{Code, Func, Text, Texts};
-use pam_handle::Wait;
+use pam_handle::{Told, Wait};
 use pam_room::Visits;
 use service_load::LoadFault;
+use std::alloc::Global;
 
 /// What a step answers.
 #[derive(Debug, Drop)]
@@ -41,4 +45,38 @@ pub struct Outcome {
     /// After a start: the modules that lines name and that aren't there.
     pub missing: Texts,
     pub answer: Answer,
+}
+
+impl Outcome {
+    // An answer, and nothing told. It takes no memory.
+    pub(crate) fn only(alloc: Global, filed_from: u64, answer: Answer) -> Self
+        ensures plain { plain_outcome result ≡ answers_only filed_from answer }
+        ensures answer { result.answer ≡ answer }
+        ensures filed_from { result.filed_from ≡ filed_from }
+    {
+        Outcome {
+            said: Messages::new(alloc),
+            trail: Visits::new(alloc),
+            filed_from,
+            wait: None,
+            missing: Texts::new(alloc),
+            answer,
+        }
+    }
+
+    // An answer, and what was told. It takes no memory.
+    pub(crate) fn telling(alloc: Global, filed_from: u64, told: Told, answer: Answer) -> Self
+        ensures plain { plain_outcome result ≡ record { said = told.said; trail = told.trail.visits; filed_from = filed_from; wait = told.wait; missing = []; answer = answer } }
+        ensures answer { result.answer ≡ answer }
+        ensures filed_from { result.filed_from ≡ filed_from }
+    {
+        Outcome {
+            said: told.said,
+            trail: told.trail,
+            filed_from,
+            wait: told.wait,
+            missing: Texts::new(alloc),
+            answer,
+        }
+    }
 }

@@ -1,3 +1,6 @@
+ghost use Rattle.std.specs.Prelude.{◌≡◌};
+ghost use Rattle.pam_library.specs.Slots.{is_open};
+
 use conv_port::Conv;
 use pam_handle::Handle;
 
@@ -24,4 +27,15 @@ impl SlotTold for Slot {
     ghost tells = { slot_tells (λ b. (Conv-box b).conv_tells b.value) };
 
     ghost plain = { plain_slot (λ b. (Conv-box b).conv_holds b.value) };
+}
+
+impl Slot {
+    pub fn is_open(&self) -> bool
+        ensures { result ≡ is_open (⟦<Slot as SlotTold>⟧.plain self.now) }
+    {
+        match self {
+            Slot::Closed(_) => false,
+            Slot::Open(_) => true,
+        }
+    }
 }
