@@ -2,4 +2,5 @@ pub mod Placing
 pub mod Neighbours
 pub mod Following
 pub mod Spending
+pub mod Stacking
 mod Rows

@@ -6,8 +6,10 @@ mod laws;
 mod library;
 mod outcome;
 mod slot;
+mod stack_call;
 mod texts;
 mod values;
+mod world;
 
 pub use laws::{
     calls_stand_for_their_events, closed_places_stand_for_none, one_place_moves,
