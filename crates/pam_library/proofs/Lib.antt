@@ -3,4 +3,5 @@ pub mod Neighbours
 pub mod Following
 pub mod Spending
 pub mod Stacking
+pub mod Within
 mod Rows

@@ -1,5 +1,5 @@
 -- What a call on one place comes to, in one record for the private functions that do it.
-use Rattle.std.specs.Prelude.{◌≡◌, ℕ, Bool, true, ◌&&◌, IsTrue, IsOk, OnErr, IfOk, List, Some, Result, length}
+use Rattle.std.specs.Prelude.{◌≡◌, ℕ, Bool, true, false, ◌&&◌, IsTrue, IsOk, OnErr, IfOk, List, Some, Result, Ok, Err, length}
 use Rattle.pam_base.specs.declared.code.Code.{Code}
 use Rattle.pam_base.specs.declared.call.Func.{Func}
 use Rattle.pam_base.specs.declared.call.Func.TheVariants as funcs
@@ -14,7 +14,8 @@ use Rattle.pam_handle.specs.Handle.{PlainHandle}
 use Rattle.pam_library.specs.declared.outcome.Outcome.{Outcome}
 use Rattle.pam_library.specs.Outcome.{plain_outcome}
 use Rattle.pam_library.specs.Slots.{PlainSlot, closed, opened, data_in}
-use Rattle.pam_library.specs.SlotStep.{SlotStepsAs, filed_in, open_step, slot_step}
+use Rattle.conv_port.specs.Conv.{ConvState}
+use Rattle.pam_library.specs.SlotStep.{SlotStepsAs, filed_in, offered, open_step, slot_step}
 use Rattle.pam_library.specs.Sound.{IsAtPlace}
 use Rattle.pam_library.specs.AnyWorld.{AnswersBy, CanAnswer, Fails, SpendsAt, is_free, refusal, stays_inside, takes_no_memory}
 
@@ -59,3 +60,12 @@ stack_app_call funcs.AcctMgmt flags = calls.AcctMgmt flags
 stack_app_call funcs.OpenSession flags = calls.OpenSession flags
 stack_app_call funcs.CloseSession flags = calls.CloseSession flags
 stack_app_call funcs.ChAuthTok flags = calls.ChAuthTok flags
+
+-- a reply was offered to a conversation, or there was no memory, and then it holds what it held
+abbrev pub IsOffered : Result Outcome NoMemory → List ℕ → ConvState → ConvState → Type 0
+IsOffered (Ok o) text old new = new ≡ offered text old
+IsOffered (Err e) text old new = new ≡ old
+
+abbrev pub is_end : AppCall → Bool
+is_end (calls.End status) = true
+is_end call = false

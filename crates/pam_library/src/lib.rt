@@ -2,9 +2,11 @@
 //! leaves every other as it was.
 #![tactic(auto)]
 
+mod calls;
 mod laws;
 mod library;
 mod outcome;
+mod reply;
 mod slot;
 mod stack_call;
 mod texts;

@@ -1,4 +1,5 @@
 ghost use Rattle.std.specs.Prelude.{◌≡◌};
+ghost use Rattle.pam_handle.specs.Items.{all_told};
 ghost use Rattle.pam_handle.specs.Plain.{plain_handle, room_in};
 ghost use Rattle.pam_library.specs.InPlace.{GoesInside};
 
@@ -9,6 +10,8 @@ use pam_handle::Handle;
 use pam_room::{Room, RoomTold};
 use std::alloc::Global;
 
+// Each of these calls is one on a transaction that told all that it had to tell.
+
 pub(crate) fn set_item(
     alloc: Global,
     handle: &mut Handle,
@@ -16,6 +19,7 @@ pub(crate) fn set_item(
     item: ItemName,
     value: &Option<Text>,
 ) -> Result<Outcome, NoMemory>
+    requires { plain_handle ⟦<Room as RoomTold>⟧.plain handle.old ≡ all_told (plain_handle ⟦<Room as RoomTold>⟧.plain handle.old) }
     ensures goes { GoesInside (AppCall.SetItem item value.now) filed_from (plain_handle ⟦<Room as RoomTold>⟧.plain handle.old) result (plain_handle ⟦<Room as RoomTold>⟧.plain handle.new) }
     ensures tells { ⟦<Room as RoomTold>⟧.tells (room_in handle.new) ≡ ⟦<Room as RoomTold>⟧.tells (room_in handle.old) }
 {
@@ -32,6 +36,7 @@ pub(crate) fn get_item(
     filed_from: u64,
     item: ItemName,
 ) -> Result<Outcome, NoMemory>
+    requires { plain_handle ⟦<Room as RoomTold>⟧.plain handle.now ≡ all_told (plain_handle ⟦<Room as RoomTold>⟧.plain handle.now) }
     ensures { GoesInside (AppCall.GetItem item) filed_from (plain_handle ⟦<Room as RoomTold>⟧.plain handle.now) result (plain_handle ⟦<Room as RoomTold>⟧.plain handle.now) }
 {
     match handle.get_item(item) {
@@ -49,6 +54,7 @@ pub(crate) fn put_env(
     filed_from: u64,
     text: &Text,
 ) -> Result<Outcome, NoMemory>
+    requires { plain_handle ⟦<Room as RoomTold>⟧.plain handle.old ≡ all_told (plain_handle ⟦<Room as RoomTold>⟧.plain handle.old) }
     ensures goes { GoesInside (AppCall.PutEnv text.now) filed_from (plain_handle ⟦<Room as RoomTold>⟧.plain handle.old) result (plain_handle ⟦<Room as RoomTold>⟧.plain handle.new) }
     ensures tells { ⟦<Room as RoomTold>⟧.tells (room_in handle.new) ≡ ⟦<Room as RoomTold>⟧.tells (room_in handle.old) }
 {
@@ -65,6 +71,7 @@ pub(crate) fn get_env(
     filed_from: u64,
     name: &Text,
 ) -> Result<Outcome, NoMemory>
+    requires { plain_handle ⟦<Room as RoomTold>⟧.plain handle.now ≡ all_told (plain_handle ⟦<Room as RoomTold>⟧.plain handle.now) }
     ensures { GoesInside (AppCall.GetEnv name.now) filed_from (plain_handle ⟦<Room as RoomTold>⟧.plain handle.now) result (plain_handle ⟦<Room as RoomTold>⟧.plain handle.now) }
 {
     let text = copy_of(alloc, handle.getenv(name.bytes()))?;
@@ -72,6 +79,7 @@ pub(crate) fn get_env(
 }
 
 pub(crate) fn list_env(alloc: Global, handle: &Handle, filed_from: u64) -> Result<Outcome, NoMemory>
+    requires { plain_handle ⟦<Room as RoomTold>⟧.plain handle.now ≡ all_told (plain_handle ⟦<Room as RoomTold>⟧.plain handle.now) }
     ensures { GoesInside AppCall.EnvList filed_from (plain_handle ⟦<Room as RoomTold>⟧.plain handle.now) result (plain_handle ⟦<Room as RoomTold>⟧.plain handle.now) }
 {
     let texts = handle.getenvlist(alloc)?;
@@ -84,6 +92,7 @@ pub(crate) fn request_delay(
     filed_from: u64,
     micros: u32,
 ) -> Result<Outcome, NoMemory>
+    requires { plain_handle ⟦<Room as RoomTold>⟧.plain handle.old ≡ all_told (plain_handle ⟦<Room as RoomTold>⟧.plain handle.old) }
     ensures goes { GoesInside (AppCall.FailDelay micros) filed_from (plain_handle ⟦<Room as RoomTold>⟧.plain handle.old) result (plain_handle ⟦<Room as RoomTold>⟧.plain handle.new) }
     ensures tells { ⟦<Room as RoomTold>⟧.tells (room_in handle.new) ≡ ⟦<Room as RoomTold>⟧.tells (room_in handle.old) }
 {
@@ -97,6 +106,7 @@ pub(crate) fn turn_delay(
     filed_from: u64,
     on: bool,
 ) -> Result<Outcome, NoMemory>
+    requires { plain_handle ⟦<Room as RoomTold>⟧.plain handle.old ≡ all_told (plain_handle ⟦<Room as RoomTold>⟧.plain handle.old) }
     ensures goes { GoesInside (AppCall.DelayFn on) filed_from (plain_handle ⟦<Room as RoomTold>⟧.plain handle.old) result (plain_handle ⟦<Room as RoomTold>⟧.plain handle.new) }
     ensures tells { ⟦<Room as RoomTold>⟧.tells (room_in handle.new) ≡ ⟦<Room as RoomTold>⟧.tells (room_in handle.old) }
 {
