@@ -3,6 +3,7 @@
 #![tactic(auto)]
 
 mod calls;
+mod end;
 mod laws;
 mod library;
 mod outcome;

@@ -1,13 +1,21 @@
 ghost use Rattle.std.specs.Prelude.{◌≡◌};
 ghost use Rattle.pam_library.specs.Slots.{is_open};
 
+use crate::outcome::Outcome;
 use conv_port::Conv;
+use pam_base::NoMemory;
 use pam_handle::Handle;
 
 /// A place for a transaction: closed, with a conversation, or open.
 pub enum Slot {
     Closed(Box<dyn Conv>),
     Open(Handle),
+}
+
+/// A place after a call on it, and what the call came to.
+pub struct Stepped {
+    pub slot: Slot,
+    pub outcome: Result<Outcome, NoMemory>,
 }
 
 /// Names what a place holds and whether its conversation tells, for contracts.
