@@ -4,4 +4,5 @@ pub mod Following
 pub mod Spending
 pub mod Stacking
 pub mod Within
+pub mod Starting
 mod Rows

@@ -1,18 +1,24 @@
 -- What a call on one place comes to, in one record for the private functions that do it.
 use Rattle.std.specs.Prelude.{◌≡◌, ℕ, Bool, true, false, ◌&&◌, IsTrue, IsOk, OnErr, IfOk, List, Some, Result, Ok, Err, length}
 use Rattle.pam_base.specs.declared.code.Code.{Code}
+use Rattle.pam_base.specs.declared.code.Code.TheVariants as codes
+use Rattle.pam_base.specs.declared.fault.Refuse.{Refuse}
+use Rattle.pam_base.specs.declared.fault.Refuse.TheVariants as refusals
 use Rattle.pam_base.specs.declared.call.Func.{Func}
 use Rattle.pam_base.specs.declared.call.Func.TheVariants as funcs
 use Rattle.pam_base.specs.declared.call.AppCall.{AppCall}
 use Rattle.pam_base.specs.declared.call.AppCall.TheVariants as calls
 use Rattle.pam_base.specs.declared.fault.NoMemory.{NoMemory}
+use Rattle.service_load.specs.declared.load_fault.LoadFault.{LoadFault}
 use Rattle.dispatch_core.specs.Lines.{names_of}
 use Rattle.pam_room.specs.Module.{Player, notes_of}
 use Rattle.pam_room.specs.State.{PlainWorld, PlainProcess}
 use Rattle.pam_room.specs.Stays.{IsReady}
 use Rattle.pam_handle.specs.Handle.{PlainHandle}
+use Rattle.pam_handle.specs.Items.{missing_from}
 use Rattle.pam_library.specs.declared.outcome.Outcome.{Outcome}
-use Rattle.pam_library.specs.Outcome.{plain_outcome}
+use Rattle.pam_library.specs.declared.outcome.Answer.TheVariants as answers
+use Rattle.pam_library.specs.Outcome.{PlainOutcome, answers_only, plain_outcome}
 use Rattle.pam_library.specs.Slots.{PlainSlot, closed, opened, data_in}
 use Rattle.conv_port.specs.Conv.{ConvState}
 use Rattle.pam_library.specs.SlotStep.{SlotStepsAs, filed_in, offered, open_step, slot_step}
@@ -69,3 +75,33 @@ IsOffered (Err e) text old new = new ≡ old
 abbrev pub is_end : AppCall → Bool
 is_end (calls.End status) = true
 is_end call = false
+
+-- ---- a start
+
+-- the outcome of a start that opened a transaction
+abbrev pub opened_outcome : ℕ → PlainHandle → PlainOutcome
+opened_outcome filed h = record (answers_only filed (answers.Code codes.Success)) { missing = missing_from h.names h.stacks }
+
+-- A transaction without data was opened in a place, or there was no memory to tell what is missing; then its place is closed
+-- with its conversation. Nothing is filed.
+pub record OpensPlace (filed : ℕ) (h : PlainHandle) (o : Outcome) (slot : PlainSlot) : Type 0 where
+  pub slot_is : slot ≡ opened h
+  pub outcome_is : plain_outcome o ≡ opened_outcome filed h
+  pub answer_is : o.answer ≡ answers.Code codes.Success
+  pub filed_is : o.filed_from ≡ filed
+
+abbrev pub IsOpened : ℕ → PlainHandle → Result Outcome NoMemory → PlainSlot → Type 0
+IsOpened filed h (Ok o) slot = OpensPlace filed h o slot
+IsOpened filed h (Err e) slot = slot ≡ closed h.room.conv
+
+-- a start was refused by a fault of the configuration, or found no memory
+pub record RefusesPlace (filed : ℕ) (fault : LoadFault) (o : Outcome) : Type 0 where
+  pub outcome_is : plain_outcome o ≡ answers_only filed (answers.Refused fault)
+  pub answer_is : o.answer ≡ answers.Refused fault
+  pub filed_is : o.filed_from ≡ filed
+
+abbrev pub IsRefused : ℕ → Refuse LoadFault → Result Outcome NoMemory → Type 0
+IsRefused filed (refusals.Named fault) (Ok o) = RefusesPlace filed fault o
+IsRefused filed (refusals.Named fault) (Err e) = ⊥
+IsRefused filed refusals.NoMemory (Ok o) = ⊥
+IsRefused filed refusals.NoMemory (Err e) = Unit {0}

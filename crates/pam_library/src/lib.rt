@@ -10,6 +10,7 @@ mod outcome;
 mod reply;
 mod slot;
 mod stack_call;
+mod start;
 mod texts;
 mod values;
 mod world;

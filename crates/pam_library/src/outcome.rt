@@ -64,6 +64,22 @@ impl Outcome {
         }
     }
 
+    // SUCCESS of a start, and the modules that are missing. It takes no memory.
+    pub(crate) fn missing(alloc: Global, filed_from: u64, missing: Texts) -> Self
+        ensures plain { plain_outcome result ≡ record (answers_only filed_from (Answer.Code Code.Success)) { missing = missing } }
+        ensures answer { result.answer ≡ Answer.Code Code.Success }
+        ensures filed_from { result.filed_from ≡ filed_from }
+    {
+        Outcome {
+            said: Messages::new(alloc),
+            trail: Visits::new(alloc),
+            filed_from,
+            wait: None,
+            missing,
+            answer: Answer::Code(Code::Success),
+        }
+    }
+
     // An answer, and what was told. It takes no memory.
     pub(crate) fn telling(alloc: Global, filed_from: u64, told: Told, answer: Answer) -> Self
         ensures plain { plain_outcome result ≡ record { said = told.said; trail = told.trail.visits; filed_from = filed_from; wait = told.wait; missing = []; answer = answer } }
