@@ -5,4 +5,5 @@ pub mod Spending
 pub mod Stacking
 pub mod Within
 pub mod Starting
+pub mod Onward
 mod Rows

@@ -2,6 +2,7 @@
 //! leaves every other as it was.
 #![tactic(auto)]
 
+mod apply;
 mod calls;
 mod end;
 mod laws;
@@ -11,6 +12,7 @@ mod reply;
 mod slot;
 mod stack_call;
 mod start;
+mod step;
 mod texts;
 mod values;
 mod world;
