@@ -1,4 +1,6 @@
 pub mod Placing
+pub mod Holding
+pub mod Naming
 pub mod Neighbours
 pub mod Following
 pub mod Spending
@@ -6,4 +8,5 @@ pub mod Stacking
 pub mod Within
 pub mod Starting
 pub mod Onward
+pub mod Applying
 mod Rows

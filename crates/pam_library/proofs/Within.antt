@@ -92,6 +92,10 @@ pub first_of : (a b : Bool) → IsTrue (a && b) → IsTrue a
 first_of true b e = refl
 first_of false b e = absurd (cc)
 
+pub both_of : (a b : Bool) → IsTrue a → IsTrue b → IsTrue (a && b)
+both_of true b e f = f
+both_of false b e f = absurd (cc)
+
 pub second_of : (a b : Bool) → IsTrue (a && b) → IsTrue b
 second_of true b e = e
 second_of false b e = absurd (cc)

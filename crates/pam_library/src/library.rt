@@ -6,6 +6,7 @@ use crate::slot::Slot;
 use conv_port::Conv;
 use pam_base::NoMemory;
 use pam_handle::{Gear, GearTold};
+use pam_room::Module;
 use std::alloc::Global;
 use std::mem;
 
@@ -79,7 +80,7 @@ impl Library {
         requires { owner < length (⟦<Gear as GearTold>⟧.players (gear_in self.now)) }
         ensures { slice_get (names_of (⟦<Gear as GearTold>⟧.players (gear_in self.now))) owner ≡ Some result.now }
     {
-        self.gear.mods[owner as usize].name()
+        name_of(&self.gear.mods[owner as usize])
     }
 
     /// Makes the conversation that of the place with this number, from 1 to 16, be it open or not, and gives the old one
@@ -113,4 +114,10 @@ impl Library {
         }
         slots.destroy_empty();
     }
+}
+
+fn name_of(handler: &Box<dyn Module>) -> &[u8]
+    ensures { result.now ≡ label handler.now }
+{
+    handler.name()
 }
