@@ -9,4 +9,5 @@ pub mod Within
 pub mod Starting
 pub mod Onward
 pub mod Applying
+pub mod Ending
 mod Rows

@@ -4,6 +4,7 @@
 
 mod apply;
 mod calls;
+mod close_one;
 mod end;
 mod laws;
 mod library;
