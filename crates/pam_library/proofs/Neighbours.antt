@@ -58,8 +58,8 @@ module _ (players : List Player) (number_of : Code → ℕ → ℕ) where
     slot_alone (m ∷ steps) slots slot is =
         let next : List PlainSlot = (stepped players number_of slots m.world m.step).slots in
         elim (nat_eq m.step.number number) as (λ (b : Bool). nat_eq m.step.number number ≡ b → slot_at (slots_after players number_of next steps) number ≡ Some (alone players number_of number slot (if b then m ∷ own_steps number steps else own_steps number steps))) [
-          true ↦ λ e. slot_alone steps next (of_place number slot m) (own_slot number slots m slot (grind (arith, nat_tests)) is)
-        | false ↦ λ e. slot_alone steps next slot (other_slot number slots m (λ (same : number ≡ m.step.number). grind (arith, nat_tests)) ∙ is)
+          | true ↦ λ e. slot_alone steps next (of_place number slot m) (own_slot number slots m slot (grind (arith, nat_tests)) is)
+          | false ↦ λ e. slot_alone steps next slot (other_slot number slots m (λ (same : number ≡ m.step.number). grind (arith, nat_tests)) ∙ is)
         ] refl
 
     pub outcomes_are : (steps : List Met) (slots : List PlainSlot) (slot : PlainSlot) → slot_at slots number ≡ Some slot → OutcomesAgree slots slot steps
@@ -67,11 +67,11 @@ module _ (players : List Player) (number_of : Code → ℕ → ℕ) where
     outcomes_are (m ∷ steps) slots slot is =
         let s : Stepped = stepped players number_of slots m.world m.step in
         elim (nat_eq m.step.number number) as (λ (b : Bool). nat_eq m.step.number number ≡ b →
-            (if b then s.outcome ∷ outcomes_on players number_of number s.slots steps else outcomes_on players number_of number s.slots steps)
-            ≡ outcomes_alone players number_of number slot (if b then m ∷ own_steps number steps else own_steps number steps)) [
-          true ↦ λ e.
-            let same : m.step.number ≡ number = grind (arith, nat_tests) in
-            ap (λ (o : PlainOutcome). o ∷ outcomes_on players number_of number s.slots steps) (own_outcome number slots m slot same is)
-            ∙ ap (λ (os : List PlainOutcome). (slot_step players number_of number slot m.world m.step.call).outcome ∷ os) (outcomes_are steps s.slots (of_place number slot m) (own_slot number slots m slot same is))
-        | false ↦ λ e. outcomes_are steps s.slots slot (other_slot number slots m (λ (same : number ≡ m.step.number). grind (arith, nat_tests)) ∙ is)
+        (if b then s.outcome ∷ outcomes_on players number_of number s.slots steps else outcomes_on players number_of number s.slots steps)
+        ≡ outcomes_alone players number_of number slot (if b then m ∷ own_steps number steps else own_steps number steps)) [
+          | true ↦ λ e.
+              let same : m.step.number ≡ number = grind (arith, nat_tests) in
+              ap (λ (o : PlainOutcome). o ∷ outcomes_on players number_of number s.slots steps) (own_outcome number slots m slot same is)
+              ∙ ap (λ (os : List PlainOutcome). (slot_step players number_of number slot m.world m.step.call).outcome ∷ os) (outcomes_are steps s.slots (of_place number slot m) (own_slot number slots m slot same is))
+          | false ↦ λ e. outcomes_are steps s.slots slot (other_slot number slots m (λ (same : number ≡ m.step.number). grind (arith, nat_tests)) ∙ is)
         ] refl

@@ -83,12 +83,12 @@ module _ (names : List (List ℕ)) (modules : ℕ) (slots : List PlainSlot) (num
 
   all_lists : data_in number (Some new) ≡ data_in number (Some old) → (h : ℕ) → lists_of (with_slot slots number new) h ≡ lists_of slots h
   all_lists same h = elim (nat_eq h number) as (λ (b : Bool). nat_eq h number ≡ b → lists_of (with_slot slots number new) h ≡ lists_of slots h) [
-    true ↦ λ e.
-      let at : h ≡ number = grind (arith, nat_tests) in
-      let here : lists_of (with_slot slots number new) number ≡ lists_of slots number = sym list_after ∙ same ∙ list_before in
-      subst (λ (n : ℕ). lists_of (with_slot slots number new) n ≡ lists_of slots n) (sym at) here
+    | true ↦ λ e.
+        let at : h ≡ number = grind (arith, nat_tests) in
+        let here : lists_of (with_slot slots number new) number ≡ lists_of slots number = sym list_after ∙ same ∙ list_before in
+        subst (λ (n : ℕ). lists_of (with_slot slots number new) n ≡ lists_of slots n) (sym at) here
     | false ↦ λ e. others h e
-    ] refl
+  ] refl
 
   grown : (note : Notes) → Grows note modules (data_in number (Some old)) before (data_in number (Some new)) after → Grows note modules (lists_of slots number) before (lists_of (with_slot slots number new) number) after
   grown note g =
@@ -116,13 +116,13 @@ module _ (names : List (List ℕ)) (modules : ℕ) (slots : List PlainSlot) (num
 
   new_at : (n : ℕ) (slot : PlainSlot) → slot_at (with_slot slots number new) n ≡ Some slot → IsAtPlace names n slot
   new_at n slot is = elim (nat_eq n number) as (λ (b : Bool). nat_eq n number ≡ b → IsAtPlace names n slot) [
-    true ↦ λ e.
-      let at : n ≡ number = grind (arith, nat_tests) in
-      let here : slot_at (with_slot slots number new) number ≡ Some slot = ap (slot_at (with_slot slots number new)) (sym at) ∙ is in
-      let same : new ≡ slot = let f = slot_at-with_slot_same slots number old new done.there in cc in
-      subst (λ (k : ℕ). IsAtPlace names k slot) (sym at) (subst (IsAtPlace names number) same done.placed)
+    | true ↦ λ e.
+        let at : n ≡ number = grind (arith, nat_tests) in
+        let here : slot_at (with_slot slots number new) number ≡ Some slot = ap (slot_at (with_slot slots number new)) (sym at) ∙ is in
+        let same : new ≡ slot = let f = slot_at-with_slot_same slots number old new done.there in cc in
+        subst (λ (k : ℕ). IsAtPlace names k slot) (sym at) (subst (IsAtPlace names number) same done.placed)
     | false ↦ λ e. done.sound.placed.each n slot (sym (slot_at-with_slot_other slots number n new (λ (same : n ≡ number). grind (arith, nat_tests))) ∙ is)
-    ] refl
+  ] refl
 
   placed_after : ArePlaced names (with_slot slots number new)
   placed_after = record { sixteen = length-with_slot slots number new ∙ done.sound.placed.sixteen; each = new_at }
@@ -218,7 +218,7 @@ closed_are_sound holds nothing at_first names modules convs sixteen =
     let note : Notes = λ (owner : ℕ) (payload : List ℕ) (status : ℕ). 0 in
     let next : Lists = lists_of (map closed convs) in
     let g : Grows note modules (no_lists 1) empty_ledger (next 1) empty_ledger =
-      subst (λ (l : PlainDataList). Grows note modules (no_lists 1) empty_ledger l empty_ledger) (sym (no_data convs 1)) (nothing note modules (no_lists 1) empty_ledger refl) in
+    subst (λ (l : PlainDataList). Grows note modules (no_lists 1) empty_ledger l empty_ledger) (sym (no_data convs 1)) (nothing note modules (no_lists 1) empty_ledger refl) in
     record {
       placed = record { sixteen = length-closed convs ∙ sixteen; each = closed_are_placed names convs };
       held = holds note modules 17 1 empty_ledger empty_ledger no_lists next (at_first modules 17) (omega arith) g (λ h e. no_data convs h) tt;

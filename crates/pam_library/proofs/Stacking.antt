@@ -178,15 +178,15 @@ module _ (players : List Player) (gives : (Code → ℕ → ℕ) → Type 0) (te
       → GoesInPlace players gives tells world_tells h.room.transaction.handle (stack_app_call func flags) (opened h) w (Ok o) (opened h) w
   stack_refused o refused grows told names gone is only =
       let steps : (number_of : Code → ℕ → ℕ) → SlotStepsAs (slot_step players number_of h.room.transaction.handle (opened h) w (stack_app_call func flags)) (plain_outcome o) (opened h) w =
-        λ number_of.
-        let c : SlotStepped = told_by (filed_in w) (answers.Code (stack_call players number_of func flags (all_told h) w).code) (stack_call players number_of func flags (all_told h) w) in
-        let e : slot_step players number_of h.room.transaction.handle (opened h) w (stack_app_call func flags) ≡ answered (opened (all_told h)) w refused =
-          step_is players number_of h.room.transaction.handle func flags h w ∙ refused_by (is_refused_for_flags func flags) (other_pending h.pending func) (opened (all_told h)) w c refused is in
-        record {
-          outcome_is = only.plain ∙ sym (ap (λ (s : SlotStepped). s.outcome) e);
-          slot_is = ap opened told ∙ sym (ap (λ (s : SlotStepped). s.slot) e);
-          world_is = sym (ap (λ (s : SlotStepped). s.world) e);
-        } in
+      λ number_of.
+      let c : SlotStepped = told_by (filed_in w) (answers.Code (stack_call players number_of func flags (all_told h) w).code) (stack_call players number_of func flags (all_told h) w) in
+      let e : slot_step players number_of h.room.transaction.handle (opened h) w (stack_app_call func flags) ≡ answered (opened (all_told h)) w refused =
+      step_is players number_of h.room.transaction.handle func flags h w ∙ refused_by (is_refused_for_flags func flags) (other_pending h.pending func) (opened (all_told h)) w c refused is in
+      record {
+        outcome_is = only.plain ∙ sym (ap (λ (s : SlotStepped). s.outcome) e);
+        slot_is = ap opened told ∙ sym (ap (λ (s : SlotStepped). s.slot) e);
+        world_is = sym (ap (λ (s : SlotStepped). s.world) e);
+      } in
       record {
         told = λ number_of given all. steps number_of;
         alone = λ number_of inside. steps number_of;

@@ -107,8 +107,8 @@ module _ (players : List Player) (gives : (Code → ℕ → ℕ) → Type 0) (te
       → GoesInPlace players gives tells world_tells h.room.transaction.handle call (opened h) w result (opened next) w
   inside_goes call n result next inside grows told names gone filed goes =
       let steps : (number_of : Code → ℕ → ℕ) → IfOk result (λ o. SlotStepsAs (slot_step players number_of h.room.transaction.handle (opened h) w call) (plain_outcome o) (opened next) w) =
-        λ number_of. steps_by result (open_step players number_of h w call) (open_step players number_of (all_told h) w call) (opened next) w
-          (ap (λ (k : PlainHandle). open_step players number_of k w call) told) (goes.steps players number_of w (sym filed)) in
+      λ number_of. steps_by result (open_step players number_of h w call) (open_step players number_of (all_told h) w call) (opened next) w
+      (ap (λ (k : PlainHandle). open_step players number_of k w call) told) (goes.steps players number_of w (sym filed)) in
       record {
         told = λ number_of given all. steps number_of;
         alone = λ number_of inside. steps number_of;
@@ -118,8 +118,8 @@ module _ (players : List Player) (gives : (Code → ℕ → ℕ) → Type 0) (te
         fails = failed_by result (next ≡ h) (Fails tells call (opened h) (opened next)) (λ (same : next ≡ h). fails_same tells call h next inside (same ∙ told)) goes.fails;
         placed = record { handle = goes.handle; started_with = goes.names ∙ names };
         spends = spends_same (notes_of players) (length players) call h h.room.transaction.datums next.room.transaction.datums w.process.ledger w.process.ledger inside
-          (subst (λ (l : PlainDataList). Grows (notes_of players) (length players) h.room.transaction.datums w.process.ledger l w.process.ledger) (sym goes.datums)
-          (grows (notes_of players) (length players) h.room.transaction.datums w.process.ledger gone));
+            (subst (λ (l : PlainDataList). Grows (notes_of players) (length players) h.room.transaction.datums w.process.ledger l w.process.ledger) (sym goes.datums)
+            (grows (notes_of players) (length players) h.room.transaction.datums w.process.ledger gone));
         root = refl;
         caller = refl;
       }
@@ -130,7 +130,7 @@ module _ (players : List Player) (gives : (Code → ℕ → ℕ) → Type 0) (te
       → GoesInPlace players gives tells world_tells h.room.transaction.handle (calls.Start service user) (opened h) w (Ok o) (opened h) w
   already_goes service user o grows told names gone only =
       let steps : (number_of : Code → ℕ → ℕ) → SlotStepsAs (slot_step players number_of h.room.transaction.handle (opened h) w (calls.Start service user)) (plain_outcome o) (opened h) w =
-        λ number_of. record { outcome_is = only.plain; slot_is = ap opened told; world_is = refl } in
+      λ number_of. record { outcome_is = only.plain; slot_is = ap opened told; world_is = refl } in
       record {
         told = λ number_of given all. steps number_of;
         alone = λ number_of inside. steps number_of;

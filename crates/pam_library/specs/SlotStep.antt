@@ -104,7 +104,7 @@ module _ (players : List Player) (number : Code → ℕ → ℕ) where
   stack_step func flags h w =
       if is_refused_for_flags func flags then answered (opened h) w (answers.Code codes.SystemErr)
       else unless_pending (other_pending h.pending func) (opened h) w
-          (let c = stack_call players number func flags h w in told_by (filed_in w) (answers.Code c.code) c)
+      (let c = stack_call players number func flags h w in told_by (filed_in w) (answers.Code c.code) c)
 
   -- ---- the calls on an open transaction that told all that it had to tell
 

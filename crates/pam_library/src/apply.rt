@@ -38,7 +38,12 @@ impl Library {
     /// nothing kept of its own, and any other call leaves transaction and world as they were.
     ///
     /// The births of the world's ledger that have no receipt are exactly the data of the open transactions, before and after.
-    pub fn apply(&mut self, alloc: Global, world: &mut World, step: &Step) -> Result<Outcome, NoMemory>
+    pub fn apply(
+        &mut self,
+        alloc: Global,
+        world: &mut World,
+        step: &Step,
+    ) -> Result<Outcome, NoMemory>
         requires sound { IsSound (names_of (⟦<Gear as GearTold>⟧.players (gear_in self.old))) (length (⟦<Gear as GearTold>⟧.players (gear_in self.old))) (⟦<Library as LibraryTold>⟧.slots self.old) (⟦<World as WorldTold>⟧.plain world.old).process.ledger }
         requires fit { IsTrue (is_fit step.now.call) }
 

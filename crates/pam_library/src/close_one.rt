@@ -57,7 +57,7 @@ impl Library {
                 world.process.ledger.sound();
                 Some(place as u32 + 1)
             }
-            Slot::Closed(_) => unreachable!(),
+            Slot::Closed(_conv) => unreachable!(),
         }
     }
 }

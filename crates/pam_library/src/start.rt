@@ -77,7 +77,15 @@ pub(crate) fn start(
     ensures faults { IfOk result.outcome (λ outcome. CountsRefusal outcome.answer (vault_faults (in_box world.old.vault)) (vault_faults (in_box world.new.vault))) }
 {
     let filed_from = receipts_in(world);
-    match Handle::start(alloc, gear, world, number, service.bytes(), bytes_of(user), conv) {
+    match Handle::start(
+        alloc,
+        gear,
+        world,
+        number,
+        service.bytes(),
+        bytes_of(user),
+        conv,
+    ) {
         Ok(handle) => open(alloc, gear, world, handle, filed_from),
         Err(refused) => refuse(alloc, refused, filed_from),
     }

@@ -82,13 +82,7 @@ fn step_closed(
 }
 
 // A step on an open place. What its transaction had told before is thrown away.
-fn step_open(
-    alloc: Global,
-    gear: &Gear,
-    world: &mut World,
-    handle: Handle,
-    step: &Step,
-) -> Stepped
+fn step_open(alloc: Global, gear: &Gear, world: &mut World, handle: Handle, step: &Step) -> Stepped
     requires placed { IsPlaced (names_of (⟦<Gear as GearTold>⟧.players gear.now)) step.now.number (plain_handle ⟦<Room as RoomTold>⟧.plain handle) }
     requires ready { IsReady (length (⟦<Gear as GearTold>⟧.players gear.now)) (plain_handle ⟦<Room as RoomTold>⟧.plain handle).room.transaction (⟦<World as WorldTold>⟧.plain world.old).process }
     requires few { length (⟦<Gear as GearTold>⟧.players gear.now) < 2 ^ 32 }

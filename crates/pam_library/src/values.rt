@@ -25,7 +25,11 @@ pub(crate) fn set_item(
 {
     match handle.set_item(item, bytes_of(value)) {
         Ok(()) => Ok(Outcome::only(alloc, filed_from, Answer::Code(Code::Success))),
-        Err(Refuse::Named(BadItem)) => Ok(Outcome::only(alloc, filed_from, Answer::Code(Code::BadItem))),
+        Err(Refuse::Named(BadItem)) => Ok(Outcome::only(
+            alloc,
+            filed_from,
+            Answer::Code(Code::BadItem),
+        )),
         Err(Refuse::NoMemory) => Err(NoMemory),
     }
 }
@@ -60,7 +64,11 @@ pub(crate) fn put_env(
 {
     match handle.putenv(text.bytes()) {
         Ok(()) => Ok(Outcome::only(alloc, filed_from, Answer::Code(Code::Success))),
-        Err(Refuse::Named(BadItem)) => Ok(Outcome::only(alloc, filed_from, Answer::Code(Code::BadItem))),
+        Err(Refuse::Named(BadItem)) => Ok(Outcome::only(
+            alloc,
+            filed_from,
+            Answer::Code(Code::BadItem),
+        )),
         Err(Refuse::NoMemory) => Err(NoMemory),
     }
 }

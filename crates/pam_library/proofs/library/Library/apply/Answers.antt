@@ -13,20 +13,20 @@ use Rattle.pam_library.proofs.library.Library.apply.Goals.{then-number-eq0-via-t
 pub returns-then-number-eq0-clause-inside : goal.returns-then-number-eq0-clause-inside
 returns-then-number-eq0-clause-inside g c = λ number_of inside. bad_number _ number_of _ _ c.args.step.now c.only.result
     (elim c.then-number-eq0.branch [
-      then-number-eq0-via-then-number-eq0 w ↦ none_first _ _ w.if-number-eq0.true
-    | then-number-eq0-via-else-number-eq0+then-len-number w ↦
-      let beyond : length c.args.self.now.slots.items < c.args.step.now.number = omega (arith, w.if-len-number.true, w.len.ensures) in
-      none_beyond _ _ (slots_length _ c.args.self.now.slots.items c.args.step.now.number beyond)
+      | then-number-eq0-via-then-number-eq0 w ↦ none_first _ _ w.if-number-eq0.true
+      | then-number-eq0-via-else-number-eq0+then-len-number w ↦
+          let beyond : length c.args.self.now.slots.items < c.args.step.now.number = omega (arith, w.if-len-number.true, w.len.ensures) in
+          none_beyond _ _ (slots_length _ c.args.self.now.slots.items c.args.step.now.number beyond)
     ])
     (only_of _ _ _ _ c.only.ensures.plain c.only.ensures.answer c.only.ensures.filed_from c.receipts_in-filed_from.ensures)
 
 pub returns-then-number-eq0-clause-told : goal.returns-then-number-eq0-clause-told
 returns-then-number-eq0-clause-told g c = λ number_of given all. bad_number _ number_of _ _ c.args.step.now c.only.result
     (elim c.then-number-eq0.branch [
-      then-number-eq0-via-then-number-eq0 w ↦ none_first _ _ w.if-number-eq0.true
-    | then-number-eq0-via-else-number-eq0+then-len-number w ↦
-      let beyond : length c.args.self.now.slots.items < c.args.step.now.number = omega (arith, w.if-len-number.true, w.len.ensures) in
-      none_beyond _ _ (slots_length _ c.args.self.now.slots.items c.args.step.now.number beyond)
+      | then-number-eq0-via-then-number-eq0 w ↦ none_first _ _ w.if-number-eq0.true
+      | then-number-eq0-via-else-number-eq0+then-len-number w ↦
+          let beyond : length c.args.self.now.slots.items < c.args.step.now.number = omega (arith, w.if-len-number.true, w.len.ensures) in
+          none_beyond _ _ (slots_length _ c.args.self.now.slots.items c.args.step.now.number beyond)
     ])
     (only_of _ _ _ _ c.only.ensures.plain c.only.ensures.answer c.only.ensures.filed_from c.receipts_in-filed_from.ensures)
 
