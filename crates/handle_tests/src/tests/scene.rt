@@ -1,0 +1,142 @@
+ghost use Rattle.std.specs.Prelude.{◌≡◌, ◌<◌, ◌^◌, length};
+ghost use Rattle.dispatch_core.specs.Lines.{names_of};
+ghost use Rattle.pam_room.specs.Stays.{IsReady};
+ghost use Rattle.pam_handle.specs.Plain.{plain_handle};
+
+use conv_port::{Conv, QueueConv};
+use data_cleanup::Ledger;
+use pam_base::{Code, Func, NoMemory, Numbers, Text};
+use pam_handle::{Gear, GearTold, Handle, Told};
+use pam_outside::{FixedClock, MemVault, NapSum};
+use pam_room::{Process, Room, RoomTold, World, WorldTold, first_bytes};
+use std::alloc::Global;
+use std::test::Fail;
+
+/// A transaction of the service `t`, with the file of its rules and what is offered to its conversation.
+#[derive(Clone, Copy)]
+pub struct Scene {
+    pub file: &'static [u8],
+    pub offers: &'static [&'static [u8]],
+    /// Stack calls with their flags, in order.
+    pub calls: &'static [(Func, u32)],
+}
+
+/// What came of it.
+#[derive(Drop)]
+pub struct Outcome {
+    /// What each call answered, and what was pending behind it.
+    pub answers: Vec<(Result<Code, NoMemory>, Option<Func>)>,
+    /// What the lines that were visited answered.
+    pub visits: Vec<Code>,
+    /// How many messages were said.
+    pub said: usize,
+    /// Id and status of each receipt, behind an end with the status 9.
+    pub receipts: Vec<(u64, u32)>,
+}
+
+pub fn world(alloc: Global, file: &[u8]) -> Result<World, Fail> {
+    let mut vault = MemVault::new(alloc, Numbers::new(alloc));
+    vault.put(alloc, b"/etc/pam.d/t", file)?;
+    Ok(World {
+        vault: Box::new(alloc, vault)?,
+        clock: Box::new(alloc, FixedClock::new(0, 0))?,
+        nap: Box::new(alloc, NapSum::new())?,
+        process: Process {
+            ledger: Ledger::new(alloc),
+            root: Text::new(alloc),
+            caller: 1,
+        },
+    })
+}
+
+pub fn queue(alloc: Global, offers: &[&[u8]]) -> Result<QueueConv, Fail> {
+    let mut queue = QueueConv::new(alloc);
+    for offer in offers {
+        queue.offer(alloc, first_bytes(offer, 512))?;
+    }
+    Ok(queue)
+}
+
+/// Plays a scene in a new transaction, which is ended with the status 9.
+pub fn play(alloc: Global, gear: &Gear, scene: &Scene) -> Result<Outcome, Fail> {
+    if gear.mods.len() > 9 {
+        return Err("too many modules")?;
+    }
+    let mut world = world(alloc, scene.file)?;
+    let conv = Box::new(alloc, queue(alloc, scene.offers)?)?;
+    let Ok(mut handle) = Handle::start(alloc, gear, &mut world, 1, b"t", Some(b"joe"), conv) else {
+        return Err("refused")?;
+    };
+    let answers = call_all(alloc, gear, &mut world, &mut handle, scene.calls);
+    let told = handle.take_told(alloc);
+    let _conv = handle.end(gear, &mut world, 9);
+    outcome_of(alloc, answers?, &told, &world.process.ledger)
+}
+
+fn outcome_of(
+    alloc: Global,
+    answers: Vec<(Result<Code, NoMemory>, Option<Func>)>,
+    told: &Told,
+    ledger: &Ledger,
+) -> Result<Outcome, Fail> {
+    let mut visits = Vec::new(alloc);
+    for visit in told.trail.items() {
+        visits.push(visit.answer)?;
+    }
+    let mut receipts = Vec::new(alloc);
+    for filed in ledger.filed() {
+        receipts.push((filed.receipt.id, filed.receipt.status))?;
+    }
+    Ok(Outcome {
+        answers,
+        visits,
+        said: told.said.len(),
+        receipts,
+    })
+}
+
+fn call_all(
+    alloc: Global,
+    gear: &Gear,
+    world: &mut World,
+    handle: &mut Handle,
+    calls: &[(Func, u32)],
+) -> Result<Vec<(Result<Code, NoMemory>, Option<Func>)>, NoMemory>
+    requires names { (plain_handle ⟦<Room as RoomTold>⟧.plain handle.old).names ≡ names_of (⟦<Gear as GearTold>⟧.players gear.now) }
+    requires few { length (⟦<Gear as GearTold>⟧.players gear.now) < 2 ^ 32 }
+    requires ready { IsReady (length (⟦<Gear as GearTold>⟧.players gear.now)) (plain_handle ⟦<Room as RoomTold>⟧.plain handle.old).room.transaction (⟦<World as WorldTold>⟧.plain world.old).process }
+    ensures names { (plain_handle ⟦<Room as RoomTold>⟧.plain handle.new).names ≡ names_of (⟦<Gear as GearTold>⟧.players gear.now) }
+    ensures ready { IsReady (length (⟦<Gear as GearTold>⟧.players gear.now)) (plain_handle ⟦<Room as RoomTold>⟧.plain handle.new).room.transaction (⟦<World as WorldTold>⟧.plain world.new).process }
+{
+    let mut answers = Vec::new(alloc);
+    for (func, flags) in calls {
+        let answer = call(alloc, gear, world, handle, *func, *flags);
+        answers.push((answer, handle.pending()))?;
+    }
+    Ok(answers)
+}
+
+/// The stack call of a function.
+pub fn call(
+    alloc: Global,
+    gear: &Gear,
+    world: &mut World,
+    handle: &mut Handle,
+    func: Func,
+    flags: u32,
+) -> Result<Code, NoMemory>
+    requires names { (plain_handle ⟦<Room as RoomTold>⟧.plain handle.old).names ≡ names_of (⟦<Gear as GearTold>⟧.players gear.now) }
+    requires few { length (⟦<Gear as GearTold>⟧.players gear.now) < 2 ^ 32 }
+    requires ready { IsReady (length (⟦<Gear as GearTold>⟧.players gear.now)) (plain_handle ⟦<Room as RoomTold>⟧.plain handle.old).room.transaction (⟦<World as WorldTold>⟧.plain world.old).process }
+    ensures names { (plain_handle ⟦<Room as RoomTold>⟧.plain handle.new).names ≡ names_of (⟦<Gear as GearTold>⟧.players gear.now) }
+    ensures ready { IsReady (length (⟦<Gear as GearTold>⟧.players gear.now)) (plain_handle ⟦<Room as RoomTold>⟧.plain handle.new).room.transaction (⟦<World as WorldTold>⟧.plain world.new).process }
+{
+    match func {
+        Func::Authenticate => handle.authenticate(alloc, gear, world, flags),
+        Func::SetCred => handle.setcred(alloc, gear, world, flags),
+        Func::AcctMgmt => handle.acct_mgmt(alloc, gear, world, flags),
+        Func::OpenSession => handle.open_session(alloc, gear, world, flags),
+        Func::CloseSession => handle.close_session(alloc, gear, world, flags),
+        Func::ChAuthTok => handle.chauthtok(alloc, gear, world, flags),
+    }
+}
