@@ -181,11 +181,14 @@ module _ (texts : List ℕ → Option (List ℕ)) (service : List ℕ) (stack : 
       let whole = pass-append texts (counts_with calls openings lines) (items_of_tree type) (flat_map items_of_tree types) (openings + openings_for (stack type)) (lines_in (stack type)) (openings + openings_for (stack type) + openings_of stack types) more.0 one more.1 in
       (more.0, subst (λ n. Passes texts (counts_with calls openings lines) (flat_map items_of_tree (type ∷ types)) n more.0) (add_assoc openings (openings_for (stack type)) (openings_of stack types)) whole)
 
+  ordered : str_to_ascii_lowercase service ≡ service → (calls : ℕ) (ends : Counts) → look texts [] (counts_with calls 0 0) (flat_map items_of_tree all_types) ≡ Ok ends → look texts [] (counts_with calls 0 0) (order texts true service) ≡ Ok ends
+  ordered lower calls ends looked =
+      ap (λ (s : List ℕ). look texts [] (counts_with calls 0 0) (flat_map (tree_items texts (plain_file (in_the_folder s)) (plain_file (in_the_folder (codes "other")))) all_types)) lower ∙ looked
+
   -- the whole order
   pub pass_order : Stands texts service stack → IsPrintable stack → str_to_ascii_lowercase service ≡ service → openings_of stack all_types ≤ 256 → (calls : ℕ)
       → (counts : Counts) × (look texts [] (counts_with calls 0 0) (order texts true service) ≡ Ok counts)
   pass_order stands is lower few calls =
-      let all = pass_trees stands is all_types calls 0 0 (omega (arith, few)) in (
-        counts_with all.1.calls (0 + openings_of stack all_types) all.0,
-        ap (λ (s : List ℕ). look texts [] (counts_with calls 0 0) (flat_map (tree_items texts (plain_file (in_the_folder s)) (plain_file (in_the_folder (codes "other")))) all_types)) lower ∙ all.1.looks,
-      )
+      let all = pass_trees stands is all_types calls 0 0 (omega (arith, few)) in
+      let ends = counts_with all.1.calls (0 + openings_of stack all_types) all.0 in
+      (ends, ordered lower calls ends all.1.looks)

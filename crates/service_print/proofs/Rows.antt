@@ -1,18 +1,31 @@
 -- Worked stacks, printed by the definitions.
 use Rattle.std.proofs.Common.{◌≡◌, ℕ, true, false, List, [], ◌∷◌, refl, Ok, Err}
-use Rattle.std.specs.Prelude.{codes}
+use Rattle.std.specs.Prelude.{codes, ◌++◌, map, replicate}
+use Rattle.std.specs.List.{list_all}
 use Rattle.std.specs.Fmt.{digits}
 use Rattle.control_words.specs.declared.control.Action.{Action}
 use Rattle.control_words.specs.declared.nodes.Rule.{Rule}
+use Rattle.pam_base.specs.Lines.{cut, lines_of}
+use Rattle.pam_outside.specs.Files.{VaultState}
+use Rattle.conf_lex.specs.Answer.{answer_to}
+use Rattle.conf_lex.specs.Lexing.{answer_at}
+use Rattle.conf_lex.specs.Reading.{units_behind, first_piece, pieces_behind}
 use Rattle.control_words.specs.Bracket.{control_of}
 use Rattle.control_words.specs.Entries.{entries_in, entries_behind}
 use Rattle.control_words.specs.Keyword.{required, optional}
 use Rattle.control_words.specs.Stack.{Stack, none, line, sub}
 use Rattle.service_load.specs.declared.rule_type.RuleType.{RuleType}
 use Rattle.service_load.specs.declared.rule_type.RuleType.TheVariants.{Auth, Session}
+use Rattle.service_load.specs.Entry.{entry_of}
+use Rattle.service_load.specs.FirstFault.{look}
+use Rattle.service_load.specs.Load.{loaded}
+use Rattle.service_load.specs.Loading.{texts_of}
+use Rattle.service_load.specs.Order.{items}
+use Rattle.service_load.specs.Tree.{nodes, tree}
 use Rattle.service_print.specs.declared.file.File.{File}
 use Rattle.service_print.specs.Tokens.{token_text, ended}
 use Rattle.service_print.specs.Controls.{same_control, entries_among, control_text}
+use Rattle.service_print.specs.Reload.{placed_file, is_short}
 use Rattle.service_print.specs.Printed.{rule_line, substack_line, numbered, list_lines, substack_files, printed}
 
 -- the control of some entries
@@ -110,3 +123,47 @@ last_backslash = refl
 path_backslash : written (rule required (codes "m\\") []) (codes "auth required m\\ \n")
 unfolding control rule one file of_auth two_stacks written printed list_lines substack_files numbered substack_line rule_line token_text ended same_control entries_among control_text digits entries_in entries_behind
 path_backslash = refl
+
+-- ---- a configuration, what it loads to, and what is printed of that
+
+-- the stack of auth of the first row
+first_row : Stack
+first_row = line (rule required (codes "pam_permit.so") (codes "a" ∷ [])) (sub (line (rule (control (codes "success=ok")) (codes "pam_deny.so") (codes "x y" ∷ [])) none) none)
+
+vault_of : List File → VaultState
+vault_of files = record { files = map (placed_file (codes "/r")) files; calls = 0; fails = [] }
+
+-- as it was written by hand, and as it is printed
+by_hand : List File
+by_hand = file (codes "t") (codes "AUTH Required pam_permit.so  a\nauth substack inner\n") ∷ file (codes "inner") (codes "auth [success=ok] pam_deny.so [x y]\n") ∷ []
+
+as_printed : List File
+as_printed = file (codes "t") (codes "auth required pam_permit.so a\nauth substack t.1\n") ∷ file (codes "t.1") (codes "auth [success=ok] pam_deny.so [x y]\n") ∷ []
+
+-- both load to that stack alone, with two openings for it and two for each empty one
+loads_by_hand : loaded (vault_of by_hand) (codes "/r") (codes "t") ≡ Ok (record { calls = 9; openings = 8; lines = 0 })
+unfolding vault_of by_hand file look items nodes answer_to answer_at pieces_behind first_piece units_behind entry_of entries_in entries_behind
+loads_by_hand = refl
+
+loads_as_printed : loaded (vault_of as_printed) (codes "/r/") (codes "t") ≡ Ok (record { calls = 9; openings = 8; lines = 0 })
+unfolding vault_of as_printed file look items nodes answer_to answer_at pieces_behind first_piece units_behind entry_of entries_in entries_behind
+loads_as_printed = refl
+
+stacks_by_hand : (type : RuleType) → tree (texts_of (codes "/r") (vault_of by_hand)) true (codes "t") type ≡ of_auth first_row type
+unfolding vault_of by_hand of_auth first_row rule control file items nodes answer_to answer_at pieces_behind first_piece units_behind entry_of entries_in entries_behind
+stacks_by_hand Auth = refl
+stacks_by_hand type = refl
+
+stacks_as_printed : (type : RuleType) → tree (texts_of (codes "/r") (vault_of as_printed)) true (codes "t") type ≡ of_auth first_row type
+unfolding vault_of as_printed of_auth first_row rule control file items nodes answer_to answer_at pieces_behind first_piece units_behind entry_of entries_in entries_behind
+stacks_as_printed Auth = refl
+stacks_as_printed type = refl
+
+-- the printed files are short, and a line of 4,097 bytes isn't
+short_as_printed : list_all is_short as_printed ≡ true
+unfolding as_printed file lines_of cut
+short_as_printed = refl
+
+long_line : is_short (file (codes "t") (replicate 4097 97 ++ codes "\n")) ≡ false
+unfolding file lines_of cut
+long_line = refl

@@ -37,10 +37,6 @@ substack_line type name = spaced (type_word type ∷ codes "substack" ∷ name �
 unfoldable pub numbered : List ℕ → ℕ → List ℕ
 numbered service number = service ++ 46 ∷ decimal number
 
--- a file that is still to be filled
-abbrev pub empty_file : File
-empty_file = record { name = []; text = [] }
-
 -- how many substacks stand in a stack, those inside others too
 abbrev pub subs_in : Stack → ℕ
 subs_in none = 0

@@ -1,7 +1,8 @@
 ghost use Rattle.std.specs.Prelude.{◌≡◌, ◌<◌, ◌++◌, length, slice_set, OnOk};
 ghost use Rattle.control_words.specs.Stack.{stack_of};
+ghost use Rattle.service_print.specs.Filling.{empty_file};
 ghost use Rattle.service_print.specs.Tokens.{ended, text_of};
-ghost use Rattle.service_print.specs.Printed.{empty_file, list_lines, numbered, rule_line, substack_files, substack_line};
+ghost use Rattle.service_print.specs.Printed.{list_lines, numbered, rule_line, substack_files, substack_line};
 
 use crate::file::File;
 use crate::line::{numbered, rule_line, substack_line};
