@@ -7,7 +7,7 @@ use pam_room::PRELIM_CHECK;
 pub const UPDATE_AUTHTOK: u32 = 0x2000;
 
 /// Whether the flags of a `pam_chauthtok(3)` hold one of those that the library itself adds.
-pub(crate) fn has_pass_flag(flags: u32) -> bool
+pub fn has_pass_flag(flags: u32) -> bool
     ensures { result ≡ has_pass_flag flags }
 {
     flags & PRELIM_CHECK > 0 || flags & UPDATE_AUTHTOK > 0

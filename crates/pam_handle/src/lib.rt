@@ -28,6 +28,7 @@ mod take_told;
 mod wait;
 mod waiting;
 
+pub use flags::has_pass_flag;
 pub use gear::{Gear, GearTold};
 pub use handle::Handle;
 pub use start::StartRefused;

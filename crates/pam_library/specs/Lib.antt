@@ -4,3 +4,8 @@ pub mod SlotStep
 pub mod Step
 pub mod Closing
 pub mod Sound
+pub mod AnyWorld
+pub mod SideBySide
+pub mod Calls
+pub mod Plain
+pub mod InPlace

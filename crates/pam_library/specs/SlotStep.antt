@@ -1,12 +1,13 @@
 -- One call on one place (the calls of the Application Developers' Guide; that a call may be put off, the delay function and the
 -- replies are this project's own).
-use Rattle.std.specs.Prelude.{ℕ, Bool, ◌||◌, ◌&&◌, not, if◌then◌else◌, List, [], ◌∷◌, ◌++◌, map, length, Option, Some, None, Result, Ok, Err}
+use Rattle.std.specs.Prelude.{◌≡◌, ℕ, Bool, false, if◌then◌else◌, List, [], ◌∷◌, ◌++◌, map, length, Option, Some, None, Result, Ok, Err}
 use Rattle.pam_base.specs.declared.code.Code.{Code}
 use Rattle.pam_base.specs.declared.code.Code.TheVariants as codes
 use Rattle.pam_base.specs.declared.call.Func.{Func}
 use Rattle.pam_base.specs.declared.call.Func.TheVariants as funcs
 use Rattle.pam_base.specs.declared.call.AppCall.{AppCall}
 use Rattle.pam_base.specs.declared.call.AppCall.TheVariants as calls
+use Rattle.data_cleanup.specs.Cleanup.{Notes}
 use Rattle.item_store.specs.Items.{text_of, with_text}
 use Rattle.item_store.specs.Access.{is_refused as is_refused_item}
 use Rattle.item_store.specs.declared.access.Access.TheVariants.{ApplicationSets, ApplicationGets}
@@ -25,13 +26,19 @@ use Rattle.pam_handle.specs.End.{world_after_end}
 use Rattle.pam_library.specs.declared.outcome.Answer.{Answer}
 use Rattle.pam_library.specs.declared.outcome.Answer.TheVariants as answers
 use Rattle.pam_library.specs.Outcome.{PlainOutcome, answers_only}
-use Rattle.pam_library.specs.Slots.{PlainSlot, closed, open}
+use Rattle.pam_library.specs.Slots.{PlainSlot, closed, opened}
 
 -- a place, the world and what the step told and answered
 pub record SlotStepped : Type 0 where
   pub slot : PlainSlot
   pub world : PlainWorld
   pub outcome : PlainOutcome
+
+-- an outcome, a place and a world are those of a step
+pub record SlotStepsAs (s : SlotStepped) (outcome : PlainOutcome) (slot : PlainSlot) (world : PlainWorld) : Type 0 where
+  pub outcome_is : outcome ≡ s.outcome
+  pub slot_is : slot ≡ s.slot
+  pub world_is : world ≡ s.world
 
 abbrev pub filed_in : PlainWorld → ℕ
 filed_in w = length w.process.ledger.filed
@@ -43,6 +50,14 @@ answered slot w answer = record { slot = slot; world = w; outcome = answers_only
 abbrev pub succeeded : PlainSlot → PlainWorld → SlotStepped
 succeeded slot w = answered slot w (answers.Code codes.Success)
 
+-- a transaction ends, and its conversation stays in its place
+abbrev pub ended : Notes → ℕ → PlainHandle → PlainWorld → SlotStepped
+ended note status h w = record {
+  slot = closed h.room.conv;
+  world = world_after_end note status h w;
+  outcome = answers_only (filed_in w) (answers.Code codes.Success);
+}
+
 -- a reply is offered to the conversation, be its place open or not
 abbrev pub offered : List ℕ → ConvState → ConvState
 offered text conv = record conv { offers = conv.offers ++ offer_taken conv.waits text ∷ [] }
@@ -50,7 +65,7 @@ offered text conv = record conv { offers = conv.offers ++ offer_taken conv.waits
 -- ---- a start
 
 abbrev pub opened_by : List (List ℕ) → ConvState → ℕ → PlainWorld → Result PlainHandle LoadFault → SlotStepped
-opened_by names conv filed w (Ok h) = record { slot = open h; world = w; outcome = record (answers_only filed (answers.Code codes.Success)) { missing = missing_from names h.stacks } }
+opened_by names conv filed w (Ok h) = record { slot = opened h; world = w; outcome = record (answers_only filed (answers.Code codes.Success)) { missing = missing_from names h.stacks } }
 opened_by names conv filed w (Err fault) = record { slot = closed conv; world = w; outcome = answers_only filed (answers.Refused fault) }
 
 -- ---- the stack calls
@@ -58,7 +73,7 @@ opened_by names conv filed w (Err fault) = record { slot = closed conv; world = 
 -- what the transaction told is handed out
 abbrev pub told_by : ℕ → Answer → Called → SlotStepped
 told_by filed answer c = record {
-  slot = open (all_told c.handle);
+  slot = opened (all_told c.handle);
   world = c.world;
   outcome = record {
     said = c.handle.room.transaction.said;
@@ -87,35 +102,35 @@ unless_pending (Some func) slot w stepped = answered slot w (answers.Pending fun
 module _ (players : List Player) (number : Code → ℕ → ℕ) where
   abbrev pub stack_step : Func → ℕ → PlainHandle → PlainWorld → SlotStepped
   stack_step func flags h w =
-      if is_refused_for_flags func flags then answered (open h) w (answers.Code codes.SystemErr)
-      else unless_pending (other_pending h.pending func) (open h) w
-          (let c = stack_call players number func flags h w in told_by (filed_in w) (answers.Code c.code) c)
+      if is_refused_for_flags func flags then answered (opened h) w (answers.Code codes.SystemErr)
+      else unless_pending (other_pending h.pending func) (opened h) w
+      (let c = stack_call players number func flags h w in told_by (filed_in w) (answers.Code c.code) c)
 
   -- ---- the calls on an open transaction that told all that it had to tell
 
-  abbrev pub open_step : ℕ → PlainHandle → PlainWorld → AppCall → SlotStepped
-  open_step place h w (calls.Start service user) = answered (open h) w answers.AlreadyOpen
-  open_step place h w (calls.End status) = succeeded (closed h.room.conv) (world_after_end (notes_of players) status h w)
-  open_step place h w (calls.Authenticate flags) = stack_step funcs.Authenticate flags h w
-  open_step place h w (calls.SetCred flags) = stack_step funcs.SetCred flags h w
-  open_step place h w (calls.AcctMgmt flags) = stack_step funcs.AcctMgmt flags h w
-  open_step place h w (calls.OpenSession flags) = stack_step funcs.OpenSession flags h w
-  open_step place h w (calls.CloseSession flags) = stack_step funcs.CloseSession flags h w
-  open_step place h w (calls.ChAuthTok flags) = stack_step funcs.ChAuthTok flags h w
-  open_step place h w (calls.SetItem item value) =
-      if is_refused_item ApplicationSets item then answered (open h) w (answers.Code codes.BadItem)
-      else succeeded (open (with_items (with_text h.room.transaction.items item value) h)) w
-  open_step place h w (calls.GetItem item) =
-      if is_refused_item ApplicationGets item then answered (open h) w (answers.Code codes.BadItem)
-      else answered (open h) w (answers.Value (text_of h.room.transaction.items item))
-  open_step place h w (calls.PutEnv text) =
-      if is_refused_text text h.room.transaction.env then answered (open h) w (answers.Code codes.BadItem)
-      else succeeded (open (with_environment (after_put text h.room.transaction.env) h)) w
-  open_step place h w (calls.GetEnv name) = answered (open h) w (answers.Value (value_of name h.room.transaction.env))
-  open_step place h w calls.EnvList = answered (open h) w (answers.List (map variable_text h.room.transaction.env))
-  open_step place h w (calls.FailDelay micros) = succeeded (open (with_request micros h)) w
-  open_step place h w (calls.DelayFn on) = succeeded (open (with_delay_function on h)) w
-  open_step place h w (calls.Reply text) = answered (open (with_conversation (offered text h.room.conv) h)) w answers.Nothing
+  abbrev pub open_step : PlainHandle → PlainWorld → AppCall → SlotStepped
+  open_step h w (calls.Start service user) = answered (opened h) w answers.AlreadyOpen
+  open_step h w (calls.End status) = ended (notes_of players) status h w
+  open_step h w (calls.Authenticate flags) = stack_step funcs.Authenticate flags h w
+  open_step h w (calls.SetCred flags) = stack_step funcs.SetCred flags h w
+  open_step h w (calls.AcctMgmt flags) = stack_step funcs.AcctMgmt flags h w
+  open_step h w (calls.OpenSession flags) = stack_step funcs.OpenSession flags h w
+  open_step h w (calls.CloseSession flags) = stack_step funcs.CloseSession flags h w
+  open_step h w (calls.ChAuthTok flags) = stack_step funcs.ChAuthTok flags h w
+  open_step h w (calls.SetItem item value) =
+      if is_refused_item ApplicationSets item then answered (opened h) w (answers.Code codes.BadItem)
+      else succeeded (opened (with_items (with_text h.room.transaction.items item value) h)) w
+  open_step h w (calls.GetItem item) =
+      if is_refused_item ApplicationGets item then answered (opened h) w (answers.Code codes.BadItem)
+      else answered (opened h) w (answers.Value (text_of h.room.transaction.items item))
+  open_step h w (calls.PutEnv text) =
+      if is_refused_text text h.room.transaction.env then answered (opened h) w (answers.Code codes.BadItem)
+      else succeeded (opened (with_environment (after_put text h.room.transaction.env) h)) w
+  open_step h w (calls.GetEnv name) = answered (opened h) w (answers.Value (value_of name h.room.transaction.env))
+  open_step h w calls.EnvList = answered (opened h) w (answers.List (map variable_text h.room.transaction.env))
+  open_step h w (calls.FailDelay micros) = succeeded (opened (with_request micros h)) w
+  open_step h w (calls.DelayFn on) = succeeded (opened (with_delay_function on h)) w
+  open_step h w (calls.Reply text) = answered (opened (with_conversation (offered text h.room.conv) h)) w answers.Nothing
 
   -- ---- the calls on a closed place
 
@@ -128,4 +143,4 @@ module _ (players : List Player) (number : Code → ℕ → ℕ) where
   -- a call on the place of this number; what an open transaction had told before counts as told
   abbrev pub slot_step : ℕ → PlainSlot → PlainWorld → AppCall → SlotStepped
   slot_step place (closed conv) w call = closed_step place conv w call
-  slot_step place (open h) w call = open_step place (all_told h) w call
+  slot_step place (opened h) w call = open_step (all_told h) w call

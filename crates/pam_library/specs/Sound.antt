@@ -5,17 +5,22 @@ use Rattle.data_cleanup.specs.Ledger.{PlainLedger}
 use Rattle.data_cleanup.specs.declared.datum.Birth.{Birth}
 use Rattle.data_due.specs.Kept.{AreHeld}
 use Rattle.pam_handle.specs.Handle.{PlainHandle}
-use Rattle.pam_library.specs.Slots.{PlainSlot, open, slot_at, lists_of}
+use Rattle.pam_library.specs.Slots.{PlainSlot, closed, opened, slot_at, lists_of}
 
 -- an open transaction has the number of its place, and was started with these modules
 pub record IsPlaced (names : List (List ℕ)) (number : ℕ) (h : PlainHandle) : Type 0 where
   pub handle : h.room.transaction.handle ≡ number
-  pub names : h.names ≡ names
+  pub started_with : h.names ≡ names
+
+-- the same of a place, be it open or not
+abbrev pub IsAtPlace : List (List ℕ) → ℕ → PlainSlot → Type 0
+IsAtPlace names number (closed conv) = Unit {0}
+IsAtPlace names number (opened h) = IsPlaced names number h
 
 -- there are sixteen places
 pub record ArePlaced (names : List (List ℕ)) (slots : List PlainSlot) : Type 0 where
   pub sixteen : length slots ≡ 16
-  pub each : (number : ℕ) (h : PlainHandle) → slot_at slots number ≡ Some (open h) → IsPlaced names number h
+  pub each : (number : ℕ) (slot : PlainSlot) → slot_at slots number ≡ Some slot → IsAtPlace names number slot
 
 -- the births without a receipt are exactly the data of the open transactions, each of its place's number, and every birth has one
 -- of the modules as its owner

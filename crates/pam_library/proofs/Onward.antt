@@ -1,0 +1,110 @@
+-- A step on an open place: what its transaction had told before is thrown away.
+use Rattle.std.proofs.Common.{◌≡◌, ℕ, Bool, true, false, ◌⊎◌, inl, inr, if◌then◌else◌, IsTrue, IfOk, OnErr, List, Option, Some, None, option_map, Result, Ok, Err, refl, sym, ap, ◌∙◌, subst}
+use Rattle.pam_base.specs.declared.code.Code.{Code}
+use Rattle.pam_base.specs.declared.code.Code.TheVariants as codes
+use Rattle.pam_base.specs.declared.call.Func.{Func}
+use Rattle.pam_base.specs.declared.call.Func.TheVariants as funcs
+use Rattle.pam_base.specs.declared.call.AppCall.{AppCall}
+use Rattle.pam_base.specs.declared.call.AppCall.TheVariants as calls
+use Rattle.pam_base.specs.declared.fault.NoMemory.{NoMemory}
+use Rattle.service_load.specs.declared.load_fault.LoadFault.{LoadFault}
+use Rattle.item_store.specs.Access.{is_refused as is_refused_item}
+use Rattle.item_store.specs.declared.access.Access.TheVariants.{ApplicationGets}
+use Rattle.dispatch_core.specs.Lines.{names_of}
+use Rattle.pam_room.specs.Module.{Player}
+use Rattle.pam_room.specs.State.{PlainWorld}
+use Rattle.pam_handle.specs.Handle.{PlainHandle, Pending}
+use Rattle.pam_handle.specs.Items.{all_told}
+use Rattle.pam_library.specs.declared.outcome.Answer.{Answer}
+use Rattle.pam_library.specs.declared.outcome.Answer.TheVariants as answers
+use Rattle.pam_library.specs.declared.outcome.Outcome.{Outcome}
+use Rattle.pam_library.specs.Slots.{PlainSlot, closed, opened}
+use Rattle.pam_library.specs.SlotStep.{is_refused_for_flags, other_pending}
+use Rattle.pam_library.specs.Sound.{IsPlaced}
+use Rattle.pam_library.specs.AnyWorld.{AnswersBy, CanAnswer, CountsRefusal, Fails, GetsItem, StackFails, is_code, refusal, stack_refusal}
+use Rattle.pam_library.specs.InPlace.{GoesInPlace}
+use Rattle.pam_library.proofs.Within.{failed_by}
+
+stack_fails : (func : Func) (h : PlainHandle) (new : PlainSlot) → StackFails func (opened (all_told h)) new → StackFails func (opened h) new
+stack_fails func h (closed conv) f = f
+stack_fails func h (opened next) f = f
+
+fails_told : (tells : Bool) (call : AppCall) (h : PlainHandle) (new : PlainSlot) → Fails tells call (opened (all_told h)) new → Fails tells call (opened h) new
+fails_told tells (calls.Authenticate flags) h new f = stack_fails funcs.Authenticate h new f
+fails_told tells (calls.SetCred flags) h new f = stack_fails funcs.SetCred h new f
+fails_told tells (calls.AcctMgmt flags) h new f = stack_fails funcs.AcctMgmt h new f
+fails_told tells (calls.OpenSession flags) h new f = stack_fails funcs.OpenSession h new f
+fails_told tells (calls.CloseSession flags) h new f = stack_fails funcs.CloseSession h new f
+fails_told tells (calls.ChAuthTok flags) h new f = stack_fails funcs.ChAuthTok h new f
+fails_told tells (calls.Reply text) h new f = record { rest = f.rest; told = f.told }
+fails_told tells call h new f = f
+
+module _ (players : List Player) (gives : (Code → ℕ → ℕ) → Type 0) (tells world_tells : Bool) (call : AppCall) (h : PlainHandle) (w : PlainWorld) (result : Result Outcome NoMemory) (new : PlainSlot) (v : PlainWorld) where
+  from_told : (number : ℕ) → GoesInPlace players gives tells world_tells number call (opened (all_told h)) w result new v → GoesInPlace players gives tells world_tells number call (opened h) w result new v
+  from_told number goes = record {
+    told = goes.told;
+    alone = goes.alone;
+    answers = goes.answers;
+    filed_from = goes.filed_from;
+    succeeds = goes.succeeds;
+    fails = failed_by result (Fails tells call (opened (all_told h)) new) (Fails tells call (opened h) new) (fails_told tells call h new) goes.fails;
+    placed = goes.placed;
+    spends = goes.spends;
+    root = goes.root;
+    caller = goes.caller;
+  }
+
+  pub onward : (number : ℕ) (next : PlainHandle) (told_tells : Bool) → next ≡ all_told h → told_tells ≡ tells → IsPlaced (names_of players) number h
+      → GoesInPlace players gives told_tells world_tells next.room.transaction.handle call (opened next) w result new v
+      → GoesInPlace players gives tells world_tells number call (opened h) w result new v
+  onward number next told_tells same still placed goes =
+      from_told number
+      (subst (λ (b : Bool). GoesInPlace players gives b world_tells number call (opened (all_told h)) w result new v) still
+      (subst (λ (k : ℕ). GoesInPlace players gives told_tells world_tells k call (opened (all_told h)) w result new v) placed.handle
+      (subst (λ (k : PlainHandle). GoesInPlace players gives told_tells world_tells k.room.transaction.handle call (opened k) w result new v) same goes)))
+
+-- ---- an open place refuses no start for its configuration
+
+not_by_flags : (b : Bool) (o : Option Func) (call : AppCall) (fault : LoadFault) → ((answer : Answer) → CanAnswer call answer → IsTrue (is_code answer))
+    → AnswersBy (if b then Some (answers.Code codes.SystemErr) else option_map answers.Pending o) call (answers.Refused fault) → ⊥
+not_by_flags true o call fault only e = cc
+not_by_flags false (Some func) call fault only e = cc
+not_by_flags false None call fault only e = let f = only (answers.Refused fault) e in cc
+
+not_by_item : (b : Bool) (fault : LoadFault) → GetsItem b (answers.Refused fault) → ⊥
+not_by_item true fault e = cc
+not_by_item false fault e = cc
+
+not_by_env : (fault : LoadFault) → (answers.Refused fault ≡ answers.Code codes.Success) ⊎ (answers.Refused fault ≡ answers.Code codes.BadItem) → ⊥
+not_by_env fault (inl e) = cc
+not_by_env fault (inr e) = cc
+
+never_refused : (h : PlainHandle) (call : AppCall) (fault : LoadFault) → AnswersBy (refusal (Some (opened h)) call) call (answers.Refused fault) → ⊥
+never_refused h (calls.Start service user) fault e = cc
+never_refused h (calls.End status) fault e = cc
+never_refused h (calls.Authenticate flags) fault e = not_by_flags (is_refused_for_flags funcs.Authenticate flags) (other_pending h.pending funcs.Authenticate) (calls.Authenticate flags) fault (λ answer f. f) e
+never_refused h (calls.SetCred flags) fault e = not_by_flags (is_refused_for_flags funcs.SetCred flags) (other_pending h.pending funcs.SetCred) (calls.SetCred flags) fault (λ answer f. f) e
+never_refused h (calls.AcctMgmt flags) fault e = not_by_flags (is_refused_for_flags funcs.AcctMgmt flags) (other_pending h.pending funcs.AcctMgmt) (calls.AcctMgmt flags) fault (λ answer f. f) e
+never_refused h (calls.OpenSession flags) fault e = not_by_flags (is_refused_for_flags funcs.OpenSession flags) (other_pending h.pending funcs.OpenSession) (calls.OpenSession flags) fault (λ answer f. f) e
+never_refused h (calls.CloseSession flags) fault e = not_by_flags (is_refused_for_flags funcs.CloseSession flags) (other_pending h.pending funcs.CloseSession) (calls.CloseSession flags) fault (λ answer f. f) e
+never_refused h (calls.ChAuthTok flags) fault e = not_by_flags (is_refused_for_flags funcs.ChAuthTok flags) (other_pending h.pending funcs.ChAuthTok) (calls.ChAuthTok flags) fault (λ answer f. f) e
+never_refused h (calls.SetItem item value) fault e = cc
+never_refused h (calls.GetItem item) fault e = not_by_item (is_refused_item ApplicationGets item) fault e
+never_refused h (calls.PutEnv text) fault e = not_by_env fault e
+never_refused h (calls.GetEnv name) fault e = cc
+never_refused h calls.EnvList fault e = cc
+never_refused h (calls.FailDelay micros) fault e = cc
+never_refused h (calls.DelayFn on) fault e = cc
+never_refused h (calls.Reply text) fault e = cc
+
+counts_nothing : (h : PlainHandle) (call : AppCall) (answer : Answer) (before now : ℕ) → AnswersBy (refusal (Some (opened h)) call) call answer → CountsRefusal answer before now
+counts_nothing h call (answers.Refused fault) before now e = absurd (never_refused h call fault e)
+counts_nothing h call answer before now e = tt
+
+faults_stay : {E : Type 0} (h : PlainHandle) (call : AppCall) (result : Result Outcome E) (before now : ℕ) → IfOk result (λ o. AnswersBy (refusal (Some (opened h)) call) call o.answer) → IfOk result (λ o. CountsRefusal o.answer before now)
+faults_stay h call (Ok o) before now e = counts_nothing h call o.answer before now e
+faults_stay h call (Err e) before now f = tt
+
+pub no_fault : (players : List Player) (gives : (Code → ℕ → ℕ) → Type 0) (tells world_tells : Bool) (number : ℕ) (call : AppCall) (h : PlainHandle) (w : PlainWorld) (result : Result Outcome NoMemory) (new : PlainSlot) (v : PlainWorld) (before now : ℕ)
+    → GoesInPlace players gives tells world_tells number call (opened h) w result new v → IfOk result (λ o. CountsRefusal o.answer before now)
+no_fault players gives tells world_tells number call h w result new v before now goes = faults_stay h call result before now goes.answers

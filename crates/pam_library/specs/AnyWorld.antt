@@ -1,0 +1,216 @@
+-- What stands after a step in any world, also after want of memory (this project's own).
+use Rattle.std.specs.Prelude.{◌≡◌, ℕ, ◌++◌, ◌&&◌, ◌⊎◌, not, Bool, true, false, if◌then◌else◌, Option, Some, None, is_none, is_some, IsTrue, List, [], ◌∷◌, reverse}
+use Rattle.std.specs.Option.{option_map}
+use Rattle.pam_base.specs.declared.code.Code.TheVariants as codes
+use Rattle.pam_base.specs.declared.call.Func.{Func}
+use Rattle.pam_base.specs.declared.call.Func.TheVariants as funcs
+use Rattle.pam_base.specs.declared.call.AppCall.{AppCall}
+use Rattle.pam_base.specs.declared.call.AppCall.TheVariants as calls
+use Rattle.item_store.specs.Access.{is_refused as is_refused_item}
+use Rattle.item_store.specs.declared.access.Access.TheVariants.{ApplicationSets, ApplicationGets}
+use Rattle.env_list.specs.Environment.{is_deletion}
+use Rattle.service_load.specs.Kinds.{KindCounts}
+use Rattle.conv_port.specs.Conv.{ConvState}
+use Rattle.data_cleanup.specs.DataList.{PlainDataList}
+use Rattle.data_cleanup.specs.Ledger.{PlainLedger}
+use Rattle.data_cleanup.specs.Cleanup.{Notes, ledger_after}
+use Rattle.data_cleanup.specs.Grows.{Grows}
+use Rattle.data_cleanup.specs.Due.{Event, ends}
+use Rattle.data_due.specs.Stands.{clean_list}
+use Rattle.pam_handle.specs.Handle.{PlainHandle, Pending}
+use Rattle.pam_handle.specs.Items.{all_told, with_conversation}
+use Rattle.pam_handle.specs.AnyWorld.{FailsAs}
+use Rattle.pam_library.specs.declared.outcome.Answer.{Answer}
+use Rattle.pam_library.specs.declared.outcome.Answer.TheVariants as answers
+use Rattle.pam_library.specs.Slots.{PlainSlot, closed, opened}
+use Rattle.pam_library.specs.SlotStep.{is_refused_for_flags, other_pending}
+
+-- ---- what is answered by number, place and pending call alone, in this order
+
+abbrev pub stack_refusal : Option Pending → Func → ℕ → Option Answer
+stack_refusal pending func flags =
+    if is_refused_for_flags func flags then Some (answers.Code codes.SystemErr)
+    else option_map answers.Pending (other_pending pending func)
+
+abbrev pub open_refusal : Option Pending → AppCall → Option Answer
+open_refusal pending (calls.Start service user) = Some answers.AlreadyOpen
+open_refusal pending (calls.Authenticate flags) = stack_refusal pending funcs.Authenticate flags
+open_refusal pending (calls.SetCred flags) = stack_refusal pending funcs.SetCred flags
+open_refusal pending (calls.AcctMgmt flags) = stack_refusal pending funcs.AcctMgmt flags
+open_refusal pending (calls.OpenSession flags) = stack_refusal pending funcs.OpenSession flags
+open_refusal pending (calls.CloseSession flags) = stack_refusal pending funcs.CloseSession flags
+open_refusal pending (calls.ChAuthTok flags) = stack_refusal pending funcs.ChAuthTok flags
+open_refusal pending call = None
+
+abbrev pub closed_refusal : AppCall → Option Answer
+closed_refusal (calls.Start service user) = None
+closed_refusal (calls.Reply text) = None
+closed_refusal call = Some answers.NotOpen
+
+abbrev pub refusal : Option PlainSlot → AppCall → Option Answer
+refusal None call = Some answers.BadNumber
+refusal (Some (closed conv)) call = closed_refusal call
+refusal (Some (opened h)) call = open_refusal h.pending call
+
+-- ---- which steps need something from outside: files, modules or a conversation
+
+abbrev pub needs_outside : AppCall → Bool
+needs_outside (calls.Start service user) = true
+needs_outside (calls.Authenticate flags) = true
+needs_outside (calls.SetCred flags) = true
+needs_outside (calls.AcctMgmt flags) = true
+needs_outside (calls.OpenSession flags) = true
+needs_outside (calls.CloseSession flags) = true
+needs_outside (calls.ChAuthTok flags) = true
+needs_outside (calls.Reply text) = true
+needs_outside call = false
+
+-- A step stays inside where its call does, or where it is refused.
+abbrev pub stays_inside : Option PlainSlot → AppCall → Bool
+stays_inside slot call = if is_some (refusal slot call) then true else not (needs_outside call)
+
+-- the calls that touch the world
+abbrev pub touches_world : AppCall → Bool
+touches_world (calls.End status) = true
+touches_world (calls.Reply text) = false
+touches_world call = needs_outside call
+
+-- a step leaves the world where its call doesn't touch it, or where it is refused
+abbrev pub leaves_world : Option PlainSlot → AppCall → Bool
+leaves_world slot call = if is_some (refusal slot call) then true else not (touches_world call)
+
+-- ---- which answers a call can have where it isn't refused by that
+
+abbrev pub is_code : Answer → Bool
+is_code (answers.Code code) = true
+is_code answer = false
+
+abbrev pub is_refused : Answer → Bool
+is_refused (answers.Refused fault) = true
+is_refused answer = false
+
+abbrev pub is_value : Answer → Bool
+is_value (answers.Value value) = true
+is_value answer = false
+
+abbrev pub is_list : Answer → Bool
+is_list (answers.List texts) = true
+is_list answer = false
+
+abbrev pub succeeds_or_bad_item : Bool → Answer
+succeeds_or_bad_item bad = answers.Code (if bad then codes.BadItem else codes.Success)
+
+abbrev pub GetsItem : Bool → Answer → Type 0
+GetsItem true answer = answer ≡ answers.Code codes.BadItem
+GetsItem false answer = IsTrue (is_value answer)
+
+abbrev pub CanAnswer : AppCall → Answer → Type 0
+CanAnswer (calls.Start service user) answer = (answer ≡ answers.Code codes.Success) ⊎ IsTrue (is_refused answer)
+CanAnswer (calls.End status) answer = answer ≡ answers.Code codes.Success
+CanAnswer (calls.SetItem item value) answer = answer ≡ succeeds_or_bad_item (is_refused_item ApplicationSets item)
+CanAnswer (calls.GetItem item) answer = GetsItem (is_refused_item ApplicationGets item) answer
+CanAnswer (calls.PutEnv text) answer = (answer ≡ answers.Code codes.Success) ⊎ (answer ≡ answers.Code codes.BadItem)
+CanAnswer (calls.GetEnv name) answer = IsTrue (is_value answer)
+CanAnswer calls.EnvList answer = IsTrue (is_list answer)
+CanAnswer (calls.FailDelay micros) answer = answer ≡ answers.Code codes.Success
+CanAnswer (calls.DelayFn on) answer = answer ≡ answers.Code codes.Success
+CanAnswer (calls.Reply text) answer = answer ≡ answers.Nothing
+CanAnswer call answer = IsTrue (is_code answer)
+
+-- the answer of a step, in any world: by number, place and pending call where they refuse it, else one of its call's
+abbrev pub AnswersBy : Option Answer → AppCall → Answer → Type 0
+AnswersBy (Some refused) call answer = answer ≡ refused
+AnswersBy None call answer = CanAnswer call answer
+
+-- in any world: where a start is refused, the vault's count of faults rises where a file couldn't be read, and with no other fault
+abbrev pub CountsRefusal : Answer → ℕ → ℕ → Type 0
+CountsRefusal (answers.Refused fault) before now = KindCounts fault.kind before now
+CountsRefusal answer before now = Unit {0}
+
+-- ---- memory
+
+-- the calls that take no memory
+abbrev pub is_free : AppCall → Bool
+is_free (calls.End status) = true
+is_free (calls.SetItem item None) = true
+is_free (calls.PutEnv text) = is_deletion text
+is_free (calls.FailDelay micros) = true
+is_free (calls.DelayFn on) = true
+is_free call = false
+
+abbrev pub takes_no_memory : Option PlainSlot → AppCall → Bool
+takes_no_memory slot call = if is_some (refusal slot call) then true else is_free call
+
+-- what an open transaction had told before counts as told
+abbrev pub told_slot : PlainSlot → PlainSlot
+told_slot (closed conv) = closed conv
+told_slot (opened h) = opened (all_told h)
+
+abbrev pub with_conv : ConvState → PlainSlot → PlainSlot
+with_conv conv (closed old) = closed conv
+with_conv conv (opened h) = opened (with_conversation conv h)
+
+abbrev pub conv_of : PlainSlot → ConvState
+conv_of (closed conv) = conv
+conv_of (opened h) = h.room.conv
+
+-- a stack call found no memory
+abbrev pub StackFails : Func → PlainSlot → PlainSlot → Type 0
+StackFails func (opened old) (opened new) = FailsAs func (all_told old) new
+StackFails func old new = ⊥
+
+-- a reply found no memory: a conversation that tells holds what it held
+pub record ReplyFails (tells : Bool) (old new : PlainSlot) : Type 0 where
+  pub rest : new ≡ with_conv (conv_of new) (told_slot old)
+  pub told : IsTrue tells → new ≡ told_slot old
+
+-- A step found no memory. A start leaves its place closed with its conversation; any other call that isn't a stack call or a
+-- reply leaves all as it was.
+abbrev pub Fails : Bool → AppCall → PlainSlot → PlainSlot → Type 0
+Fails tells (calls.Authenticate flags) old new = StackFails funcs.Authenticate old new
+Fails tells (calls.SetCred flags) old new = StackFails funcs.SetCred old new
+Fails tells (calls.AcctMgmt flags) old new = StackFails funcs.AcctMgmt old new
+Fails tells (calls.OpenSession flags) old new = StackFails funcs.OpenSession old new
+Fails tells (calls.CloseSession flags) old new = StackFails funcs.CloseSession old new
+Fails tells (calls.ChAuthTok flags) old new = StackFails funcs.ChAuthTok old new
+Fails tells (calls.Reply text) old new = ReplyFails tells old new
+Fails tells call old new = new ≡ told_slot old
+
+-- the same of the place with a number, which must be there
+abbrev pub FailsAt : Bool → AppCall → Option PlainSlot → Option PlainSlot → Type 0
+FailsAt tells call (Some old) (Some new) = Fails tells call old new
+FailsAt tells call old new = ⊥
+
+-- ---- module data
+
+-- the data of a transaction were cleaned up at its end, with this status
+pub record IsEndOf (note : Notes) (status : ℕ) (old : PlainDataList) (before : PlainLedger) (new : PlainDataList) (after : PlainLedger) : Type 0 where
+  pub ledger : after ≡ ledger_after note status (reverse old.live) before
+  pub list : new ≡ clean_list old.handle []
+
+-- nothing was set and nothing filed
+pub record IsUntouched (old : PlainDataList) (before : PlainLedger) (new : PlainDataList) (after : PlainLedger) : Type 0 where
+  pub ledger : after ≡ before
+  pub list : new ≡ old
+
+-- what a call on an open transaction does to its data and the ledger
+abbrev pub SpendsAs : Notes → ℕ → AppCall → PlainDataList → PlainLedger → PlainDataList → PlainLedger → Type 0
+SpendsAs note modules (calls.End status) old before new after = IsEndOf note status old before new after
+SpendsAs note modules call old before new after = Grows note modules old before new after
+
+-- what a step does to the data of its number and the ledger
+abbrev pub SpendsAt : Notes → ℕ → Option PlainSlot → AppCall → PlainDataList → PlainLedger → PlainDataList → PlainLedger → Type 0
+SpendsAt note modules (Some (opened h)) call old before new after = SpendsAs note modules call old before new after
+SpendsAt note modules (Some (closed conv)) call old before new after = IsUntouched old before new after
+SpendsAt note modules None call old before new after = IsUntouched old before new after
+
+-- the end that a call on an open transaction of a number is
+abbrev pub end_of_call : ℕ → AppCall → List Event
+end_of_call number (calls.End status) = ends number status ∷ []
+end_of_call number call = []
+
+-- the end that a call on a place of a number is, if it is one
+abbrev pub end_at : Option PlainSlot → ℕ → AppCall → List Event
+end_at (Some (opened h)) number call = end_of_call number call
+end_at (Some (closed conv)) number call = []
+end_at None number call = []

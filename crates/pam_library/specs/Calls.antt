@@ -1,0 +1,36 @@
+-- The births and ends of a list of calls of a library (this project's own).
+use Rattle.std.specs.Prelude.{ℕ, List, [], ◌∷◌, ◌++◌, map, length, drop}
+use Rattle.data_cleanup.specs.Ledger.{PlainLedger}
+use Rattle.data_cleanup.specs.Cleanup.{Notes}
+use Rattle.data_cleanup.specs.Due.{Event, birth}
+use Rattle.data_cleanup.specs.declared.datum.Birth.{Birth}
+use Rattle.data_due.specs.Stands.{Lists}
+use Rattle.data_due.specs.Moves.{Moves}
+
+-- a call: the end that it was, if it was one, and ledger and data lists after it
+pub record Moved : Type 0 where
+  pub ended : List Event
+  pub ledger : PlainLedger
+  pub lists : Lists
+
+-- each call moved on from where the one before it had left ledger and lists
+abbrev pub MoveOn : Notes → ℕ → PlainLedger → Lists → List Moved → Type 0
+MoveOn note limit ledger lists [] = Unit {0}
+MoveOn note limit ledger lists (m ∷ calls) = Moves note limit m.ended ledger lists m.ledger m.lists × MoveOn note limit m.ledger m.lists calls
+
+-- the births that were added to a ledger
+abbrev pub births_added : PlainLedger → PlainLedger → List Birth
+births_added before after = drop (length before.births) after.births
+
+-- of each call the births that it added, in order, and then its end
+abbrev pub events_of : PlainLedger → List Moved → List Event
+events_of ledger [] = []
+events_of ledger (m ∷ calls) = (map birth (births_added ledger m.ledger) ++ m.ended) ++ events_of m.ledger calls
+
+abbrev pub last_ledger : PlainLedger → List Moved → PlainLedger
+last_ledger ledger [] = ledger
+last_ledger ledger (m ∷ calls) = last_ledger m.ledger calls
+
+abbrev pub last_lists : Lists → List Moved → Lists
+last_lists lists [] = lists
+last_lists lists (m ∷ calls) = last_lists m.lists calls

@@ -1,0 +1,107 @@
+-- What a call on one place comes to, in one record for the private functions that do it.
+use Rattle.std.specs.Prelude.{◌≡◌, ℕ, Bool, true, false, ◌&&◌, IsTrue, IsOk, OnErr, IfOk, List, Some, Result, Ok, Err, length}
+use Rattle.pam_base.specs.declared.code.Code.{Code}
+use Rattle.pam_base.specs.declared.code.Code.TheVariants as codes
+use Rattle.pam_base.specs.declared.fault.Refuse.{Refuse}
+use Rattle.pam_base.specs.declared.fault.Refuse.TheVariants as refusals
+use Rattle.pam_base.specs.declared.call.Func.{Func}
+use Rattle.pam_base.specs.declared.call.Func.TheVariants as funcs
+use Rattle.pam_base.specs.declared.call.AppCall.{AppCall}
+use Rattle.pam_base.specs.declared.call.AppCall.TheVariants as calls
+use Rattle.pam_base.specs.declared.fault.NoMemory.{NoMemory}
+use Rattle.service_load.specs.declared.load_fault.LoadFault.{LoadFault}
+use Rattle.dispatch_core.specs.Lines.{names_of}
+use Rattle.pam_room.specs.Module.{Player, notes_of}
+use Rattle.pam_room.specs.State.{PlainWorld, PlainProcess}
+use Rattle.pam_room.specs.Stays.{IsReady}
+use Rattle.pam_handle.specs.Handle.{PlainHandle}
+use Rattle.pam_handle.specs.Items.{missing_from}
+use Rattle.pam_library.specs.declared.outcome.Outcome.{Outcome}
+use Rattle.pam_library.specs.declared.outcome.Answer.TheVariants as answers
+use Rattle.pam_library.specs.Outcome.{PlainOutcome, answers_only, plain_outcome}
+use Rattle.pam_library.specs.Slots.{PlainSlot, closed, opened, data_in}
+use Rattle.conv_port.specs.Conv.{ConvState}
+use Rattle.pam_library.specs.SlotStep.{SlotStepsAs, filed_in, offered, open_step, slot_step}
+use Rattle.pam_library.specs.Sound.{IsAtPlace}
+use Rattle.pam_library.specs.AnyWorld.{AnswersBy, CanAnswer, Fails, SpendsAt, is_free, refusal, stays_inside, takes_no_memory}
+
+-- a place that may be called: an open transaction is the one of its number, and its data await their cleanup
+abbrev pub IsReadyAt : ℕ → PlainSlot → PlainProcess → Type 0
+IsReadyAt modules (closed conv) process = Unit {0}
+IsReadyAt modules (opened h) process = IsReady modules h.room.transaction process
+
+-- a call on the place of a number, in any world and in one that tells
+pub record GoesInPlace (players : List Player) (gives : (Code → ℕ → ℕ) → Type 0) (tells world_tells : Bool) (number : ℕ) (call : AppCall)
+    (old : PlainSlot) (before : PlainWorld) (result : Result Outcome NoMemory) (new : PlainSlot) (after : PlainWorld) : Type 0 where
+  pub told : (number_of : Code → ℕ → ℕ) → gives number_of → IsTrue (tells && world_tells) →
+      IfOk result (λ o. SlotStepsAs (slot_step players number_of number old before call) (plain_outcome o) new after)
+  pub alone : (number_of : Code → ℕ → ℕ) → stays_inside (Some old) call ≡ true →
+      IfOk result (λ o. SlotStepsAs (slot_step players number_of number old before call) (plain_outcome o) new after)
+  pub answers : IfOk result (λ o. AnswersBy (refusal (Some old) call) call o.answer)
+  pub filed_from : IfOk result (λ o. o.filed_from ≡ length before.process.ledger.filed)
+  pub succeeds : takes_no_memory (Some old) call ≡ true → IsOk result
+  pub fails : OnErr result (Fails tells call old new)
+  pub placed : IsAtPlace (names_of players) number new
+  pub spends : SpendsAt (notes_of players) (length players) (Some old) call (data_in number (Some old)) before.process.ledger (data_in number (Some new)) after.process.ledger
+  pub root : after.process.root ≡ before.process.root
+  pub caller : after.process.caller ≡ before.process.caller
+
+-- A call that stays inside an open transaction which told all that it had to tell: it is exact in any world.
+pub record GoesInside (call : AppCall) (filed : ℕ) (old : PlainHandle) (result : Result Outcome NoMemory) (new : PlainHandle) : Type 0 where
+  pub steps : (players : List Player) (number_of : Code → ℕ → ℕ) (w : PlainWorld) → filed_in w ≡ filed →
+      IfOk result (λ o. SlotStepsAs (open_step players number_of old w call) (plain_outcome o) (opened new) w)
+  pub answers : IfOk result (λ o. CanAnswer call o.answer)
+  pub filed_from : IfOk result (λ o. o.filed_from ≡ filed)
+  pub succeeds : is_free call ≡ true → IsOk result
+  pub fails : OnErr result (new ≡ old)
+  pub datums : new.room.transaction.datums ≡ old.room.transaction.datums
+  pub handle : new.room.transaction.handle ≡ old.room.transaction.handle
+  pub names : new.names ≡ old.names
+
+-- the application's call of a stack function
+abbrev pub stack_app_call : Func → ℕ → AppCall
+stack_app_call funcs.Authenticate flags = calls.Authenticate flags
+stack_app_call funcs.SetCred flags = calls.SetCred flags
+stack_app_call funcs.AcctMgmt flags = calls.AcctMgmt flags
+stack_app_call funcs.OpenSession flags = calls.OpenSession flags
+stack_app_call funcs.CloseSession flags = calls.CloseSession flags
+stack_app_call funcs.ChAuthTok flags = calls.ChAuthTok flags
+
+-- a reply was offered to a conversation, or there was no memory, and then it holds what it held
+abbrev pub IsOffered : Result Outcome NoMemory → List ℕ → ConvState → ConvState → Type 0
+IsOffered (Ok o) text old new = new ≡ offered text old
+IsOffered (Err e) text old new = new ≡ old
+
+abbrev pub is_end : AppCall → Bool
+is_end (calls.End status) = true
+is_end call = false
+
+-- ---- a start
+
+-- the outcome of a start that opened a transaction
+abbrev pub opened_outcome : ℕ → PlainHandle → PlainOutcome
+opened_outcome filed h = record (answers_only filed (answers.Code codes.Success)) { missing = missing_from h.names h.stacks }
+
+-- A transaction without data was opened in a place, or there was no memory to tell what is missing; then its place is closed
+-- with its conversation. Nothing is filed.
+pub record OpensPlace (filed : ℕ) (h : PlainHandle) (o : Outcome) (slot : PlainSlot) : Type 0 where
+  pub slot_is : slot ≡ opened h
+  pub outcome_is : plain_outcome o ≡ opened_outcome filed h
+  pub answer_is : o.answer ≡ answers.Code codes.Success
+  pub filed_is : o.filed_from ≡ filed
+
+abbrev pub IsOpened : ℕ → PlainHandle → Result Outcome NoMemory → PlainSlot → Type 0
+IsOpened filed h (Ok o) slot = OpensPlace filed h o slot
+IsOpened filed h (Err e) slot = slot ≡ closed h.room.conv
+
+-- a start was refused by a fault of the configuration, or found no memory
+pub record RefusesPlace (filed : ℕ) (fault : LoadFault) (o : Outcome) : Type 0 where
+  pub outcome_is : plain_outcome o ≡ answers_only filed (answers.Refused fault)
+  pub answer_is : o.answer ≡ answers.Refused fault
+  pub filed_is : o.filed_from ≡ filed
+
+abbrev pub IsRefused : ℕ → Refuse LoadFault → Result Outcome NoMemory → Type 0
+IsRefused filed (refusals.Named fault) (Ok o) = RefusesPlace filed fault o
+IsRefused filed (refusals.Named fault) (Err e) = ⊥
+IsRefused filed refusals.NoMemory (Ok o) = ⊥
+IsRefused filed refusals.NoMemory (Err e) = Unit {0}

@@ -1,0 +1,63 @@
+ghost use Rattle.std.specs.Prelude.{◌≡◌, ◌↔◌, map, length, IsNone, IfSome, slice_get};
+ghost use Rattle.data_due.specs.Moves.{Moves};
+ghost use Rattle.dispatch_core.specs.Lines.{names_of};
+ghost use Rattle.pam_room.specs.Module.{notes_of};
+ghost use Rattle.pam_library.specs.Slots.{NoneIsOpen, lists_of};
+ghost use Rattle.pam_library.specs.Sound.{IsSound};
+ghost use Rattle.pam_library.specs.Closing.{ClosesAs, IsFirstOpen, closed_one, end_of, first_open};
+
+use crate::laws::one_place_moves;
+use crate::library::{Library, LibraryTold};
+use crate::slot::{Slot, SlotTold};
+use data_due::{held_data_await_cleanup, nothing_moves};
+use pam_handle::{Gear, GearTold};
+use pam_room::{World, WorldTold};
+
+// The place of the first open transaction, from 0.
+fn place_of_first_open(slots: &[Slot]) -> Option<usize>
+    ensures { IsFirstOpen result (first_open 1 (map ⟦<Slot as SlotTold>⟧.plain slots.now)) }
+{
+    for (i, slot) in slots.iter().enumerate() {
+        if slot.is_open() {
+            return Some(i);
+        }
+    }
+    None
+}
+
+impl Library {
+    ghost use Rattle.pam_library.specs.Plain.{gear_in};
+
+    /// Ends the open transaction of the lowest number with this status (`pam_end(3)`), and answers its number; its
+    /// conversation stays in its place. None comes exactly where none is open, and then nothing changes. It takes no memory.
+    ///
+    /// As with `apply`, the births of the world's ledger that have no receipt are exactly the data of the open transactions.
+    pub fn close_one(&mut self, world: &mut World, status: u32) -> Option<u32>
+        requires { IsSound (names_of (⟦<Gear as GearTold>⟧.players (gear_in self.old))) (length (⟦<Gear as GearTold>⟧.players (gear_in self.old))) (⟦<Library as LibraryTold>⟧.slots self.old) (⟦<World as WorldTold>⟧.plain world.old).process.ledger }
+        ensures sound { IsSound (names_of (⟦<Gear as GearTold>⟧.players (gear_in self.new))) (length (⟦<Gear as GearTold>⟧.players (gear_in self.new))) (⟦<Library as LibraryTold>⟧.slots self.new) (⟦<World as WorldTold>⟧.plain world.new).process.ledger }
+        ensures gear { gear_in self.new ≡ gear_in self.old }
+        ensures tells { ⟦<Library as LibraryTold>⟧.tells self.new ≡ ⟦<Library as LibraryTold>⟧.tells self.old }
+        ensures world_tells { ⟦<World as WorldTold>⟧.tells world.new ≡ ⟦<World as WorldTold>⟧.tells world.old }
+        ensures closes { ClosesAs (closed_one (notes_of (⟦<Gear as GearTold>⟧.players (gear_in self.old))) status (⟦<Library as LibraryTold>⟧.slots self.old) (⟦<World as WorldTold>⟧.plain world.old))
+            result (⟦<Library as LibraryTold>⟧.slots self.old) (⟦<World as WorldTold>⟧.plain world.old) (⟦<Library as LibraryTold>⟧.slots self.new) (⟦<World as WorldTold>⟧.plain world.new) }
+        ensures none { IsNone result ↔ NoneIsOpen (⟦<Library as LibraryTold>⟧.slots self.old) }
+        ensures moves { Moves (notes_of (⟦<Gear as GearTold>⟧.players (gear_in self.old))) 17 (end_of status result)
+            (⟦<World as WorldTold>⟧.plain world.old).process.ledger (lists_of (⟦<Library as LibraryTold>⟧.slots self.old))
+            (⟦<World as WorldTold>⟧.plain world.new).process.ledger (lists_of (⟦<Library as LibraryTold>⟧.slots self.new)) }
+        ensures others { world.new ≡ record world.old { process = world.new.process } }
+    {
+        one_place_moves();
+        nothing_moves();
+        held_data_await_cleanup();
+        let place = place_of_first_open(&self.slots)?;
+        match self.slots.remove(place) {
+            Slot::Open(handle) => {
+                let conv = handle.end(&self.gear, world, status);
+                self.slots.insert(place, Slot::Closed(conv)).unwrap();
+                world.process.ledger.sound();
+                Some(place as u32 + 1)
+            }
+            Slot::Closed(_conv) => unreachable!(),
+        }
+    }
+}

@@ -1,0 +1,26 @@
+//! Sixteen transactions over one world, each with its conversation. A step is a call of an application on one of them; it
+//! leaves every other as it was.
+#![tactic(auto)]
+
+mod apply;
+mod calls;
+mod close_one;
+mod end;
+mod laws;
+mod library;
+mod outcome;
+mod reply;
+mod slot;
+mod stack_call;
+mod start;
+mod step;
+mod texts;
+mod values;
+mod world;
+
+pub use laws::{
+    calls_stand_for_their_events, closed_places_stand_for_none, one_place_moves,
+    places_stand_side_by_side,
+};
+pub use library::{Library, LibraryTold};
+pub use outcome::{Answer, Outcome};

@@ -1,0 +1,98 @@
+ghost use Rattle.std.specs.Prelude.{◌≡◌, []};
+ghost use Rattle.pam_library.specs.Outcome.{answers_only, plain_outcome};
+
+use conv_port::Messages;
+use pam_base::{Code, Func, Text, Texts};
+use pam_handle::{Told, Wait};
+use pam_room::Visits;
+use service_load::LoadFault;
+use std::alloc::Global;
+
+/// What a step answers.
+#[derive(Debug, Drop)]
+pub enum Answer {
+    /// The code of a call. Calls without a code of their own answer SUCCESS.
+    Code(Code),
+    /// A start that the configuration refused.
+    Refused(LoadFault),
+    /// An item or a variable; None where it isn't set.
+    Value(Option<Text>),
+    /// The environment, `NAME=VALUE` each.
+    List(Texts),
+    /// No transaction has this number.
+    NotOpen,
+    /// A transaction has this number already.
+    AlreadyOpen,
+    /// The number isn't 1 to 16.
+    BadNumber,
+    /// A reply was offered.
+    Nothing,
+    /// Another stack call was put off, the one of this function, and goes on first.
+    Pending(Func),
+}
+
+/// What a step told and answered.
+#[derive(Debug, Drop)]
+pub struct Outcome {
+    /// The messages that this step handed to the conversation.
+    pub said: Messages,
+    /// The lines that it visited.
+    pub trail: Visits,
+    /// The number of receipts in the ledger before it: its own are those from there on.
+    pub filed_from: u64,
+    /// What was waited after an authentication.
+    pub wait: Option<Wait>,
+    /// After a start: the modules that lines name and that aren't there.
+    pub missing: Texts,
+    pub answer: Answer,
+}
+
+impl Outcome {
+    // An answer, and nothing told. It takes no memory.
+    pub(crate) fn only(alloc: Global, filed_from: u64, answer: Answer) -> Self
+        ensures plain { plain_outcome result ≡ answers_only filed_from answer }
+        ensures answer { result.answer ≡ answer }
+        ensures filed_from { result.filed_from ≡ filed_from }
+    {
+        Outcome {
+            said: Messages::new(alloc),
+            trail: Visits::new(alloc),
+            filed_from,
+            wait: None,
+            missing: Texts::new(alloc),
+            answer,
+        }
+    }
+
+    // SUCCESS of a start, and the modules that are missing. It takes no memory.
+    pub(crate) fn missing(alloc: Global, filed_from: u64, missing: Texts) -> Self
+        ensures plain { plain_outcome result ≡ record (answers_only filed_from (Answer.Code Code.Success)) { missing = missing } }
+        ensures answer { result.answer ≡ Answer.Code Code.Success }
+        ensures filed_from { result.filed_from ≡ filed_from }
+    {
+        Outcome {
+            said: Messages::new(alloc),
+            trail: Visits::new(alloc),
+            filed_from,
+            wait: None,
+            missing,
+            answer: Answer::Code(Code::Success),
+        }
+    }
+
+    // An answer, and what was told. It takes no memory.
+    pub(crate) fn telling(alloc: Global, filed_from: u64, told: Told, answer: Answer) -> Self
+        ensures plain { plain_outcome result ≡ record { said = told.said; trail = told.trail.visits; filed_from = filed_from; wait = told.wait; missing = []; answer = answer } }
+        ensures answer { result.answer ≡ answer }
+        ensures filed_from { result.filed_from ≡ filed_from }
+    {
+        Outcome {
+            said: told.said,
+            trail: told.trail,
+            filed_from,
+            wait: told.wait,
+            missing: Texts::new(alloc),
+            answer,
+        }
+    }
+}

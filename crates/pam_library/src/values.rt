@@ -1,0 +1,123 @@
+ghost use Rattle.std.specs.Prelude.{◌≡◌};
+ghost use Rattle.pam_handle.specs.Items.{all_told};
+ghost use Rattle.pam_handle.specs.Plain.{plain_handle, room_in};
+ghost use Rattle.pam_library.specs.InPlace.{GoesInside};
+
+use crate::outcome::{Answer, Outcome};
+use crate::texts::{bytes_of, copy_of};
+use pam_base::{AppCall, BadItem, Code, ItemName, NoMemory, Refuse, Text};
+use pam_handle::Handle;
+use pam_room::{Room, RoomTold};
+use std::alloc::Global;
+
+// Each of these calls is one on a transaction that told all that it had to tell.
+
+pub(crate) fn set_item(
+    alloc: Global,
+    handle: &mut Handle,
+    filed_from: u64,
+    item: ItemName,
+    value: &Option<Text>,
+) -> Result<Outcome, NoMemory>
+    requires { plain_handle ⟦<Room as RoomTold>⟧.plain handle.old ≡ all_told (plain_handle ⟦<Room as RoomTold>⟧.plain handle.old) }
+    ensures goes { GoesInside (AppCall.SetItem item value.now) filed_from (plain_handle ⟦<Room as RoomTold>⟧.plain handle.old) result (plain_handle ⟦<Room as RoomTold>⟧.plain handle.new) }
+    ensures tells { ⟦<Room as RoomTold>⟧.tells (room_in handle.new) ≡ ⟦<Room as RoomTold>⟧.tells (room_in handle.old) }
+{
+    match handle.set_item(item, bytes_of(value)) {
+        Ok(()) => Ok(Outcome::only(alloc, filed_from, Answer::Code(Code::Success))),
+        Err(Refuse::Named(BadItem)) => Ok(Outcome::only(
+            alloc,
+            filed_from,
+            Answer::Code(Code::BadItem),
+        )),
+        Err(Refuse::NoMemory) => Err(NoMemory),
+    }
+}
+
+pub(crate) fn get_item(
+    alloc: Global,
+    handle: &Handle,
+    filed_from: u64,
+    item: ItemName,
+) -> Result<Outcome, NoMemory>
+    requires { plain_handle ⟦<Room as RoomTold>⟧.plain handle.now ≡ all_told (plain_handle ⟦<Room as RoomTold>⟧.plain handle.now) }
+    ensures { GoesInside (AppCall.GetItem item) filed_from (plain_handle ⟦<Room as RoomTold>⟧.plain handle.now) result (plain_handle ⟦<Room as RoomTold>⟧.plain handle.now) }
+{
+    match handle.get_item(item) {
+        Ok(value) => {
+            let text = copy_of(alloc, value)?;
+            Ok(Outcome::only(alloc, filed_from, Answer::Value(text)))
+        }
+        Err(BadItem) => Ok(Outcome::only(alloc, filed_from, Answer::Code(Code::BadItem))),
+    }
+}
+
+pub(crate) fn put_env(
+    alloc: Global,
+    handle: &mut Handle,
+    filed_from: u64,
+    text: &Text,
+) -> Result<Outcome, NoMemory>
+    requires { plain_handle ⟦<Room as RoomTold>⟧.plain handle.old ≡ all_told (plain_handle ⟦<Room as RoomTold>⟧.plain handle.old) }
+    ensures goes { GoesInside (AppCall.PutEnv text.now) filed_from (plain_handle ⟦<Room as RoomTold>⟧.plain handle.old) result (plain_handle ⟦<Room as RoomTold>⟧.plain handle.new) }
+    ensures tells { ⟦<Room as RoomTold>⟧.tells (room_in handle.new) ≡ ⟦<Room as RoomTold>⟧.tells (room_in handle.old) }
+{
+    match handle.putenv(text.bytes()) {
+        Ok(()) => Ok(Outcome::only(alloc, filed_from, Answer::Code(Code::Success))),
+        Err(Refuse::Named(BadItem)) => Ok(Outcome::only(
+            alloc,
+            filed_from,
+            Answer::Code(Code::BadItem),
+        )),
+        Err(Refuse::NoMemory) => Err(NoMemory),
+    }
+}
+
+pub(crate) fn get_env(
+    alloc: Global,
+    handle: &Handle,
+    filed_from: u64,
+    name: &Text,
+) -> Result<Outcome, NoMemory>
+    requires { plain_handle ⟦<Room as RoomTold>⟧.plain handle.now ≡ all_told (plain_handle ⟦<Room as RoomTold>⟧.plain handle.now) }
+    ensures { GoesInside (AppCall.GetEnv name.now) filed_from (plain_handle ⟦<Room as RoomTold>⟧.plain handle.now) result (plain_handle ⟦<Room as RoomTold>⟧.plain handle.now) }
+{
+    let text = copy_of(alloc, handle.getenv(name.bytes()))?;
+    Ok(Outcome::only(alloc, filed_from, Answer::Value(text)))
+}
+
+pub(crate) fn list_env(alloc: Global, handle: &Handle, filed_from: u64) -> Result<Outcome, NoMemory>
+    requires { plain_handle ⟦<Room as RoomTold>⟧.plain handle.now ≡ all_told (plain_handle ⟦<Room as RoomTold>⟧.plain handle.now) }
+    ensures { GoesInside AppCall.EnvList filed_from (plain_handle ⟦<Room as RoomTold>⟧.plain handle.now) result (plain_handle ⟦<Room as RoomTold>⟧.plain handle.now) }
+{
+    let texts = handle.getenvlist(alloc)?;
+    Ok(Outcome::only(alloc, filed_from, Answer::List(texts)))
+}
+
+pub(crate) fn request_delay(
+    alloc: Global,
+    handle: &mut Handle,
+    filed_from: u64,
+    micros: u32,
+) -> Result<Outcome, NoMemory>
+    requires { plain_handle ⟦<Room as RoomTold>⟧.plain handle.old ≡ all_told (plain_handle ⟦<Room as RoomTold>⟧.plain handle.old) }
+    ensures goes { GoesInside (AppCall.FailDelay micros) filed_from (plain_handle ⟦<Room as RoomTold>⟧.plain handle.old) result (plain_handle ⟦<Room as RoomTold>⟧.plain handle.new) }
+    ensures tells { ⟦<Room as RoomTold>⟧.tells (room_in handle.new) ≡ ⟦<Room as RoomTold>⟧.tells (room_in handle.old) }
+{
+    handle.fail_delay(micros);
+    Ok(Outcome::only(alloc, filed_from, Answer::Code(Code::Success)))
+}
+
+pub(crate) fn turn_delay(
+    alloc: Global,
+    handle: &mut Handle,
+    filed_from: u64,
+    on: bool,
+) -> Result<Outcome, NoMemory>
+    requires { plain_handle ⟦<Room as RoomTold>⟧.plain handle.old ≡ all_told (plain_handle ⟦<Room as RoomTold>⟧.plain handle.old) }
+    ensures goes { GoesInside (AppCall.DelayFn on) filed_from (plain_handle ⟦<Room as RoomTold>⟧.plain handle.old) result (plain_handle ⟦<Room as RoomTold>⟧.plain handle.new) }
+    ensures tells { ⟦<Room as RoomTold>⟧.tells (room_in handle.new) ≡ ⟦<Room as RoomTold>⟧.tells (room_in handle.old) }
+{
+    handle.set_delay(on);
+    Ok(Outcome::only(alloc, filed_from, Answer::Code(Code::Success)))
+}
