@@ -1,12 +1,13 @@
 -- What is read from a line may be asked.
 use Rattle.std.proofs.Common.{◌≡◌, ℕ, zero, suc, ◌≤◌, Bool, true, false, List, [], ◌∷◌, length, drop, get_or, Option, Some, None, Result, Ok, Err, IfOk, nat_lt, nat_le, cond, refl, ap, subst, arith, length-append}
-use Rattle.std.proofs.lemmas.Bool.{ltb-true, le-leb, and_parts}
+use Rattle.std.proofs.lemmas.Bool.{ltb-true, le-leb, leb-true, and_parts}
 use Rattle.std.proofs.lemmas.Option.{slice_get-get_or}
+use Rattle.std.specs.Prelude.{option_map}
 use Rattle.std.specs.List.{join_with_byte}
 use Rattle.std.specs.Option.{ok_or}
 use Rattle.pam_base.specs.declared.fault.Refuse.{Refuse}
 use Rattle.pam_base.specs.declared.fault.ScriptKind.{ScriptKind}
-use Rattle.pam_base.specs.declared.fault.ScriptKind.TheVariants.{BadWord}
+use Rattle.pam_base.specs.declared.fault.ScriptKind.TheVariants.{BadWord, BadNumeral}
 use Rattle.pam_base.specs.Words.{words_of}
 use Rattle.script_lang.specs.declared.command.Command.{Command}
 use Rattle.script_lang.specs.declared.command.Command.TheVariants as commands
@@ -15,11 +16,12 @@ use Rattle.script_lang.specs.declared.place.Form.TheVariants as forms
 use Rattle.script_lang.specs.declared.place.Place.TheVariants.{Wanted}
 use Rattle.script_lang.specs.Call.{line_made}
 use Rattle.script_lang.specs.Command.{row_of, command_of_word}
-use Rattle.script_lang.specs.Cut.{first_word, has_its_words}
+use Rattle.script_lang.specs.Cut.{first_word, has_its_words, word_at}
 use Rattle.script_lang.specs.Fit.{IsFit}
 use Rattle.script_lang.specs.Line.{command_line, line_of_command, line_or_fault}
 use Rattle.pam_base.specs.ServiceName.{is_service_name}
-use Rattle.script_lang.specs.Value.{Meaning, Meanings, bytes, bytes_of, meaning_at, meanings_at, all_of}
+use Rattle.script_lang.specs.Number.{at_most, number_of_digits}
+use Rattle.script_lang.specs.Value.{Meaning, Meanings, absent, wide, wide_of, bytes, bytes_of, meaning_of_word, meaning_at, meanings_at, all_of}
 use Rattle.script_lang.proofs.Words.{join-words_of}
 
 drop-nil : (n : ℕ) → drop {A = List ℕ} n [] ≡ []
@@ -33,6 +35,15 @@ length-join-drop (suc n) [] = omega arith
 length-join-drop (suc n) (w ∷ []) = omega (arith, ap (λ (words : List (List ℕ)). length (join_with_byte 32 words)) (drop-nil n))
 length-join-drop (suc n) (w ∷ v ∷ ws) =
     omega (arith, length-join-drop n (v ∷ ws), length-append w (32 ∷ join_with_byte 32 (v ∷ ws)))
+
+-- the first of three meanings
+all_of-first : (first second third : Result Meaning ScriptKind) (said : Meanings) → all_of first second third ≡ Ok said → first ≡ Ok said.first
+all_of-first (Err f) second third said e = absurd cc
+all_of-first (Ok a) (Err f) third said e = absurd cc
+all_of-first (Ok a) (Ok b) (Err f) said e = absurd cc
+all_of-first (Ok a) (Ok b) (Ok c) said e =
+    let same : ◌≡◌ {A = Meanings} (record { first = a; second = b; third = c }) said = cc in
+    ap (λ (m : Meanings). Ok m.first) same
 
 -- the second of three meanings
 all_of-second : (first second third : Result Meaning ScriptKind) (said : Meanings) → all_of first second third ≡ Ok said → second ≡ Ok said.second
@@ -61,6 +72,23 @@ reply_short words m lt e short =
     let same : bytes (join_with_byte 32 (drop 2 words)) ≡ m = cc in
     rw (← same) (le-leb _ 512 (omega (arith, length-join-drop 2 words, short)))
 
+-- a moment
+at_most_small : (n : ℕ) (m : Meaning) (b : Bool) → nat_le n 1000000000000 ≡ b → ok_or (option_map wide (cond b (Some n) None)) BadNumeral ≡ Ok m → wide_of m ≤ 1000000000000
+at_most_small n m true le e =
+    let same : wide n ≡ m = cc in
+    rw (← same) (leb-true n 1000000000000 le)
+at_most_small n m false le e = absurd cc
+
+limited_small : (o : Option ℕ) (m : Meaning) → ok_or (option_map wide (at_most 1000000000000 o)) BadNumeral ≡ Ok m → wide_of m ≤ 1000000000000
+limited_small None m e = absurd cc
+limited_small (Some n) m e = at_most_small n m _ refl e
+
+moment_small : (o : Option (List ℕ)) (m : Meaning) → meaning_of_word (Some forms.Moment) o ≡ Ok m → wide_of m ≤ 1000000000000
+moment_small None m e =
+    let same : absent ≡ m = cc in
+    rw (← same) (omega arith)
+moment_small (Some word) m e = limited_small (number_of_digits 10 13 word) m e
+
 -- ---- a command's line
 
 made_fit : (command : Command) (words : List (List ℕ)) (said : Meanings) → length (join_with_byte 32 words) ≤ 512 → has_its_words (row_of command).places words ≡ true → meanings_at (row_of command).places words ≡ Ok said → IsFit (line_made command said)
@@ -82,7 +110,7 @@ made_fit commands.GetEnv words said short has e = refl
 made_fit commands.EnvList words said short has e = refl
 made_fit commands.FailDelay words said short has e = refl
 made_fit commands.DelayFn words said short has e = refl
-made_fit commands.At words said short has e = tt
+made_fit commands.At words said short has e = moment_small (word_at (Wanted forms.Moment) 1 words) said.first (all_of-first _ _ _ said e)
 made_fit commands.Random words said short has e = tt
 made_fit commands.Caller words said short has e = tt
 

@@ -36,7 +36,7 @@ pub fn parse(alloc: Global, line: &[u8]) -> Result<Line, Refuse<ScriptKind>>
     ensures ok { IfOk result (λ found. parsed line.now ≡ Ok found) }
     ensures err { IfErr result (λ refusal. IsRefusal refusal (parsed line.now)) }
 
-    // A start names a service, and a reply has at most 512 bytes.
+    // A start names a service, a reply has at most 512 bytes, and a moment is one that a clock may be set to.
     ensures fit { IfOk result IsFit }
 {
     let text = without_return(line);

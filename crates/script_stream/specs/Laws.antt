@@ -1,26 +1,61 @@
 -- How what was found, served and done in turns makes a run, whatever a line does.
-use Rattle.std.specs.Prelude.{ℕ, List, [], take, Option, Some, None, Result, Ok, Err}
+use Rattle.std.specs.Prelude.{◌≡◌, ℕ, List, [], take, Option, Some, None, Result, Ok, Err}
 use Rattle.pam_base.specs.declared.fault.Failed.{Failed}
 use Rattle.pam_base.specs.declared.fault.ScriptKind.{ScriptKind}
-use Rattle.pam_outside.specs.Streams.{SourceState, SinkState}
+use Rattle.pam_outside.specs.Streams.{SourceState, SinkState, WritesWhole}
 use Rattle.script_stream.specs.declared.reader.Found.TheVariants.{Line, Rest, End}
 use Rattle.script_stream.specs.declared.ending.Ending.{Ending}
 use Rattle.script_stream.specs.declared.ending.Ending.TheVariants.{Done, ReadFault}
 use Rattle.script_stream.specs.declared.ending.Stop.{Stop}
-use Rattle.script_stream.specs.declared.ending.Stop.TheVariants.{NoMemory}
-use Rattle.script_stream.specs.Run.{LineStep}
+use Rattle.script_stream.specs.declared.ending.Stop.TheVariants.{NoMemory, WriteFault}
+use Rattle.script_stream.specs.Run.{LineStep, step_at}
 use Rattle.script_stream.specs.Taking.{Finds, IsFound}
-use Rattle.script_stream.specs.Turns.{ServesTold, Turns, IsLimit, after_line, after_rest, lines_after, held_after}
+use Rattle.script_stream.specs.Turns.{IsBegun, ServesTold, Turns, IsLimit, after_line, after_rest, lines_after, held_after}
 use Rattle.script_stream.specs.Whole.{at_last, Runs}
 
+-- how a line was served whose text was to be written
+abbrev pub written_by : Result (Unit {0}) Failed → Result (Option ScriptKind) Stop
+written_by (Ok done) = Ok None
+written_by (Err failed) = Err WriteFault
+
 module _ {State : Type 0} (step : LineStep State) (Fails : State → List ℕ → State → Type 0) where
-  -- before the first byte
+  -- ---- before the first byte
+
   abbrev pub NoTurnYet : Type 0
   NoTurnYet = (c : State) (x : SourceState) (p : SinkState) → Turns step Fails (Ok None) 0 0 c c [] [] x x p p
 
-  -- no memory was there before the first byte
+  -- there was no memory
   abbrev pub StopsAtOnce : Type 0
   StopsAtOnce = (c : State) (x : SourceState) (p : SinkState) → Turns step Fails (Err NoMemory) 0 0 c c [] [] x x p p
+
+  -- ---- one line is served
+
+  -- it writes nothing
+  abbrev pub SilentIsServed : Type 0
+  SilentIsServed = (n : ℕ) (line : List ℕ) (c d : State) (p : SinkState) →
+      step_at step n c line ≡ Ok (d, []) → ServesTold step Fails (Ok None) n line c d p p
+
+  -- its text was written, whole or up to a write that failed
+  abbrev pub WrittenIsServed : Type 0
+  WrittenIsServed = (result : Result (Unit {0}) Failed) (n : ℕ) (line text : List ℕ) (c d : State) (p q : SinkState) →
+      step_at step n c line ≡ Ok (d, text) → WritesWhole result text p q →
+      ServesTold step Fails (written_by result) n line c d p q
+
+  -- it is refused
+  abbrev pub RefusedIsServed : Type 0
+  RefusedIsServed = (kind : ScriptKind) (n : ℕ) (line : List ℕ) (c : State) (p : SinkState) →
+      step_at step n c line ≡ Err kind → ServesTold step Fails (Ok (Some kind)) n line c c p p
+
+  -- there was no memory to begin it
+  abbrev pub UnbegunIsServed : Type 0
+  UnbegunIsServed = (n : ℕ) (line : List ℕ) (c : State) (p : SinkState) → ServesTold step Fails (Err NoMemory) n line c c p p
+
+  -- there was none behind that
+  abbrev pub BegunIsServed : Type 0
+  BegunIsServed = (n : ℕ) (line : List ℕ) (c d : State) (p : SinkState) →
+      IsBegun step Fails n line c d → ServesTold step Fails (Err NoMemory) n line c d p p
+
+  -- ---- turns
 
   -- the source failed
   abbrev pub FaultIsTurn : Type 0

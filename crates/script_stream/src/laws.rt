@@ -1,6 +1,6 @@
 ghost use Rattle.std.specs.Prelude.{◌≡◌, ℕ, List, true};
 ghost use Rattle.pam_base.specs.Lines.{lines_of};
-ghost use Rattle.script_stream.specs.Laws.{NoTurnYet, StopsAtOnce, FaultIsTurn, EndIsTurn, LineIsTurn, RestIsTurn, TurnsGoOn, TurnsAreRun};
+ghost use Rattle.script_stream.specs.Laws.{NoTurnYet, StopsAtOnce, SilentIsServed, WrittenIsServed, RefusedIsServed, UnbegunIsServed, BegunIsServed, FaultIsTurn, EndIsTurn, LineIsTurn, RestIsTurn, TurnsGoOn, TurnsAreRun};
 ghost use Rattle.script_stream.specs.Looked.{looked};
 
 use crate::stepping::Stepping;
@@ -11,6 +11,16 @@ use crate::stepping::Stepping;
 pub fn first_turn<R: Stepping>()
     ensures none_yet { (setting : R.Setting) → NoTurnYet (R.step setting) (R.fails setting) }
     ensures no_memory { (setting : R.Setting) → StopsAtOnce (R.step setting) (R.fails setting) }
+{}
+
+/// What serves one line: it writes nothing, its text is written, whole or up to a write that failed, it is refused, or
+/// there is no memory, to begin it or behind that.
+pub fn line_is_served<R: Stepping>()
+    ensures silent { (setting : R.Setting) → SilentIsServed (R.step setting) (R.fails setting) }
+    ensures written { (setting : R.Setting) → WrittenIsServed (R.step setting) (R.fails setting) }
+    ensures refused { (setting : R.Setting) → RefusedIsServed (R.step setting) (R.fails setting) }
+    ensures unbegun { (setting : R.Setting) → UnbegunIsServed (R.step setting) (R.fails setting) }
+    ensures begun { (setting : R.Setting) → BegunIsServed (R.step setting) (R.fails setting) }
 {}
 
 /// Where a source failed or has ended, and nothing was found, that is the last turn.

@@ -10,8 +10,8 @@ mod stepping;
 
 pub use ending::{Ending, Stop};
 pub use laws::{
-    first_turn, found_line_is_a_turn, nothing_found_is_a_turn, turns_are_a_run, turns_go_on,
-    whole_input_is_looked_at,
+    first_turn, found_line_is_a_turn, line_is_served, nothing_found_is_a_turn, turns_are_a_run,
+    turns_go_on, whole_input_is_looked_at,
 };
 pub use limit::{MAX_LINES, limit_of};
 pub use reader::{Found, LineReader};

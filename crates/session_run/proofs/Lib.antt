@@ -1,0 +1,7 @@
+pub mod Lowest
+pub mod Serving
+pub mod Views
+pub mod Reporting
+pub mod Telling
+pub mod Proceeding
+pub mod Wholly

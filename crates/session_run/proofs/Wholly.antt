@@ -1,0 +1,165 @@
+-- A whole run: its lines, and what is ended and written behind them.
+use Rattle.std.proofs.Common.{◌≡◌, ℕ, ◌+◌, ◌≤◌, ◌⊎◌, inl, inr, List, [], ◌∷◌, ◌++◌, length, Result, Ok, Err, refl, sym, ap, ◌∙◌, append_assoc, append-nil, length-append, arith}
+use Rattle.pam_base.specs.declared.fault.Failed.{Failed}
+use Rattle.pam_outside.specs.Streams.{SourceState, SinkState, WritesWhole}
+use Rattle.pam_room.specs.Module.{Player}
+use Rattle.pam_library.specs.Slots.{NoneIsOpen}
+use Rattle.script_stream.specs.declared.ending.Ending.{Ending}
+use Rattle.script_stream.specs.declared.ending.Stop.{Stop}
+use Rattle.script_stream.specs.declared.ending.Stop.TheVariants.{NoMemory, WriteFault}
+use Rattle.script_stream.specs.Whole.{Runs}
+use Rattle.session_run.specs.State.{Setting, RunState}
+use Rattle.session_run.specs.Step.{line_step, Fails}
+use Rattle.session_run.specs.Closings.{Closing, closings, closings_text, last_state, all_closed}
+use Rattle.session_run.specs.Reported.{Closes, ClosesTo}
+use Rattle.session_run.specs.Whole.{ending_status, stop_status, last_line, last_words, EndsTo, EndsWith, StopsIn, StopsClosing, RunsScript}
+use Rattle.session_run.proofs.Lowest.{none_left}
+
+module _ (players : List Player) (ending : Ending) (n : ℕ) where
+  -- ---- what is ended and written behind the lines
+
+  -- the closings stopped
+  cut_short : (stop : Stop) (s t : RunState) (whole others : List Closing) (part : List ℕ) → ClosesTo players (ending_status ending) (Err stop) s t whole others part → EndsTo players ending n (Err stop) s t whole others part
+  cut_short stop s t whole [] part h = absurd h
+  cut_short stop s t whole (c ∷ cs) part h = h
+
+  pub stopped_closing : (stop : Stop) (s t : RunState) (p q : SinkState) → Closes players (ending_status ending) (Err stop) s t p q → EndsWith players ending n (Err stop) s t p q
+  stopped_closing stop s t p q c = record { whole = c.whole; others = c.others; among = c.among; part = c.part; written = c.written; to = cut_short stop s t c.whole c.others c.part c.to; calls = c.calls }
+
+  -- all are ended, and then comes the last line
+  module _ (s t : RunState) (p q r : SinkState) (done : Unit {0}) (c : Closes players (ending_status ending) (Ok done) s t p q) where
+    closed_text : closings_text c.whole ++ c.part ≡ closings_text c.whole
+    closed_text = ap (λ (x : List ℕ). closings_text c.whole ++ x) c.to.1 ∙ append-nil (closings_text c.whole)
+
+    behind : (part : List ℕ) → r.written ≡ q.written ++ part → r.written ≡ p.written ++ (closings_text c.whole ++ part)
+    behind part w = w ∙ ap (λ (x : List ℕ). x ++ part) (c.written ∙ ap (λ (x : List ℕ). p.written ++ x) closed_text) ∙ append_assoc p.written (closings_text c.whole) part
+
+    counted : (part : List ℕ) → r.calls ≤ q.calls + length part + 1 → r.calls ≤ p.calls + length (closings_text c.whole ++ part) + 1
+    counted part w =
+        let ok : q.calls ≤ p.calls + length (closings_text c.whole) = rw closed_text at c.calls_ok in
+        omega (arith, ok, w, length-append (closings_text c.whole) part)
+
+    pub line_written : (u : Unit {0}) (text : List ℕ) → text ≡ last_line ending n → WritesWhole {T = Unit {0}} (Ok u) text q r → EndsWith players ending n (Ok u) s t p r
+    line_written u text is w = record {
+      whole = c.whole;
+      others = c.others;
+      among = c.among;
+      part = w.front;
+      written = behind w.front w.written;
+      to = (c.to.0, w.all ∙ is, c.to.2);
+      calls = counted w.front w.calls;
+    }
+
+    pub line_cut : (failed : Failed) (text : List ℕ) → NoneIsOpen t.slots → text ≡ last_line ending n → WritesWhole {T = Unit {0}} (Err failed) text q r → EndsWith players ending n (Err WriteFault) s t p r
+    line_cut failed text none is w = record {
+      whole = c.whole;
+      others = [];
+      among = rw c.to.0 at c.among;
+      part = w.front;
+      written = behind w.front w.written;
+      to = ((w.back, sym is ∙ w.parts), c.to.2, none);
+      calls = counted w.front w.calls;
+    }
+
+  -- there was no memory for it
+  pub line_unwritten : (s t : RunState) (p q : SinkState) (done : Unit {0}) → Closes players (ending_status ending) (Ok done) s t p q → NoneIsOpen t.slots → EndsWith players ending n (Err NoMemory) s t p q
+  line_unwritten s t p q done c none = record {
+    whole = c.whole;
+    others = [];
+    among = rw c.to.0 at c.among;
+    part = [];
+    written = rw c.to.1 at c.written;
+    to = (refl, c.to.2, none);
+    calls = rw c.to.1 at c.calls;
+  }
+
+  -- ---- the state behind a stop
+
+  ended_all : (s : RunState) (whole : List Closing) → closings players (ending_status ending) s ≡ whole ++ [] → last_state s whole ≡ all_closed players (ending_status ending) s
+  ended_all s whole e = ap (last_state s) (sym (append-nil whole) ∙ sym e)
+
+  stops_in : (stop : Stop) (s t u : RunState) (whole others : List Closing) (part : List ℕ) → closings players (ending_status ending) s ≡ whole ++ others → EndsTo players ending n (Err stop) s t whole others part
+      → u ≡ all_closed players (stop_status stop) t → StopsIn players stop ending n s u others part
+  stops_in stop s t u whole [] part among to e = (to.0, e ∙ none_left players (stop_status stop) t.slots t.world to.2 ∙ to.1 ∙ ended_all s whole among)
+  stops_in stop s t u whole (c ∷ cs) part among to e = (to.0, e ∙ ap (all_closed players (stop_status stop)) to.1)
+
+  pub stops_closing : (stop : Stop) (s t u : RunState) (p q : SinkState) → (w : EndsWith players ending n (Err stop) s t p q) → u ≡ all_closed players (stop_status stop) t → StopsClosing players stop ending n s u (closings_text w.whole ++ w.part)
+  stops_closing stop s t u p q w e = record { whole = w.whole; others = w.others; among = w.among; part = w.part; written = refl; stopped = stops_in stop s t u w.whole w.others w.part w.among w.to e }
+
+  pub words_whole : (s t : RunState) (p q : SinkState) (done : Unit {0}) → (w : EndsWith players ending n (Ok done) s t p q) → closings_text w.whole ++ w.part ≡ last_words players ending n s
+  words_whole s t p q done w =
+      let all : w.whole ≡ closings players (ending_status ending) s = sym (append-nil w.whole) ∙ ap (λ (x : List Closing). w.whole ++ x) (sym w.to.0) ∙ sym w.among in
+      ap (λ (x : List ℕ). closings_text w.whole ++ x) w.to.1 ∙ ap (λ (x : List Closing). closings_text x ++ last_line ending n) all
+
+  pub all_ended : (s t : RunState) (p q : SinkState) (done : Unit {0}) → EndsWith players ending n (Ok done) s t p q → t ≡ all_closed players (ending_status ending) s
+  all_ended s t p q done w = w.to.2 ∙ ended_all s w.whole (rw w.to.0 at w.among)
+
+-- ---- the whole run
+
+module _ (setting : Setting) (start : RunState) (x y : SourceState) (p q : SinkState) where
+  -- it stopped among its lines
+  pub stopped_lines : (stop : Stop) (n : ℕ) (t u : RunState) → Runs (line_step setting) (Fails setting) (Err stop) n start t x y p q → u ≡ all_closed setting.players (stop_status stop) t → RunsScript setting (Err stop) start u x y p q
+  stopped_lines stop n t u r e = record {
+    taken = r.taken;
+    text = r.text;
+    source = r.source;
+    sink = r.sink;
+    outcome = inl (record { last = t; stops = r.report; closed = e });
+    last = r.last;
+    reads = r.reads;
+    ends = r.ends;
+    writes = r.writes;
+  }
+
+  module _ (ending : Ending) (n : ℕ) (s t : RunState) (z : SinkState) (r : Runs (line_step setting) (Fails setting) (Ok ending) n start s x y p q) where
+    sink_is : (words : List ℕ) → z.written ≡ q.written ++ words → z.written ≡ p.written ++ (r.text ++ words)
+    sink_is words w = w ∙ ap (λ (b : List ℕ). b ++ words) r.sink ∙ append_assoc p.written r.text words
+
+    writes : (words : List ℕ) → z.calls ≤ q.calls + length words + 1 → z.calls ≤ p.calls + length (r.text ++ words) + 1
+    writes words w = omega (arith, w, r.writes_ok, length-append r.text words)
+
+    pub ended_run : (done : Unit {0}) → EndsWith setting.players ending n (Ok done) s t q z → RunsScript setting (Ok ending) start t x y p z
+    ended_run done w =
+        let words = closings_text w.whole ++ w.part in
+        record {
+          taken = r.taken;
+          text = r.text ++ words;
+          source = r.source;
+          sink = sink_is words w.written;
+          outcome = record {
+            lines = n;
+            last = s;
+            body = r.text;
+            comes = r.report;
+            whole = ap (λ (b : List ℕ). r.text ++ b) (words_whole setting.players ending n s t q z done w);
+            closed = all_ended setting.players ending n s t q z done w;
+          };
+          last = r.last;
+          reads = r.reads;
+          ends = r.ends;
+          writes = writes words w.calls;
+        }
+
+    pub stopped_behind : (stop : Stop) (u : RunState) → EndsWith setting.players ending n (Err stop) s t q z → u ≡ all_closed setting.players (stop_status stop) t → RunsScript setting (Err stop) start u x y p z
+    stopped_behind stop u w e =
+        let words = closings_text w.whole ++ w.part in
+        record {
+          taken = r.taken;
+          text = r.text ++ words;
+          source = r.source;
+          sink = sink_is words w.written;
+          outcome = inr (record {
+            ending = ending;
+            lines = n;
+            last = s;
+            body = r.text;
+            comes = r.report;
+            words = words;
+            written = refl;
+            stops = stops_closing setting.players ending n stop s t u q z w e;
+          });
+          last = r.last;
+          reads = r.reads;
+          ends = r.ends;
+          writes = writes words w.calls;
+        }

@@ -1,0 +1,44 @@
+use Rattle.std.proofs.lemmas.Bool.{and_parts}
+use Rattle.session_run.proofs.Serving.{too_many, refused, accepted}
+use Rattle.session_run.proofs.serve.serve_line.Goals as goal
+
+pub returns-then-lines-ge-MAX_LINES-clause-told : goal.returns-then-lines-ge-MAX_LINES-clause-told
+returns-then-lines-ge-MAX_LINES-clause-told g c = λ delay is told sink.
+    c.line_is_served.ensures.refused _ _ _ _ _ _ (too_many _ _ _ _ c.if-lines-ge-MAX_LINES.true)
+
+pub returns-in-Err-Named-clause-told : goal.returns-in-Err-Named-clause-told
+returns-in-Err-Named-clause-told g c = λ delay is told sink.
+    let e = rw c.in-Err-Named.field-0-is at c.in-Err-Named.ensures.err in
+    rw c.in-Err-Named.kind-is (c.line_is_served.ensures.refused _ _ _ _ _ _ (refused _ _ _ _ _ c.if-lines-ge-MAX_LINES.false e))
+
+pub returns-in-Ok-Blank-clause-told : goal.returns-in-Ok-Blank-clause-told
+returns-in-Ok-Blank-clause-told g c = λ delay is told sink.
+    let e = rw c.in-Ok-Blank.field-0-is at c.in-Ok-Blank.ensures.ok in
+    c.line_is_served.ensures.silent _ _ _ _ _ _ (accepted _ _ _ _ _ c.if-lines-ge-MAX_LINES.false e)
+
+pub returns-in-Ok-At-clause-told : goal.returns-in-Ok-At-clause-told
+returns-in-Ok-At-clause-told g c = λ delay is told sink.
+    let e = rw c.in-Ok-At.field-0-is at c.in-Ok-At.ensures.ok in
+    let world = c.set_world_moment.ensures.told (and_parts _ _ told).1 in
+    rw (world, c.in-Ok-At.moment-is) (c.line_is_served.ensures.silent _ _ _ _ _ _ (accepted _ _ _ _ _ c.if-lines-ge-MAX_LINES.false e))
+
+pub returns-in-Ok-Random-clause-told : goal.returns-in-Ok-Random-clause-told
+returns-in-Ok-Random-clause-told g c = λ delay is told sink.
+    let e = rw c.in-Ok-Random.field-0-is at c.in-Ok-Random.ensures.ok in
+    let world = c.set_world_word.ensures.told (and_parts _ _ told).1 in
+    rw (world, c.in-Ok-Random.word-is) (c.line_is_served.ensures.silent _ _ _ _ _ _ (accepted _ _ _ _ _ c.if-lines-ge-MAX_LINES.false e))
+
+pub returns-in-Ok-Caller-clause-told : goal.returns-in-Ok-Caller-clause-told
+returns-in-Ok-Caller-clause-told g c = λ delay is told sink.
+    let e = rw c.in-Ok-Caller.field-0-is at c.in-Ok-Caller.ensures.ok in
+    rw (c.set_caller.ensures.plain, c.in-Ok-Caller.caller-is) (c.line_is_served.ensures.silent _ _ _ _ _ _ (accepted _ _ _ _ _ c.if-lines-ge-MAX_LINES.false e))
+
+pub returns-in-Ok-clause-told : goal.returns-in-Ok-clause-told
+returns-in-Ok-clause-told g c = λ delay is told sink.
+    let e = rw c.in-Ok-Step.field-0-is at c.in-Ok-Step.ensures.ok in
+    c.in-Ok.ensures.told delay is told sink _ _ c.if-lines-ge-MAX_LINES.false e
+
+pub returns-clause-told : goal.returns-clause-told
+returns-clause-told g c = λ delay is told sink.
+    let e = rw c.in-Ok-Step.field-0-is at c.in-Ok-Step.ensures.ok in
+    c.in-Err.ensures.told delay is told sink _ _ c.if-lines-ge-MAX_LINES.false e

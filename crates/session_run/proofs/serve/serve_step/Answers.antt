@@ -1,0 +1,49 @@
+use Rattle.std.proofs.Common.{Ok, Err, refl}
+use Rattle.std.proofs.lemmas.Bool.{and_parts}
+use Rattle.session_run.proofs.Proceeding.{one_call, receipts_stay}
+use Rattle.session_run.proofs.Serving.{called_line, applied_only, failed_call}
+use Rattle.session_run.proofs.serve.serve_step.Goals as goal
+
+pub returns-in-Err-clause-told : goal.returns-in-Err-clause-told
+returns-in-Err-clause-told g c = λ delay is told sink lines line few asked.
+    let tells = and_parts _ _ told in
+    let fails = rw tells.0 at c.in-Err.ensures.fails in
+    c.line_is_served.ensures.begun _ _ _ _ _ _ (failed_call _ _ _ _ _ _ few asked (record {
+      step = c.args.step.now;
+      asked = asked;
+      place = fails;
+      others = c.apply.ensures.others;
+      spends = c.apply.ensures.spends;
+      root = c.apply.ensures.root;
+      caller = c.apply.ensures.caller;
+      world = λ h. rw (c.apply.ensures.world h) refl;
+    }))
+
+pub returns-in-Err-step_report-clause-told : goal.returns-in-Err-step_report-clause-told
+returns-in-Err-step_report-clause-told g c = λ delay is told sink lines line few asked.
+    c.line_is_served.ensures.begun _ _ _ _ _ _ (applied_only _ _ _ _ _ _ _ _ few asked (c.in-Ok.ensures.told delay is told))
+
+pub returns-in-Ok-write_all-clause-told : goal.returns-in-Ok-write_all-clause-told
+returns-in-Ok-write_all-clause-told g c = λ delay is told sink lines line few asked.
+    c.line_is_served.ensures.written _ (Ok c.in-Ok-write_all.field-0) _ _ _ _ _ _ _ (called_line _ _ _ _ _ _ _ _ _ _ few asked (c.in-Ok.ensures.told delay is told) c.in-Ok-step_report.ensures (rw c.apply.ensures.gear refl))
+    (rw c.as_bytes.ensures.value at (c.in-Ok-write_all.ensures.told sink))
+
+pub returns-clause-told : goal.returns-clause-told
+returns-clause-told g c = λ delay is told sink lines line few asked.
+    c.line_is_served.ensures.written _ (Err c.in-Err-write_all.field-0) _ _ _ _ _ _ _ (called_line _ _ _ _ _ _ _ _ _ _ few asked (c.in-Ok.ensures.told delay is told) c.in-Ok-step_report.ensures (rw c.apply.ensures.gear refl))
+    (rw c.as_bytes.ensures.value at (c.in-Err-write_all.ensures.told sink))
+
+pub step_report-requires-clause-from : goal.step_report-requires-clause-from
+step_report-requires-clause-from g c = rw c.in-Ok.ensures.filed_from (receipts_stay _ _ _ _ _ _ _ _ c.apply.ensures.spends)
+
+pub returns-in-Err-clause-proceeds : goal.returns-in-Err-clause-proceeds
+returns-in-Err-clause-proceeds g c = one_call _ _ _ _ _ _ c.apply.ensures.moves
+
+pub returns-in-Err-step_report-clause-proceeds : goal.returns-in-Err-step_report-clause-proceeds
+returns-in-Err-step_report-clause-proceeds g c = one_call _ _ _ _ _ _ c.apply.ensures.moves
+
+pub returns-in-Ok-write_all-clause-proceeds : goal.returns-in-Ok-write_all-clause-proceeds
+returns-in-Ok-write_all-clause-proceeds g c = one_call _ _ _ _ _ _ c.apply.ensures.moves
+
+pub returns-clause-proceeds : goal.returns-clause-proceeds
+returns-clause-proceeds g c = one_call _ _ _ _ _ _ c.apply.ensures.moves

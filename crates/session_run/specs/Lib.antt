@@ -1,0 +1,6 @@
+pub mod State
+pub mod Step
+pub mod Closings
+pub mod Reported
+pub mod Whole
+pub mod AnyWorld

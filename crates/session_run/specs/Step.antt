@@ -1,0 +1,65 @@
+-- What one line of a script does (this project's own).
+use Rattle.std.specs.Prelude.{◌≡◌, ℕ, true, List, [], length, Option, None, Result, Ok, Err}
+use Rattle.pam_base.specs.declared.call.Step.{Step}
+use Rattle.pam_base.specs.declared.fault.ScriptKind.{ScriptKind}
+use Rattle.dispatch_core.specs.Lines.{names_of}
+use Rattle.pam_room.specs.Module.{notes_of}
+use Rattle.pam_room.specs.State.{PlainWorld}
+use Rattle.pam_library.specs.AnyWorld.{FailsAt, SpendsAt, leaves_world}
+use Rattle.pam_library.specs.Slots.{lists_of, slot_at}
+use Rattle.pam_library.specs.Step.{Stepped, stepped}
+use Rattle.script_lang.specs.declared.line.Line.{Line}
+use Rattle.script_lang.specs.declared.line.Line.TheVariants as lines
+use Rattle.script_lang.specs.Line.{parsed}
+use Rattle.script_stream.specs.declared.ending.Stop.{Stop}
+use Rattle.script_stream.specs.Run.{LineStep}
+use Rattle.session_report.specs.Step.{step_text}
+use Rattle.session_run.specs.State.{Setting, RunState, state_of}
+
+-- the world with another moment, another random word, another caller
+abbrev pub at_moment : ℕ → PlainWorld → PlainWorld
+at_moment moment w = record w { clock = record w.clock { moment = moment } }
+
+abbrev pub with_word : ℕ → PlainWorld → PlainWorld
+with_word word w = record w { clock = record w.clock { word = word } }
+
+abbrev pub with_caller : ℕ → PlainWorld → PlainWorld
+with_caller caller w = record w { process = record w.process { caller = caller } }
+
+module _ (setting : Setting) where
+  -- a call, and its lines of the report
+  abbrev pub called : Step → Stepped → RunState × List ℕ
+  called step t = (state_of t.slots t.world, step_text (names_of setting.players) step t.outcome t.world.process.ledger)
+
+  -- the state after a line, and what is written for it: nothing but for a call
+  abbrev pub applied : RunState → Line → RunState × List ℕ
+  applied s lines.Blank = (s, [])
+  applied s (lines.Step step) = called step (stepped setting.players setting.delay s.slots s.world step)
+  applied s (lines.At moment) = (state_of s.slots (at_moment moment s.world), [])
+  applied s (lines.Random word) = (state_of s.slots (with_word word s.world), [])
+  applied s (lines.Caller caller) = (state_of s.slots (with_caller caller s.world), [])
+
+  abbrev pub applied_or_refused : RunState → Result Line ScriptKind → Result (RunState × List ℕ) ScriptKind
+  applied_or_refused s (Ok line) = Ok (applied s line)
+  applied_or_refused s (Err kind) = Err kind
+
+  unfoldable pub line_step : LineStep RunState
+  line_step s line = applied_or_refused s (parsed line)
+
+-- The states that a line may leave whose call found no memory: what the call says of its transaction, with every other
+-- as it was, and of the data and the world.
+pub record Fails (setting : Setting) (s : RunState) (line : List ℕ) (t : RunState) : Type 0 where
+  pub step : Step
+  pub asked : parsed line ≡ Ok (lines.Step step)
+  pub place : FailsAt true step.call (slot_at s.slots step.number) (slot_at t.slots step.number)
+  pub others : (number : ℕ) → (number ≡ step.number → ⊥) → slot_at t.slots number ≡ slot_at s.slots number
+  pub spends : SpendsAt (notes_of setting.players) (length setting.players) (slot_at s.slots step.number) step.call
+      (lists_of s.slots step.number) s.world.process.ledger (lists_of t.slots step.number) t.world.process.ledger
+  pub root : t.world.process.root ≡ s.world.process.root
+  pub caller : t.world.process.caller ≡ s.world.process.caller
+  pub world : leaves_world (slot_at s.slots step.number) step.call ≡ true → t.world ≡ s.world
+
+-- a line that was not refused
+abbrev pub unrefused : {T : Type 0} → Result T Stop → Result (Option ScriptKind) Stop
+unrefused (Ok done) = Ok None
+unrefused (Err stop) = Err stop

@@ -1,0 +1,120 @@
+-- A whole run of a script: its lines, and how the open transactions are ended behind them (this project's own).
+use Rattle.std.specs.Prelude.{◌≡◌, ◌⊎◌, ℕ, ◌+◌, ◌≤◌, List, [], ◌∷◌, ◌++◌, length, Result, Ok, Err}
+use Rattle.pam_base.specs.declared.code.Code.{Code}
+use Rattle.pam_base.specs.declared.code.Code.TheVariants.{Success, SystemErr, BufErr, Abort}
+use Rattle.pam_outside.specs.Streams.{SourceState, SinkState}
+use Rattle.pam_room.specs.Module.{Player}
+use Rattle.pam_library.specs.Slots.{NoneIsOpen}
+use Rattle.script_stream.specs.declared.ending.Ending.{Ending}
+use Rattle.script_stream.specs.declared.ending.Ending.TheVariants.{Done, ReadFault, Refused}
+use Rattle.script_stream.specs.declared.ending.Stop.{Stop}
+use Rattle.script_stream.specs.declared.ending.Stop.TheVariants.{NoMemory, WriteFault}
+use Rattle.script_stream.specs.Turns.{StopsBy, LastRead}
+use Rattle.script_stream.specs.Whole.{Reports}
+use Rattle.session_report.specs.Script.{script_text, read_fault_text}
+use Rattle.session_run.specs.State.{Setting, RunState}
+use Rattle.session_run.specs.Step.{line_step, Fails}
+use Rattle.session_run.specs.Closings.{Closing, closings, closings_text, last_state, all_closed}
+use Rattle.session_run.specs.Reported.{CutBy}
+
+-- ---- the table of endings
+
+-- with which status open transactions are ended
+abbrev pub ending_status : Ending → Code
+ending_status Done = Success
+ending_status ReadFault = SystemErr
+ending_status (Refused kind) = Abort
+
+abbrev pub stop_status : Stop → Code
+stop_status NoMemory = BufErr
+stop_status WriteFault = SystemErr
+
+-- what is written behind their lines, where n lines were applied
+abbrev pub last_line : Ending → ℕ → List ℕ
+last_line Done n = []
+last_line ReadFault n = read_fault_text
+last_line (Refused kind) n = script_text (n + 1) kind
+
+module _ (players : List Player) where
+  -- ---- a run that ends
+
+  -- the lines of the transactions, and the last line
+  abbrev pub last_words : Ending → ℕ → RunState → List ℕ
+  last_words ending n s = closings_text (closings players (ending_status ending) s) ++ last_line ending n
+
+  -- What was ended and written behind the lines. All transactions were, and the last line is written, whole or not; or up
+  -- to one that was ended and whose lines aren't whole.
+  abbrev pub EndsTo : Ending → ℕ → Result (Unit {0}) Stop → RunState → RunState → List Closing → List Closing → List ℕ → Type 0
+  EndsTo ending n (Ok done) s t whole others part = (others ≡ []) × (part ≡ last_line ending n) × (t ≡ last_state s whole)
+  EndsTo ending n (Err stop) s t whole [] part = CutBy stop part (last_line ending n) × (t ≡ last_state s whole) × NoneIsOpen t.slots
+  EndsTo ending n (Err stop) s t whole (c ∷ cs) part = CutBy stop part c.text × (t ≡ c.state)
+
+  pub record EndsWith (ending : Ending) (n : ℕ) (result : Result (Unit {0}) Stop) (s t : RunState) (old new : SinkState) : Type 0 where
+    pub whole : List Closing
+    pub others : List Closing
+    pub among : closings players (ending_status ending) s ≡ whole ++ others
+    pub part : List ℕ
+    pub written : new.written ≡ old.written ++ (closings_text whole ++ part)
+    pub to : EndsTo ending n result s t whole others part
+    pub calls : new.calls ≤ old.calls + length (closings_text whole ++ part) + 1
+
+  -- A run that stops behind its lines: in the last line, with all transactions ended; or in the lines of one, behind
+  -- which the others are ended and not reported.
+  abbrev pub StopsIn : Stop → Ending → ℕ → RunState → RunState → List Closing → List ℕ → Type 0
+  StopsIn stop ending n s t [] part = CutBy stop part (last_line ending n) × (t ≡ all_closed players (ending_status ending) s)
+  StopsIn stop ending n s t (c ∷ cs) part = CutBy stop part c.text × (t ≡ all_closed players (stop_status stop) c.state)
+
+  -- the lines of the transactions in front of that are whole
+  pub record StopsClosing (stop : Stop) (ending : Ending) (n : ℕ) (s t : RunState) (text : List ℕ) : Type 0 where
+    pub whole : List Closing
+    pub others : List Closing
+    pub among : closings players (ending_status ending) s ≡ whole ++ others
+    pub part : List ℕ
+    pub written : text ≡ closings_text whole ++ part
+    pub stopped : StopsIn stop ending n s t others part
+
+-- ---- the whole run
+
+module _ (setting : Setting) where
+  -- it ends: the lines are reported, the closings and the last line, and all transactions are ended
+  pub record EndsAs (ending : Ending) (start end : RunState) (input taken left text : List ℕ) : Type 0 where
+    pub lines : ℕ
+    pub last : RunState
+    pub body : List ℕ
+    pub comes : Reports (line_step setting) (Fails setting) (Ok ending) lines start last input taken left body
+    pub whole : text ≡ body ++ last_words setting.players ending lines last
+    pub closed : end ≡ all_closed setting.players (ending_status ending) last
+
+  -- it stops among its lines, and all transactions are ended; nothing is written behind that
+  pub record StopsAmongLines (stop : Stop) (start end : RunState) (taken left text : List ℕ) : Type 0 where
+    pub last : RunState
+    pub stops : StopsBy (line_step setting) (Fails setting) stop 0 start last taken left text
+    pub closed : end ≡ all_closed setting.players (stop_status stop) last
+
+  -- it stops behind them
+  pub record StopsBehindLines (stop : Stop) (start end : RunState) (input taken left text : List ℕ) : Type 0 where
+    pub ending : Ending
+    pub lines : ℕ
+    pub last : RunState
+    pub body : List ℕ
+    pub comes : Reports (line_step setting) (Fails setting) (Ok ending) lines start last input taken left body
+    pub words : List ℕ
+    pub written : text ≡ body ++ words
+    pub stops : StopsClosing setting.players stop ending lines last end words
+
+  abbrev pub EndsOrStops : Result Ending Stop → RunState → RunState → List ℕ → List ℕ → List ℕ → List ℕ → Type 0
+  EndsOrStops (Ok ending) start end input taken left text = EndsAs ending start end input taken left text
+  EndsOrStops (Err stop) start end input taken left text =
+      StopsAmongLines stop start end taken left text ⊎ StopsBehindLines stop start end input taken left text
+
+  -- what was taken and written, and how often it was read and written
+  pub record RunsScript (result : Result Ending Stop) (start end : RunState) (x y : SourceState) (p q : SinkState) : Type 0 where
+    pub taken : List ℕ
+    pub text : List ℕ
+    pub source : x.left ≡ taken ++ y.left
+    pub sink : q.written ≡ p.written ++ text
+    pub outcome : EndsOrStops result start end x.left taken y.left text
+    pub last : LastRead (line_step setting) 0 start [] taken
+    pub reads : y.calls ≤ x.calls + length taken + 1
+    pub ends : y.reads_at_end ≤ x.reads_at_end + 1
+    pub writes : q.calls ≤ p.calls + length text + 1

@@ -1,0 +1,14 @@
+//! A run of a script over sixteen transactions: each line is applied and its report written before the next is looked
+//! at, and behind the last one every open transaction is ended.
+#![tactic(auto)]
+
+mod closing;
+mod lines;
+mod meaning;
+mod run;
+mod serve;
+mod status;
+mod world;
+
+pub use meaning::Meaning;
+pub use run::run_script;

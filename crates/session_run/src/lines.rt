@@ -1,0 +1,141 @@
+ghost use Rattle.std.specs.Prelude.{◌≡◌, ◌&&◌, ◌≤◌, ◌+◌, ℕ, None, Ok, IsTrue, length};
+ghost use Rattle.pam_base.specs.declared.code.Code.{Code};
+ghost use Rattle.dispatch_core.specs.Lines.{names_of};
+ghost use Rattle.pam_room.specs.Module.{notes_of};
+ghost use Rattle.pam_outside.specs.Counts.{RisesIf};
+ghost use Rattle.pam_library.specs.Plain.{gear_in};
+ghost use Rattle.pam_library.specs.Slots.{lists_of};
+ghost use Rattle.pam_library.specs.Sound.{IsSound};
+ghost use Rattle.session_run.specs.AnyWorld.{Proceeds};
+ghost use Rattle.script_stream.specs.Turns.{Turns, has_read_fault, has_write_fault};
+ghost use Rattle.script_stream.specs.Whole.{Runs, at_last};
+ghost use Rattle.session_run.specs.State.{setting_of, state_of};
+ghost use Rattle.session_run.specs.Step.{line_step, Fails};
+
+use crate::meaning::Meaning;
+use crate::serve::serve_line;
+use fail_delay::{DelayFn, DelayTold};
+use pam_base::{Failed, NoMemory};
+use pam_handle::{Gear, GearTold};
+use pam_library::{Library, LibraryTold};
+use pam_outside::{Sink, Source};
+use pam_room::{World, WorldTold};
+use script_stream::{
+    Ending, Found, LineReader, Stop, first_turn, found_line_is_a_turn, limit_of,
+    nothing_found_is_a_turn, turns_are_a_run, turns_go_on,
+};
+use std::alloc::Global;
+
+/// Serves the lines of a script one by one, until they end or one is refused, and counts those that were applied.
+pub(crate) fn serve_lines<S: Source, K: Sink>(
+    alloc: Global,
+    library: &mut Library,
+    lines: &mut u32,
+    source: &mut S,
+    sink: &mut K,
+    world: &mut World,
+) -> Result<Ending, Stop>
+    requires first { lines.old ≡ 0 }
+    requires sound { IsSound (names_of (⟦<Gear as GearTold>⟧.players (gear_in library.old))) (length (⟦<Gear as GearTold>⟧.players (gear_in library.old))) (⟦<Library as LibraryTold>⟧.slots library.old) world.old.process.ledger }
+    ensures gear { gear_in library.new ≡ gear_in library.old }
+    ensures tells { ⟦<Library as LibraryTold>⟧.tells library.new ≡ ⟦<Library as LibraryTold>⟧.tells library.old }
+    ensures world_tells { ⟦<World as WorldTold>⟧.tells world.new ≡ ⟦<World as WorldTold>⟧.tells world.old }
+    ensures source_tells { S.source_tells source.new ≡ S.source_tells source.old }
+    ensures sink_tells { K.sink_tells sink.new ≡ K.sink_tells sink.old }
+    ensures told { (delay : Code → ℕ → ℕ) → ⟦<DelayFn as DelayTold>⟧.delay_is (gear_in library.old).delay delay →
+        IsTrue (⟦<Library as LibraryTold>⟧.tells library.old && ⟦<World as WorldTold>⟧.tells world.old) →
+        IsTrue (S.source_tells source.old) → IsTrue (K.sink_tells sink.old) →
+        (let setting = setting_of (⟦<Gear as GearTold>⟧.players (gear_in library.old)) delay in
+        Runs (line_step setting) (Fails setting) result lines.new
+            (state_of (⟦<Library as LibraryTold>⟧.slots library.old) (⟦<World as WorldTold>⟧.plain world.old))
+            (state_of (⟦<Library as LibraryTold>⟧.slots library.new) (⟦<World as WorldTold>⟧.plain world.new))
+            (S.source_holds source.old) (S.source_holds source.new)
+            (K.sink_holds sink.old) (K.sink_holds sink.new)) }
+    ensures few { lines.new ≤ 65536 }
+    ensures proceeds { Proceeds (notes_of (⟦<Gear as GearTold>⟧.players (gear_in library.old)))
+        world.old.process.ledger (lists_of (⟦<Library as LibraryTold>⟧.slots library.old))
+        world.new.process.ledger (lists_of (⟦<Library as LibraryTold>⟧.slots library.new)) }
+    ensures sound { IsSound (names_of (⟦<Gear as GearTold>⟧.players (gear_in library.new))) (length (⟦<Gear as GearTold>⟧.players (gear_in library.new))) (⟦<Library as LibraryTold>⟧.slots library.new) world.new.process.ledger }
+    ensures source_faults { RisesIf (has_read_fault (at_last result)) (S.source_faults source.old) (S.source_faults source.new) }
+    ensures sink_faults { RisesIf (has_write_fault result) (K.sink_faults sink.old) (K.sink_faults sink.new) }
+{
+    first_turn::<Meaning>();
+    turns_go_on::<Meaning>();
+    turns_are_a_run::<Meaning>();
+    let mut reader = match LineReader::new(alloc) {
+        Ok(reader) => reader,
+        Err(NoMemory) => return Err(Stop::NoMemory),
+    };
+    loop {
+        match take_turn(alloc, library, lines, &mut reader, source, sink, world) {
+            Ok(None) => {}
+            Ok(Some(ending)) => return Ok(ending),
+            Err(stop) => return Err(stop),
+        }
+    }
+}
+
+// One line: it is found and served.
+fn take_turn<S: Source, K: Sink>(
+    alloc: Global,
+    library: &mut Library,
+    lines: &mut u32,
+    reader: &mut LineReader,
+    source: &mut S,
+    sink: &mut K,
+    world: &mut World,
+) -> Result<Option<Ending>, Stop>
+    requires few { lines.old ≤ 65536 }
+    requires sound { IsSound (names_of (⟦<Gear as GearTold>⟧.players (gear_in library.old))) (length (⟦<Gear as GearTold>⟧.players (gear_in library.old))) (⟦<Library as LibraryTold>⟧.slots library.old) world.old.process.ledger }
+    ensures gear { gear_in library.new ≡ gear_in library.old }
+    ensures tells { ⟦<Library as LibraryTold>⟧.tells library.new ≡ ⟦<Library as LibraryTold>⟧.tells library.old }
+    ensures world_tells { ⟦<World as WorldTold>⟧.tells world.new ≡ ⟦<World as WorldTold>⟧.tells world.old }
+    ensures source_tells { S.source_tells source.new ≡ S.source_tells source.old }
+    ensures sink_tells { K.sink_tells sink.new ≡ K.sink_tells sink.old }
+    ensures told { (delay : Code → ℕ → ℕ) → ⟦<DelayFn as DelayTold>⟧.delay_is (gear_in library.old).delay delay →
+        IsTrue (⟦<Library as LibraryTold>⟧.tells library.old && ⟦<World as WorldTold>⟧.tells world.old) →
+        IsTrue (S.source_tells source.old) → IsTrue (K.sink_tells sink.old) →
+        (let setting = setting_of (⟦<Gear as GearTold>⟧.players (gear_in library.old)) delay in
+        Turns (line_step setting) (Fails setting) result lines.old lines.new
+            (state_of (⟦<Library as LibraryTold>⟧.slots library.old) (⟦<World as WorldTold>⟧.plain world.old))
+            (state_of (⟦<Library as LibraryTold>⟧.slots library.new) (⟦<World as WorldTold>⟧.plain world.new))
+            reader.old reader.new
+            (S.source_holds source.old) (S.source_holds source.new)
+            (K.sink_holds sink.old) (K.sink_holds sink.new)) }
+    ensures few { lines.new ≤ 65536 }
+    ensures next { result ≡ Ok None → lines.new ≡ lines.old + 1 }
+    ensures proceeds { Proceeds (notes_of (⟦<Gear as GearTold>⟧.players (gear_in library.old)))
+        world.old.process.ledger (lists_of (⟦<Library as LibraryTold>⟧.slots library.old))
+        world.new.process.ledger (lists_of (⟦<Library as LibraryTold>⟧.slots library.new)) }
+    ensures sound { IsSound (names_of (⟦<Gear as GearTold>⟧.players (gear_in library.new))) (length (⟦<Gear as GearTold>⟧.players (gear_in library.new))) (⟦<Library as LibraryTold>⟧.slots library.new) world.new.process.ledger }
+    ensures source_faults { RisesIf (has_read_fault result) (S.source_faults source.old) (S.source_faults source.new) }
+    ensures sink_faults { RisesIf (has_write_fault result) (K.sink_faults sink.old) (K.sink_faults sink.new) }
+{
+    nothing_found_is_a_turn::<Meaning>();
+    found_line_is_a_turn::<Meaning>();
+    let before = *lines;
+    let limit = limit_of(before);
+    match reader.find(source, limit) {
+        Err(Failed) => Ok(Some(Ending::ReadFault)),
+        Ok(Found::End) => Ok(Some(Ending::Done)),
+        Ok(Found::Line(size)) => {
+            match serve_line(alloc, library, before, &reader.bytes()[..size], sink, world) {
+                Err(stop) => Err(stop),
+                Ok(Some(kind)) => Ok(Some(Ending::Refused(kind))),
+                Ok(None) => {
+                    reader.skip(size + 1);
+                    *lines = before + 1;
+                    Ok(None)
+                }
+            }
+        }
+        Ok(Found::Rest) => match serve_line(alloc, library, before, reader.bytes(), sink, world) {
+            Err(stop) => Err(stop),
+            Ok(Some(kind)) => Ok(Some(Ending::Refused(kind))),
+            Ok(None) => {
+                *lines = before + 1;
+                Ok(Some(Ending::Done))
+            }
+        },
+    }
+}

@@ -1,0 +1,136 @@
+ghost use Rattle.std.specs.Prelude.{◌≡◌, ◌&&◌, ◌≤◌, ℕ, Ok, Some, IsTrue, IfOk, OnOk, length, string_bytes};
+ghost use Rattle.pam_base.specs.declared.code.Code.{Code};
+ghost use Rattle.dispatch_core.specs.Lines.{names_of};
+ghost use Rattle.pam_room.specs.Module.{notes_of};
+ghost use Rattle.pam_outside.specs.Counts.{RisesIf};
+ghost use Rattle.pam_library.specs.Plain.{gear_in};
+ghost use Rattle.pam_library.specs.Slots.{NoneIsOpen, lists_of};
+ghost use Rattle.pam_library.specs.Sound.{IsSound};
+ghost use Rattle.script_stream.specs.Turns.{has_read_fault, has_write_fault};
+ghost use Rattle.session_run.specs.AnyWorld.{Proceeds};
+ghost use Rattle.session_run.specs.State.{setting_of, state_of};
+ghost use Rattle.session_run.specs.Whole.{EndsWith, RunsScript, last_line};
+
+use crate::closing::{close_reported, close_silently};
+use crate::lines::serve_lines;
+use crate::status::{ending_status, stop_status};
+use fail_delay::{DelayFn, DelayTold};
+use pam_base::{Failed, NoMemory};
+use pam_handle::{Gear, GearTold};
+use pam_library::{Library, LibraryTold};
+use pam_outside::{Sink, Source, write_all};
+use pam_room::{World, WorldTold};
+use script_stream::{Ending, Stop};
+use session_report::{read_fault_report, script_report};
+use std::alloc::Global;
+
+/// Runs a script. Each line is applied to the transactions and its report written before the next one is looked at.
+///
+/// Behind the last line every open transaction is ended, the lowest number first, each reported before the next: with
+/// SUCCESS at the end of the input; with SYSTEM_ERR where the source failed, and then `read fault` is written; with ABORT
+/// where a line was refused, and then which line and why. Where a write failed nothing more is written, and the
+/// transactions that are open are ended with SYSTEM_ERR; where memory was wanting likewise, with BUF_ERR. So no transaction
+/// is open afterwards, whatever is answered.
+pub fn run_script<S: Source, K: Sink>(
+    alloc: Global,
+    library: &mut Library,
+    source: &mut S,
+    sink: &mut K,
+    world: &mut World,
+) -> Result<Ending, Stop>
+    requires { IsSound (names_of (⟦<Gear as GearTold>⟧.players (gear_in library.old))) (length (⟦<Gear as GearTold>⟧.players (gear_in library.old))) (⟦<Library as LibraryTold>⟧.slots library.old) world.old.process.ledger }
+
+    // Where all objects tell: what was read and written, and what library and world are afterwards.
+    ensures told { (delay : Code → ℕ → ℕ) → ⟦<DelayFn as DelayTold>⟧.delay_is (gear_in library.old).delay delay →
+        IsTrue (⟦<Library as LibraryTold>⟧.tells library.old && ⟦<World as WorldTold>⟧.tells world.old) →
+        IsTrue (S.source_tells source.old) → IsTrue (K.sink_tells sink.old) →
+        RunsScript (setting_of (⟦<Gear as GearTold>⟧.players (gear_in library.old)) delay) result
+            (state_of (⟦<Library as LibraryTold>⟧.slots library.old) (⟦<World as WorldTold>⟧.plain world.old))
+            (state_of (⟦<Library as LibraryTold>⟧.slots library.new) (⟦<World as WorldTold>⟧.plain world.new))
+            (S.source_holds source.old) (S.source_holds source.new)
+            (K.sink_holds sink.old) (K.sink_holds sink.new) }
+
+    // In any world: what is due for cleanup was cleaned up, and no transaction is open.
+    ensures none_open { NoneIsOpen (⟦<Library as LibraryTold>⟧.slots library.new) }
+    ensures proceeds { Proceeds (notes_of (⟦<Gear as GearTold>⟧.players (gear_in library.old)))
+        world.old.process.ledger (lists_of (⟦<Library as LibraryTold>⟧.slots library.old))
+        world.new.process.ledger (lists_of (⟦<Library as LibraryTold>⟧.slots library.new)) }
+    ensures sound { IsSound (names_of (⟦<Gear as GearTold>⟧.players (gear_in library.new))) (length (⟦<Gear as GearTold>⟧.players (gear_in library.new))) (⟦<Library as LibraryTold>⟧.slots library.new) world.new.process.ledger }
+    ensures gear { gear_in library.new ≡ gear_in library.old }
+
+    // The causes, in any world.
+    ensures source_faults { IfOk result (λ ending. RisesIf (has_read_fault (Ok (Some ending))) (S.source_faults source.old) (S.source_faults source.new)) }
+    ensures sink_faults { RisesIf (has_write_fault result) (K.sink_faults sink.old) (K.sink_faults sink.new) }
+
+    // What tells before the run tells after it.
+    ensures tells { ⟦<Library as LibraryTold>⟧.tells library.new ≡ ⟦<Library as LibraryTold>⟧.tells library.old }
+    ensures world_tells { ⟦<World as WorldTold>⟧.tells world.new ≡ ⟦<World as WorldTold>⟧.tells world.old }
+    ensures source_tells { S.source_tells source.new ≡ S.source_tells source.old }
+    ensures sink_tells { K.sink_tells sink.new ≡ K.sink_tells sink.old }
+{
+    let mut lines = 0;
+    match serve_lines(alloc, library, &mut lines, source, sink, world) {
+        Err(stop) => {
+            close_silently(library, stop_status(stop), world);
+            Err(stop)
+        }
+        Ok(ending) => match finish(alloc, ending, lines, library, sink, world) {
+            Ok(()) => Ok(ending),
+            Err(stop) => {
+                close_silently(library, stop_status(stop), world);
+                Err(stop)
+            }
+        },
+    }
+}
+
+// Ends and reports the open transactions, and writes the last line. Where that stops, some may still be open.
+fn finish<K: Sink>(
+    alloc: Global,
+    ending: Ending,
+    lines: u32,
+    library: &mut Library,
+    sink: &mut K,
+    world: &mut World,
+) -> Result<(), Stop>
+    requires few { lines ≤ 65536 }
+    requires sound { IsSound (names_of (⟦<Gear as GearTold>⟧.players (gear_in library.old))) (length (⟦<Gear as GearTold>⟧.players (gear_in library.old))) (⟦<Library as LibraryTold>⟧.slots library.old) world.old.process.ledger }
+    ensures gear { gear_in library.new ≡ gear_in library.old }
+    ensures tells { ⟦<Library as LibraryTold>⟧.tells library.new ≡ ⟦<Library as LibraryTold>⟧.tells library.old }
+    ensures world_tells { ⟦<World as WorldTold>⟧.tells world.new ≡ ⟦<World as WorldTold>⟧.tells world.old }
+    ensures sink_tells { K.sink_tells sink.new ≡ K.sink_tells sink.old }
+    ensures told { IsTrue (K.sink_tells sink.old) →
+        EndsWith (⟦<Gear as GearTold>⟧.players (gear_in library.old)) ending lines result
+            (state_of (⟦<Library as LibraryTold>⟧.slots library.old) (⟦<World as WorldTold>⟧.plain world.old))
+            (state_of (⟦<Library as LibraryTold>⟧.slots library.new) (⟦<World as WorldTold>⟧.plain world.new))
+            (K.sink_holds sink.old) (K.sink_holds sink.new) }
+    ensures none_open { OnOk result (NoneIsOpen (⟦<Library as LibraryTold>⟧.slots library.new)) }
+    ensures proceeds { Proceeds (notes_of (⟦<Gear as GearTold>⟧.players (gear_in library.old)))
+        world.old.process.ledger (lists_of (⟦<Library as LibraryTold>⟧.slots library.old))
+        world.new.process.ledger (lists_of (⟦<Library as LibraryTold>⟧.slots library.new)) }
+    ensures sound { IsSound (names_of (⟦<Gear as GearTold>⟧.players (gear_in library.new))) (length (⟦<Gear as GearTold>⟧.players (gear_in library.new))) (⟦<Library as LibraryTold>⟧.slots library.new) world.new.process.ledger }
+    ensures faults { RisesIf (has_write_fault result) (K.sink_faults sink.old) (K.sink_faults sink.new) }
+{
+    match close_reported(alloc, library, ending_status(ending), sink, world) {
+        Err(stop) => Err(stop),
+        Ok(()) => match last_report(alloc, ending, lines) {
+            Err(NoMemory) => Err(Stop::NoMemory),
+            Ok(text) => match write_all(sink, text.as_bytes()) {
+                Ok(()) => Ok(()),
+                Err(Failed) => Err(Stop::WriteFault),
+            },
+        },
+    }
+}
+
+// The last line of the report, where there is one.
+fn last_report(alloc: Global, ending: Ending, lines: u32) -> Result<String, NoMemory>
+    requires { lines ≤ 65536 }
+    ensures { IfOk result (λ text. string_bytes text ≡ last_line ending lines) }
+{
+    match ending {
+        Ending::Done => Ok(String::new(alloc)),
+        Ending::ReadFault => Ok(String::from_str(alloc, read_fault_report())?),
+        Ending::Refused(kind) => script_report(alloc, lines + 1, kind),
+    }
+}

@@ -1,0 +1,127 @@
+ghost use Rattle.std.specs.Prelude.{◌≡◌, ◌&&◌, ◌<◌, ℕ, List, IsTrue, length, None, Ok};
+ghost use Rattle.script_lang.specs.declared.line.Line.TheVariants as script_lines;
+ghost use Rattle.script_lang.specs.Line.{parsed};
+ghost use Rattle.pam_base.specs.declared.code.Code.{Code};
+ghost use Rattle.dispatch_core.specs.Lines.{names_of};
+ghost use Rattle.pam_room.specs.Module.{notes_of};
+ghost use Rattle.pam_outside.specs.Counts.{RisesIf};
+ghost use Rattle.pam_library.specs.Plain.{gear_in};
+ghost use Rattle.pam_library.specs.Step.{is_fit};
+ghost use Rattle.pam_library.specs.Slots.{lists_of};
+ghost use Rattle.pam_library.specs.Sound.{IsSound};
+ghost use Rattle.session_run.specs.AnyWorld.{Proceeds};
+ghost use Rattle.script_stream.specs.Turns.{ServesTold, has_write_fault};
+ghost use Rattle.session_run.specs.State.{setting_of, state_of};
+ghost use Rattle.session_run.specs.Step.{line_step, unrefused, Fails};
+
+use crate::meaning::Meaning;
+use crate::world::{set_caller, set_world_moment, set_world_word};
+use fail_delay::{DelayFn, DelayTold};
+use pam_base::{Failed, NoMemory, Refuse, ScriptKind, Step};
+use pam_handle::{Gear, GearTold};
+use pam_library::{Library, LibraryTold};
+use pam_outside::{Sink, write_all};
+use pam_room::{World, WorldTold};
+use script_lang::{Line, parse};
+use session_report::step_report;
+use script_stream::{MAX_LINES, Stop, line_is_served};
+use std::alloc::Global;
+
+/// Serves one line that has so many before it: it is applied, and then its report is written. Answers why it was
+/// refused, if it was; then nothing happened.
+pub(crate) fn serve_line<K: Sink>(
+    alloc: Global,
+    library: &mut Library,
+    lines: u32,
+    line: &[u8],
+    sink: &mut K,
+    world: &mut World,
+) -> Result<Option<ScriptKind>, Stop>
+    requires { IsSound (names_of (⟦<Gear as GearTold>⟧.players (gear_in library.old))) (length (⟦<Gear as GearTold>⟧.players (gear_in library.old))) (⟦<Library as LibraryTold>⟧.slots library.old) world.old.process.ledger }
+    ensures gear { gear_in library.new ≡ gear_in library.old }
+    ensures tells { ⟦<Library as LibraryTold>⟧.tells library.new ≡ ⟦<Library as LibraryTold>⟧.tells library.old }
+    ensures world_tells { ⟦<World as WorldTold>⟧.tells world.new ≡ ⟦<World as WorldTold>⟧.tells world.old }
+    ensures sink_tells { K.sink_tells sink.new ≡ K.sink_tells sink.old }
+    ensures told { (delay : Code → ℕ → ℕ) → ⟦<DelayFn as DelayTold>⟧.delay_is (gear_in library.old).delay delay →
+        IsTrue (⟦<Library as LibraryTold>⟧.tells library.old && ⟦<World as WorldTold>⟧.tells world.old) → IsTrue (K.sink_tells sink.old) →
+        (let setting = setting_of (⟦<Gear as GearTold>⟧.players (gear_in library.old)) delay in
+        ServesTold (line_step setting) (Fails setting) result lines line.now
+            (state_of (⟦<Library as LibraryTold>⟧.slots library.old) (⟦<World as WorldTold>⟧.plain world.old))
+            (state_of (⟦<Library as LibraryTold>⟧.slots library.new) (⟦<World as WorldTold>⟧.plain world.new))
+            (K.sink_holds sink.old) (K.sink_holds sink.new)) }
+    ensures proceeds { Proceeds (notes_of (⟦<Gear as GearTold>⟧.players (gear_in library.old)))
+        world.old.process.ledger (lists_of (⟦<Library as LibraryTold>⟧.slots library.old))
+        world.new.process.ledger (lists_of (⟦<Library as LibraryTold>⟧.slots library.new)) }
+    ensures sound { IsSound (names_of (⟦<Gear as GearTold>⟧.players (gear_in library.new))) (length (⟦<Gear as GearTold>⟧.players (gear_in library.new))) (⟦<Library as LibraryTold>⟧.slots library.new) world.new.process.ledger }
+    ensures few { result ≡ Ok None → lines < 65536 }
+    ensures faults { RisesIf (has_write_fault result) (K.sink_faults sink.old) (K.sink_faults sink.new) }
+{
+    line_is_served::<Meaning>();
+    if lines >= MAX_LINES {
+        return Ok(Some(ScriptKind::TooManyLines));
+    }
+    match parse(alloc, line) {
+        Err(Refuse::NoMemory) => Err(Stop::NoMemory),
+        Err(Refuse::Named(kind)) => Ok(Some(kind)),
+        Ok(Line::Blank) => Ok(None),
+        Ok(Line::At(moment)) => {
+            set_world_moment(world, moment);
+            Ok(None)
+        }
+        Ok(Line::Random(word)) => {
+            set_world_word(world, word);
+            Ok(None)
+        }
+        Ok(Line::Caller(caller)) => {
+            set_caller(world, caller);
+            Ok(None)
+        }
+        Ok(Line::Step(step)) => match serve_step(alloc, library, &step, sink, world) {
+            Ok(()) => Ok(None),
+            Err(stop) => Err(stop),
+        },
+    }
+}
+
+// Applies a step and writes its report.
+fn serve_step<K: Sink>(
+    alloc: Global,
+    library: &mut Library,
+    step: &Step,
+    sink: &mut K,
+    world: &mut World,
+) -> Result<(), Stop>
+    requires fit { IsTrue (is_fit step.now.call) }
+    requires sound { IsSound (names_of (⟦<Gear as GearTold>⟧.players (gear_in library.old))) (length (⟦<Gear as GearTold>⟧.players (gear_in library.old))) (⟦<Library as LibraryTold>⟧.slots library.old) world.old.process.ledger }
+    ensures gear { gear_in library.new ≡ gear_in library.old }
+    ensures tells { ⟦<Library as LibraryTold>⟧.tells library.new ≡ ⟦<Library as LibraryTold>⟧.tells library.old }
+    ensures world_tells { ⟦<World as WorldTold>⟧.tells world.new ≡ ⟦<World as WorldTold>⟧.tells world.old }
+    ensures sink_tells { K.sink_tells sink.new ≡ K.sink_tells sink.old }
+    ensures told { (delay : Code → ℕ → ℕ) → ⟦<DelayFn as DelayTold>⟧.delay_is (gear_in library.old).delay delay →
+        IsTrue (⟦<Library as LibraryTold>⟧.tells library.old && ⟦<World as WorldTold>⟧.tells world.old) → IsTrue (K.sink_tells sink.old) →
+        (lines : ℕ) (line : List ℕ) → lines < 65536 → parsed line ≡ Ok (script_lines.Step step.now) →
+        (let setting = setting_of (⟦<Gear as GearTold>⟧.players (gear_in library.old)) delay in
+        ServesTold (line_step setting) (Fails setting) (unrefused result) lines line
+            (state_of (⟦<Library as LibraryTold>⟧.slots library.old) (⟦<World as WorldTold>⟧.plain world.old))
+            (state_of (⟦<Library as LibraryTold>⟧.slots library.new) (⟦<World as WorldTold>⟧.plain world.new))
+            (K.sink_holds sink.old) (K.sink_holds sink.new)) }
+    ensures proceeds { Proceeds (notes_of (⟦<Gear as GearTold>⟧.players (gear_in library.old)))
+        world.old.process.ledger (lists_of (⟦<Library as LibraryTold>⟧.slots library.old))
+        world.new.process.ledger (lists_of (⟦<Library as LibraryTold>⟧.slots library.new)) }
+    ensures sound { IsSound (names_of (⟦<Gear as GearTold>⟧.players (gear_in library.new))) (length (⟦<Gear as GearTold>⟧.players (gear_in library.new))) (⟦<Library as LibraryTold>⟧.slots library.new) world.new.process.ledger }
+    ensures faults { RisesIf (has_write_fault result) (K.sink_faults sink.old) (K.sink_faults sink.new) }
+{
+    line_is_served::<Meaning>();
+    let outcome = match library.apply(alloc, world, step) {
+        Ok(outcome) => outcome,
+        Err(NoMemory) => return Err(Stop::NoMemory),
+    };
+    let text = match step_report(alloc, library, &world.process.ledger, step, &outcome) {
+        Ok(text) => text,
+        Err(NoMemory) => return Err(Stop::NoMemory),
+    };
+    match write_all(sink, text.as_bytes()) {
+        Ok(()) => Ok(()),
+        Err(Failed) => Err(Stop::WriteFault),
+    }
+}
