@@ -1,14 +1,16 @@
 -- What a line does, by what it is read as.
-use Rattle.std.proofs.Common.{◌≡◌, ℕ, ◌+◌, ◌-◌, ◌≤◌, ◌<◌, Bool, true, false, ◌&&◌, List, length, take, leb, ltb, cond, Result, Ok, Err, refl, sym, ap, ◌∙◌, inl, inr, arith}
+use Rattle.std.proofs.Common.{◌≡◌, ℕ, ◌+◌, ◌-◌, ◌≤◌, ◌<◌, Bool, true, false, ◌&&◌, List, length, take, leb, ltb, cond, Option, Result, Ok, Err, refl, sym, ap, ◌∙◌, inl, inr, arith}
 use Rattle.std.proofs.lemmas.List.{length-take}
 use Rattle.std.proofs.lemmas.Bool.{le-leb, lt-leb, lt-ltb, ltb-true}
 use Rattle.std.specs.List.{ends_with}
 use Rattle.std.specs.Prelude.{codes, nat_eq}
+use Rattle.pam_base.specs.declared.call.AppCall.{AppCall}
 use Rattle.pam_base.specs.declared.call.Step.{Step}
 use Rattle.pam_base.specs.declared.fault.ScriptKind.{ScriptKind}
 use Rattle.pam_base.specs.declared.fault.ScriptKind.TheVariants.{LineTooLong, TooManyLines}
 use Rattle.dispatch_core.specs.Lines.{names_of}
 use Rattle.pam_room.specs.State.{PlainWorld}
+use Rattle.pam_library.specs.AnyWorld.{FailsAt}
 use Rattle.pam_library.specs.Outcome.{PlainOutcome}
 use Rattle.pam_library.specs.Slots.{PlainSlot}
 use Rattle.pam_library.specs.Step.{stepped, StepsAs}
@@ -29,6 +31,12 @@ without_by false line lt = omega (arith, lt)
 
 long_line : (line : List ℕ) → 513 < length line → parsed line ≡ Err LineTooLong
 long_line line lt = rw (lt-ltb 512 (length (without_return line)) (without_by (ends_with nat_eq line (codes "\r")) line lt)) refl
+
+-- ---- a call that found no memory, where all tells
+
+pub failed_place : (a b : Bool) (call : AppCall) (old new : Option PlainSlot) → (a && b) ≡ true → FailsAt a call old new → FailsAt true call old new
+failed_place true b call old new told fails = fails
+failed_place false b call old new told fails = absurd cc
 
 module _ (setting : Setting) where
   by_length : (b : Bool) (s : RunState) (line : List ℕ) → ltb 513 (length line) ≡ b → cond b (Err LineTooLong) (line_step setting s line) ≡ line_step setting s line

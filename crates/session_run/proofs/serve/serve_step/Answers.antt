@@ -1,17 +1,14 @@
 use Rattle.std.proofs.Common.{Ok, Err, refl}
-use Rattle.std.proofs.lemmas.Bool.{and_parts}
 use Rattle.session_run.proofs.Proceeding.{one_call, receipts_stay}
-use Rattle.session_run.proofs.Serving.{called_line, applied_only, failed_call}
+use Rattle.session_run.proofs.Serving.{failed_place, called_line, applied_only, failed_call}
 use Rattle.session_run.proofs.serve.serve_step.Goals as goal
 
 pub returns-in-Err-clause-told : goal.returns-in-Err-clause-told
 returns-in-Err-clause-told g c = λ delay is told sink lines line few asked.
-    let tells = and_parts _ _ told in
-    let fails = rw tells.0 at c.in-Err.ensures.fails in
     c.line_is_served.ensures.begun _ _ _ _ _ _ (failed_call _ _ _ _ _ _ few asked (record {
       step = c.args.step.now;
       asked = asked;
-      place = fails;
+      place = failed_place _ _ _ _ _ told c.in-Err.ensures.fails;
       others = c.apply.ensures.others;
       spends = c.apply.ensures.spends;
       root = c.apply.ensures.root;
