@@ -5,3 +5,5 @@ pub mod Reporting
 pub mod Telling
 pub mod Proceeding
 pub mod Wholly
+pub mod Filed
+pub mod Completing

@@ -1,5 +1,5 @@
 -- The lowest open transaction is ended: what is left of the closings.
-use Rattle.std.proofs.Common.{◌≡◌, ℕ, zero, suc, ◌+◌, ◌<◌, ◌≤◌, List, [], ◌∷◌, ◌++◌, length, Option, Some, None, refl, sym, ap, subst, ◌∙◌, append_assoc, append-nil, length-append, reverse, arith}
+use Rattle.std.proofs.Common.{◌≡◌, ℕ, suc, ◌+◌, ◌<◌, ◌≤◌, List, [], ◌∷◌, ◌++◌, length, Option, Some, None, refl, sym, ap, subst, ◌∙◌, append_assoc, append-nil, length-append, reverse, arith}
 use Rattle.std.specs.Prelude.{slice_set, option_map, IfSome, IfNone}
 use Rattle.conv_port.specs.Conv.{ConvState}
 use Rattle.data_cleanup.specs.Cleanup.{receipts_for}

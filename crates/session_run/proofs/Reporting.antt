@@ -1,6 +1,5 @@
 -- Transactions that are ended and reported one after another.
-use Rattle.std.proofs.Common.{◌≡◌, ℕ, ◌+◌, ◌≤◌, Bool, true, false, List, [], ◌∷◌, ◌++◌, length, Result, Ok, Err, refl, sym, ap, ◌∙◌, append_assoc, append-nil, length-append, arith}
-use Rattle.std.specs.List.{flat_map}
+use Rattle.std.proofs.Common.{◌≡◌, ℕ, ◌+◌, ◌≤◌, true, false, List, [], ◌∷◌, ◌++◌, length, Ok, Err, refl, sym, ap, ◌∙◌, append_assoc, append-nil, length-append, arith}
 use Rattle.pam_base.specs.declared.code.Code.{Code}
 use Rattle.pam_base.specs.declared.fault.Failed.{Failed}
 use Rattle.pam_outside.specs.Streams.{SinkState, WritesWhole}
@@ -11,7 +10,7 @@ use Rattle.dispatch_core.specs.Lines.{names_of}
 use Rattle.session_report.specs.Closing.{closing_text}
 use Rattle.session_run.specs.State.{RunState}
 use Rattle.session_run.specs.Closings.{Closing, EndsNext, closings, closings_text, last_state, text_of_end}
-use Rattle.session_run.specs.Reported.{CutBy, ClosesOne, ClosesNext, Closes}
+use Rattle.session_run.specs.Reported.{ClosesNext, Closes}
 
 text-append : (xs ys : List Closing) → closings_text (xs ++ ys) ≡ closings_text xs ++ closings_text ys
 text-append [] ys = refl

@@ -1,5 +1,5 @@
 -- What a line does, by what it is read as.
-use Rattle.std.proofs.Common.{◌≡◌, ℕ, ◌+◌, ◌-◌, ◌≤◌, ◌<◌, Bool, true, false, ◌&&◌, List, length, take, leb, ltb, cond, Option, Result, Ok, Err, refl, sym, ap, ◌∙◌, inl, inr, arith}
+use Rattle.std.proofs.Common.{◌≡◌, ℕ, ◌-◌, ◌≤◌, ◌<◌, Bool, true, false, ◌&&◌, List, length, take, ltb, cond, Option, Ok, Err, refl, sym, ap, ◌∙◌, inl, inr, arith}
 use Rattle.std.proofs.lemmas.List.{length-take}
 use Rattle.std.proofs.lemmas.Bool.{le-leb, lt-leb, lt-ltb, ltb-true}
 use Rattle.std.specs.List.{ends_with}
@@ -16,7 +16,7 @@ use Rattle.pam_library.specs.Slots.{PlainSlot}
 use Rattle.pam_library.specs.Step.{stepped, StepsAs}
 use Rattle.script_lang.specs.declared.line.Line.{Line}
 use Rattle.script_lang.specs.declared.line.Line.TheVariants as lines
-use Rattle.script_lang.specs.Line.{without_return, parsed_text, parsed}
+use Rattle.script_lang.specs.Line.{without_return, parsed}
 use Rattle.script_stream.specs.Run.{step_at}
 use Rattle.script_stream.specs.Turns.{IsBegun}
 use Rattle.session_report.specs.Step.{step_text}

@@ -1,5 +1,5 @@
 -- A whole run of a script: its lines, and how the open transactions are ended behind them (this project's own).
-use Rattle.std.specs.Prelude.{◌≡◌, ◌⊎◌, ℕ, ◌+◌, ◌≤◌, List, [], ◌∷◌, ◌++◌, length, Result, Ok, Err}
+use Rattle.std.specs.Prelude.{◌≡◌, ◌⊎◌, ℕ, ◌+◌, ◌≤◌, List, [], ◌∷◌, ◌++◌, length, true, None, Result, Ok, Err}
 use Rattle.pam_base.specs.declared.code.Code.{Code}
 use Rattle.pam_base.specs.declared.code.Code.TheVariants.{Success, SystemErr, BufErr, Abort}
 use Rattle.pam_outside.specs.Streams.{SourceState, SinkState}
@@ -9,6 +9,7 @@ use Rattle.script_stream.specs.declared.ending.Ending.{Ending}
 use Rattle.script_stream.specs.declared.ending.Ending.TheVariants.{Done, ReadFault, Refused}
 use Rattle.script_stream.specs.declared.ending.Stop.{Stop}
 use Rattle.script_stream.specs.declared.ending.Stop.TheVariants.{NoMemory, WriteFault}
+use Rattle.script_stream.specs.Run.{run_of}
 use Rattle.script_stream.specs.Turns.{StopsBy, LastRead}
 use Rattle.script_stream.specs.Whole.{Reports}
 use Rattle.session_report.specs.Script.{script_text, read_fault_text}
@@ -118,3 +119,8 @@ module _ (setting : Setting) where
     pub reads : y.calls ≤ x.calls + length taken + 1
     pub ends : y.reads_at_end ≤ x.reads_at_end + 1
     pub writes : q.calls ≤ p.calls + length text + 1
+
+-- Where no line of the script is refused and neither source nor sink failed, it was run to its end, or there was no memory.
+abbrev pub Completes : Setting → Result Ending Stop → RunState → List ℕ → Type 0 → Type 0 → Type 0
+Completes setting result start input read_failed write_failed =
+    (run_of (line_step setting) 0 start input true).refused ≡ None → (read_failed → ⊥) → (write_failed → ⊥) → (result ≡ Ok Done) ⊎ (result ≡ Err NoMemory)

@@ -36,9 +36,9 @@ pub(crate) fn close_reported<K: Sink>(
     ensures sink_tells { K.sink_tells sink.new ≡ K.sink_tells sink.old }
     ensures told { IsTrue (K.sink_tells sink.old) →
         Closes (⟦<Gear as GearTold>⟧.players (gear_in library.old)) status result
-            (state_of (⟦<Library as LibraryTold>⟧.slots library.old) (⟦<World as WorldTold>⟧.plain world.old))
-            (state_of (⟦<Library as LibraryTold>⟧.slots library.new) (⟦<World as WorldTold>⟧.plain world.new))
-            (K.sink_holds sink.old) (K.sink_holds sink.new) }
+        (state_of (⟦<Library as LibraryTold>⟧.slots library.old) (⟦<World as WorldTold>⟧.plain world.old))
+        (state_of (⟦<Library as LibraryTold>⟧.slots library.new) (⟦<World as WorldTold>⟧.plain world.new))
+        (K.sink_holds sink.old) (K.sink_holds sink.new) }
     ensures none_open { OnOk result (NoneIsOpen (⟦<Library as LibraryTold>⟧.slots library.new)) }
     ensures proceeds { Proceeds (notes_of (⟦<Gear as GearTold>⟧.players (gear_in library.old)))
         world.old.process.ledger (lists_of (⟦<Library as LibraryTold>⟧.slots library.old))
@@ -70,9 +70,9 @@ fn close_next<K: Sink>(
     ensures sink_tells { K.sink_tells sink.new ≡ K.sink_tells sink.old }
     ensures told { IsTrue (K.sink_tells sink.old) →
         ClosesNext (⟦<Gear as GearTold>⟧.players (gear_in library.old)) status result
-            (state_of (⟦<Library as LibraryTold>⟧.slots library.old) (⟦<World as WorldTold>⟧.plain world.old))
-            (state_of (⟦<Library as LibraryTold>⟧.slots library.new) (⟦<World as WorldTold>⟧.plain world.new))
-            (K.sink_holds sink.old) (K.sink_holds sink.new) }
+        (state_of (⟦<Library as LibraryTold>⟧.slots library.old) (⟦<World as WorldTold>⟧.plain world.old))
+        (state_of (⟦<Library as LibraryTold>⟧.slots library.new) (⟦<World as WorldTold>⟧.plain world.new))
+        (K.sink_holds sink.old) (K.sink_holds sink.new) }
     ensures fewer { result ≡ Ok true → open_count (⟦<Library as LibraryTold>⟧.slots library.new) < open_count (⟦<Library as LibraryTold>⟧.slots library.old) }
     ensures none_open { result ≡ Ok false → NoneIsOpen (⟦<Library as LibraryTold>⟧.slots library.new) }
     ensures proceeds { Proceeds (notes_of (⟦<Gear as GearTold>⟧.players (gear_in library.old)))
@@ -85,7 +85,14 @@ fn close_next<K: Sink>(
     let Some(number) = end_next(library, status, world) else {
         return Ok(false);
     };
-    let text = match closing_report(alloc, library, &world.process.ledger, number, before, status) {
+    let text = match closing_report(
+        alloc,
+        library,
+        &world.process.ledger,
+        number,
+        before,
+        status,
+    ) {
         Ok(text) => text,
         Err(NoMemory) => return Err(Stop::NoMemory),
     };
@@ -119,12 +126,12 @@ fn end_next(library: &mut Library, status: Code, world: &mut World) -> Option<u3
     ensures tells { ⟦<Library as LibraryTold>⟧.tells library.new ≡ ⟦<Library as LibraryTold>⟧.tells library.old }
     ensures world_tells { ⟦<World as WorldTold>⟧.tells world.new ≡ ⟦<World as WorldTold>⟧.tells world.old }
     ensures some { IfSome result (λ number. EndsNext (⟦<Gear as GearTold>⟧.players (gear_in library.old)) status number
-            (state_of (⟦<Library as LibraryTold>⟧.slots library.old) (⟦<World as WorldTold>⟧.plain world.old))
-            (state_of (⟦<Library as LibraryTold>⟧.slots library.new) (⟦<World as WorldTold>⟧.plain world.new))) }
+        (state_of (⟦<Library as LibraryTold>⟧.slots library.old) (⟦<World as WorldTold>⟧.plain world.old))
+        (state_of (⟦<Library as LibraryTold>⟧.slots library.new) (⟦<World as WorldTold>⟧.plain world.new))) }
     ensures none { IfNone result (NoneIsOpen (⟦<Library as LibraryTold>⟧.slots library.old)) }
     ensures filed { length world.old.process.ledger.filed ≤ length world.new.process.ledger.filed }
     ensures stays { IfNone result (state_of (⟦<Library as LibraryTold>⟧.slots library.new) (⟦<World as WorldTold>⟧.plain world.new)
-            ≡ state_of (⟦<Library as LibraryTold>⟧.slots library.old) (⟦<World as WorldTold>⟧.plain world.old)) }
+        ≡ state_of (⟦<Library as LibraryTold>⟧.slots library.old) (⟦<World as WorldTold>⟧.plain world.old)) }
     ensures proceeds { Proceeds (notes_of (⟦<Gear as GearTold>⟧.players (gear_in library.old)))
         world.old.process.ledger (lists_of (⟦<Library as LibraryTold>⟧.slots library.old))
         world.new.process.ledger (lists_of (⟦<Library as LibraryTold>⟧.slots library.new)) }

@@ -3,6 +3,7 @@
 #![tactic(auto)]
 
 mod closing;
+mod laws;
 mod lines;
 mod meaning;
 mod run;
@@ -10,5 +11,6 @@ mod serve;
 mod status;
 mod world;
 
+pub use laws::proceeding_stands;
 pub use meaning::Meaning;
 pub use run::run_script;

@@ -47,10 +47,10 @@ pub(crate) fn serve_lines<S: Source, K: Sink>(
         IsTrue (S.source_tells source.old) → IsTrue (K.sink_tells sink.old) →
         (let setting = setting_of (⟦<Gear as GearTold>⟧.players (gear_in library.old)) delay in
         Runs (line_step setting) (Fails setting) result lines.new
-            (state_of (⟦<Library as LibraryTold>⟧.slots library.old) (⟦<World as WorldTold>⟧.plain world.old))
-            (state_of (⟦<Library as LibraryTold>⟧.slots library.new) (⟦<World as WorldTold>⟧.plain world.new))
-            (S.source_holds source.old) (S.source_holds source.new)
-            (K.sink_holds sink.old) (K.sink_holds sink.new)) }
+        (state_of (⟦<Library as LibraryTold>⟧.slots library.old) (⟦<World as WorldTold>⟧.plain world.old))
+        (state_of (⟦<Library as LibraryTold>⟧.slots library.new) (⟦<World as WorldTold>⟧.plain world.new))
+        (S.source_holds source.old) (S.source_holds source.new)
+        (K.sink_holds sink.old) (K.sink_holds sink.new)) }
     ensures few { lines.new ≤ 65536 }
     ensures proceeds { Proceeds (notes_of (⟦<Gear as GearTold>⟧.players (gear_in library.old)))
         world.old.process.ledger (lists_of (⟦<Library as LibraryTold>⟧.slots library.old))
@@ -97,11 +97,11 @@ fn take_turn<S: Source, K: Sink>(
         IsTrue (S.source_tells source.old) → IsTrue (K.sink_tells sink.old) →
         (let setting = setting_of (⟦<Gear as GearTold>⟧.players (gear_in library.old)) delay in
         Turns (line_step setting) (Fails setting) result lines.old lines.new
-            (state_of (⟦<Library as LibraryTold>⟧.slots library.old) (⟦<World as WorldTold>⟧.plain world.old))
-            (state_of (⟦<Library as LibraryTold>⟧.slots library.new) (⟦<World as WorldTold>⟧.plain world.new))
-            reader.old reader.new
-            (S.source_holds source.old) (S.source_holds source.new)
-            (K.sink_holds sink.old) (K.sink_holds sink.new)) }
+        (state_of (⟦<Library as LibraryTold>⟧.slots library.old) (⟦<World as WorldTold>⟧.plain world.old))
+        (state_of (⟦<Library as LibraryTold>⟧.slots library.new) (⟦<World as WorldTold>⟧.plain world.new))
+        reader.old reader.new
+        (S.source_holds source.old) (S.source_holds source.new)
+        (K.sink_holds sink.old) (K.sink_holds sink.new)) }
     ensures few { lines.new ≤ 65536 }
     ensures next { result ≡ Ok None → lines.new ≡ lines.old + 1 }
     ensures proceeds { Proceeds (notes_of (⟦<Gear as GearTold>⟧.players (gear_in library.old)))

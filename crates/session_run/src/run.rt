@@ -1,19 +1,21 @@
-ghost use Rattle.std.specs.Prelude.{◌≡◌, ◌&&◌, ◌≤◌, ℕ, Ok, Some, IsTrue, IfOk, OnOk, length, string_bytes};
+ghost use Rattle.std.specs.Prelude.{◌≡◌, ◌&&◌, ◌≤◌, ◌<◌, ℕ, true, Ok, Some, IsTrue, IfOk, OnOk, length, string_bytes};
 ghost use Rattle.pam_base.specs.declared.code.Code.{Code};
 ghost use Rattle.dispatch_core.specs.Lines.{names_of};
 ghost use Rattle.pam_room.specs.Module.{notes_of};
-ghost use Rattle.pam_outside.specs.Counts.{RisesIf};
+ghost use Rattle.data_cleanup.specs.Ledger.{is_filed};
+ghost use Rattle.pam_outside.specs.Counts.{RisesIf, Rose};
 ghost use Rattle.pam_library.specs.Plain.{gear_in};
 ghost use Rattle.pam_library.specs.Slots.{NoneIsOpen, lists_of};
 ghost use Rattle.pam_library.specs.Sound.{IsSound};
 ghost use Rattle.script_stream.specs.Turns.{has_read_fault, has_write_fault};
 ghost use Rattle.session_run.specs.AnyWorld.{Proceeds};
 ghost use Rattle.session_run.specs.State.{setting_of, state_of};
-ghost use Rattle.session_run.specs.Whole.{EndsWith, RunsScript, last_line};
+ghost use Rattle.session_run.specs.Whole.{Completes, EndsWith, RunsScript, last_line};
 
 use crate::closing::{close_reported, close_silently};
 use crate::lines::serve_lines;
 use crate::status::{ending_status, stop_status};
+use data_due::all_are_filed;
 use fail_delay::{DelayFn, DelayTold};
 use pam_base::{Failed, NoMemory};
 use pam_handle::{Gear, GearTold};
@@ -45,13 +47,22 @@ pub fn run_script<S: Source, K: Sink>(
         IsTrue (⟦<Library as LibraryTold>⟧.tells library.old && ⟦<World as WorldTold>⟧.tells world.old) →
         IsTrue (S.source_tells source.old) → IsTrue (K.sink_tells sink.old) →
         RunsScript (setting_of (⟦<Gear as GearTold>⟧.players (gear_in library.old)) delay) result
-            (state_of (⟦<Library as LibraryTold>⟧.slots library.old) (⟦<World as WorldTold>⟧.plain world.old))
-            (state_of (⟦<Library as LibraryTold>⟧.slots library.new) (⟦<World as WorldTold>⟧.plain world.new))
-            (S.source_holds source.old) (S.source_holds source.new)
-            (K.sink_holds sink.old) (K.sink_holds sink.new) }
+        (state_of (⟦<Library as LibraryTold>⟧.slots library.old) (⟦<World as WorldTold>⟧.plain world.old))
+        (state_of (⟦<Library as LibraryTold>⟧.slots library.new) (⟦<World as WorldTold>⟧.plain world.new))
+        (S.source_holds source.old) (S.source_holds source.new)
+        (K.sink_holds sink.old) (K.sink_holds sink.new) }
+
+    // No run gives up by itself.
+    ensures complete { (delay : Code → ℕ → ℕ) → ⟦<DelayFn as DelayTold>⟧.delay_is (gear_in library.old).delay delay →
+        IsTrue (⟦<Library as LibraryTold>⟧.tells library.old && ⟦<World as WorldTold>⟧.tells world.old) →
+        IsTrue (S.source_tells source.old) → IsTrue (K.sink_tells sink.old) →
+        Completes (setting_of (⟦<Gear as GearTold>⟧.players (gear_in library.old)) delay) result
+        (state_of (⟦<Library as LibraryTold>⟧.slots library.old) (⟦<World as WorldTold>⟧.plain world.old)) (S.source_holds source.old).left
+        (Rose (S.source_faults source.old) (S.source_faults source.new)) (Rose (K.sink_faults sink.old) (K.sink_faults sink.new)) }
 
     // In any world: what is due for cleanup was cleaned up, and no transaction is open.
     ensures none_open { NoneIsOpen (⟦<Library as LibraryTold>⟧.slots library.new) }
+    ensures filed { (id : ℕ) → id < length world.new.process.ledger.births → is_filed world.new.process.ledger id ≡ true }
     ensures proceeds { Proceeds (notes_of (⟦<Gear as GearTold>⟧.players (gear_in library.old)))
         world.old.process.ledger (lists_of (⟦<Library as LibraryTold>⟧.slots library.old))
         world.new.process.ledger (lists_of (⟦<Library as LibraryTold>⟧.slots library.new)) }
@@ -68,6 +79,7 @@ pub fn run_script<S: Source, K: Sink>(
     ensures source_tells { S.source_tells source.new ≡ S.source_tells source.old }
     ensures sink_tells { K.sink_tells sink.new ≡ K.sink_tells sink.old }
 {
+    all_are_filed();
     let mut lines = 0;
     match serve_lines(alloc, library, &mut lines, source, sink, world) {
         Err(stop) => {
@@ -101,9 +113,9 @@ fn finish<K: Sink>(
     ensures sink_tells { K.sink_tells sink.new ≡ K.sink_tells sink.old }
     ensures told { IsTrue (K.sink_tells sink.old) →
         EndsWith (⟦<Gear as GearTold>⟧.players (gear_in library.old)) ending lines result
-            (state_of (⟦<Library as LibraryTold>⟧.slots library.old) (⟦<World as WorldTold>⟧.plain world.old))
-            (state_of (⟦<Library as LibraryTold>⟧.slots library.new) (⟦<World as WorldTold>⟧.plain world.new))
-            (K.sink_holds sink.old) (K.sink_holds sink.new) }
+        (state_of (⟦<Library as LibraryTold>⟧.slots library.old) (⟦<World as WorldTold>⟧.plain world.old))
+        (state_of (⟦<Library as LibraryTold>⟧.slots library.new) (⟦<World as WorldTold>⟧.plain world.new))
+        (K.sink_holds sink.old) (K.sink_holds sink.new) }
     ensures none_open { OnOk result (NoneIsOpen (⟦<Library as LibraryTold>⟧.slots library.new)) }
     ensures proceeds { Proceeds (notes_of (⟦<Gear as GearTold>⟧.players (gear_in library.old)))
         world.old.process.ledger (lists_of (⟦<Library as LibraryTold>⟧.slots library.old))

@@ -23,8 +23,8 @@ use pam_library::{Library, LibraryTold};
 use pam_outside::{Sink, write_all};
 use pam_room::{World, WorldTold};
 use script_lang::{Line, parse};
-use session_report::step_report;
 use script_stream::{MAX_LINES, Stop, line_is_served};
+use session_report::step_report;
 use std::alloc::Global;
 
 /// Serves one line that has so many before it: it is applied, and then its report is written. Answers why it was
@@ -46,9 +46,9 @@ pub(crate) fn serve_line<K: Sink>(
         IsTrue (⟦<Library as LibraryTold>⟧.tells library.old && ⟦<World as WorldTold>⟧.tells world.old) → IsTrue (K.sink_tells sink.old) →
         (let setting = setting_of (⟦<Gear as GearTold>⟧.players (gear_in library.old)) delay in
         ServesTold (line_step setting) (Fails setting) result lines line.now
-            (state_of (⟦<Library as LibraryTold>⟧.slots library.old) (⟦<World as WorldTold>⟧.plain world.old))
-            (state_of (⟦<Library as LibraryTold>⟧.slots library.new) (⟦<World as WorldTold>⟧.plain world.new))
-            (K.sink_holds sink.old) (K.sink_holds sink.new)) }
+        (state_of (⟦<Library as LibraryTold>⟧.slots library.old) (⟦<World as WorldTold>⟧.plain world.old))
+        (state_of (⟦<Library as LibraryTold>⟧.slots library.new) (⟦<World as WorldTold>⟧.plain world.new))
+        (K.sink_holds sink.old) (K.sink_holds sink.new)) }
     ensures proceeds { Proceeds (notes_of (⟦<Gear as GearTold>⟧.players (gear_in library.old)))
         world.old.process.ledger (lists_of (⟦<Library as LibraryTold>⟧.slots library.old))
         world.new.process.ledger (lists_of (⟦<Library as LibraryTold>⟧.slots library.new)) }
@@ -102,9 +102,9 @@ fn serve_step<K: Sink>(
         (lines : ℕ) (line : List ℕ) → lines < 65536 → parsed line ≡ Ok (script_lines.Step step.now) →
         (let setting = setting_of (⟦<Gear as GearTold>⟧.players (gear_in library.old)) delay in
         ServesTold (line_step setting) (Fails setting) (unrefused result) lines line
-            (state_of (⟦<Library as LibraryTold>⟧.slots library.old) (⟦<World as WorldTold>⟧.plain world.old))
-            (state_of (⟦<Library as LibraryTold>⟧.slots library.new) (⟦<World as WorldTold>⟧.plain world.new))
-            (K.sink_holds sink.old) (K.sink_holds sink.new)) }
+        (state_of (⟦<Library as LibraryTold>⟧.slots library.old) (⟦<World as WorldTold>⟧.plain world.old))
+        (state_of (⟦<Library as LibraryTold>⟧.slots library.new) (⟦<World as WorldTold>⟧.plain world.new))
+        (K.sink_holds sink.old) (K.sink_holds sink.new)) }
     ensures proceeds { Proceeds (notes_of (⟦<Gear as GearTold>⟧.players (gear_in library.old)))
         world.old.process.ledger (lists_of (⟦<Library as LibraryTold>⟧.slots library.old))
         world.new.process.ledger (lists_of (⟦<Library as LibraryTold>⟧.slots library.new)) }

@@ -1,6 +1,6 @@
 use Rattle.std.proofs.Common.{refl, ◌∙◌}
 use Rattle.session_run.proofs.Proceeding.{nothing_done, goes_on}
-use Rattle.session_run.proofs.Reporting.{none_yet, one_more, no_more, stops_in_one}
+use Rattle.session_run.proofs.Reporting.{none_yet, one_more, stops_in_one}
 use Rattle.session_run.proofs.closing.close_reported.Goals as goal
 
 pub loop-stop-init : goal.loop-stop-init
@@ -22,8 +22,8 @@ loop-stop-preserved g c = record {
   world_tells = c.close_next.ensures.world_tells ∙ c.loop-stop.invariant.world_tells;
   sink_tells = c.close_next.ensures.sink_tells ∙ c.loop-stop.invariant.sink_tells;
   told = λ sink.
-    let next = rw c.in-Ok-true.field-0-test at c.in-Ok-true.ensures.told in
-    one_more _ _ _ _ _ _ _ _ (c.loop-stop.invariant.told sink) (rw c.loop-stop.invariant.gear at (next (c.loop-stop.invariant.sink_tells ∙ sink)));
+      let next = rw c.in-Ok-true.field-0-test at c.in-Ok-true.ensures.told in
+      one_more _ _ _ _ _ _ _ _ (c.loop-stop.invariant.told sink) (rw c.loop-stop.invariant.gear at (next (c.loop-stop.invariant.sink_tells ∙ sink)));
   faults = c.in-Ok-true.ensures.faults ∙ c.loop-stop.invariant.faults;
   proceeds = goes_on _ _ _ _ _ _ _ c.loop-stop.invariant.proceeds (rw c.loop-stop.invariant.gear at c.close_next.ensures.proceeds);
   sound = c.close_next.ensures.sound;

@@ -17,9 +17,9 @@ invariant-loop-stop g l =
     let players : List Player = map (player_of (λ b. (goal.Module-dyn g (b.vtable, b.value)).label b.value) (λ b. (goal.Module-dyn g (b.vtable, b.value)).plays b.value) (λ b. (goal.Module-dyn g (b.vtable, b.value)).note b.value)) (gear_in l.library).mods.items in
     let players_start : List Player = map (player_of (λ b. (goal.Module-dyn g (b.vtable, b.value)).label b.value) (λ b. (goal.Module-dyn g (b.vtable, b.value)).plays b.value) (λ b. (goal.Module-dyn g (b.vtable, b.value)).note b.value)) (gear_in l.fn.library).mods.items in
     let now : RunState = state_of (slots_in (λ b. (goal.Conv-dyn g (b.vtable, b.value)).conv_holds b.value) l.library)
-        (plain_world (λ b. (goal.Vault-dyn g (b.vtable, b.value)).vault_holds b.value) (λ b. (goal.Clock-dyn g (b.vtable, b.value)).clock_holds b.value) (λ b. (goal.Nap-dyn g (b.vtable, b.value)).nap_holds b.value) l.world) in
+    (plain_world (λ b. (goal.Vault-dyn g (b.vtable, b.value)).vault_holds b.value) (λ b. (goal.Clock-dyn g (b.vtable, b.value)).clock_holds b.value) (λ b. (goal.Nap-dyn g (b.vtable, b.value)).nap_holds b.value) l.world) in
     let start : RunState = state_of (slots_in (λ b. (goal.Conv-dyn g (b.vtable, b.value)).conv_holds b.value) l.fn.library)
-        (plain_world (λ b. (goal.Vault-dyn g (b.vtable, b.value)).vault_holds b.value) (λ b. (goal.Clock-dyn g (b.vtable, b.value)).clock_holds b.value) (λ b. (goal.Nap-dyn g (b.vtable, b.value)).nap_holds b.value) l.fn.world) in
+    (plain_world (λ b. (goal.Vault-dyn g (b.vtable, b.value)).vault_holds b.value) (λ b. (goal.Clock-dyn g (b.vtable, b.value)).clock_holds b.value) (λ b. (goal.Nap-dyn g (b.vtable, b.value)).nap_holds b.value) l.fn.world) in
     let world_now : Bool = ((goal.Vault-dyn g (l.world.vault.vtable, l.world.vault.value)).vault_tells l.world.vault.value && (goal.Clock-dyn g (l.world.clock.vtable, l.world.clock.value)).clock_tells l.world.clock.value)
     && (goal.Nap-dyn g (l.world.nap.vtable, l.world.nap.value)).nap_tells l.world.nap.value in
     let world_start : Bool = ((goal.Vault-dyn g (l.fn.world.vault.vtable, l.fn.world.vault.value)).vault_tells l.fn.world.vault.value && (goal.Clock-dyn g (l.fn.world.clock.vtable, l.fn.world.clock.value)).clock_tells l.fn.world.clock.value)

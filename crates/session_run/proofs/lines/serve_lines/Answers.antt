@@ -1,4 +1,4 @@
-use Rattle.std.proofs.Common.{refl, ◌∙◌, Some, None, Ok, Err}
+use Rattle.std.proofs.Common.{◌∙◌, Some, None, Ok, Err}
 use Rattle.script_stream.specs.declared.ending.Stop.TheVariants.{NoMemory}
 use Rattle.script_stream.specs.Turns.{has_read_fault}
 use Rattle.session_run.proofs.Proceeding.{goes_on}

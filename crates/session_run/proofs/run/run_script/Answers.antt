@@ -1,4 +1,6 @@
-use Rattle.std.proofs.Common.{◌∙◌}
+use Rattle.std.proofs.Common.{◌∙◌, Ok, Err}
+use Rattle.session_run.proofs.Completing.{completes}
+use Rattle.session_run.proofs.Filed.{no_data}
 use Rattle.session_run.proofs.Proceeding.{goes_on}
 use Rattle.session_run.proofs.Wholly.{stopped_lines, ended_run, stopped_behind}
 use Rattle.session_run.proofs.run.run_script.Goals as goal
@@ -27,3 +29,20 @@ pub returns-in-Err-finish-clause-proceeds : goal.returns-in-Err-finish-clause-pr
 returns-in-Err-finish-clause-proceeds g c =
     goes_on _ _ _ _ _ _ _ (goes_on _ _ _ _ _ _ _ c.serve_lines.ensures.proceeds (rw c.serve_lines.ensures.gear at c.finish.ensures.proceeds))
     (rw (c.finish.ensures.gear, c.serve_lines.ensures.gear) at c.close_silently-in-Err-finish.ensures.proceeds)
+
+pub returns-in-Err-clause-filed : goal.returns-in-Err-clause-filed
+returns-in-Err-clause-filed g c = c.all_are_filed.ensures 17 _ _ c.close_silently.ensures.sound.held.once (λ h lt. no_data _ c.close_silently.ensures.none_open h)
+
+pub returns-in-Ok-finish-clause-filed : goal.returns-in-Ok-finish-clause-filed
+returns-in-Ok-finish-clause-filed g c = c.all_are_filed.ensures 17 _ _ c.finish.ensures.sound.held.once (λ h lt. no_data _ c.in-Ok-finish.ensures.none_open h)
+
+pub returns-in-Err-finish-clause-filed : goal.returns-in-Err-finish-clause-filed
+returns-in-Err-finish-clause-filed g c = c.all_are_filed.ensures 17 _ _ c.close_silently-in-Err-finish.ensures.sound.held.once (λ h lt. no_data _ c.close_silently-in-Err-finish.ensures.none_open h)
+
+pub returns-in-Err-clause-complete : goal.returns-in-Err-clause-complete
+returns-in-Err-clause-complete g c = λ delay is told source sink.
+    completes _ _ _ _ _ _ _ _ _ _ _ (Err c.in-Err.stop) (returns-in-Err-clause-told g c delay is told source sink) tt c.in-Err.ensures.sink_faults
+
+pub returns-in-Ok-finish-clause-complete : goal.returns-in-Ok-finish-clause-complete
+returns-in-Ok-finish-clause-complete g c = λ delay is told source sink.
+    completes _ _ _ _ _ _ _ _ _ _ _ (Ok c.in-Ok.ending) (returns-in-Ok-finish-clause-told g c delay is told source sink) c.in-Ok.ensures.source_faults (c.in-Ok-finish.ensures.faults ∙ c.in-Ok.ensures.sink_faults)
