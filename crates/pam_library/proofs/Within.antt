@@ -1,10 +1,9 @@
 -- A call that stays inside an open transaction.
-use Rattle.std.proofs.Common.{◌≡◌, ℕ, Bool, true, false, ◌&&◌, if◌then◌else◌, IsTrue, IsOk, IfOk, OnErr, List, [], ◌∷◌, ◌++◌, length, Option, Some, None, is_some, Result, Ok, Err, refl, sym, ap, ◌∙◌, subst}
+use Rattle.std.proofs.Common.{◌≡◌, ℕ, Bool, true, false, ◌&&◌, if◌then◌else◌, IsTrue, IfOk, OnErr, List, [], length, Option, Some, None, is_some, Result, Ok, Err, refl, sym, ap, ◌∙◌, subst}
 use Rattle.pam_base.specs.declared.code.Code.{Code}
 use Rattle.pam_base.specs.declared.call.AppCall.{AppCall}
 use Rattle.pam_base.specs.declared.call.AppCall.TheVariants as calls
 use Rattle.pam_base.specs.declared.fault.NoMemory.{NoMemory}
-use Rattle.conv_port.specs.Conv.{ConvState}
 use Rattle.data_cleanup.specs.DataList.{PlainDataList}
 use Rattle.data_cleanup.specs.Ledger.{PlainLedger}
 use Rattle.data_cleanup.specs.Cleanup.{Notes}
@@ -13,15 +12,14 @@ use Rattle.dispatch_core.specs.Lines.{names_of}
 use Rattle.pam_room.specs.Module.{Player, notes_of}
 use Rattle.pam_room.specs.State.{PlainWorld}
 use Rattle.pam_handle.specs.Handle.{PlainHandle}
-use Rattle.pam_handle.specs.Items.{all_told, with_conversation}
+use Rattle.pam_handle.specs.Items.{all_told}
 use Rattle.pam_library.specs.declared.outcome.Answer.{Answer}
-use Rattle.pam_library.specs.declared.outcome.Answer.TheVariants as answers
 use Rattle.pam_library.specs.declared.outcome.Outcome.{Outcome}
-use Rattle.pam_library.specs.Outcome.{PlainOutcome, plain_outcome, answers_only}
-use Rattle.pam_library.specs.Slots.{PlainSlot, closed, opened}
-use Rattle.pam_library.specs.SlotStep.{SlotStepped, SlotStepsAs, filed_in, offered, open_step, slot_step}
-use Rattle.pam_library.specs.AnyWorld.{AnswersBy, CanAnswer, Fails, ReplyFails, SpendsAt, is_free, refusal, stays_inside, takes_no_memory}
-use Rattle.pam_library.specs.InPlace.{GoesInPlace, GoesInside, IsOffered}
+use Rattle.pam_library.specs.Outcome.{plain_outcome}
+use Rattle.pam_library.specs.Slots.{PlainSlot, opened}
+use Rattle.pam_library.specs.SlotStep.{SlotStepped, SlotStepsAs, filed_in, open_step, slot_step}
+use Rattle.pam_library.specs.AnyWorld.{AnswersBy, CanAnswer, Fails, SpendsAt, is_free, refusal}
+use Rattle.pam_library.specs.InPlace.{GoesInPlace, GoesInside}
 use Rattle.pam_library.proofs.Spending.{NothingGrows}
 
 -- the calls that ask only the transaction itself
