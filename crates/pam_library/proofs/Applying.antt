@@ -1,6 +1,6 @@
 -- A step on one place, seen in all places.
-use Rattle.std.proofs.Common.{◌≡◌, ℕ, zero, suc, ◌+◌, ◌-◌, ◌<◌, ◌≤◌, Bool, true, false, ◌&&◌, if◌then◌else◌, is_ok, IsTrue, IsOk, IfOk, OnErr, List, [], ◌∷◌, ◌++◌, length, map, take, drop, get_or, slice_get, slice_set, Option, Some, None, option_map, Result, Ok, Err, refl, sym, ap, ◌∙◌, subst, arith}
-use Rattle.std.specs.List.{insert, remove, list_all, AllByRecursion}
+use Rattle.std.proofs.Common.{◌≡◌, ℕ, zero, suc, ◌-◌, ◌<◌, ◌≤◌, Bool, true, false, ◌&&◌, if◌then◌else◌, is_ok, IsTrue, IsOk, IfOk, OnErr, List, [], ◌∷◌, length, map, get_or, slice_get, slice_set, Option, Some, None, option_map, Result, Ok, Err, refl, sym, ap, ◌∙◌, subst, arith}
+use Rattle.std.specs.List.{insert, remove, list_all}
 use Rattle.std.proofs.lemmas.Option.{slice_get-map, slice_get_past, slice_get_read}
 use Rattle.pam_base.specs.declared.code.Code.{Code}
 use Rattle.pam_base.specs.declared.call.AppCall.{AppCall}
@@ -10,26 +10,22 @@ use Rattle.pam_base.specs.declared.fault.NoMemory.{NoMemory}
 use Rattle.data_cleanup.specs.DataList.{PlainDataList}
 use Rattle.data_cleanup.specs.Ledger.{AreNumbered, PlainLedger}
 use Rattle.data_cleanup.specs.Cleanup.{AwaitCleanup, Notes}
-use Rattle.data_cleanup.specs.declared.datum.Birth.{Birth}
 use Rattle.data_due.specs.Stands.{Lists}
 use Rattle.data_due.specs.Kept.{AreHeld}
 use Rattle.data_due.specs.Moves.{Moves}
 use Rattle.dispatch_core.specs.Lines.{names_of}
 use Rattle.pam_room.specs.Module.{Player, notes_of}
 use Rattle.pam_room.specs.State.{PlainWorld, PlainProcess}
-use Rattle.pam_room.specs.Stays.{IsReady}
-use Rattle.pam_handle.specs.Handle.{PlainHandle}
-use Rattle.pam_library.specs.declared.outcome.Answer.{Answer}
 use Rattle.pam_library.specs.declared.outcome.Answer.TheVariants as answers
 use Rattle.pam_library.specs.declared.outcome.Outcome.{Outcome}
-use Rattle.pam_library.specs.Outcome.{PlainOutcome, plain_outcome, answers_only}
+use Rattle.pam_library.specs.Outcome.{plain_outcome}
 use Rattle.pam_library.specs.Slots.{PlainSlot, closed, opened, slot_at, with_slot, data_in, lists_of}
-use Rattle.pam_library.specs.SlotStep.{SlotStepped, SlotStepsAs, filed_in, slot_step}
-use Rattle.pam_library.specs.Step.{Stepped, StepsAs, stepped, stepped_at, stepped_in}
+use Rattle.pam_library.specs.SlotStep.{SlotStepsAs, filed_in, slot_step}
+use Rattle.pam_library.specs.Step.{Stepped, StepsAs, stepped, stepped_at}
 use Rattle.pam_library.specs.Sound.{IsAtPlace, IsSound}
 use Rattle.pam_library.specs.AnyWorld.{AnswersBy, Fails, FailsAt, SpendsAt, end_at, refusal, stays_inside, takes_no_memory}
 use Rattle.pam_library.specs.InPlace.{GoesInPlace, IsReadyAt}
-use Rattle.pam_library.proofs.Placing.{lists-same, slot_at-with_slot_other, slot_at-with_slot_same, slot_at-within}
+use Rattle.pam_library.proofs.Placing.{slot_at-with_slot_other, slot_at-with_slot_same, slot_at-within}
 use Rattle.pam_library.proofs.Stacking.{IsOnly}
 use Rattle.pam_library.proofs.Within.{failed_by}
 

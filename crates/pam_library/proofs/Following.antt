@@ -1,12 +1,11 @@
 -- What a list of calls stands for.
-use Rattle.std.proofs.Common.{◌≡◌, ℕ, zero, suc, List, [], ◌∷◌, ◌++◌, length, map, drop, refl, sym, ap, ◌∙◌, subst, append_assoc}
+use Rattle.std.proofs.Common.{◌≡◌, ℕ, List, [], ◌∷◌, ◌++◌, length, map, drop, refl, sym, ap, ◌∙◌, subst, append_assoc}
 use Rattle.std.proofs.lemmas.List.{append-nil}
 use Rattle.data_cleanup.specs.Ledger.{PlainLedger}
 use Rattle.data_cleanup.specs.Cleanup.{Notes}
 use Rattle.data_cleanup.specs.Due.{Event, birth}
 use Rattle.data_cleanup.specs.declared.datum.Birth.{Birth}
 use Rattle.data_due.specs.Stands.{Lists, StandFor}
-use Rattle.data_due.specs.Moves.{Moves}
 use Rattle.pam_library.specs.Calls.{Moved, MoveOn, births_added, events_of, last_ledger, last_lists}
 
 behind : (xs ys : List Birth) → drop (length xs) (xs ++ ys) ≡ ys

@@ -1,5 +1,5 @@
 -- The names of modules, by their numbers.
-use Rattle.std.proofs.Common.{◌≡◌, ℕ, zero, suc, ◌<◌, List, [], ◌∷◌, Some, length, map, slice_get, get_or, arith, rules, refl, ap, sym, ◌∙◌}
+use Rattle.std.proofs.Common.{◌≡◌, ℕ, zero, suc, ◌<◌, List, [], ◌∷◌, Some, length, map, slice_get, get_or, arith, ap, sym, ◌∙◌}
 use Rattle.pam_room.specs.Module.{Plays, Note, player_of}
 use Rattle.dispatch_core.specs.Lines.{names_of}
 

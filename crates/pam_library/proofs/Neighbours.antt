@@ -1,14 +1,12 @@
 -- The steps of a run in one place.
-use Rattle.std.proofs.Common.{◌≡◌, ℕ, Bool, true, false, nat_eq, if◌then◌else◌, List, [], ◌∷◌, filter, Option, Some, None, refl, sym, ap, ◌∙◌, arith}
+use Rattle.std.proofs.Common.{◌≡◌, ℕ, Bool, true, false, nat_eq, if◌then◌else◌, List, [], ◌∷◌, Option, Some, None, refl, sym, ap, ◌∙◌, arith}
 use Rattle.std.proofs.lemmas.Bool.Decides.{nat_tests}
 use Rattle.pam_base.specs.declared.code.Code.{Code}
-use Rattle.pam_base.specs.declared.call.AppCall.{AppCall}
 use Rattle.pam_room.specs.Module.{Player}
-use Rattle.pam_room.specs.State.{PlainWorld}
 use Rattle.pam_library.specs.Outcome.{PlainOutcome}
 use Rattle.pam_library.specs.Slots.{PlainSlot, slot_at, with_slot}
 use Rattle.pam_library.specs.SlotStep.{slot_step}
-use Rattle.pam_library.specs.Step.{Stepped, stepped, stepped_at, stepped_in}
+use Rattle.pam_library.specs.Step.{Stepped, stepped, stepped_at}
 use Rattle.pam_library.specs.SideBySide.{Met, own_steps, slots_after, outcomes_on, alone, outcomes_alone}
 use Rattle.pam_library.proofs.Placing.{slot_at-with_slot_same, slot_at-with_slot_other}
 

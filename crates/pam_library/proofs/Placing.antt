@@ -1,6 +1,5 @@
 -- Places by their numbers, and what another in one of them changes.
-use Rattle.std.proofs.Common.{◌≡◌, ◌≢◌, ℕ, zero, suc, ◌+◌, ◌<◌, ◌≤◌, Bool, true, false, nat_eq, List, [], ◌∷◌, length, Option, Some, None, slice_get, slice_set, refl, sym, ap, ◌∙◌, arith}
-use Rattle.data_cleanup.specs.DataList.{PlainDataList}
+use Rattle.std.proofs.Common.{◌≡◌, ℕ, zero, suc, ◌<◌, ◌≤◌, List, [], ◌∷◌, length, Some, slice_get, slice_set, refl, ap, arith}
 use Rattle.pam_library.specs.Slots.{PlainSlot, slot_at, with_slot, data_in, lists_of}
 
 get-set_same : (xs : List PlainSlot) (i : ℕ) (old new : PlainSlot) → slice_get xs i ≡ Some old → slice_get (slice_set xs i new) i ≡ Some new

@@ -1,5 +1,5 @@
 -- Worked steps, computed on the definitions.
-use Rattle.std.proofs.Common.{◌≡◌, ℕ, Bool, true, false, List, [], ◌∷◌, ◌++◌, Option, Some, None, refl}
+use Rattle.std.proofs.Common.{◌≡◌, ℕ, true, false, List, [], ◌∷◌, Some, None, refl}
 use Rattle.std.specs.Prelude.{codes, replicate}
 use Rattle.std.specs.Option.{option_map}
 use Rattle.pam_base.specs.declared.code.Code.{Code}
@@ -10,16 +10,12 @@ use Rattle.pam_base.specs.declared.call.AppCall.TheVariants as calls
 use Rattle.pam_base.specs.declared.call.Step.{Step}
 use Rattle.pam_base.specs.declared.item.ItemName.TheVariants.{Service, Tty}
 use Rattle.conv_port.specs.Conv.{ConvState}
-use Rattle.conv_port.specs.declared.offer.Offer.{Offer}
-use Rattle.conv_port.specs.declared.offer.Offer.TheVariants.{Answer, Later}
-use Rattle.data_cleanup.specs.declared.datum.Birth.{Birth}
-use Rattle.data_cleanup.specs.declared.receipt.Filed.{Filed}
+use Rattle.conv_port.specs.declared.offer.Offer.TheVariants.{Answer}
 use Rattle.control_words.specs.Keyword.{required}
 use Rattle.control_words.specs.Stack.{Stack, none, line}
-use Rattle.pam_room.specs.Module.{Player, Played, SeenRoom, NamedData, Sight, length_note, notes_of}
+use Rattle.pam_room.specs.Module.{Player, SeenRoom, NamedData, Sight, length_note, notes_of}
 use Rattle.pam_room.specs.Call.{PlainCall}
 use Rattle.pam_room.specs.State.{PlainWorld}
-use Rattle.pam_room.specs.declared.visits.Visit.{Visit}
 use Rattle.conf_lex.specs.Reading.{first_piece, pieces_behind}
 use Rattle.conf_lex.specs.Lexing.{answer_at}
 use Rattle.conf_lex.specs.Answer.{answer_to}
@@ -31,7 +27,7 @@ use Rattle.pam_handle.specs.Handle.{PlainHandle, Stacks}
 use Rattle.pam_handle.specs.Start.{new_handle}
 use Rattle.pam_library.specs.declared.outcome.Answer.{Answer as StepAnswer}
 use Rattle.pam_library.specs.declared.outcome.Answer.TheVariants as answers
-use Rattle.pam_library.specs.Outcome.{PlainOutcome, answers_only}
+use Rattle.pam_library.specs.Outcome.{answers_only}
 use Rattle.pam_library.specs.Slots.{PlainSlot, closed, opened, slot_at, is_open_at}
 use Rattle.pam_library.specs.Step.{Stepped, stepped}
 use Rattle.pam_library.specs.Closing.{ClosedOne, closed_one}

@@ -1,5 +1,5 @@
 -- What a call does in one place, and all places with the ledger.
-use Rattle.std.proofs.Common.{◌≡◌, ℕ, zero, suc, ◌<◌, ◌≤◌, Bool, true, false, nat_eq, List, [], ◌∷◌, ◌++◌, length, map, reverse, Option, Some, None, slice_get, refl, sym, ap, ◌∙◌, subst, arith}
+use Rattle.std.proofs.Common.{◌≡◌, ℕ, zero, suc, ◌<◌, Bool, true, false, nat_eq, List, [], ◌∷◌, ◌++◌, length, map, reverse, Option, Some, None, slice_get, refl, sym, ap, ◌∙◌, subst, arith}
 use Rattle.std.proofs.lemmas.Bool.Decides.{nat_tests}
 use Rattle.std.specs.List.{AllByRecursion}
 use Rattle.pam_base.specs.declared.call.AppCall.{AppCall}
@@ -9,7 +9,7 @@ use Rattle.data_cleanup.specs.DataList.{PlainDataList}
 use Rattle.data_cleanup.specs.Ledger.{AreNumbered, PlainLedger}
 use Rattle.data_cleanup.specs.Cleanup.{Notes, ledger_after}
 use Rattle.data_cleanup.specs.Grows.{Grows, IsOf}
-use Rattle.data_cleanup.specs.Due.{Event, birth, ends}
+use Rattle.data_cleanup.specs.Due.{birth, ends}
 use Rattle.data_cleanup.specs.declared.datum.Birth.{Birth}
 use Rattle.data_due.specs.Stands.{Lists, StandFor, clean_list}
 use Rattle.data_due.specs.Kept.{AreHeld}

@@ -1,11 +1,9 @@
 -- A stack call on an open transaction.
-use Rattle.std.proofs.Common.{◌≡◌, ℕ, Bool, true, false, ◌&&◌, if◌then◌else◌, IsTrue, IsOk, IfOk, OnErr, List, [], ◌++◌, length, Option, Some, None, option_map, is_some, not, Result, Ok, Err, refl, sym, ap, ◌∙◌, subst}
+use Rattle.std.proofs.Common.{◌≡◌, ℕ, Bool, true, false, ◌&&◌, if◌then◌else◌, IsTrue, List, [], length, Option, Some, None, option_map, is_some, not, Ok, Err, refl, sym, ap, ◌∙◌, subst}
 use Rattle.pam_base.specs.declared.code.Code.{Code}
 use Rattle.pam_base.specs.declared.code.Code.TheVariants as codes
 use Rattle.pam_base.specs.declared.call.Func.{Func}
 use Rattle.pam_base.specs.declared.call.Func.TheVariants as funcs
-use Rattle.pam_base.specs.declared.call.AppCall.{AppCall}
-use Rattle.pam_base.specs.declared.call.AppCall.TheVariants as calls
 use Rattle.pam_base.specs.declared.fault.NoMemory.{NoMemory}
 use Rattle.conv_port.specs.declared.message.Message.{Message}
 use Rattle.data_cleanup.specs.DataList.{PlainDataList}
@@ -13,13 +11,11 @@ use Rattle.data_cleanup.specs.Ledger.{PlainLedger}
 use Rattle.data_cleanup.specs.Cleanup.{Notes}
 use Rattle.data_cleanup.specs.Grows.{Grows}
 use Rattle.dispatch_core.specs.Lines.{names_of}
-use Rattle.dispatch_core.specs.AnyWorld.{GoesSoundly}
 use Rattle.pam_room.specs.Module.{Player, notes_of}
-use Rattle.pam_room.specs.State.{PlainWorld, PlainProcess}
-use Rattle.pam_room.specs.Stays.{IsReady}
+use Rattle.pam_room.specs.State.{PlainWorld}
 use Rattle.pam_room.specs.declared.visits.Visit.{Visit}
 use Rattle.pam_handle.specs.declared.wait.Wait.{Wait}
-use Rattle.pam_handle.specs.Handle.{PlainHandle, Pending}
+use Rattle.pam_handle.specs.Handle.{PlainHandle}
 use Rattle.pam_handle.specs.Items.{all_told}
 use Rattle.pam_handle.specs.Call.{Called, CallsAs}
 use Rattle.pam_handle.specs.StackCalls.{stack_call}
@@ -28,10 +24,10 @@ use Rattle.pam_library.specs.declared.outcome.Answer.{Answer}
 use Rattle.pam_library.specs.declared.outcome.Answer.TheVariants as answers
 use Rattle.pam_library.specs.declared.outcome.Outcome.{Outcome}
 use Rattle.pam_library.specs.Outcome.{PlainOutcome, plain_outcome, answers_only}
-use Rattle.pam_library.specs.Slots.{PlainSlot, closed, opened}
-use Rattle.pam_library.specs.SlotStep.{SlotStepped, SlotStepsAs, answered, filed_in, is_refused_for_flags, open_step, other_pending, slot_step, stack_step, told_by, unless_pending}
+use Rattle.pam_library.specs.Slots.{PlainSlot, opened}
+use Rattle.pam_library.specs.SlotStep.{SlotStepped, SlotStepsAs, answered, filed_in, is_refused_for_flags, other_pending, slot_step, stack_step, told_by, unless_pending}
 use Rattle.pam_library.specs.Sound.{IsPlaced}
-use Rattle.pam_library.specs.AnyWorld.{AnswersBy, CanAnswer, Fails, SpendsAt, is_free, leaves_world, needs_outside, refusal, stack_refusal, stays_inside, takes_no_memory}
+use Rattle.pam_library.specs.AnyWorld.{AnswersBy, CanAnswer, Fails, SpendsAt, is_free, needs_outside, refusal, stack_refusal, stays_inside, takes_no_memory}
 use Rattle.pam_library.specs.InPlace.{GoesInPlace, stack_app_call}
 
 -- ---- the six calls

@@ -1,8 +1,7 @@
 -- A start in a closed place.
-use Rattle.std.proofs.Common.{◌≡◌, ℕ, Bool, true, false, ◌&&◌, ◌⊎◌, inl, inr, IsTrue, List, [], Option, Some, None, Result, Ok, Err, refl, sym, ap, ◌∙◌, subst}
+use Rattle.std.proofs.Common.{◌≡◌, ℕ, Bool, ◌&&◌, inl, inr, IsTrue, List, Option, Some, Result, Ok, Err, refl, sym, ap, ◌∙◌, subst}
 use Rattle.pam_base.specs.declared.code.Code.{Code}
 use Rattle.pam_base.specs.declared.code.Code.TheVariants as codes
-use Rattle.pam_base.specs.declared.call.AppCall.{AppCall}
 use Rattle.pam_base.specs.declared.call.AppCall.TheVariants as calls
 use Rattle.pam_base.specs.declared.fault.NoMemory.{NoMemory}
 use Rattle.pam_base.specs.declared.fault.Refuse.{Refuse}
@@ -10,7 +9,7 @@ use Rattle.pam_base.specs.declared.fault.Refuse.TheVariants as refusals
 use Rattle.conv_port.specs.Conv.{ConvState}
 use Rattle.service_load.specs.declared.load_fault.LoadFault.{LoadFault}
 use Rattle.dispatch_core.specs.Lines.{names_of}
-use Rattle.pam_room.specs.Module.{Player, notes_of}
+use Rattle.pam_room.specs.Module.{Player}
 use Rattle.pam_room.specs.State.{PlainWorld, PlainProcess}
 use Rattle.pam_handle.specs.Handle.{PlainHandle}
 use Rattle.pam_handle.specs.Items.{missing_from}
@@ -18,12 +17,12 @@ use Rattle.pam_handle.specs.Start.{Opens, Refuses, Started, new_handle, started}
 use Rattle.pam_library.specs.declared.outcome.Answer.{Answer}
 use Rattle.pam_library.specs.declared.outcome.Answer.TheVariants as answers
 use Rattle.pam_library.specs.declared.outcome.Outcome.{Outcome}
-use Rattle.pam_library.specs.Outcome.{PlainOutcome, plain_outcome, answers_only}
+use Rattle.pam_library.specs.Outcome.{plain_outcome, answers_only}
 use Rattle.pam_library.specs.Slots.{PlainSlot, closed, opened, data_in}
-use Rattle.pam_library.specs.SlotStep.{SlotStepped, filed_in, opened_by}
+use Rattle.pam_library.specs.SlotStep.{filed_in, opened_by}
 use Rattle.pam_library.specs.Sound.{IsAtPlace}
 use Rattle.pam_library.specs.AnyWorld.{is_refused}
-use Rattle.pam_library.specs.InPlace.{GoesInPlace, IsOpened, IsRefused, OpensPlace, RefusesPlace, opened_outcome}
+use Rattle.pam_library.specs.InPlace.{GoesInPlace, IsOpened, IsRefused, OpensPlace}
 
 refused_is : (answer : Answer) (fault : LoadFault) → answer ≡ answers.Refused fault → IsTrue (is_refused answer)
 refused_is answer fault is = subst (λ (a : Answer). IsTrue (is_refused a)) (sym is) refl

@@ -1,10 +1,9 @@
--- A call that stays inside an open transaction, a reply, and a start where one is open.
-use Rattle.std.proofs.Common.{◌≡◌, ℕ, Bool, true, false, ◌&&◌, if◌then◌else◌, IsTrue, IsOk, IfOk, OnErr, List, [], ◌∷◌, ◌++◌, length, Option, Some, None, is_some, Result, Ok, Err, refl, sym, ap, ◌∙◌, subst}
+-- A call that stays inside an open transaction.
+use Rattle.std.proofs.Common.{◌≡◌, ℕ, Bool, true, false, ◌&&◌, if◌then◌else◌, IsTrue, IfOk, OnErr, List, [], length, Option, Some, None, is_some, Result, Ok, Err, refl, sym, ap, ◌∙◌, subst}
 use Rattle.pam_base.specs.declared.code.Code.{Code}
 use Rattle.pam_base.specs.declared.call.AppCall.{AppCall}
 use Rattle.pam_base.specs.declared.call.AppCall.TheVariants as calls
 use Rattle.pam_base.specs.declared.fault.NoMemory.{NoMemory}
-use Rattle.conv_port.specs.Conv.{ConvState}
 use Rattle.data_cleanup.specs.DataList.{PlainDataList}
 use Rattle.data_cleanup.specs.Ledger.{PlainLedger}
 use Rattle.data_cleanup.specs.Cleanup.{Notes}
@@ -13,19 +12,15 @@ use Rattle.dispatch_core.specs.Lines.{names_of}
 use Rattle.pam_room.specs.Module.{Player, notes_of}
 use Rattle.pam_room.specs.State.{PlainWorld}
 use Rattle.pam_handle.specs.Handle.{PlainHandle}
-use Rattle.pam_handle.specs.Items.{all_told, with_conversation}
+use Rattle.pam_handle.specs.Items.{all_told}
 use Rattle.pam_library.specs.declared.outcome.Answer.{Answer}
-use Rattle.pam_library.specs.declared.outcome.Answer.TheVariants as answers
 use Rattle.pam_library.specs.declared.outcome.Outcome.{Outcome}
-use Rattle.pam_library.specs.Outcome.{PlainOutcome, plain_outcome, answers_only}
-use Rattle.pam_library.specs.Slots.{PlainSlot, closed, opened}
-use Rattle.pam_library.specs.SlotStep.{SlotStepped, SlotStepsAs, filed_in, offered, open_step, slot_step}
-use Rattle.pam_library.specs.AnyWorld.{AnswersBy, CanAnswer, Fails, ReplyFails, SpendsAt, is_free, refusal, stays_inside, takes_no_memory}
-use Rattle.pam_library.specs.InPlace.{GoesInPlace, GoesInside, IsOffered}
-use Rattle.pam_library.proofs.Stacking.{IsOnly, only_of}
-
-abbrev pub NothingGrows : Type 0
-NothingGrows = (note : Notes) (modules : ℕ) (list : PlainDataList) (ledger : PlainLedger) → list.gone ≡ [] → Grows note modules list ledger list ledger
+use Rattle.pam_library.specs.Outcome.{plain_outcome}
+use Rattle.pam_library.specs.Slots.{PlainSlot, opened}
+use Rattle.pam_library.specs.SlotStep.{SlotStepped, SlotStepsAs, filed_in, open_step, slot_step}
+use Rattle.pam_library.specs.AnyWorld.{AnswersBy, CanAnswer, Fails, SpendsAt, is_free, refusal}
+use Rattle.pam_library.specs.InPlace.{GoesInPlace, GoesInside}
+use Rattle.pam_library.proofs.Spending.{NothingGrows}
 
 -- the calls that ask only the transaction itself
 abbrev pub is_inside : AppCall → Bool
@@ -123,64 +118,3 @@ module _ (players : List Player) (gives : (Code → ℕ → ℕ) → Type 0) (te
         root = refl;
         caller = refl;
       }
-
-  -- a start where a transaction is open
-  pub already_goes : (service : List ℕ) (user : Option (List ℕ)) (o : Outcome) → NothingGrows
-      → h ≡ all_told h → h.names ≡ names_of players → h.room.transaction.datums.gone ≡ [] → IsOnly o (filed_in w) answers.AlreadyOpen
-      → GoesInPlace players gives tells world_tells h.room.transaction.handle (calls.Start service user) (opened h) w (Ok o) (opened h) w
-  already_goes service user o grows told names gone only =
-      let steps : (number_of : Code → ℕ → ℕ) → SlotStepsAs (slot_step players number_of h.room.transaction.handle (opened h) w (calls.Start service user)) (plain_outcome o) (opened h) w =
-      λ number_of. record { outcome_is = only.plain; slot_is = ap opened told; world_is = refl } in
-      record {
-        told = λ number_of given all. steps number_of;
-        alone = λ number_of inside. steps number_of;
-        answers = only.answer_is;
-        filed_from = only.filed_is;
-        succeeds = λ free. refl;
-        fails = tt;
-        placed = record { handle = refl; started_with = names };
-        spends = grows (notes_of players) (length players) h.room.transaction.datums w.process.ledger gone;
-        root = refl;
-        caller = refl;
-      }
-
-  -- a reply
-  pub reply_goes : (text : List ℕ) (result : Result Outcome NoMemory) (next : PlainHandle) → NothingGrows
-      → h ≡ all_told h → h.names ≡ names_of players → h.room.transaction.datums.gone ≡ []
-      → IfOk result (λ o. IsOnly o (filed_in w) answers.Nothing)
-      → (IsTrue tells → IsOffered result text h.room.conv next.room.conv)
-      → next ≡ with_conversation next.room.conv h
-      → GoesInPlace players gives tells world_tells h.room.transaction.handle (calls.Reply text) (opened h) w result (opened next) w
-  reply_goes text (Ok o) next grows told names gone only taken others = record {
-    told = λ number_of given all. record {
-      outcome_is = only.plain;
-      slot_is = ap opened (others ∙ ap (λ (k : ConvState). with_conversation k h) (taken (first_of tells world_tells all)) ∙ ap (λ (k : PlainHandle). with_conversation (offered text k.room.conv) k) told);
-      world_is = refl;
-    };
-    alone = λ number_of inside. absurd (cc);
-    answers = only.answer_is;
-    filed_from = only.filed_is;
-    succeeds = λ free. refl;
-    fails = tt;
-    placed = record { handle = ap (λ (k : PlainHandle). k.room.transaction.handle) others; started_with = ap (λ (k : PlainHandle). k.names) others ∙ names };
-    spends = subst (λ (k : PlainHandle). Grows (notes_of players) (length players) h.room.transaction.datums w.process.ledger k.room.transaction.datums w.process.ledger) (sym others)
-        (grows (notes_of players) (length players) h.room.transaction.datums w.process.ledger gone);
-    root = refl;
-    caller = refl;
-  }
-  reply_goes text (Err e) next grows told names gone only taken others = record {
-    told = λ number_of given all. tt;
-    alone = λ number_of inside. tt;
-    answers = tt;
-    filed_from = tt;
-    succeeds = λ free. absurd (cc);
-    fails = record {
-      rest = ap opened (others ∙ ap (with_conversation next.room.conv) told);
-      told = λ all. ap opened (others ∙ ap (λ (k : ConvState). with_conversation k h) (taken all) ∙ told);
-    };
-    placed = record { handle = ap (λ (k : PlainHandle). k.room.transaction.handle) others; started_with = ap (λ (k : PlainHandle). k.names) others ∙ names };
-    spends = subst (λ (k : PlainHandle). Grows (notes_of players) (length players) h.room.transaction.datums w.process.ledger k.room.transaction.datums w.process.ledger) (sym others)
-        (grows (notes_of players) (length players) h.room.transaction.datums w.process.ledger gone);
-    root = refl;
-    caller = refl;
-  }

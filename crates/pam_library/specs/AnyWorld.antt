@@ -1,5 +1,5 @@
 -- What stands after a step in any world, also after want of memory (this project's own).
-use Rattle.std.specs.Prelude.{◌≡◌, ℕ, ◌++◌, ◌&&◌, ◌⊎◌, not, Bool, true, false, if◌then◌else◌, Option, Some, None, is_none, is_some, IsTrue, List, [], ◌∷◌, reverse}
+use Rattle.std.specs.Prelude.{◌≡◌, ℕ, ◌⊎◌, not, Bool, true, false, if◌then◌else◌, Option, Some, None, is_some, IsTrue, List, [], ◌∷◌, reverse}
 use Rattle.std.specs.Option.{option_map}
 use Rattle.pam_base.specs.declared.code.Code.TheVariants as codes
 use Rattle.pam_base.specs.declared.call.Func.{Func}
@@ -17,7 +17,7 @@ use Rattle.data_cleanup.specs.Cleanup.{Notes, ledger_after}
 use Rattle.data_cleanup.specs.Grows.{Grows}
 use Rattle.data_cleanup.specs.Due.{Event, ends}
 use Rattle.data_due.specs.Stands.{clean_list}
-use Rattle.pam_handle.specs.Handle.{PlainHandle, Pending}
+use Rattle.pam_handle.specs.Handle.{Pending}
 use Rattle.pam_handle.specs.Items.{all_told, with_conversation}
 use Rattle.pam_handle.specs.AnyWorld.{FailsAs}
 use Rattle.pam_library.specs.declared.outcome.Answer.{Answer}

@@ -21,7 +21,7 @@ use Rattle.pam_handle.specs.Handle.{PlainHandle, Pending}
 use Rattle.pam_handle.specs.Call.{Called, same_func}
 use Rattle.pam_handle.specs.StackCalls.{stack_call, has_pass_flag}
 use Rattle.pam_handle.specs.Items.{with_items, with_environment, with_request, with_delay_function, with_conversation, all_told, missing_from}
-use Rattle.pam_handle.specs.Start.{Started, started}
+use Rattle.pam_handle.specs.Start.{started}
 use Rattle.pam_handle.specs.End.{world_after_end}
 use Rattle.pam_library.specs.declared.outcome.Answer.{Answer}
 use Rattle.pam_library.specs.declared.outcome.Answer.TheVariants as answers

@@ -1,7 +1,6 @@
 -- The sixteen places for transactions (this project's own), by their numbers from 1.
-use Rattle.std.specs.Prelude.{ℕ, zero, suc, Bool, true, false, List, [], Option, Some, None, slice_get, slice_set}
+use Rattle.std.specs.Prelude.{◌≡◌, ℕ, zero, suc, Bool, true, false, List, [], Option, Some, None, slice_get, slice_set}
 use Rattle.std.specs.List.{AllByRecursion}
-use Rattle.std.specs.Prelude.{◌≡◌}
 use Rattle.conv_port.specs.Conv.{ConvState}
 use Rattle.data_cleanup.specs.DataList.{PlainDataList}
 use Rattle.data_due.specs.Stands.{Lists, clean_list}

@@ -1,5 +1,4 @@
 use Rattle.std.proofs.Common.{◌∙◌, sym, arith}
-use Rattle.pam_library.specs.Plain.{plain_slot}
 use Rattle.pam_library.proofs.Ending.{finds, finds_none, looks_first, looks_on}
 use Rattle.pam_library.proofs.close_one.place_of_first_open.Goals as goal
 

@@ -1,5 +1,5 @@
 use Rattle.std.proofs.Common.{sym, ◌∙◌}
-use Rattle.pam_library.proofs.Stacking.{only_of, stack_failed, stack_ran, stack_refused, told_of}
+use Rattle.pam_library.proofs.Stacking.{only_of, stack_ran, stack_refused, told_of}
 use Rattle.pam_library.proofs.stack_call.call_stack.Goals as goal
 
 pub returns-in-Some-clause-goes : goal.returns-in-Some-clause-goes

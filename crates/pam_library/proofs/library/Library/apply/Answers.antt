@@ -1,11 +1,11 @@
-use Rattle.std.proofs.Common.{◌≡◌, ℕ, ◌<◌, ◌≤◌, Bool, true, IsOk, List, length, is_ok, refl, sym, ◌∙◌, ap, subst, arith, rules, Option}
+use Rattle.std.proofs.Common.{◌≡◌, ◌<◌, true, length, is_ok, subst, arith, rules, Option}
 use Rattle.pam_library.specs.Slots.{PlainSlot}
 use Rattle.pam_library.specs.Plain.{plain_slot, slot_tells}
 use Rattle.pam_library.specs.AnyWorld.{leaves_world}
 use Rattle.pam_library.proofs.Stacking.{only_of}
 use Rattle.pam_library.proofs.Within.{both_of, first_of, second_of}
 use Rattle.pam_library.proofs.Holding.{held_in}
-use Rattle.pam_library.proofs.Applying.{IsPut, IsReplaced, all_step, answer_after, bad_number, fails_after, inside_after, moves_after, none_beyond, none_first, others_stay, put, ready_at, replaced, slots_length, sound_after, spends_after, succeeds_after, tell_as, tells_at}
+use Rattle.pam_library.proofs.Applying.{IsReplaced, all_step, answer_after, bad_number, fails_after, inside_after, moves_after, none_beyond, none_first, others_stay, put, ready_at, replaced, slots_length, sound_after, spends_after, succeeds_after, tell_as, tells_at}
 use Rattle.pam_library.proofs.library.Library.apply.Given as given
 use Rattle.pam_library.proofs.library.Library.apply.Goals as goal
 use Rattle.pam_library.proofs.library.Library.apply.Goals.{then-number-eq0-via-then-number-eq0, then-number-eq0-via-else-number-eq0+then-len-number}

@@ -1,9 +1,8 @@
-use Rattle.std.proofs.Common.{◌≡◌, ℕ, ◌+◌, ◌<◌, Bool, true, false, List, Option, Some, is_ok, map, refl, sym, ◌∙◌, ap, subst, arith, rules}
+use Rattle.std.proofs.Common.{◌≡◌, ◌+◌, true, false, Some, is_ok, map, sym, ◌∙◌, ap, subst, arith, rules}
 use Rattle.pam_room.specs.Module.{notes_of, player_of}
 use Rattle.pam_room.specs.Plain.{plain_room}
-use Rattle.pam_handle.specs.Handle.{PlainHandle}
 use Rattle.pam_handle.specs.Plain.{plain_handle}
-use Rattle.pam_library.specs.Slots.{PlainSlot, closed, opened, is_open}
+use Rattle.pam_library.specs.Slots.{closed, opened, is_open}
 use Rattle.pam_library.specs.declared.slot.Slot.TheVariants.{Closed}
 use Rattle.pam_library.specs.Plain.{plain_slot, slot_tells}
 use Rattle.pam_library.specs.Closing.{IsFirstOpen, first_open}
