@@ -1,10 +1,12 @@
 -- What a run that was begun, or wasn't, says by its status.
 use Rattle.std.proofs.Common.{◌≡◌, ◌⊎◌, inl, inr, ℕ, suc, Bool, true, false, ◌&&◌, IsTrue, List, [], ◌∷◌, ◌++◌, length, map, Option, Some, None, Result, Ok, Err, refl, sym, ap, ap₂, ◌∙◌, subst, subst₂, arith}
 use Rattle.conv_port.specs.Conv.{ConvState}
+use Rattle.data_cleanup.specs.Cleanup.{Notes}
 use Rattle.data_cleanup.specs.Ledger.{PlainLedger}
+use Rattle.data_due.specs.Stands.{StandFor}
 use Rattle.pam_outside.specs.Streams.{SourceState, SinkState}
 use Rattle.pam_room.specs.State.{PlainWorld}
-use Rattle.pam_library.specs.Slots.{PlainSlot, closed}
+use Rattle.pam_library.specs.Slots.{PlainSlot, closed, lists_of}
 use Rattle.pam_library.specs.Sound.{IsSound}
 use Rattle.script_stream.specs.declared.ending.Ending.{Ending}
 use Rattle.script_stream.specs.declared.ending.Ending.TheVariants.{Done, ReadFault, Refused}
@@ -47,6 +49,13 @@ pub sound_at_first : {B : Type 0} (holds : B → ConvState) (convs : List B) (na
     → IsSound names modules slots ledger
 sound_at_first holds convs names modules slots ledger law sixteen are births filed =
     subst₂ (IsSound names modules) (map-closed holds convs ∙ sym are) (no_entries ledger births filed) (law (map holds convs) (length-map holds convs ∙ sixteen))
+
+pub stand_at_first : {B : Type 0} (note : Notes) (holds : B → ConvState) (convs : List B) (slots : List PlainSlot) (ledger : PlainLedger)
+    → ((states : List ConvState) → StandFor note 17 (record { births = []; filed = [] }) (lists_of (map closed states)) [])
+    → slots ≡ map (λ b. closed (holds b)) convs → ledger.births ≡ [] → ledger.filed ≡ []
+    → StandFor note 17 ledger (lists_of slots) []
+stand_at_first note holds convs slots ledger law are births filed =
+    subst₂ (λ (s : List PlainSlot) (l : PlainLedger). StandFor note 17 l (lists_of s) []) (map-closed holds convs ∙ sym are) (no_entries ledger births filed) (law (map holds convs))
 
 module _ (setting : Setting) (slots ends : List PlainSlot) (root : List ℕ) (old now new : PlainWorld) (x y : SourceState) (p q : SinkState) where
   pub begun : (result : Result Ending Stop) (status : ℕ) → status ≡ status_of result → IsUnder root old now

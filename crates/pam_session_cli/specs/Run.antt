@@ -1,5 +1,9 @@
 -- A run of a script under a root, by the status with which the program ends (this project's own).
-use Rattle.std.specs.Prelude.{◌≡◌, ◌⊎◌, ◌≢◌, ℕ, ◌+◌, ◌≤◌, Bool, true, false, List, [], ◌∷◌, ◌++◌, length, Option, Some, None, Result, Ok, Err}
+use Rattle.std.specs.Prelude.{◌≡◌, ◌⊎◌, ◌≢◌, ℕ, ◌+◌, ◌≤◌, nat_lt, if◌then◌else◌, Bool, true, false, List, [], ◌∷◌, ◌++◌, length, Option, Some, None, Result, Ok, Err}
+use Rattle.data_cleanup.specs.Cleanup.{Notes}
+use Rattle.data_cleanup.specs.Due.{Event, due}
+use Rattle.data_cleanup.specs.Ledger.{PlainLedger}
+use Rattle.data_due.specs.Stands.{births_of, receipts_in, times_filed}
 use Rattle.pam_base.specs.declared.fault.ScriptKind.{ScriptKind}
 use Rattle.pam_outside.specs.Streams.{SourceState, SinkState}
 use Rattle.pam_room.specs.State.{PlainWorld}
@@ -101,3 +105,13 @@ Completes status read_failed write_failed setting start x =
 
 abbrev pub IsStatus : ℕ → Type 0
 IsStatus n = (result : Result Ending Stop) × (n ≡ status_of result)
+
+-- ---- module data, in any world
+
+-- Each datum that was set was cleaned up exactly once: the receipts are those that births and ends of transactions make due, in their
+-- order, each with its status, and every birth has one.
+pub record IsCleanedUp (note : Notes) (ledger : PlainLedger) : Type 0 where
+  pub events : List Event
+  pub births : ledger.births ≡ births_of events
+  pub receipts : receipts_in ledger.filed ≡ due note events
+  pub once : (id : ℕ) → times_filed id (receipts_in ledger.filed) ≡ (if nat_lt id (length ledger.births) then 1 else 0)

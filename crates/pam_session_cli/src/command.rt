@@ -25,8 +25,7 @@ pub fn request_in(words: &[String]) -> Option<Request<'_>>
             if command.as_str() == "check"
                 && is_operand(root.as_str())
                 && is_operand(service.as_str())
-                && is_service_name(service.as_bytes()) =>
-        {
+                && is_service_name(service.as_bytes()) => {
             Some(Request::Check(root.as_str(), service.as_str()))
         }
         _ => None,

@@ -3,6 +3,9 @@ ghost use Rattle.pam_base.specs.declared.code.Code.{Code};
 ghost use Rattle.fail_delay.specs.DelayFn.{GivesOneNumber, IsNumberGiven};
 ghost use Rattle.pam_outside.specs.Counts.{Rose};
 ghost use Rattle.session_run.specs.State.{setting_of};
+ghost use Rattle.data_due.specs.Stands.{StandFor};
+ghost use Rattle.pam_room.specs.Module.{notes_of};
+ghost use Rattle.pam_library.specs.Slots.{lists_of};
 ghost use Rattle.dispatch_core.specs.Lines.{names_of};
 ghost use Rattle.pam_handle.specs.Plain.{in_box};
 ghost use Rattle.pam_library.specs.Plain.{gear_in};
@@ -10,7 +13,7 @@ ghost use Rattle.pam_library.specs.Sound.{IsSound};
 ghost use Rattle.service_load.specs.Loading.{OnlyCalls};
 ghost use Rattle.pam_session_cli.specs.Check.{check_of};
 ghost use Rattle.pam_session_cli.specs.Command.{request_of, runs, checks};
-ghost use Rattle.pam_session_cli.specs.Run.{Completes, IsBegun, IsDone, IsRefused, IsStatus, IsUnder, IsUnread, Runs, opening, status_of};
+ghost use Rattle.pam_session_cli.specs.Run.{Completes, IsBegun, IsCleanedUp, IsDone, IsRefused, IsStatus, IsUnder, IsUnread, Runs, opening, status_of};
 ghost use Rattle.pam_session_cli.specs.Status.{ChecksBy, IsCheckStatus, WritesUsage, check_status};
 
 use crate::check::{Found, check};
@@ -19,7 +22,9 @@ use crate::desk::{Desk, DeskTold};
 use fail_delay::{DelayFn, DelayRule, DelayTold};
 use pam_base::{Code, Failed, Text};
 use pam_handle::{Gear, GearTold};
-use pam_library::{Library, LibraryTold, closed_places_stand_for_none};
+use pam_library::{
+    Library, LibraryTold, calls_stand_for_their_events, closed_places_stand_for_none,
+};
 use pam_outside::{Sink, Source, set_moment, set_word, write_all};
 use pam_room::{World, WorldTold};
 use script_stream::{Ending, Stop};
@@ -108,7 +113,10 @@ pub fn pamsess<S: Source, K: Sink>(
     ensures write_fault { result ≡ 6 → Rose (K.sink_faults out.old) (K.sink_faults out.new) }
     ensures no_write_fault { result ≢ 6 → K.sink_faults out.new ≡ K.sink_faults out.old }
 
-    // What tells before the run tells after it, and every datum that was set has its receipt.
+    // In any world, whatever the status: every module datum that was set was cleaned up exactly once, with its due status.
+    ensures cleaned_up { IsCleanedUp (notes_of (⟦<Desk as DeskTold>⟧.players desk)) world.new.process.ledger }
+
+    // What tells before the run tells after it.
     ensures source_tells { S.source_tells script.new ≡ S.source_tells script.old }
     ensures sink_tells { K.sink_tells out.new ≡ K.sink_tells out.old }
     ensures world_tells { ⟦<World as WorldTold>⟧.tells world.new ≡ ⟦<World as WorldTold>⟧.tells world.old }
@@ -149,6 +157,7 @@ fn run<S: Source, K: Sink>(
         Runs (setting_of (⟦<Desk as DeskTold>⟧.players desk) number) result (⟦<Desk as DeskTold>⟧.slots desk) root.now (⟦<World as WorldTold>⟧.plain world.old) (⟦<World as WorldTold>⟧.plain world.new)
         (S.source_holds script.old) (S.source_holds script.new) (K.sink_holds out.old) (K.sink_holds out.new) }
     ensures statuses { IsStatus result }
+    ensures cleaned_up { IsCleanedUp (notes_of (⟦<Desk as DeskTold>⟧.players desk)) world.new.process.ledger }
     ensures read_fault { result ≡ 5 → Rose (S.source_faults script.old) (S.source_faults script.new) }
     ensures no_read_fault { (result ≡ 0) ⊎ (result ≡ 7) → S.source_faults script.new ≡ S.source_faults script.old }
     ensures write_fault { result ≡ 6 → Rose (K.sink_faults out.old) (K.sink_faults out.new) }
@@ -181,12 +190,14 @@ fn run_over<S: Source, K: Sink>(
     out: &mut K,
     world: &mut World,
 ) -> u8
-    requires { IsSound (names_of (⟦<Gear as GearTold>⟧.players (gear_in library))) (length (⟦<Gear as GearTold>⟧.players (gear_in library))) (⟦<Library as LibraryTold>⟧.slots library) world.old.process.ledger }
+    requires first { StandFor (notes_of (⟦<Gear as GearTold>⟧.players (gear_in library))) 17 world.old.process.ledger (lists_of (⟦<Library as LibraryTold>⟧.slots library)) [] }
+    requires sound { IsSound (names_of (⟦<Gear as GearTold>⟧.players (gear_in library))) (length (⟦<Gear as GearTold>⟧.players (gear_in library))) (⟦<Library as LibraryTold>⟧.slots library) world.old.process.ledger }
     ensures told { (number : Code → ℕ → ℕ) → ⟦<DelayFn as DelayTold>⟧.delay_is (gear_in library).delay number →
         IsTrue (S.source_tells script.old) → IsTrue (K.sink_tells out.old) → IsTrue (⟦<World as WorldTold>⟧.tells world.old && ⟦<Library as LibraryTold>⟧.tells library) →
         IsBegun (setting_of (⟦<Gear as GearTold>⟧.players (gear_in library)) number) result (opening (⟦<Library as LibraryTold>⟧.slots library) root (⟦<World as WorldTold>⟧.plain world.old)) (⟦<World as WorldTold>⟧.plain world.new)
         (S.source_holds script.old) (S.source_holds script.new) (K.sink_holds out.old) (K.sink_holds out.new) }
     ensures statuses { IsStatus result }
+    ensures cleaned_up { IsCleanedUp (notes_of (⟦<Gear as GearTold>⟧.players (gear_in library))) world.new.process.ledger }
     ensures read_fault { result ≡ 5 → Rose (S.source_faults script.old) (S.source_faults script.new) }
     ensures no_read_fault { (result ≡ 0) ⊎ (result ≡ 7) → S.source_faults script.new ≡ S.source_faults script.old }
     ensures write_fault { result ≡ 6 → Rose (K.sink_faults out.old) (K.sink_faults out.new) }
@@ -195,6 +206,7 @@ fn run_over<S: Source, K: Sink>(
     ensures sink_tells { K.sink_tells out.new ≡ K.sink_tells out.old }
     ensures world_tells { ⟦<World as WorldTold>⟧.tells world.new ≡ ⟦<World as WorldTold>⟧.tells world.old }
 {
+    calls_stand_for_their_events();
     go_under(world, root);
     let mut library = library;
     let result = run_script(alloc, &mut library, script, out, world);

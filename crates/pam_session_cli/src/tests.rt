@@ -171,7 +171,10 @@ fn other_words_write_the_usage_line(rt: HostRuntime) -> Result<(), Fail> {
     for words in OTHER_WORDS.iter() {
         let row = Row { words, ..RUN };
         let ran = run_script(rt.alloc(), &row, LOGIN)?;
-        assert_eq!(rt; ran.output.as_slice(), b"usage: pamsess run ROOT | check ROOT SERVICE\n".as_slice());
+        assert_eq!(rt;
+            ran.output.as_slice(),
+            b"usage: pamsess run ROOT | check ROOT SERVICE\n".as_slice()
+        );
         assert_eq!(rt; ran.status, 2);
     }
     Ok(())
@@ -266,10 +269,16 @@ fn a_line_has_at_most_512_bytes(rt: HostRuntime) -> Result<(), Fail> {
         line.extend_from_slice(end)?;
         let ran = run_script(rt.alloc(), &ONE_PERMIT, &line)?;
         if *is_refused {
-            assert_eq!(rt; ran.output.as_slice(), b"script 1 LineTooLong 3\n".as_slice());
+            assert_eq!(rt;
+                ran.output.as_slice(),
+                b"script 1 LineTooLong 3\n".as_slice()
+            );
             assert_eq!(rt; ran.status, 7);
         } else {
-            assert_eq!(rt; ran.output.as_slice(), b"1 start SUCCESS 0\n1 closed SUCCESS 0\n".as_slice());
+            assert_eq!(rt;
+                ran.output.as_slice(),
+                b"1 start SUCCESS 0\n1 closed SUCCESS 0\n".as_slice()
+            );
             assert_eq!(rt; ran.status, 0);
         }
     }

@@ -5,21 +5,30 @@ use crate::tests::rows::{PERMIT, RUN, Row};
 pub static CALLS: [Row; 21] = [
     // setcred goes by what authenticate kept.
     Row {
-        files: &[(b"/r/etc/pam.d/t", b"auth sufficient pam_debug.so auth=success cred=cred_err\nauth required pam_debug.so\n")],
+        files: &[(
+            b"/r/etc/pam.d/t",
+            b"auth sufficient pam_debug.so auth=success cred=cred_err\nauth required pam_debug.so\n",
+        )],
         script: b"start 1 t joe\nauthenticate 1\nsetcred 1 2\nend 1 0\n",
         output: b"1 start SUCCESS 0\n1 line 1 pam_debug SUCCESS 0\n1 authenticate SUCCESS 0\n1 line 1 pam_debug CRED_ERR 17\n1 setcred CRED_ERR 17\n1 end SUCCESS 0\n",
         ..RUN
     },
     // Without an authentication it goes by its own answers.
     Row {
-        files: &[(b"/r/etc/pam.d/t", b"auth required pam_debug.so cred=cred_unavail\n")],
+        files: &[(
+            b"/r/etc/pam.d/t",
+            b"auth required pam_debug.so cred=cred_unavail\n",
+        )],
         script: b"start 1 t joe\nsetcred 1\nsetcred 1\nend 1 0\n",
         output: b"1 start SUCCESS 0\n1 line 1 pam_debug CRED_UNAVAIL 15\n1 setcred CRED_UNAVAIL 15\n1 line 1 pam_debug CRED_UNAVAIL 15\n1 setcred CRED_UNAVAIL 15\n1 end SUCCESS 0\n",
         ..RUN
     },
     // The second pass of chauthtok comes only after a good first one.
     Row {
-        files: &[(b"/r/etc/pam.d/t", b"password required pam_debug.so prechauthtok=try_again\n")],
+        files: &[(
+            b"/r/etc/pam.d/t",
+            b"password required pam_debug.so prechauthtok=try_again\n",
+        )],
         script: b"start 1 t joe\nchauthtok 1\nend 1 0\n",
         output: b"1 start SUCCESS 0\n1 line 1 pam_debug TRY_AGAIN 24\n1 chauthtok TRY_AGAIN 24\n1 end SUCCESS 0\n",
         ..RUN
@@ -32,27 +41,39 @@ pub static CALLS: [Row; 21] = [
     },
     // A jump in a pass that follows.
     Row {
-        files: &[(b"/r/etc/pam.d/t", b"auth [success=1 default=ignore] pam_debug.so cred=cred_err\nauth required pam_debug.so\nauth required pam_debug.so\n")],
+        files: &[(
+            b"/r/etc/pam.d/t",
+            b"auth [success=1 default=ignore] pam_debug.so cred=cred_err\nauth required pam_debug.so\nauth required pam_debug.so\n",
+        )],
         script: b"start 1 t joe\nauthenticate 1\nsetcred 1 2\nend 1 0\n",
         output: b"1 start SUCCESS 0\n1 line 1 pam_debug SUCCESS 0\n1 line 3 pam_debug SUCCESS 0\n1 authenticate SUCCESS 0\n1 line 1 pam_debug CRED_ERR 17\n1 line 3 pam_debug SUCCESS 0\n1 setcred CRED_ERR 17\n1 end SUCCESS 0\n",
         ..RUN
     },
     // A present IGNORE ends the list where the kept answer did.
     Row {
-        files: &[(b"/r/etc/pam.d/t", b"auth sufficient pam_debug.so cred=ignore\nauth required pam_debug.so\n")],
+        files: &[(
+            b"/r/etc/pam.d/t",
+            b"auth sufficient pam_debug.so cred=ignore\nauth required pam_debug.so\n",
+        )],
         script: b"start 1 t joe\nauthenticate 1\nsetcred 1 2\nend 1 0\n",
         output: b"1 start SUCCESS 0\n1 line 1 pam_debug SUCCESS 0\n1 authenticate SUCCESS 0\n1 line 1 pam_debug IGNORE 25\n1 setcred PERM_DENIED 6\n1 end SUCCESS 0\n",
         ..RUN
     },
     // close_session goes by what open_session kept.
     Row {
-        files: &[(b"/r/etc/pam.d/t", b"session optional pam_debug.so close_session=session_err\n")],
+        files: &[(
+            b"/r/etc/pam.d/t",
+            b"session optional pam_debug.so close_session=session_err\n",
+        )],
         script: b"start 1 t joe\nopen_session 1\nclose_session 1\nclose_session 1\nend 1 0\n",
         output: b"1 start SUCCESS 0\n1 line 1 pam_debug SUCCESS 0\n1 open_session SUCCESS 0\n1 line 1 pam_debug SESSION_ERR 14\n1 close_session SESSION_ERR 14\n1 line 1 pam_debug SESSION_ERR 14\n1 close_session SESSION_ERR 14\n1 end SUCCESS 0\n",
         ..RUN
     },
     Row {
-        files: &[(b"/r/etc/pam.d/t", b"session optional pam_debug.so close_session=session_err\n")],
+        files: &[(
+            b"/r/etc/pam.d/t",
+            b"session optional pam_debug.so close_session=session_err\n",
+        )],
         script: b"start 1 t joe\nclose_session 1\nend 1 0\n",
         output: b"1 start SUCCESS 0\n1 line 1 pam_debug SESSION_ERR 14\n1 close_session PERM_DENIED 6\n1 end SUCCESS 0\n",
         ..RUN
@@ -85,7 +106,10 @@ pub static CALLS: [Row; 21] = [
     },
     // Prompts, and replies that run out.
     Row {
-        files: &[(b"/r/etc/pam.d/t", b"auth required pam_probe.so say=hi ask=Code:\n")],
+        files: &[(
+            b"/r/etc/pam.d/t",
+            b"auth required pam_probe.so say=hi ask=Code:\n",
+        )],
         script: b"start 1 t joe\nreply 1 42\nauthenticate 1\nauthenticate 1\nend 1 0\n",
         output: b"1 start SUCCESS 0\n1 say 4 hi\n1 say 2 Code:\n1 line 1 pam_probe SUCCESS 0\n1 authenticate SUCCESS 0\n1 say 4 hi\n1 say 2 Code:\n1 line 1 pam_probe CONV_ERR 19\n1 authenticate CONV_ERR 19\n1 end SUCCESS 0\n",
         ..RUN
@@ -98,7 +122,10 @@ pub static CALLS: [Row; 21] = [
         ..RUN
     },
     Row {
-        files: &[(b"/r/etc/pam.d/t", b"auth required pam_probe.so delay=100 answer=auth_err\n")],
+        files: &[(
+            b"/r/etc/pam.d/t",
+            b"auth required pam_probe.so delay=100 answer=auth_err\n",
+        )],
         script: b"start 1 t joe\nauthenticate 1\nend 1 0\n",
         output: b"1 start SUCCESS 0\n1 line 1 pam_probe AUTH_ERR 7\n1 wait AUTH_ERR 7 100 100\n1 authenticate AUTH_ERR 7\n1 end SUCCESS 0\n",
         ..RUN
@@ -112,19 +139,28 @@ pub static CALLS: [Row; 21] = [
     },
     // A call that is put off goes on, and other stack calls wait for it.
     Row {
-        files: &[(b"/r/etc/pam.d/t", b"auth required pam_probe.so set=a:x ask=Q\n")],
+        files: &[(
+            b"/r/etc/pam.d/t",
+            b"auth required pam_probe.so set=a:x ask=Q\n",
+        )],
         script: b"start 1 t joe\nreply 1 \\later\nauthenticate 1\nend 1 5\n",
         output: b"1 start SUCCESS 0\n1 say 2 Q\n1 line 1 pam_probe INCOMPLETE 31\n1 authenticate INCOMPLETE 31\n1 clean 0 00000005 261 pam_probe a\n1 end SUCCESS 0\n",
         ..RUN
     },
     Row {
-        files: &[(b"/r/etc/pam.d/t", b"auth required pam_debug.so auth=incomplete\n")],
+        files: &[(
+            b"/r/etc/pam.d/t",
+            b"auth required pam_debug.so auth=incomplete\n",
+        )],
         script: b"start 1 t joe\nauthenticate 1\nauthenticate 1\nend 1 0\n",
         output: b"1 start SUCCESS 0\n1 line 1 pam_debug INCOMPLETE 31\n1 authenticate INCOMPLETE 31\n1 line 1 pam_debug INCOMPLETE 31\n1 authenticate INCOMPLETE 31\n1 end SUCCESS 0\n",
         ..RUN
     },
     Row {
-        files: &[(b"/r/etc/pam.d/t", b"auth required pam_permit.so\nauth required pam_probe.so ask=Q\n")],
+        files: &[(
+            b"/r/etc/pam.d/t",
+            b"auth required pam_permit.so\nauth required pam_probe.so ask=Q\n",
+        )],
         script: b"start 1 t joe\nreply 1 \\later\nreply 1 a\nauthenticate 1\nsetcred 1 2\nauthenticate 1\nend 1 0\n",
         output: b"1 start SUCCESS 0\n1 say 2 Q\n1 line 1 pam_permit SUCCESS 0\n1 line 2 pam_probe INCOMPLETE 31\n1 authenticate INCOMPLETE 31\n1 setcred ABORT 26 pending authenticate\n1 say 2 Q\n1 line 2 pam_probe SUCCESS 0\n1 authenticate SUCCESS 0\n1 end SUCCESS 0\n",
         ..RUN

@@ -11,8 +11,14 @@ const CHECK: Row = Row {
 pub static CHECKS: [Row; 16] = [
     Row {
         files: &[
-            (b"/r/etc/pam.d/t", b"AUTH Required pam_permit.so  a\nauth substack inner\n"),
-            (b"/r/etc/pam.d/inner", b"auth [success=ok] pam_deny.so [x y]\n"),
+            (
+                b"/r/etc/pam.d/t",
+                b"AUTH Required pam_permit.so  a\nauth substack inner\n",
+            ),
+            (
+                b"/r/etc/pam.d/inner",
+                b"auth [success=ok] pam_deny.so [x y]\n",
+            ),
         ],
         output: b"file t\nauth required pam_permit.so a\nauth substack t.1\nfile t.1\nauth [success=ok] pam_deny.so [x y]\n",
         ..CHECK
@@ -23,7 +29,10 @@ pub static CHECKS: [Row; 16] = [
         ..CHECK
     },
     Row {
-        files: &[(b"/r/etc/pam.conf", b"T auth required pam_permit.so\nother auth required pam_deny.so\n")],
+        files: &[(
+            b"/r/etc/pam.conf",
+            b"T auth required pam_permit.so\nother auth required pam_deny.so\n",
+        )],
         words: &[b"check", b"/r", b"T"],
         output: b"file t\nauth required pam_permit.so\n",
         ..CHECK

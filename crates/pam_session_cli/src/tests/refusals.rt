@@ -3,7 +3,8 @@
 use crate::tests::rows::{LOGIN, PERMIT, RUN, Row};
 
 /// What a login writes whose start is refused, behind the refusal.
-const NOT_STARTED: &[u8] = b"1 start refused /etc/pam.d 0 ReadFailed 16\n1 authenticate not open\n1 end not open\n";
+const NOT_STARTED: &[u8] =
+    b"1 start refused /etc/pam.d 0 ReadFailed 16\n1 authenticate not open\n1 end not open\n";
 
 pub static REFUSALS: [Row; 23] = [
     Row {
@@ -56,7 +57,10 @@ pub static REFUSALS: [Row; 23] = [
     },
     // The first fault counts, not the one that is easier to see.
     Row {
-        files: &[(b"/r/etc/pam.d/t", b"auth required pam_permit.so\nauth [success=0] p\nnone required p\n")],
+        files: &[(
+            b"/r/etc/pam.d/t",
+            b"auth required pam_permit.so\nauth [success=0] p\nnone required p\n",
+        )],
         script: b"start 1 t\n",
         output: b"1 start refused /etc/pam.d/t 2 ZeroJump 8\n",
         ..RUN

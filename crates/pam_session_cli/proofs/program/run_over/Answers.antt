@@ -1,4 +1,5 @@
 use Rattle.std.proofs.Common.{◌∙◌}
+use Rattle.pam_session_cli.proofs.Cleaning.{cleaned_up}
 use Rattle.pam_session_cli.proofs.Telling.{begun, both_left, both_right, both_true}
 use Rattle.pam_session_cli.proofs.program.run_over.Goals as goal
 
@@ -6,3 +7,7 @@ pub returns-clause-told : goal.returns-clause-told
 returns-clause-told g c number given source sink both =
     begun _ _ _ _ _ _ _ _ _ _ _ _ _ c.status_of.ensures (c.go_under.ensures.told (both_left _ _ both))
     (c.run_script-result.ensures.told number given (both_true _ _ (both_right _ _ both) (c.go_under.ensures.tells ∙ both_left _ _ both)) source sink)
+
+pub returns-clause-cleaned_up : goal.returns-clause-cleaned_up
+returns-clause-cleaned_up g c =
+    cleaned_up _ _ _ _ _ (c.calls_stand_for_their_events.ensures _ 17) (rw c.go_under.ensures.ledger c.requires.first) c.run_script-result.ensures.proceeds c.run_script-result.ensures.none_open
