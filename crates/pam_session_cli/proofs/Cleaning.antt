@@ -1,22 +1,23 @@
 -- Where no transaction is open, each birth has its one receipt.
-use Rattle.std.proofs.Common.{◌≡◌, ℕ, zero, suc, ◌+◌, ltb, if◌then◌else◌, false, List, [], ◌∷◌, ◌++◌, length, Option, Some, None, slice_get, refl, ap, subst₂, arith}
+use Rattle.std.proofs.Common.{◌≡◌, ℕ, zero, suc, ◌+◌, ltb, if◌then◌else◌, true, false, List, [], ◌∷◌, length, Option, Some, None, slice_get, refl, ap, arith}
 use Rattle.std.specs.List.{AllByRecursion}
 use Rattle.data_cleanup.specs.Datum.{PlainDatum}
 use Rattle.data_cleanup.specs.Cleanup.{Notes, times}
 use Rattle.data_cleanup.specs.Due.{Event}
 use Rattle.data_cleanup.specs.Ledger.{PlainLedger}
-use Rattle.data_due.specs.Stands.{Lists, StandFor, times_filed, times_held, receipts_in}
-use Rattle.pam_library.specs.Calls.{Moved, MoveOn, events_of, last_ledger, last_lists}
+use Rattle.data_due.specs.Stands.{StandFor, times_filed, times_held, receipts_in}
 use Rattle.pam_library.specs.Slots.{NoneIsOpen, PlainSlot, closed, opened, is_open, data_in, lists_of, slot_at}
-use Rattle.session_run.specs.AnyWorld.{Proceeds}
 use Rattle.pam_session_cli.specs.Run.{IsCleanedUp}
 
 -- ---- closed places hold nothing
 
+never : {A : Type 0} → true ≡ false → A
+never e = absurd (cc)
+
 got : (slots : List PlainSlot) (i number : ℕ) → NoneIsOpen slots → (data_in number (slice_get slots i)).live ≡ []
 got [] i number none = refl
 got (closed conv ∷ slots) zero number none = refl
-got (opened h ∷ slots) zero number none = absurd none.0
+got (opened h ∷ slots) zero number none = never none.0
 got (slot ∷ slots) (suc i) number none = got slots i number none.1
 
 held_nowhere : (slots : List PlainSlot) (number : ℕ) → NoneIsOpen slots → (lists_of slots number).live ≡ []
@@ -33,7 +34,7 @@ none_held (suc limit) id held nothing =
 
 -- ---- a run
 
-stood : (note : Notes) (ledger : PlainLedger) (slots : List PlainSlot) (events : List Event)
+pub stood : (note : Notes) (ledger : PlainLedger) (slots : List PlainSlot) (events : List Event)
     → StandFor note 17 ledger (lists_of slots) events → NoneIsOpen slots → IsCleanedUp note ledger
 stood note ledger slots events stand none = record {
   events = events;
@@ -45,21 +46,15 @@ stood note ledger slots events stand none = record {
       omega (arith, total, nothing);
 }
 
-pub cleaned_up : (note : Notes) (before after : PlainLedger) (slots ends : List PlainSlot)
-    → ((calls : List Moved) (ledger : PlainLedger) (lists : Lists) (events : List Event) → StandFor note 17 ledger lists events → MoveOn note 17 ledger lists calls
-    → StandFor note 17 (last_ledger ledger calls) (last_lists lists calls) (events ++ events_of ledger calls))
-    → StandFor note 17 before (lists_of slots) [] → Proceeds note before (lists_of slots) after (lists_of ends) → NoneIsOpen ends
-    → IsCleanedUp note after
-cleaned_up note before after slots ends law stand went none =
-    stood note after ends _ (subst₂ (λ (l : PlainLedger) (lists : Lists). StandFor note 17 l lists ([] ++ events_of before went.calls)) went.ledger went.lists_are
-    (law went.calls before (lists_of slots) [] stand went.moves)) none
-
 -- ---- where nothing happened
+
+none_below : (id : ℕ) → 0 ≡ (if ltb id 0 then 1 else 0)
+none_below id = grind arith
 
 pub nothing_to_clean : (note : Notes) (ledger : PlainLedger) → ledger.births ≡ [] → ledger.filed ≡ [] → IsCleanedUp note ledger
 nothing_to_clean note ledger births filed = record {
   events = [];
   births = births;
   receipts = ap receipts_in filed;
-  once = λ id. rw (births, filed) refl;
+  once = λ id. rw (births, filed) (none_below id);
 }

@@ -22,13 +22,11 @@ use crate::desk::{Desk, DeskTold};
 use fail_delay::{DelayFn, DelayRule, DelayTold};
 use pam_base::{Code, Failed, Text};
 use pam_handle::{Gear, GearTold};
-use pam_library::{
-    Library, LibraryTold, calls_stand_for_their_events, closed_places_stand_for_none,
-};
+use pam_library::{Library, LibraryTold, closed_places_stand_for_none};
 use pam_outside::{Sink, Source, set_moment, set_word, write_all};
 use pam_room::{World, WorldTold};
 use script_stream::{Ending, Stop};
-use session_run::run_script;
+use session_run::{proceeding_stands, run_script};
 use std::alloc::Global;
 
 const USAGE: &str = "usage: pamsess run ROOT | check ROOT SERVICE\n";
@@ -206,7 +204,7 @@ fn run_over<S: Source, K: Sink>(
     ensures sink_tells { K.sink_tells out.new ≡ K.sink_tells out.old }
     ensures world_tells { ⟦<World as WorldTold>⟧.tells world.new ≡ ⟦<World as WorldTold>⟧.tells world.old }
 {
-    calls_stand_for_their_events();
+    proceeding_stands();
     go_under(world, root);
     let mut library = library;
     let result = run_script(alloc, &mut library, script, out, world);

@@ -1,3 +1,4 @@
+use Rattle.pam_session_cli.proofs.Cleaning.{nothing_to_clean}
 use Rattle.pam_session_cli.proofs.Telling.{asked_root, runs_asked, done_asked, refused_asked, unread_asked, completes_asked}
 use Rattle.pam_session_cli.proofs.program.pamsess.Goals as goal
 
@@ -20,3 +21,9 @@ returns-in-Some-Run-clause-told g c root number asked given source sink both =
 pub returns-in-Some-Run-clause-complete : goal.returns-in-Some-Run-clause-complete
 returns-in-Some-Run-clause-complete g c root number asked given source sink both =
     completes_asked _ _ _ _ _ _ _ _ _ _ _ (asked_root c.in-Some-Run.root.now _ root _ (rw c.in-Some-Run.field-0-is at c.in-Some-Run.ensures) asked c.as_bytes.ensures.value) _ _ (c.run.ensures.told number given source sink both) c.run.ensures.read_fault c.run.ensures.write_fault
+
+pub returns-in-None-clause-cleaned_up : goal.returns-in-None-clause-cleaned_up
+returns-in-None-clause-cleaned_up g c = nothing_to_clean _ _ c.requires.no_births c.requires.no_receipts
+
+pub returns-in-Some-Check-clause-cleaned_up : goal.returns-in-Some-Check-clause-cleaned_up
+returns-in-Some-Check-clause-cleaned_up g c = nothing_to_clean _ _ c.requires.no_births c.requires.no_receipts

@@ -1,5 +1,5 @@
 use Rattle.std.proofs.Common.{◌∙◌}
-use Rattle.pam_session_cli.proofs.Cleaning.{cleaned_up}
+use Rattle.pam_session_cli.proofs.Cleaning.{stood}
 use Rattle.pam_session_cli.proofs.Telling.{begun, both_left, both_right, both_true}
 use Rattle.pam_session_cli.proofs.program.run_over.Goals as goal
 
@@ -10,4 +10,4 @@ returns-clause-told g c number given source sink both =
 
 pub returns-clause-cleaned_up : goal.returns-clause-cleaned_up
 returns-clause-cleaned_up g c =
-    cleaned_up _ _ _ _ _ (c.calls_stand_for_their_events.ensures _ 17) (rw c.go_under.ensures.ledger c.requires.first) c.run_script-result.ensures.proceeds c.run_script-result.ensures.none_open
+    stood _ _ _ _ (c.proceeding_stands.ensures _ _ _ _ _ _ c.run_script-result.ensures.proceeds (rw c.go_under.ensures.ledger c.requires.first)) c.run_script-result.ensures.none_open
