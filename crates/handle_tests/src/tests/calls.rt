@@ -104,6 +104,26 @@ static ROWS: &[Row] = &[
         said: 1,
         receipts: &[],
     },
+    // accounts, and a session that is closed by what its opening kept
+    Row {
+        scene: Scene {
+            file: b"account required establisher.so\nsession sufficient establisher.so\nsession required looker.so\n",
+            offers: &[],
+            calls: &[
+                (Func::AcctMgmt, 2),
+                (Func::OpenSession, 2),
+                (Func::CloseSession, 4),
+            ],
+        },
+        answers: &[
+            (Some(GOOD), None),
+            (Some(GOOD), None),
+            (Some(Code::CredErr), None),
+        ],
+        visits: &[GOOD, GOOD, Code::CredErr],
+        said: 0,
+        receipts: &[],
+    },
     // what was set before memory ran out is cleaned up at the end
     Row {
         scene: Scene {
