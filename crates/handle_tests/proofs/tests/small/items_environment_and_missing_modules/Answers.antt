@@ -1,4 +1,4 @@
-use Rattle.std.proofs.Common.{◌≡◌, ◌∙◌, ap}
+use Rattle.std.proofs.Common.{◌∙◌, ap}
 use Rattle.pam_handle.specs.Handle.{PlainHandle}
 use Rattle.handle_tests.proofs.Keeping.{ready_as_before}
 use Rattle.handle_tests.proofs.tests.small.items_environment_and_missing_modules.Goals as goal
