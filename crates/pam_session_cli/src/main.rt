@@ -6,15 +6,15 @@ mod check;
 mod command;
 mod desk;
 mod program;
+mod shipped;
 
-use conv_port::{Conv, QueueConv};
 use data_cleanup::Ledger;
 pub use desk::Desk;
-use mod_basic::{Debug, Deny, Permit, Probe, Rootok};
 use pam_base::{Code, Text};
 use pam_outside::{FixedClock, FolderVault, NapSum, ReaderSource, WriterSink};
-use pam_room::{Module, Process, World};
+use pam_room::{Process, World};
 pub use program::pamsess;
+use shipped::{conversations, shipped_modules};
 use std::io::ErrorKind;
 use std::process::ExitCode;
 use std::rt::Env;
@@ -29,9 +29,6 @@ const NO_MEMORY: u8 = 4;
 /// The caller whose process the transactions are in: nobody.
 const CALLER: u32 = 65534;
 
-/// How many transactions may be open at a time, each with a conversation.
-const TRANSACTIONS: usize = 16;
-
 /// The longest wait that the delay function gives, in microseconds.
 const LONGEST_WAIT: u32 = 3_000_000;
 
@@ -45,16 +42,6 @@ fn run(rt: HostRuntime) -> io::Result<u8> {
     let words = words(&rt)?;
     let mut script = ReaderSource::new(rt.reader());
     let mut out = WriterSink::new(io::writer(&rt));
-    let mut mods: Vec<Box<dyn Module>> = Vec::new(alloc);
-    mods.push(Box::new(alloc, Permit::new())?)?;
-    mods.push(Box::new(alloc, Deny::new())?)?;
-    mods.push(Box::new(alloc, Debug::new())?)?;
-    mods.push(Box::new(alloc, Rootok::new())?)?;
-    mods.push(Box::new(alloc, Probe::new())?)?;
-    let mut convs: Vec<Box<dyn Conv>> = Vec::new(alloc);
-    for _ in 0..TRANSACTIONS {
-        convs.push(Box::new(alloc, QueueConv::new(alloc))?)?;
-    }
     let delay = |code: Code, asked: u32| -> u32 {
         if code == Code::Success {
             0
@@ -63,8 +50,8 @@ fn run(rt: HostRuntime) -> io::Result<u8> {
         }
     };
     let desk = Desk {
-        mods,
-        convs,
+        mods: shipped_modules(alloc)?,
+        convs: conversations(alloc)?,
         delay: Box::new(alloc, delay)?,
     };
     let mut world = World {
