@@ -2,4 +2,4 @@ use Rattle.std.proofs.Common.{◌≡◌, length}
 use Rattle.pam_session_cli.proofs.shipped.conversations.Given as goal
 
 abbrev pub invariant-loop : goal.invariant-loop
-invariant-loop l = length l.convs.items ≡ l.counter
+invariant-loop g l = length l.convs.items ≡ l.counter
