@@ -1,3 +1,4 @@
+mod Rows
 pub mod Lowest
 pub mod Serving
 pub mod Views
