@@ -1,4 +1,4 @@
-use pam_base::{NoMemory, Numbers, Refuse};
+use pam_base::{FaultKind, NoMemory, Numbers, Refuse};
 use pam_outside::MemVault;
 use service_load::load;
 use service_print::{Files, print};
@@ -61,6 +61,64 @@ fn a_configuration_is_printed_in_one_form(rt: HostRuntime) -> Result<(), Fail> {
         shown(alloc, &files)?.as_slice(),
         b"file t\nauth required pam_permit.so a\nauth substack t.1\nfile t.1\nauth [success=ok] pam_deny.so [x y]\n".as_slice()
     );
+    Ok(())
+}
+
+/// The line of the fault, and its kind, where the file `t` of the two above is cut after so many bytes; none where it is printed.
+fn fault_of_cut(bytes: usize) -> Option<(u32, FaultKind)> {
+    match bytes {
+        1..=3 => Some((1, FaultKind::BadType)),
+        4..=5 | 13..=14 => Some((1, FaultKind::MissingField)),
+        6..=12 => Some((1, FaultKind::BadControl)),
+        32..=34 => Some((2, FaultKind::BadType)),
+        35..=36 | 44..=45 => Some((2, FaultKind::MissingField)),
+        37..=43 => Some((2, FaultKind::BadControl)),
+        46..=49 => Some((2, FaultKind::IncludeAbsent)),
+        _ => None,
+    }
+}
+
+/// What it is printed as where it is cut so.
+fn shown_of_cut(alloc: Global, bytes: usize) -> Result<Vec<u8>, NoMemory> {
+    let mut out = Vec::from_slice(alloc, b"file t\n")?;
+    if bytes > 14 {
+        out.extend_from_slice(b"auth required ")?;
+        out.extend_from_slice(&b"pam_permit.so"[..bytes.min(27) - 14])?;
+        if bytes > 29 {
+            out.extend_from_slice(b" a")?;
+        }
+        out.push(b'\n')?;
+    }
+    if bytes > 49 {
+        out.extend_from_slice(
+            b"auth substack t.1\nfile t.1\nauth [success=ok] pam_deny.so [x y]\n",
+        )?;
+    }
+    Ok(out)
+}
+
+#[test]
+fn a_file_may_be_cut_anywhere(rt: HostRuntime) -> Result<(), Fail> {
+    let alloc = rt.alloc();
+    let text = b"AUTH Required pam_permit.so  a\nauth substack inner\n";
+    for bytes in 0..text.len() + 1 {
+        let mut vault = vault_of(alloc, &BY_HAND)?;
+        put(alloc, &mut vault, b"t", &text[..bytes])?;
+        match load(alloc, &mut vault, b"/r", b"t") {
+            Ok(trees) => {
+                let files = print(alloc, &trees, b"t")?;
+                assert!(rt; fault_of_cut(bytes).is_none());
+                assert_eq!(rt;
+                    shown(alloc, &files)?.as_slice(),
+                    shown_of_cut(alloc, bytes)?.as_slice()
+                );
+            }
+            Err(Refuse::Named(fault)) => {
+                assert!(rt; fault_of_cut(bytes) == Some((fault.line, fault.kind)));
+            }
+            Err(Refuse::NoMemory) => return Err(Fail::from(NoMemory)),
+        }
+    }
     Ok(())
 }
 
