@@ -1,12 +1,14 @@
 -- Where no transaction is open, each birth has its one receipt.
-use Rattle.std.proofs.Common.{◌≡◌, ℕ, zero, suc, ◌+◌, ltb, if◌then◌else◌, true, false, List, [], ◌∷◌, length, Option, Some, None, slice_get, refl, ap, arith}
+use Rattle.std.proofs.Common.{◌≡◌, ℕ, zero, suc, ◌+◌, ltb, if◌then◌else◌, true, false, List, [], ◌∷◌, ◌++◌, length, Option, Some, None, slice_get, refl, sym, ap, subst, arith}
 use Rattle.std.specs.List.{AllByRecursion}
 use Rattle.data_cleanup.specs.Datum.{PlainDatum}
 use Rattle.data_cleanup.specs.Cleanup.{Notes, times}
 use Rattle.data_cleanup.specs.Due.{Event}
 use Rattle.data_cleanup.specs.Ledger.{PlainLedger}
-use Rattle.data_due.specs.Stands.{StandFor, times_filed, times_held, receipts_in}
+use Rattle.data_due.specs.Stands.{Lists, StandFor, times_filed, times_held, receipts_in}
+use Rattle.pam_library.specs.Calls.{events_of}
 use Rattle.pam_library.specs.Slots.{NoneIsOpen, PlainSlot, closed, opened, is_open, data_in, lists_of, slot_at}
+use Rattle.session_run.specs.AnyWorld.{Proceeds}
 use Rattle.pam_session_cli.specs.Run.{IsCleanedUp}
 
 -- ---- closed places hold nothing
@@ -34,7 +36,7 @@ none_held (suc limit) id held nothing =
 
 -- ---- a run
 
-pub stood : (note : Notes) (ledger : PlainLedger) (slots : List PlainSlot) (events : List Event)
+stood : (note : Notes) (ledger : PlainLedger) (slots : List PlainSlot) (events : List Event)
     → StandFor note 17 ledger (lists_of slots) events → NoneIsOpen slots → IsCleanedUp note ledger
 stood note ledger slots events stand none = record {
   events = events;
@@ -46,15 +48,24 @@ stood note ledger slots events stand none = record {
       omega (arith, total, nothing);
 }
 
+pub cleaned_up : (note : Notes) (before now after : PlainLedger) (slots ends : List PlainSlot)
+    → ((first last : PlainLedger) (lists next : Lists) (events : List Event) (p : Proceeds note first lists last next)
+    → StandFor note 17 first lists events → StandFor note 17 last next (events ++ events_of first p.calls))
+    → StandFor note 17 before (lists_of slots) [] → now ≡ before → Proceeds note now (lists_of slots) after (lists_of ends) → NoneIsOpen ends
+    → IsCleanedUp note after
+cleaned_up note before now after slots ends law stand same went none =
+    let first : StandFor note 17 now (lists_of slots) [] = subst (λ (l : PlainLedger). StandFor note 17 l (lists_of slots) []) (sym same) stand in
+    stood note after ends ([] ++ events_of now went.calls) (law now after (lists_of slots) (lists_of ends) [] went first) none
+
 -- ---- where nothing happened
 
-none_below : (id : ℕ) → 0 ≡ (if ltb id 0 then 1 else 0)
-none_below id = grind arith
+none_below : (id n : ℕ) → n ≡ 0 → n ≡ (if ltb id 0 then 1 else 0)
+none_below id n e = grind arith
 
 pub nothing_to_clean : (note : Notes) (ledger : PlainLedger) → ledger.births ≡ [] → ledger.filed ≡ [] → IsCleanedUp note ledger
 nothing_to_clean note ledger births filed = record {
   events = [];
   births = births;
   receipts = ap receipts_in filed;
-  once = λ id. rw (births, filed) (none_below id);
+  once = λ id. rw (births, filed) (none_below id 0 refl);
 }

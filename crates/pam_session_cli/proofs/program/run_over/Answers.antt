@@ -1,7 +1,5 @@
-use Rattle.std.proofs.Common.{◌∙◌, [], subst, sym}
-use Rattle.data_cleanup.specs.Ledger.{PlainLedger}
-use Rattle.data_due.specs.Stands.{StandFor}
-use Rattle.pam_session_cli.proofs.Cleaning.{stood}
+use Rattle.std.proofs.Common.{◌∙◌}
+use Rattle.pam_session_cli.proofs.Cleaning.{cleaned_up}
 use Rattle.pam_session_cli.proofs.Telling.{begun, both_left, both_right, both_true}
 use Rattle.pam_session_cli.proofs.program.run_over.Goals as goal
 
@@ -12,4 +10,4 @@ returns-clause-told g c number given source sink both =
 
 pub returns-clause-cleaned_up : goal.returns-clause-cleaned_up
 returns-clause-cleaned_up g c =
-    stood _ _ _ _ (c.proceeding_stands.ensures _ _ _ _ _ _ c.run_script-result.ensures.proceeds (subst (λ (ledger : PlainLedger). StandFor _ 17 ledger _ []) (sym c.go_under.ensures.ledger) c.requires.first)) c.run_script-result.ensures.none_open
+    cleaned_up _ _ _ _ _ _ (c.proceeding_stands.ensures _) c.requires.first c.go_under.ensures.ledger c.run_script-result.ensures.proceeds c.run_script-result.ensures.none_open
