@@ -1,5 +1,5 @@
 -- A configuration that was loaded is the one that a check prints.
-use Rattle.std.proofs.Common.{◌≡◌, ℕ, List, Result, Ok, ap, sym, ◌∙◌, subst}
+use Rattle.std.proofs.Common.{◌≡◌, ℕ, List, Result, ap, sym, ◌∙◌, subst}
 use Rattle.std.proofs.Math.Path.{fun_ext}
 use Rattle.std.specs.Str.{str_to_ascii_lowercase}
 use Rattle.pam_outside.specs.Files.{VaultState}

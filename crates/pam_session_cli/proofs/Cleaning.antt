@@ -1,13 +1,12 @@
 -- Where no transaction is open, each birth has its one receipt.
-use Rattle.std.proofs.Common.{◌≡◌, ℕ, zero, suc, ◌+◌, ltb, if◌then◌else◌, true, false, List, [], ◌∷◌, ◌++◌, length, Option, Some, None, slice_get, refl, sym, ap, subst, arith}
-use Rattle.std.specs.List.{AllByRecursion}
+use Rattle.std.proofs.Common.{◌≡◌, ℕ, zero, suc, ltb, if◌then◌else◌, true, false, List, [], ◌∷◌, ◌++◌, slice_get, refl, sym, ap, subst, arith}
 use Rattle.data_cleanup.specs.Datum.{PlainDatum}
 use Rattle.data_cleanup.specs.Cleanup.{Notes, times}
 use Rattle.data_cleanup.specs.Due.{Event}
 use Rattle.data_cleanup.specs.Ledger.{PlainLedger}
-use Rattle.data_due.specs.Stands.{Lists, StandFor, times_filed, times_held, receipts_in}
+use Rattle.data_due.specs.Stands.{Lists, StandFor, times_held, receipts_in}
 use Rattle.pam_library.specs.Calls.{events_of}
-use Rattle.pam_library.specs.Slots.{NoneIsOpen, PlainSlot, closed, opened, is_open, data_in, lists_of, slot_at}
+use Rattle.pam_library.specs.Slots.{NoneIsOpen, PlainSlot, closed, opened, data_in, lists_of}
 use Rattle.session_run.specs.AnyWorld.{Proceeds}
 use Rattle.pam_session_cli.specs.Run.{IsCleanedUp}
 

@@ -1,12 +1,11 @@
 -- What a run that was begun says of the whole script, by its status.
-use Rattle.std.proofs.Common.{◌≡◌, ◌⊎◌, ℕ, Bool, true, false, List, [], ◌++◌, Result, Ok, Err, refl, sym, ap, ◌∙◌}
+use Rattle.std.proofs.Common.{ℕ, List, ◌++◌, Ok, sym, ap, ◌∙◌}
 use Rattle.pam_base.specs.declared.fault.ScriptKind.{ScriptKind}
 use Rattle.pam_outside.specs.Streams.{SourceState, SinkState}
-use Rattle.pam_room.specs.State.{PlainWorld}
 use Rattle.script_stream.specs.declared.ending.Ending.TheVariants.{Done, ReadFault, Refused}
 use Rattle.session_run.specs.State.{Setting, RunState}
 use Rattle.session_run.specs.Whole.{RunsScript}
-use Rattle.pam_session_cli.specs.Run.{IsDone, IsRefused, IsReported, IsUnread, report_of, run_over, world_behind}
+use Rattle.pam_session_cli.specs.Run.{IsDone, IsRefused, IsUnread, report_of, world_behind}
 
 module _ (setting : Setting) (start end : RunState) (x y : SourceState) (p q : SinkState) where
   pub done_whole : RunsScript setting (Ok Done) start end x y p q → IsDone setting start end.world x y p q

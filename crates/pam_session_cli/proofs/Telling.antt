@@ -1,5 +1,5 @@
 -- What a run that was begun, or wasn't, says by its status.
-use Rattle.std.proofs.Common.{◌≡◌, ◌⊎◌, inl, inr, ℕ, suc, Bool, true, false, ◌&&◌, IsTrue, List, [], ◌∷◌, ◌++◌, length, map, Option, Some, None, Result, Ok, Err, refl, sym, ap, ap₂, ◌∙◌, subst, subst₂, arith}
+use Rattle.std.proofs.Common.{◌≡◌, inl, inr, ℕ, suc, Bool, true, false, ◌&&◌, IsTrue, List, [], ◌∷◌, length, map, Option, Some, None, Result, Ok, Err, refl, sym, ap, ap₂, ◌∙◌, subst, subst₂, arith}
 use Rattle.conv_port.specs.Conv.{ConvState}
 use Rattle.data_cleanup.specs.Cleanup.{Notes}
 use Rattle.data_cleanup.specs.Ledger.{PlainLedger}
@@ -15,7 +15,7 @@ use Rattle.script_stream.specs.declared.ending.Stop.TheVariants.{NoMemory, Write
 use Rattle.session_run.specs.State.{Setting, RunState, state_of}
 use Rattle.session_run.specs.Whole.{RunsScript}
 use Rattle.pam_session_cli.specs.Command.{Request, runs}
-use Rattle.pam_session_cli.specs.Run.{Completes, IsBegun, IsDone, IsNotBegun, IsRefused, IsUnder, IsUnread, Runs, opening, run_over, status_of}
+use Rattle.pam_session_cli.specs.Run.{Completes, IsBegun, IsDone, IsRefused, IsUnder, IsUnread, Runs, opening, status_of}
 use Rattle.pam_session_cli.proofs.Statuses.{done_whole, refused_whole, unread_whole}
 
 pub both_left : (a b : Bool) → IsTrue (a && b) → IsTrue a
