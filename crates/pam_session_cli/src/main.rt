@@ -2,19 +2,22 @@
 //! configuration.
 #![tactic(auto)]
 
+ghost use Rattle.std.specs.Prelude.{◌≡◌, []};
+
 mod check;
 mod command;
 mod desk;
 mod program;
-mod shipped;
 
+use conv_port::{Conv, QueueConv};
 use data_cleanup::Ledger;
 pub use desk::Desk;
+use mod_basic::{Debug, Deny, Permit, Probe, Rootok};
 use pam_base::{Code, Text};
-use pam_outside::{FixedClock, FolderVault, NapSum, ReaderSource, WriterSink};
-use pam_room::{Process, World};
+use pam_outside::{FixedClock, FolderVault, NapSum, ReaderSource, Sink, Source, WriterSink};
+use pam_room::{Module, Process, World};
 pub use program::pamsess;
-use shipped::{conversations, shipped_modules};
+use std::alloc::Global;
 use std::io::ErrorKind;
 use std::process::ExitCode;
 use std::rt::Env;
@@ -29,6 +32,9 @@ const NO_MEMORY: u8 = 4;
 /// The caller whose process the transactions are in: nobody.
 const CALLER: u32 = 65534;
 
+/// How many transactions may be open at a time, each with a conversation.
+const TRANSACTIONS: usize = 16;
+
 /// The longest wait that the delay function gives, in microseconds.
 const LONGEST_WAIT: u32 = 3_000_000;
 
@@ -42,18 +48,6 @@ fn run(rt: HostRuntime) -> io::Result<u8> {
     let words = words(&rt)?;
     let mut script = ReaderSource::new(rt.reader());
     let mut out = WriterSink::new(io::writer(&rt));
-    let delay = |code: Code, asked: u32| -> u32 {
-        if code == Code::Success {
-            0
-        } else {
-            asked.min(LONGEST_WAIT)
-        }
-    };
-    let desk = Desk {
-        mods: shipped_modules(alloc)?,
-        convs: conversations(alloc)?,
-        delay: Box::new(alloc, delay)?,
-    };
     let mut world = World {
         vault: Box::new(alloc, FolderVault::new(rt))?,
         clock: Box::new(alloc, FixedClock::new(0, 0))?,
@@ -64,7 +58,44 @@ fn run(rt: HostRuntime) -> io::Result<u8> {
             caller: CALLER,
         },
     };
-    Ok(pamsess(alloc, &words, &mut script, &mut out, &mut world, desk))
+    serve(alloc, &words, &mut script, &mut out, &mut world)
+}
+
+// Calls the program with the shipped modules, a conversation without replies for each transaction, and a delay function that waits
+// as long as it is asked to, but three seconds at most, and not behind SUCCESS.
+fn serve<S: Source, K: Sink>(
+    alloc: Global,
+    words: &[String],
+    script: &mut S,
+    out: &mut K,
+    world: &mut World,
+) -> io::Result<u8>
+    requires no_births { world.old.process.ledger.births ≡ [] }
+    requires no_receipts { world.old.process.ledger.filed ≡ [] }
+{
+    let mut mods: Vec<Box<dyn Module>> = Vec::new(alloc);
+    mods.push(Box::new(alloc, Permit::new())?)?;
+    mods.push(Box::new(alloc, Deny::new())?)?;
+    mods.push(Box::new(alloc, Debug::new())?)?;
+    mods.push(Box::new(alloc, Rootok::new())?)?;
+    mods.push(Box::new(alloc, Probe::new())?)?;
+    let mut convs: Vec<Box<dyn Conv>> = Vec::new(alloc);
+    for _ in 0..TRANSACTIONS {
+        convs.push(Box::new(alloc, QueueConv::new(alloc))?)?;
+    }
+    let delay = |code: Code, asked: u32| -> u32 {
+        if code == Code::Success {
+            0
+        } else {
+            asked.min(LONGEST_WAIT)
+        }
+    };
+    let desk = Desk {
+        mods,
+        convs,
+        delay: Box::new(alloc, delay)?,
+    };
+    Ok(pamsess(alloc, words, script, out, world, desk))
 }
 
 /// The words of the command line; none where one of them isn't UTF-8.

@@ -1,5 +1,3 @@
-ghost use Rattle.std.specs.Prelude.{◌≡◌, [], IfOk};
-
 mod calls;
 mod checks;
 mod data;
@@ -70,12 +68,14 @@ fn files_of(alloc: Global, row: &Row) -> Result<MemVault, Fail> {
     Ok(vault)
 }
 
-// The world of a row: its files, a clock that the program sets, and a ledger without births.
-fn world_of(alloc: Global, row: &Row) -> Result<World, Fail>
-    ensures births { IfOk result (λ world. world.process.ledger.births ≡ []) }
-    ensures filed { IfOk result (λ world. world.process.ledger.filed ≡ []) }
-{
-    Ok(World {
+// Runs the program over a script, with the shipped modules and sixteen conversations without replies.
+fn run_script(alloc: Global, row: &Row, script: &[u8]) -> Result<Ran, Fail> {
+    let line = CommandLine { words: row.words };
+    let words = words(&(line, alloc))?;
+    let text = Text::from_bytes(alloc, script)?;
+    let mut script = MemSource::new(text, numbers(alloc, row.failing_reads)?);
+    let mut out = MemSink::new(alloc, 1_048_576, numbers(alloc, row.failing_writes)?)?;
+    let mut world = World {
         vault: Box::new(alloc, files_of(alloc, row)?)?,
         clock: Box::new(alloc, FixedClock::new(7, 7))?,
         nap: Box::new(alloc, NapSum::new())?,
@@ -84,30 +84,8 @@ fn world_of(alloc: Global, row: &Row) -> Result<World, Fail>
             root: Text::new(alloc),
             caller: CALLER,
         },
-    })
-}
-
-// Runs the program over a script, with the shipped modules and sixteen conversations without replies.
-fn run_script(alloc: Global, row: &Row, script: &[u8]) -> Result<Ran, Fail> {
-    let line = CommandLine { words: row.words };
-    let words = words(&(line, alloc))?;
-    let text = Text::from_bytes(alloc, script)?;
-    let mut script = MemSource::new(text, numbers(alloc, row.failing_reads)?);
-    let mut out = MemSink::new(alloc, 1_048_576, numbers(alloc, row.failing_writes)?)?;
-    let delay = |code: Code, asked: u32| -> u32 {
-        if code == Code::Success {
-            0
-        } else {
-            asked.min(LONGEST_WAIT)
-        }
     };
-    let desk = Desk {
-        mods: shipped_modules(alloc)?,
-        convs: conversations(alloc)?,
-        delay: Box::new(alloc, delay)?,
-    };
-    let mut world = world_of(alloc, row)?;
-    let status = pamsess(alloc, &words, &mut script, &mut out, &mut world, desk);
+    let status = serve(alloc, &words, &mut script, &mut out, &mut world)?;
     Ok(Ran {
         status,
         output: out.bytes().to_vec(alloc)?,
