@@ -47,13 +47,19 @@ impl Env for CommandLine<'_> {
     }
 }
 
-/// What a run came to: the status, the output, and how many data were born and how many receipts were filed.
-#[derive(Drop)]
-struct Ran {
+/// What a run came to: the status, and how many data were born and how many receipts were filed.
+#[derive(Clone, Copy)]
+struct Served {
     status: u8,
-    output: Vec<u8>,
     births: usize,
     receipts: usize,
+}
+
+/// The same, and the output.
+#[derive(Drop)]
+struct Ran {
+    served: Served,
+    output: Vec<u8>,
 }
 
 fn numbers(alloc: Global, all: &[u64]) -> Result<Numbers, Fail> {
@@ -75,8 +81,23 @@ fn run_script(alloc: Global, row: &Row, script: &[u8]) -> Result<Ran, Fail> {
     let text = Text::from_bytes(alloc, script)?;
     let mut script = MemSource::new(text, numbers(alloc, row.failing_reads)?);
     let mut out = MemSink::new(alloc, 1_048_576, numbers(alloc, row.failing_writes)?)?;
+    let served = run_in(alloc, files_of(alloc, row)?, &words, &mut script, &mut out)?;
+    Ok(Ran {
+        served,
+        output: out.bytes().to_vec(alloc)?,
+    })
+}
+
+// Runs the program in a world with these files, a clock that it sets, and a ledger without births.
+fn run_in(
+    alloc: Global,
+    files: MemVault,
+    words: &[String],
+    script: &mut MemSource,
+    out: &mut MemSink,
+) -> Result<Served, Fail> {
     let mut world = World {
-        vault: Box::new(alloc, files_of(alloc, row)?)?,
+        vault: Box::new(alloc, files)?,
         clock: Box::new(alloc, FixedClock::new(7, 7))?,
         nap: Box::new(alloc, NapSum::new())?,
         process: Process {
@@ -85,10 +106,9 @@ fn run_script(alloc: Global, row: &Row, script: &[u8]) -> Result<Ran, Fail> {
             caller: CALLER,
         },
     };
-    let status = serve(alloc, &words, &mut script, &mut out, &mut world)?;
-    Ok(Ran {
+    let status = serve(alloc, words, script, out, &mut world)?;
+    Ok(Served {
         status,
-        output: out.bytes().to_vec(alloc)?,
         births: world.process.ledger.births().len(),
         receipts: world.process.ledger.filed().len(),
     })
@@ -99,8 +119,8 @@ fn check_rows(rt: &(impl Abort + AllocGlobal), rows: &[Row]) -> Result<(), Fail>
     for row in rows.iter() {
         let ran = run_script(rt.alloc(), row, row.script)?;
         assert_eq!(rt; ran.output.as_slice(), row.output);
-        assert_eq!(rt; ran.status, row.status);
-        assert_eq!(rt; ran.receipts, ran.births);
+        assert_eq!(rt; ran.served.status, row.status);
+        assert_eq!(rt; ran.served.receipts, ran.served.births);
     }
     Ok(())
 }
@@ -153,7 +173,7 @@ fn other_words_write_the_usage_line(rt: HostRuntime) -> Result<(), Fail> {
             ran.output.as_slice(),
             b"usage: pamsess run ROOT | check ROOT SERVICE\n".as_slice()
         );
-        assert_eq!(rt; ran.status, 2);
+        assert_eq!(rt; ran.served.status, 2);
     }
     Ok(())
 }
@@ -202,7 +222,7 @@ fn a_script_may_be_cut_anywhere(rt: HostRuntime) -> Result<(), Fail> {
         let (output, status) = cut_login(bytes);
         let ran = run_script(rt.alloc(), &ONE_PERMIT, &LOGIN[..bytes])?;
         assert_eq!(rt; ran.output.as_slice(), output.as_bytes());
-        assert_eq!(rt; ran.status, status);
+        assert_eq!(rt; ran.served.status, status);
     }
     Ok(())
 }
@@ -219,9 +239,9 @@ fn a_sink_that_fails_leaves_a_front_of_the_report(rt: HostRuntime) -> Result<(),
             ..*row
         };
         let ran = run_script(rt.alloc(), &failing, row.script)?;
-        assert_eq!(rt; ran.status, 6);
+        assert_eq!(rt; ran.served.status, 6);
         assert!(rt; row.output.starts_with(&ran.output));
-        assert_eq!(rt; ran.receipts, ran.births);
+        assert_eq!(rt; ran.served.receipts, ran.served.births);
     }
     Ok(())
 }
@@ -251,13 +271,13 @@ fn a_line_has_at_most_512_bytes(rt: HostRuntime) -> Result<(), Fail> {
                 ran.output.as_slice(),
                 b"script 1 LineTooLong 3\n".as_slice()
             );
-            assert_eq!(rt; ran.status, 7);
+            assert_eq!(rt; ran.served.status, 7);
         } else {
             assert_eq!(rt;
                 ran.output.as_slice(),
                 b"1 start SUCCESS 0\n1 closed SUCCESS 0\n".as_slice()
             );
-            assert_eq!(rt; ran.status, 0);
+            assert_eq!(rt; ran.served.status, 0);
         }
     }
     Ok(())
@@ -274,11 +294,11 @@ fn a_script_has_at_most_65536_lines(rt: HostRuntime) -> Result<(), Fail> {
     }
     let most = run_script(alloc, &ONE_PERMIT, &script)?;
     assert_eq!(rt; most.output.as_slice(), output.as_slice());
-    assert_eq!(rt; most.status, 0);
+    assert_eq!(rt; most.served.status, 0);
     script.push(b'\n')?;
     output.extend_from_slice(b"script 65537 TooManyLines 4\n")?;
     let more = run_script(alloc, &ONE_PERMIT, &script)?;
     assert_eq!(rt; more.output.as_slice(), output.as_slice());
-    assert_eq!(rt; more.status, 7);
+    assert_eq!(rt; more.served.status, 7);
     Ok(())
 }
