@@ -10,3 +10,4 @@ pub mod Style
 pub mod White
 pub mod Counts
 pub mod ServiceName
+pub mod Call

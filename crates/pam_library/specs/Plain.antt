@@ -1,5 +1,6 @@
 -- The plain value of a place's enum (this project's own).
-use Rattle.std.specs.Prelude.{Bool}
+use Rattle.std.specs.Prelude.{Bool, List, map}
+use Rattle.std.specs.List.{list_all}
 use Rattle.std.specs.declared.alloc.Global.{Global}
 use Rattle.std.specs.declared.dyn_box.DynBox.{DynBox}
 use Rattle.conv_port.specs.Conv.{ConvState}
@@ -30,3 +31,11 @@ module _ {X Y Z : Type 0} {U : X → Type 0} {V : Y → Type 0} {W : Z → Type 
   -- what the application brought to a library: its modules and its delay function
   abbrev pub gear_in : Library X Y Z U V W F → Gear X Y U V F
   gear_in l = l.gear
+
+  -- its places, by what conversations hold
+  abbrev pub slots_in : (DynBox Z Global W → ConvState) → Library X Y Z U V W F → List PlainSlot
+  slots_in conv l = map (plain_slot conv) l.slots.items
+
+  -- whether all its conversations tell
+  abbrev pub tells_in : (DynBox Z Global W → Bool) → Library X Y Z U V W F → Bool
+  tells_in tells l = list_all (slot_tells tells) l.slots.items

@@ -1,9 +1,7 @@
 -- One step (this project's own): a call on the transaction of a number.
-use Rattle.std.specs.Prelude.{◌≡◌, ℕ, Bool, true, nat_le, length, List, Option, Some, None}
+use Rattle.std.specs.Prelude.{◌≡◌, ℕ, List, Option, Some, None}
 use Rattle.pam_base.specs.declared.code.Code.{Code}
-use Rattle.pam_base.specs.ServiceName.{is_service_name}
 use Rattle.pam_base.specs.declared.call.AppCall.{AppCall}
-use Rattle.pam_base.specs.declared.call.AppCall.TheVariants as calls
 use Rattle.pam_base.specs.declared.call.Step.{Step}
 use Rattle.pam_room.specs.Module.{Player}
 use Rattle.pam_room.specs.State.{PlainWorld}
@@ -36,9 +34,3 @@ pub record StepsAs (s : Stepped) (outcome : PlainOutcome) (slots : List PlainSlo
   pub outcome_is : outcome ≡ s.outcome
   pub slots_is : slots ≡ s.slots
   pub world_is : world ≡ s.world
-
--- what a step may ask: a start names a service, and a reply has at most 512 bytes
-abbrev pub is_fit : AppCall → Bool
-is_fit (calls.Start service user) = is_service_name service
-is_fit (calls.Reply text) = nat_le (length text) 512
-is_fit call = true

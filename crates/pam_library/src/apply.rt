@@ -7,7 +7,8 @@ ghost use Rattle.pam_handle.specs.Plain.{in_box};
 ghost use Rattle.pam_library.specs.Outcome.{plain_outcome};
 ghost use Rattle.pam_library.specs.Slots.{lists_of, slot_at};
 ghost use Rattle.pam_library.specs.Sound.{IsSound};
-ghost use Rattle.pam_library.specs.Step.{StepsAs, is_fit, stepped};
+ghost use Rattle.pam_base.specs.Call.{is_fit};
+ghost use Rattle.pam_library.specs.Step.{StepsAs, stepped};
 ghost use Rattle.pam_library.specs.AnyWorld.{AnswersBy, CountsRefusal, FailsAt, SpendsAt, end_at, leaves_world, refusal, stays_inside, takes_no_memory};
 
 use crate::laws::one_place_moves;

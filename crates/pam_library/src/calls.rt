@@ -6,7 +6,7 @@ ghost use Rattle.pam_handle.specs.Plain.{plain_handle, room_in};
 ghost use Rattle.pam_library.specs.AnyWorld.{leaves_world};
 ghost use Rattle.pam_library.specs.InPlace.{GoesInPlace, is_end};
 ghost use Rattle.pam_library.specs.Slots.{opened};
-ghost use Rattle.pam_library.specs.Step.{is_fit};
+ghost use Rattle.pam_base.specs.Call.{is_fit};
 
 use crate::outcome::{Answer, Outcome};
 use crate::reply::offer_open;

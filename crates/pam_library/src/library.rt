@@ -32,13 +32,11 @@ pub trait LibraryTold {
 }
 
 impl LibraryTold for Library {
-    ghost use Rattle.std.specs.Prelude.{map};
-    ghost use Rattle.std.specs.List.{list_all};
-    ghost use Rattle.pam_library.specs.Plain.{plain_slot, slot_tells};
+    ghost use Rattle.pam_library.specs.Plain.{slots_in, tells_in};
 
-    ghost tells = { λ l. list_all (slot_tells (λ b. (Conv-box b).conv_tells b.value)) l.slots.items };
+    ghost tells = { tells_in (λ b. (Conv-box b).conv_tells b.value) };
 
-    ghost slots = { λ l. map (plain_slot (λ b. (Conv-box b).conv_holds b.value)) l.slots.items };
+    ghost slots = { slots_in (λ b. (Conv-box b).conv_holds b.value) };
 }
 
 impl Library {

@@ -6,7 +6,7 @@ ghost use Rattle.pam_library.specs.AnyWorld.{CountsRefusal, leaves_world};
 ghost use Rattle.pam_library.specs.InPlace.{GoesInPlace, IsReadyAt};
 ghost use Rattle.pam_library.specs.Slots.{closed, opened};
 ghost use Rattle.pam_library.specs.Sound.{IsAtPlace, IsPlaced};
-ghost use Rattle.pam_library.specs.Step.{is_fit};
+ghost use Rattle.pam_base.specs.Call.{is_fit};
 
 use crate::calls::call_open;
 use crate::end::end;

@@ -1,7 +1,6 @@
 mod Rows
 pub mod Lowest
 pub mod Serving
-pub mod Views
 pub mod Reporting
 pub mod Telling
 pub mod Proceeding

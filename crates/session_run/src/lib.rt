@@ -12,5 +12,4 @@ mod status;
 mod world;
 
 pub use laws::proceeding_stands;
-pub use meaning::Meaning;
 pub use run::run_script;

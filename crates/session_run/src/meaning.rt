@@ -1,7 +1,7 @@
 use script_stream::Stepping;
 
 /// What the lines of a script do to sixteen transactions and their world, for contracts.
-pub struct Meaning;
+pub(crate) struct Meaning;
 
 impl Stepping for Meaning {
     ghost use Rattle.session_run.specs.State.{Setting as RunSetting, RunState};

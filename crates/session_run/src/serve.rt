@@ -6,7 +6,7 @@ ghost use Rattle.dispatch_core.specs.Lines.{names_of};
 ghost use Rattle.pam_room.specs.Module.{notes_of};
 ghost use Rattle.pam_outside.specs.Counts.{RisesIf};
 ghost use Rattle.pam_library.specs.Plain.{gear_in};
-ghost use Rattle.pam_library.specs.Step.{is_fit};
+ghost use Rattle.pam_base.specs.Call.{is_fit};
 ghost use Rattle.pam_library.specs.Slots.{lists_of};
 ghost use Rattle.pam_library.specs.Sound.{IsSound};
 ghost use Rattle.session_run.specs.AnyWorld.{Proceeds};

@@ -2,13 +2,12 @@ use Rattle.std.proofs.Common.{◌≡◌, ◌&&◌, Bool, List, length, map}
 use Rattle.dispatch_core.specs.Lines.{names_of}
 use Rattle.pam_room.specs.Module.{Player, notes_of, player_of}
 use Rattle.pam_room.specs.Plain.{plain_world}
-use Rattle.pam_library.specs.Plain.{gear_in}
+use Rattle.pam_library.specs.Plain.{gear_in, slots_in, tells_in}
 use Rattle.pam_library.specs.Slots.{lists_of}
 use Rattle.pam_library.specs.Sound.{IsSound}
 use Rattle.session_run.specs.AnyWorld.{Proceeds}
 use Rattle.session_run.specs.State.{RunState, state_of}
 use Rattle.session_run.specs.Closings.{all_closed, open_count}
-use Rattle.session_run.proofs.Views.{slots_in, tells_in}
 use Rattle.session_run.proofs.closing.close_silently.Given as goal
 
 abbrev pub invariant-loop-number : goal.invariant-loop-number
