@@ -4,6 +4,7 @@
 
 mod entry_states;
 mod given;
+mod laws;
 mod line;
 mod pass;
 mod paths;
@@ -14,5 +15,6 @@ mod supplies;
 mod turn;
 mod walker;
 
+pub use laws::soundness_is_transitive;
 pub use pass::dispatch;
 pub use paused::Paused;

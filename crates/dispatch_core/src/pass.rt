@@ -12,16 +12,17 @@ ghost use Rattle.dispatch_core.specs.Lines.{answers_by};
 ghost use Rattle.dispatch_core.specs.Paths.{HasPaths};
 ghost use Rattle.dispatch_core.specs.Passes.{LeavesAs, PassesAs, WalksAs, by_place, kept_behind, kept_failed};
 
+use crate::laws::soundness_is_transitive;
 use crate::paused::Paused;
 use crate::request::Request;
 use crate::supplies::Supplies;
 use crate::turn::take_turn;
 use crate::walker::Walker;
-use data_cleanup::{growth_is_transitive, nothing_grows};
+use data_cleanup::nothing_grows;
 use frozen_chain::Kept;
 use handler_chain::Chain;
 use pam_base::{Code, Func, NoMemory};
-use pam_room::{Module, Room, RoomTold, World, WorldTold, staying_is_transitive};
+use pam_room::{Module, Room, RoomTold, World, WorldTold};
 use stack_walk::PassKind;
 use std::alloc::Global;
 
@@ -62,8 +63,7 @@ fn walk(
     ensures ready { IsReady (length mods.now) (plain_transaction room.new.transaction) (plain_process world.new.process) }
 {
     nothing_grows();
-    growth_is_transitive();
-    staying_is_transitive();
+    soundness_is_transitive();
     let mut walker = Walker::new();
     while walker.at < chain.len() {
         let Some(_answer) = take_turn(

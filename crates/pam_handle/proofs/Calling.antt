@@ -5,6 +5,7 @@ use Rattle.pam_base.specs.declared.call.Func.{Func}
 use Rattle.pam_base.specs.declared.fault.NoMemory.{NoMemory}
 use Rattle.frozen_chain.specs.Kept.{Answers}
 use Rattle.stack_walk.specs.declared.pass_kind.PassKind.{PassKind}
+use Rattle.stack_walk.specs.declared.pass_kind.PassKind.TheVariants.{Keep}
 use Rattle.stack_walk.specs.Route.{KeptAnswers}
 use Rattle.dispatch_core.specs.Passes.{kept_failed}
 use Rattle.pam_room.specs.State.{PlainRoom, PlainWorld, State, state_of}
@@ -55,6 +56,11 @@ pub followed_failed : (result : Result Code NoMemory) (kept cells : Answers) (ki
 followed_failed (Ok code) kept cells kind k e = tt
 followed_failed (Err none) None cells kind k e = ap kept_answers (e ∙ ap (λ (p : PassKind). kept_failed p None) k)
 followed_failed (Err none) (Some kept) cells kind k e = ap kept_answers (e ∙ ap (λ (p : PassKind). kept_failed p (Some kept)) k)
+
+-- a pass that keeps its own answers leaves none without memory
+pub kept_nothing : (result : Result Code NoMemory) (kept cells : Answers) → OnErr result (cells ≡ kept_failed Keep kept) → OnErr result (kept_answers cells ≡ None)
+kept_nothing (Ok code) kept cells e = tt
+kept_nothing (Err none) kept cells e = ap kept_answers e
 
 pub on_err : (result : Result Code NoMemory) {P : Type 0} → P → OnErr result P
 on_err (Ok code) p = tt

@@ -63,6 +63,34 @@ checked players flags past h w stack before code kept paused room world r s e su
     (subst (λ (x : PlainRoom). PassesTo (passed players ChAuthTok (bit_or flags prelim_check) Keep None stack past (state_of x w)) code kept paused (state_of room world)) (sym r) e))
     success over
 
+-- behind a first pass that gave another code there is no second one
+behind_other : (players : List Player) (flags : ℕ) (code : Code) (paused : Option (List Code)) (kept : Option KeptAnswers) (h : PlainHandle) (w : PlainWorld) → (code ≡ Success → ⊥)
+    → behind_check players flags code paused kept h w ≡ changed paused code h w
+behind_other players flags Success paused kept h w other = absurd (other refl)
+behind_other players flags code paused kept h w other = refl
+
+behind_failure : (players : List Player) (flags : ℕ) (h : PlainHandle) (p : Passed) (code : Code) (kept : Option KeptAnswers) (paused : Option (List Code)) (room : PlainRoom) (world : PlainWorld)
+    → PassesTo p code kept paused (state_of room world) → (code ≡ Success → ⊥)
+    → behind_check players flags p.code p.paused p.kept (record h { room = p.state.room; pending = pending_behind ChAuthTok None p.paused }) p.state.world
+    ≡ changed paused code (record h { room = room; pending = pending_behind ChAuthTok None paused }) world
+behind_failure players flags h p code kept paused room world e other =
+    ap (λ (s : State). behind_check players flags p.code p.paused p.kept (record h { room = s.room; pending = pending_behind ChAuthTok None p.paused }) s.world) (sym e.state_is)
+    ∙ ap (λ (o : Option (List Code)). behind_check players flags p.code o p.kept (record h { room = room; pending = pending_behind ChAuthTok None o }) world) (sym e.paused_is)
+    ∙ ap (λ (k : Option KeptAnswers). behind_check players flags p.code paused k (record h { room = room; pending = pending_behind ChAuthTok None paused }) world) (sym e.kept_is)
+    ∙ ap (λ (c : Code). behind_check players flags c paused kept (record h { room = room; pending = pending_behind ChAuthTok None paused }) world) (sym e.code_is)
+    ∙ behind_other players flags code paused kept (record h { room = room; pending = pending_behind ChAuthTok None paused }) world other
+
+pub checked_alone : (players : List Player) (flags : ℕ) (past : List Code) (h : PlainHandle) (w : PlainWorld) (stack : Stack) (before : PlainRoom)
+    (code : Code) (kept : Option KeptAnswers) (paused : Option (List Code)) (room : PlainRoom) (world : PlainWorld) (first : Answers) → h.room ≡ before → h.stacks.password ≡ stack → first ≡ None
+    → PassesTo (passed players ChAuthTok (bit_or flags prelim_check) Keep None stack past (state_of before w)) code kept paused (state_of room world) → (code ≡ Success → ⊥)
+    → check players flags past h w ≡ changed paused code (record h { room = room; pending = pending_behind ChAuthTok (kept_answers first) paused }) world
+checked_alone players flags past h w stack before code kept paused room world first r s f e other =
+    behind_failure players flags h (passed players ChAuthTok (bit_or flags prelim_check) Keep None h.stacks.password past (state_of h.room w)) code kept paused room world
+    (subst (λ (x : Stack). PassesTo (passed players ChAuthTok (bit_or flags prelim_check) Keep None x past (state_of h.room w)) code kept paused (state_of room world)) (sym s)
+    (subst (λ (x : PlainRoom). PassesTo (passed players ChAuthTok (bit_or flags prelim_check) Keep None stack past (state_of x w)) code kept paused (state_of room world)) (sym r) e))
+    other
+    ∙ ap (λ (a : Answers). changed paused code (record h { room = room; pending = pending_behind ChAuthTok (kept_answers a) paused }) world) (sym f)
+
 success_incomplete : (code : Code) → code ≡ Success → code ≡ Incomplete → ⊥
 success_incomplete code s i = (cc)
 

@@ -17,12 +17,12 @@ use crate::gear::{Gear, GearTold};
 use crate::handle::Handle;
 use crate::pass::pass;
 use crate::pending::{clear_unless_pending, clear_unless_put_off, taken_up};
-use data_cleanup::{growth_is_transitive, nothing_grows};
-use dispatch_core::Paused;
+use data_cleanup::nothing_grows;
+use dispatch_core::{Paused, soundness_is_transitive};
 use frozen_chain::Kept;
 use handler_chain::Chain;
 use pam_base::{Code, Func, NoMemory};
-use pam_room::{PRELIM_CHECK, Room, RoomTold, World, WorldTold, staying_is_transitive};
+use pam_room::{PRELIM_CHECK, Room, RoomTold, World, WorldTold};
 use stack_walk::PassKind;
 use std::alloc::Global;
 
@@ -149,8 +149,7 @@ fn check(
         (plain_transaction room.old.transaction) (plain_transaction room.new.transaction) (plain_process world.old.process) (plain_process world.new.process) }
     ensures ready { IsReady (length (⟦<Gear as GearTold>⟧.players gear.now)) (plain_transaction room.new.transaction) (plain_process world.new.process) }
 {
-    growth_is_transitive();
-    staying_is_transitive();
+    soundness_is_transitive();
     let mut kept = Kept::none();
     let code = pass(
         alloc,

@@ -13,7 +13,7 @@ use Rattle.dispatch_core.proofs.Turning.{begun, ended_at_last}
 use Rattle.dispatch_core.proofs.Pathing.{paths_ahead}
 use Rattle.dispatch_core.proofs.Progress.{nothing_yet, one_more, lines_kept-more, held-more, lines_kept-empty}
 use Rattle.dispatch_core.proofs.Ending.{walks_off, walks_to, turn_more}
-use Rattle.dispatch_core.proofs.Sounding.{sound_more, sound_none}
+use Rattle.dispatch_core.proofs.Sounding.{sound_none}
 use Rattle.dispatch_core.proofs.Telling.{both_tell}
 use Rattle.dispatch_core.proofs.pass.walk.Goals as goal
 
@@ -57,10 +57,10 @@ returns-in_default-clause-told g c = λ told.
     sofar.nodes (c.in_ok-_answer.ensures.told now visits) c.in_default.is (sofar.goes told))
 
 pub returns-in_default-clause-sound : goal.returns-in_default-clause-sound
-returns-in_default-clause-sound g c = sound_more c.staying_is_transitive.ensures c.growth_is_transitive.ensures _ _ _ _ _ _ _ _ c.loop-walker.invariant.1.sound c.take_turn.ensures.sound
+returns-in_default-clause-sound g c = c.soundness_is_transitive.ensures _ _ _ _ _ _ _ _ c.loop-walker.invariant.1.sound c.take_turn.ensures.sound
 
 pub returns-in_err-_answer-clause-sound : goal.returns-in_err-_answer-clause-sound
-returns-in_err-_answer-clause-sound g c = sound_more c.staying_is_transitive.ensures c.growth_is_transitive.ensures _ _ _ _ _ _ _ _ c.loop-walker.invariant.1.sound c.take_turn.ensures.sound
+returns-in_err-_answer-clause-sound g c = c.soundness_is_transitive.ensures _ _ _ _ _ _ _ _ c.loop-walker.invariant.1.sound c.take_turn.ensures.sound
 
 pub loop-walker-preserved : goal.loop-walker-preserved
 loop-walker-preserved g c =
@@ -96,7 +96,7 @@ loop-walker-preserved g c =
         nodes = c.take_turn.ensures.nodes ∙ sofar.nodes;
         names = c.take_turn.ensures.names ∙ sofar.names;
         looks = omega (arith, c.in_ok-_answer.ensures.looks, sofar.looks);
-        sound = sound_more c.staying_is_transitive.ensures c.growth_is_transitive.ensures _ _ _ _ _ _ _ _ sofar.sound c.take_turn.ensures.sound;
+        sound = c.soundness_is_transitive.ensures _ _ _ _ _ _ _ _ sofar.sound c.take_turn.ensures.sound;
         ready = c.take_turn.ensures.ready;
       },
     )

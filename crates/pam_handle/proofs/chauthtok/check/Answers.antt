@@ -4,7 +4,7 @@ use Rattle.pam_room.specs.Module.{player_of}
 use Rattle.pam_room.specs.Plain.{plain_room, plain_world}
 use Rattle.pam_room.specs.State.{PlainRoom, PlainWorld}
 use Rattle.pam_handle.specs.Pass.{kept_answers}
-use Rattle.pam_handle.proofs.Changing.{both_tell, checked, if_ok_from, success_over}
+use Rattle.pam_handle.proofs.Changing.{both_tell, checked, checked_alone, if_ok_from, success_over}
 use Rattle.pam_handle.proofs.chauthtok.check.Goals as goal
 
 pub returns-in-Success-clause-told : goal.returns-in-Success-clause-told
@@ -18,3 +18,16 @@ returns-in-Success-clause-told g c = λ told h room stack.
     (checked players c.args.flags (past_of c.args.paused.now) h w c.args.chain.now.nodes before c.in_ok-code.code (kept_answers c.pass.new.kept) c.pass.new.paused later last room stack
     (rw c.none-kept.ensures at (c.in_ok-code.ensures.told told)) c.in-Success.is (success_over c.pass.new.paused c.in_ok-code.code c.in-Success.is c.in_ok-code.ensures.put_off))
     (c.update.ensures.told (both_tell _ _ _ _ c.pass.ensures.tells c.pass.ensures.world_tells told) (record h { room = later; pending = None }) refl (stack ∙ sym c.pass.ensures.nodes))
+
+pub returns-in_default-clause-told : goal.returns-in_default-clause-told
+returns-in_default-clause-told g c = λ told h room stack.
+    let w : PlainWorld = plain_world (λ b. (goal.Vault-dyn g (b.vtable, b.value)).vault_holds b.value) (λ b. (goal.Clock-dyn g (b.vtable, b.value)).clock_holds b.value) (λ b. (goal.Nap-dyn g (b.vtable, b.value)).nap_holds b.value) c.args.world.now in
+    let last : PlainWorld = plain_world (λ b. (goal.Vault-dyn g (b.vtable, b.value)).vault_holds b.value) (λ b. (goal.Clock-dyn g (b.vtable, b.value)).clock_holds b.value) (λ b. (goal.Nap-dyn g (b.vtable, b.value)).nap_holds b.value) c.pass.new.world in
+    let before : PlainRoom = plain_room (λ b. (goal.Conv-dyn g (b.vtable, b.value)).conv_holds b.value) c.args.room.now in
+    let later : PlainRoom = plain_room (λ b. (goal.Conv-dyn g (b.vtable, b.value)).conv_holds b.value) c.pass.new.room in
+    let players = map (player_of (λ b. (goal.Module-dyn g (b.vtable, b.value)).label b.value) (λ b. (goal.Module-dyn g (b.vtable, b.value)).plays b.value) (λ b. (goal.Module-dyn g (b.vtable, b.value)).note b.value)) c.args.gear.now.mods.items in
+    checked_alone players c.args.flags (past_of c.args.paused.now) h w c.args.chain.now.nodes before c.in_ok-code.code (kept_answers c.pass.new.kept) c.pass.new.paused later last c.args.first.now room stack c.requires.first
+    (rw c.none-kept.ensures at (c.in_ok-code.ensures.told told)) c.in_default.not-Success
+
+pub returns-in-Success-clause-sound : goal.returns-in-Success-clause-sound
+returns-in-Success-clause-sound g c = c.soundness_is_transitive.ensures _ _ _ _ _ _ _ _ c.pass.ensures.sound c.update.ensures.sound
