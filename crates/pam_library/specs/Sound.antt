@@ -4,6 +4,8 @@ use Rattle.std.specs.List.{AllByRecursion}
 use Rattle.data_cleanup.specs.Ledger.{PlainLedger}
 use Rattle.data_cleanup.specs.declared.datum.Birth.{Birth}
 use Rattle.data_due.specs.Kept.{AreHeld}
+use Rattle.dispatch_core.specs.Lines.{names_of}
+use Rattle.pam_room.specs.Module.{Player}
 use Rattle.pam_handle.specs.Handle.{PlainHandle}
 use Rattle.pam_library.specs.Slots.{PlainSlot, closed, opened, slot_at, lists_of}
 
@@ -28,3 +30,7 @@ pub record IsSound (names : List (List ℕ)) (modules : ℕ) (slots : List Plain
   pub placed : ArePlaced names slots
   pub held : AreHeld modules 17 ledger (lists_of slots)
   pub owned : AllByRecursion (λ (b : Birth). b.owner < modules) ledger.births
+
+-- the same of a library with these modules
+abbrev pub IsSoundFor : List Player → List PlainSlot → PlainLedger → Type 0
+IsSoundFor players slots ledger = IsSound (names_of players) (length players) slots ledger

@@ -1,12 +1,11 @@
 ghost use Rattle.std.specs.Prelude.{◌≡◌, ◌&&◌, ℕ, true, IfOk, IsOk, OnErr, IsTrue, length};
 ghost use Rattle.pam_base.specs.declared.code.Code.{Code};
 ghost use Rattle.data_due.specs.Moves.{Moves};
-ghost use Rattle.dispatch_core.specs.Lines.{names_of};
 ghost use Rattle.pam_room.specs.Module.{notes_of};
 ghost use Rattle.pam_handle.specs.Plain.{in_box};
 ghost use Rattle.pam_library.specs.Outcome.{plain_outcome};
 ghost use Rattle.pam_library.specs.Slots.{lists_of, slot_at};
-ghost use Rattle.pam_library.specs.Sound.{IsSound};
+ghost use Rattle.pam_library.specs.Sound.{IsSoundFor};
 ghost use Rattle.pam_base.specs.Call.{is_fit};
 ghost use Rattle.pam_library.specs.Step.{StepsAs, stepped};
 ghost use Rattle.pam_library.specs.AnyWorld.{AnswersBy, CountsRefusal, FailsAt, SpendsAt, end_at, leaves_world, refusal, stays_inside, takes_no_memory};
@@ -45,11 +44,11 @@ impl Library {
         world: &mut World,
         step: &Step,
     ) -> Result<Outcome, NoMemory>
-        requires sound { IsSound (names_of (⟦<Gear as GearTold>⟧.players (gear_in self.old))) (length (⟦<Gear as GearTold>⟧.players (gear_in self.old))) (⟦<Library as LibraryTold>⟧.slots self.old) (⟦<World as WorldTold>⟧.plain world.old).process.ledger }
+        requires sound { IsSoundFor (⟦<Gear as GearTold>⟧.players (gear_in self.old)) (⟦<Library as LibraryTold>⟧.slots self.old) (⟦<World as WorldTold>⟧.plain world.old).process.ledger }
         requires fit { IsTrue (is_fit step.now.call) }
 
         // In every world, with every answer and without memory too.
-        ensures sound { IsSound (names_of (⟦<Gear as GearTold>⟧.players (gear_in self.new))) (length (⟦<Gear as GearTold>⟧.players (gear_in self.new))) (⟦<Library as LibraryTold>⟧.slots self.new) (⟦<World as WorldTold>⟧.plain world.new).process.ledger }
+        ensures sound { IsSoundFor (⟦<Gear as GearTold>⟧.players (gear_in self.new)) (⟦<Library as LibraryTold>⟧.slots self.new) (⟦<World as WorldTold>⟧.plain world.new).process.ledger }
         ensures gear { gear_in self.new ≡ gear_in self.old }
         ensures tells { ⟦<Library as LibraryTold>⟧.tells self.new ≡ ⟦<Library as LibraryTold>⟧.tells self.old }
         ensures world_tells { ⟦<World as WorldTold>⟧.tells world.new ≡ ⟦<World as WorldTold>⟧.tells world.old }

@@ -1,9 +1,8 @@
-ghost use Rattle.std.specs.Prelude.{◌≡◌, ◌↔◌, map, length, IsNone, IfSome, slice_get};
+ghost use Rattle.std.specs.Prelude.{◌≡◌, ◌↔◌, map, IsNone, IfSome, slice_get};
 ghost use Rattle.data_due.specs.Moves.{Moves};
-ghost use Rattle.dispatch_core.specs.Lines.{names_of};
 ghost use Rattle.pam_room.specs.Module.{notes_of};
 ghost use Rattle.pam_library.specs.Slots.{NoneIsOpen, lists_of};
-ghost use Rattle.pam_library.specs.Sound.{IsSound};
+ghost use Rattle.pam_library.specs.Sound.{IsSoundFor};
 ghost use Rattle.pam_library.specs.Closing.{ClosesAs, IsFirstOpen, closed_one, end_of, first_open};
 
 use crate::laws::one_place_moves;
@@ -33,8 +32,8 @@ impl Library {
     ///
     /// As with `apply`, the births of the world's ledger that have no receipt are exactly the data of the open transactions.
     pub fn close_one(&mut self, world: &mut World, status: u32) -> Option<u32>
-        requires { IsSound (names_of (⟦<Gear as GearTold>⟧.players (gear_in self.old))) (length (⟦<Gear as GearTold>⟧.players (gear_in self.old))) (⟦<Library as LibraryTold>⟧.slots self.old) (⟦<World as WorldTold>⟧.plain world.old).process.ledger }
-        ensures sound { IsSound (names_of (⟦<Gear as GearTold>⟧.players (gear_in self.new))) (length (⟦<Gear as GearTold>⟧.players (gear_in self.new))) (⟦<Library as LibraryTold>⟧.slots self.new) (⟦<World as WorldTold>⟧.plain world.new).process.ledger }
+        requires { IsSoundFor (⟦<Gear as GearTold>⟧.players (gear_in self.old)) (⟦<Library as LibraryTold>⟧.slots self.old) (⟦<World as WorldTold>⟧.plain world.old).process.ledger }
+        ensures sound { IsSoundFor (⟦<Gear as GearTold>⟧.players (gear_in self.new)) (⟦<Library as LibraryTold>⟧.slots self.new) (⟦<World as WorldTold>⟧.plain world.new).process.ledger }
         ensures gear { gear_in self.new ≡ gear_in self.old }
         ensures tells { ⟦<Library as LibraryTold>⟧.tells self.new ≡ ⟦<Library as LibraryTold>⟧.tells self.old }
         ensures world_tells { ⟦<World as WorldTold>⟧.tells world.new ≡ ⟦<World as WorldTold>⟧.tells world.old }

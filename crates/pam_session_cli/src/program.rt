@@ -6,10 +6,9 @@ ghost use Rattle.session_run.specs.State.{setting_of};
 ghost use Rattle.data_due.specs.Stands.{StandFor};
 ghost use Rattle.pam_room.specs.Module.{notes_of};
 ghost use Rattle.pam_library.specs.Slots.{lists_of};
-ghost use Rattle.dispatch_core.specs.Lines.{names_of};
 ghost use Rattle.pam_handle.specs.Plain.{in_box};
 ghost use Rattle.pam_library.specs.Plain.{gear_in};
-ghost use Rattle.pam_library.specs.Sound.{IsSound};
+ghost use Rattle.pam_library.specs.Sound.{IsSoundFor};
 ghost use Rattle.service_load.specs.Loading.{OnlyCalls};
 ghost use Rattle.pam_session_cli.specs.Check.{check_of};
 ghost use Rattle.pam_session_cli.specs.Command.{request_of, runs, checks};
@@ -189,7 +188,7 @@ fn run_over<S: Source, K: Sink>(
     world: &mut World,
 ) -> u8
     requires first { StandFor (notes_of (⟦<Gear as GearTold>⟧.players (gear_in library))) 17 world.old.process.ledger (lists_of (⟦<Library as LibraryTold>⟧.slots library)) [] }
-    requires sound { IsSound (names_of (⟦<Gear as GearTold>⟧.players (gear_in library))) (length (⟦<Gear as GearTold>⟧.players (gear_in library))) (⟦<Library as LibraryTold>⟧.slots library) world.old.process.ledger }
+    requires sound { IsSoundFor (⟦<Gear as GearTold>⟧.players (gear_in library)) (⟦<Library as LibraryTold>⟧.slots library) world.old.process.ledger }
     ensures told { (number : Code → ℕ → ℕ) → ⟦<DelayFn as DelayTold>⟧.delay_is (gear_in library).delay number →
         IsTrue (S.source_tells script.old) → IsTrue (K.sink_tells out.old) → IsTrue (⟦<World as WorldTold>⟧.tells world.old && ⟦<Library as LibraryTold>⟧.tells library) →
         IsBegun (setting_of (⟦<Gear as GearTold>⟧.players (gear_in library)) number) result (opening (⟦<Library as LibraryTold>⟧.slots library) root (⟦<World as WorldTold>⟧.plain world.old)) (⟦<World as WorldTold>⟧.plain world.new)

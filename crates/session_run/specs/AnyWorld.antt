@@ -3,7 +3,9 @@ use Rattle.std.specs.Prelude.{◌≡◌, List}
 use Rattle.data_cleanup.specs.Ledger.{PlainLedger}
 use Rattle.data_cleanup.specs.Cleanup.{Notes}
 use Rattle.data_due.specs.Stands.{Lists}
+use Rattle.pam_room.specs.Module.{Player, notes_of}
 use Rattle.pam_library.specs.Calls.{MoveOn, Moved, last_ledger, last_lists}
+use Rattle.pam_library.specs.Slots.{PlainSlot, lists_of}
 
 -- Calls of a library were made, one after another: each moved on by the births that it added and the end that it was.
 pub record Proceeds (note : Notes) (before : PlainLedger) (lists : Lists) (after : PlainLedger) (next : Lists) : Type 0 where
@@ -11,3 +13,7 @@ pub record Proceeds (note : Notes) (before : PlainLedger) (lists : Lists) (after
   pub moves : MoveOn note 17 before lists calls
   pub ledger : last_ledger before calls ≡ after
   pub lists_are : last_lists lists calls ≡ next
+
+-- the same of a library with these modules, from its places and the ledger to those afterwards
+abbrev pub ProceedsFor : List Player → PlainLedger → List PlainSlot → PlainLedger → List PlainSlot → Type 0
+ProceedsFor players before slots after next = Proceeds (notes_of players) before (lists_of slots) after (lists_of next)

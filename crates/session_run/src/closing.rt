@@ -1,11 +1,9 @@
 ghost use Rattle.std.specs.Prelude.{◌≡◌, ◌<◌, ◌≤◌, true, false, Ok, IsTrue, OnOk, IfSome, IfNone, length};
-ghost use Rattle.dispatch_core.specs.Lines.{names_of};
-ghost use Rattle.pam_room.specs.Module.{notes_of};
 ghost use Rattle.pam_outside.specs.Counts.{RisesIf};
 ghost use Rattle.pam_library.specs.Plain.{gear_in};
-ghost use Rattle.pam_library.specs.Slots.{NoneIsOpen, lists_of};
-ghost use Rattle.pam_library.specs.Sound.{IsSound};
-ghost use Rattle.session_run.specs.AnyWorld.{Proceeds};
+ghost use Rattle.pam_library.specs.Slots.{NoneIsOpen};
+ghost use Rattle.pam_library.specs.Sound.{IsSoundFor};
+ghost use Rattle.session_run.specs.AnyWorld.{ProceedsFor};
 ghost use Rattle.script_stream.specs.Turns.{has_write_fault};
 ghost use Rattle.session_run.specs.State.{state_of};
 ghost use Rattle.session_run.specs.Closings.{EndsNext, all_closed, open_count};
@@ -29,7 +27,7 @@ pub(crate) fn close_reported<K: Sink>(
     sink: &mut K,
     world: &mut World,
 ) -> Result<(), Stop>
-    requires { IsSound (names_of (⟦<Gear as GearTold>⟧.players (gear_in library.old))) (length (⟦<Gear as GearTold>⟧.players (gear_in library.old))) (⟦<Library as LibraryTold>⟧.slots library.old) world.old.process.ledger }
+    requires { IsSoundFor (⟦<Gear as GearTold>⟧.players (gear_in library.old)) (⟦<Library as LibraryTold>⟧.slots library.old) world.old.process.ledger }
     ensures gear { gear_in library.new ≡ gear_in library.old }
     ensures tells { ⟦<Library as LibraryTold>⟧.tells library.new ≡ ⟦<Library as LibraryTold>⟧.tells library.old }
     ensures world_tells { ⟦<World as WorldTold>⟧.tells world.new ≡ ⟦<World as WorldTold>⟧.tells world.old }
@@ -40,10 +38,10 @@ pub(crate) fn close_reported<K: Sink>(
         (state_of (⟦<Library as LibraryTold>⟧.slots library.new) (⟦<World as WorldTold>⟧.plain world.new))
         (K.sink_holds sink.old) (K.sink_holds sink.new) }
     ensures none_open { OnOk result (NoneIsOpen (⟦<Library as LibraryTold>⟧.slots library.new)) }
-    ensures proceeds { Proceeds (notes_of (⟦<Gear as GearTold>⟧.players (gear_in library.old)))
-        world.old.process.ledger (lists_of (⟦<Library as LibraryTold>⟧.slots library.old))
-        world.new.process.ledger (lists_of (⟦<Library as LibraryTold>⟧.slots library.new)) }
-    ensures sound { IsSound (names_of (⟦<Gear as GearTold>⟧.players (gear_in library.new))) (length (⟦<Gear as GearTold>⟧.players (gear_in library.new))) (⟦<Library as LibraryTold>⟧.slots library.new) world.new.process.ledger }
+    ensures proceeds { ProceedsFor (⟦<Gear as GearTold>⟧.players (gear_in library.old))
+        world.old.process.ledger (⟦<Library as LibraryTold>⟧.slots library.old)
+        world.new.process.ledger (⟦<Library as LibraryTold>⟧.slots library.new) }
+    ensures sound { IsSoundFor (⟦<Gear as GearTold>⟧.players (gear_in library.new)) (⟦<Library as LibraryTold>⟧.slots library.new) world.new.process.ledger }
     ensures faults { RisesIf (has_write_fault result) (K.sink_faults sink.old) (K.sink_faults sink.new) }
 {
     loop {
@@ -63,7 +61,7 @@ fn close_next<K: Sink>(
     sink: &mut K,
     world: &mut World,
 ) -> Result<bool, Stop>
-    requires { IsSound (names_of (⟦<Gear as GearTold>⟧.players (gear_in library.old))) (length (⟦<Gear as GearTold>⟧.players (gear_in library.old))) (⟦<Library as LibraryTold>⟧.slots library.old) world.old.process.ledger }
+    requires { IsSoundFor (⟦<Gear as GearTold>⟧.players (gear_in library.old)) (⟦<Library as LibraryTold>⟧.slots library.old) world.old.process.ledger }
     ensures gear { gear_in library.new ≡ gear_in library.old }
     ensures tells { ⟦<Library as LibraryTold>⟧.tells library.new ≡ ⟦<Library as LibraryTold>⟧.tells library.old }
     ensures world_tells { ⟦<World as WorldTold>⟧.tells world.new ≡ ⟦<World as WorldTold>⟧.tells world.old }
@@ -75,10 +73,10 @@ fn close_next<K: Sink>(
         (K.sink_holds sink.old) (K.sink_holds sink.new) }
     ensures fewer { result ≡ Ok true → open_count (⟦<Library as LibraryTold>⟧.slots library.new) < open_count (⟦<Library as LibraryTold>⟧.slots library.old) }
     ensures none_open { result ≡ Ok false → NoneIsOpen (⟦<Library as LibraryTold>⟧.slots library.new) }
-    ensures proceeds { Proceeds (notes_of (⟦<Gear as GearTold>⟧.players (gear_in library.old)))
-        world.old.process.ledger (lists_of (⟦<Library as LibraryTold>⟧.slots library.old))
-        world.new.process.ledger (lists_of (⟦<Library as LibraryTold>⟧.slots library.new)) }
-    ensures sound { IsSound (names_of (⟦<Gear as GearTold>⟧.players (gear_in library.new))) (length (⟦<Gear as GearTold>⟧.players (gear_in library.new))) (⟦<Library as LibraryTold>⟧.slots library.new) world.new.process.ledger }
+    ensures proceeds { ProceedsFor (⟦<Gear as GearTold>⟧.players (gear_in library.old))
+        world.old.process.ledger (⟦<Library as LibraryTold>⟧.slots library.old)
+        world.new.process.ledger (⟦<Library as LibraryTold>⟧.slots library.new) }
+    ensures sound { IsSoundFor (⟦<Gear as GearTold>⟧.players (gear_in library.new)) (⟦<Library as LibraryTold>⟧.slots library.new) world.new.process.ledger }
     ensures faults { RisesIf (has_write_fault result) (K.sink_faults sink.old) (K.sink_faults sink.new) }
 {
     let before = world.process.ledger.filed().len() as u64;
@@ -104,24 +102,24 @@ fn close_next<K: Sink>(
 
 /// Ends every open transaction with this status, the lowest number first, and writes nothing. It takes no memory.
 pub(crate) fn close_silently(library: &mut Library, status: Code, world: &mut World)
-    requires { IsSound (names_of (⟦<Gear as GearTold>⟧.players (gear_in library.old))) (length (⟦<Gear as GearTold>⟧.players (gear_in library.old))) (⟦<Library as LibraryTold>⟧.slots library.old) world.old.process.ledger }
+    requires { IsSoundFor (⟦<Gear as GearTold>⟧.players (gear_in library.old)) (⟦<Library as LibraryTold>⟧.slots library.old) world.old.process.ledger }
     ensures gear { gear_in library.new ≡ gear_in library.old }
     ensures tells { ⟦<Library as LibraryTold>⟧.tells library.new ≡ ⟦<Library as LibraryTold>⟧.tells library.old }
     ensures world_tells { ⟦<World as WorldTold>⟧.tells world.new ≡ ⟦<World as WorldTold>⟧.tells world.old }
     ensures closed { state_of (⟦<Library as LibraryTold>⟧.slots library.new) (⟦<World as WorldTold>⟧.plain world.new)
         ≡ all_closed (⟦<Gear as GearTold>⟧.players (gear_in library.old)) status (state_of (⟦<Library as LibraryTold>⟧.slots library.old) (⟦<World as WorldTold>⟧.plain world.old)) }
     ensures none_open { NoneIsOpen (⟦<Library as LibraryTold>⟧.slots library.new) }
-    ensures proceeds { Proceeds (notes_of (⟦<Gear as GearTold>⟧.players (gear_in library.old)))
-        world.old.process.ledger (lists_of (⟦<Library as LibraryTold>⟧.slots library.old))
-        world.new.process.ledger (lists_of (⟦<Library as LibraryTold>⟧.slots library.new)) }
-    ensures sound { IsSound (names_of (⟦<Gear as GearTold>⟧.players (gear_in library.new))) (length (⟦<Gear as GearTold>⟧.players (gear_in library.new))) (⟦<Library as LibraryTold>⟧.slots library.new) world.new.process.ledger }
+    ensures proceeds { ProceedsFor (⟦<Gear as GearTold>⟧.players (gear_in library.old))
+        world.old.process.ledger (⟦<Library as LibraryTold>⟧.slots library.old)
+        world.new.process.ledger (⟦<Library as LibraryTold>⟧.slots library.new) }
+    ensures sound { IsSoundFor (⟦<Gear as GearTold>⟧.players (gear_in library.new)) (⟦<Library as LibraryTold>⟧.slots library.new) world.new.process.ledger }
 {
     while let Some(_number) = end_next(library, status, world) {}
 }
 
 // Ends the open transaction with the lowest number. None where none is open.
 fn end_next(library: &mut Library, status: Code, world: &mut World) -> Option<u32>
-    requires { IsSound (names_of (⟦<Gear as GearTold>⟧.players (gear_in library.old))) (length (⟦<Gear as GearTold>⟧.players (gear_in library.old))) (⟦<Library as LibraryTold>⟧.slots library.old) world.old.process.ledger }
+    requires { IsSoundFor (⟦<Gear as GearTold>⟧.players (gear_in library.old)) (⟦<Library as LibraryTold>⟧.slots library.old) world.old.process.ledger }
     ensures gear { gear_in library.new ≡ gear_in library.old }
     ensures tells { ⟦<Library as LibraryTold>⟧.tells library.new ≡ ⟦<Library as LibraryTold>⟧.tells library.old }
     ensures world_tells { ⟦<World as WorldTold>⟧.tells world.new ≡ ⟦<World as WorldTold>⟧.tells world.old }
@@ -132,10 +130,10 @@ fn end_next(library: &mut Library, status: Code, world: &mut World) -> Option<u3
     ensures filed { length world.old.process.ledger.filed ≤ length world.new.process.ledger.filed }
     ensures stays { IfNone result (state_of (⟦<Library as LibraryTold>⟧.slots library.new) (⟦<World as WorldTold>⟧.plain world.new)
         ≡ state_of (⟦<Library as LibraryTold>⟧.slots library.old) (⟦<World as WorldTold>⟧.plain world.old)) }
-    ensures proceeds { Proceeds (notes_of (⟦<Gear as GearTold>⟧.players (gear_in library.old)))
-        world.old.process.ledger (lists_of (⟦<Library as LibraryTold>⟧.slots library.old))
-        world.new.process.ledger (lists_of (⟦<Library as LibraryTold>⟧.slots library.new)) }
-    ensures sound { IsSound (names_of (⟦<Gear as GearTold>⟧.players (gear_in library.new))) (length (⟦<Gear as GearTold>⟧.players (gear_in library.new))) (⟦<Library as LibraryTold>⟧.slots library.new) world.new.process.ledger }
+    ensures proceeds { ProceedsFor (⟦<Gear as GearTold>⟧.players (gear_in library.old))
+        world.old.process.ledger (⟦<Library as LibraryTold>⟧.slots library.old)
+        world.new.process.ledger (⟦<Library as LibraryTold>⟧.slots library.new) }
+    ensures sound { IsSoundFor (⟦<Gear as GearTold>⟧.players (gear_in library.new)) (⟦<Library as LibraryTold>⟧.slots library.new) world.new.process.ledger }
 {
     library.close_one(world, code_number(status))
 }

@@ -1,12 +1,9 @@
-ghost use Rattle.std.specs.Prelude.{◌≡◌, ◌&&◌, ◌≤◌, ◌+◌, ℕ, None, Ok, IsTrue, length};
+ghost use Rattle.std.specs.Prelude.{◌≡◌, ◌&&◌, ◌≤◌, ◌+◌, ℕ, None, Ok, IsTrue};
 ghost use Rattle.pam_base.specs.declared.code.Code.{Code};
-ghost use Rattle.dispatch_core.specs.Lines.{names_of};
-ghost use Rattle.pam_room.specs.Module.{notes_of};
 ghost use Rattle.pam_outside.specs.Counts.{RisesIf};
 ghost use Rattle.pam_library.specs.Plain.{gear_in};
-ghost use Rattle.pam_library.specs.Slots.{lists_of};
-ghost use Rattle.pam_library.specs.Sound.{IsSound};
-ghost use Rattle.session_run.specs.AnyWorld.{Proceeds};
+ghost use Rattle.pam_library.specs.Sound.{IsSoundFor};
+ghost use Rattle.session_run.specs.AnyWorld.{ProceedsFor};
 ghost use Rattle.script_stream.specs.Turns.{Turns, has_read_fault, has_write_fault};
 ghost use Rattle.script_stream.specs.Whole.{Runs, at_last};
 ghost use Rattle.session_run.specs.State.{setting_of, state_of};
@@ -36,7 +33,7 @@ pub(crate) fn serve_lines<S: Source, K: Sink>(
     world: &mut World,
 ) -> Result<Ending, Stop>
     requires first { lines.old ≡ 0 }
-    requires sound { IsSound (names_of (⟦<Gear as GearTold>⟧.players (gear_in library.old))) (length (⟦<Gear as GearTold>⟧.players (gear_in library.old))) (⟦<Library as LibraryTold>⟧.slots library.old) world.old.process.ledger }
+    requires sound { IsSoundFor (⟦<Gear as GearTold>⟧.players (gear_in library.old)) (⟦<Library as LibraryTold>⟧.slots library.old) world.old.process.ledger }
     ensures gear { gear_in library.new ≡ gear_in library.old }
     ensures tells { ⟦<Library as LibraryTold>⟧.tells library.new ≡ ⟦<Library as LibraryTold>⟧.tells library.old }
     ensures world_tells { ⟦<World as WorldTold>⟧.tells world.new ≡ ⟦<World as WorldTold>⟧.tells world.old }
@@ -52,10 +49,10 @@ pub(crate) fn serve_lines<S: Source, K: Sink>(
         (S.source_holds source.old) (S.source_holds source.new)
         (K.sink_holds sink.old) (K.sink_holds sink.new)) }
     ensures few { lines.new ≤ 65536 }
-    ensures proceeds { Proceeds (notes_of (⟦<Gear as GearTold>⟧.players (gear_in library.old)))
-        world.old.process.ledger (lists_of (⟦<Library as LibraryTold>⟧.slots library.old))
-        world.new.process.ledger (lists_of (⟦<Library as LibraryTold>⟧.slots library.new)) }
-    ensures sound { IsSound (names_of (⟦<Gear as GearTold>⟧.players (gear_in library.new))) (length (⟦<Gear as GearTold>⟧.players (gear_in library.new))) (⟦<Library as LibraryTold>⟧.slots library.new) world.new.process.ledger }
+    ensures proceeds { ProceedsFor (⟦<Gear as GearTold>⟧.players (gear_in library.old))
+        world.old.process.ledger (⟦<Library as LibraryTold>⟧.slots library.old)
+        world.new.process.ledger (⟦<Library as LibraryTold>⟧.slots library.new) }
+    ensures sound { IsSoundFor (⟦<Gear as GearTold>⟧.players (gear_in library.new)) (⟦<Library as LibraryTold>⟧.slots library.new) world.new.process.ledger }
     ensures source_faults { RisesIf (has_read_fault (at_last result)) (S.source_faults source.old) (S.source_faults source.new) }
     ensures sink_faults { RisesIf (has_write_fault result) (K.sink_faults sink.old) (K.sink_faults sink.new) }
 {
@@ -86,7 +83,7 @@ fn take_turn<S: Source, K: Sink>(
     world: &mut World,
 ) -> Result<Option<Ending>, Stop>
     requires few { lines.old ≤ 65536 }
-    requires sound { IsSound (names_of (⟦<Gear as GearTold>⟧.players (gear_in library.old))) (length (⟦<Gear as GearTold>⟧.players (gear_in library.old))) (⟦<Library as LibraryTold>⟧.slots library.old) world.old.process.ledger }
+    requires sound { IsSoundFor (⟦<Gear as GearTold>⟧.players (gear_in library.old)) (⟦<Library as LibraryTold>⟧.slots library.old) world.old.process.ledger }
     ensures gear { gear_in library.new ≡ gear_in library.old }
     ensures tells { ⟦<Library as LibraryTold>⟧.tells library.new ≡ ⟦<Library as LibraryTold>⟧.tells library.old }
     ensures world_tells { ⟦<World as WorldTold>⟧.tells world.new ≡ ⟦<World as WorldTold>⟧.tells world.old }
@@ -104,10 +101,10 @@ fn take_turn<S: Source, K: Sink>(
         (K.sink_holds sink.old) (K.sink_holds sink.new)) }
     ensures few { lines.new ≤ 65536 }
     ensures next { result ≡ Ok None → lines.new ≡ lines.old + 1 }
-    ensures proceeds { Proceeds (notes_of (⟦<Gear as GearTold>⟧.players (gear_in library.old)))
-        world.old.process.ledger (lists_of (⟦<Library as LibraryTold>⟧.slots library.old))
-        world.new.process.ledger (lists_of (⟦<Library as LibraryTold>⟧.slots library.new)) }
-    ensures sound { IsSound (names_of (⟦<Gear as GearTold>⟧.players (gear_in library.new))) (length (⟦<Gear as GearTold>⟧.players (gear_in library.new))) (⟦<Library as LibraryTold>⟧.slots library.new) world.new.process.ledger }
+    ensures proceeds { ProceedsFor (⟦<Gear as GearTold>⟧.players (gear_in library.old))
+        world.old.process.ledger (⟦<Library as LibraryTold>⟧.slots library.old)
+        world.new.process.ledger (⟦<Library as LibraryTold>⟧.slots library.new) }
+    ensures sound { IsSoundFor (⟦<Gear as GearTold>⟧.players (gear_in library.new)) (⟦<Library as LibraryTold>⟧.slots library.new) world.new.process.ledger }
     ensures source_faults { RisesIf (has_read_fault result) (S.source_faults source.old) (S.source_faults source.new) }
     ensures sink_faults { RisesIf (has_write_fault result) (K.sink_faults sink.old) (K.sink_faults sink.new) }
 {

@@ -1,15 +1,12 @@
-ghost use Rattle.std.specs.Prelude.{◌≡◌, ◌&&◌, ◌<◌, ℕ, List, IsTrue, length, None, Ok};
+ghost use Rattle.std.specs.Prelude.{◌≡◌, ◌&&◌, ◌<◌, ℕ, List, IsTrue, None, Ok};
 ghost use Rattle.script_lang.specs.declared.line.Line.TheVariants as script_lines;
 ghost use Rattle.script_lang.specs.Line.{parsed};
 ghost use Rattle.pam_base.specs.declared.code.Code.{Code};
-ghost use Rattle.dispatch_core.specs.Lines.{names_of};
-ghost use Rattle.pam_room.specs.Module.{notes_of};
 ghost use Rattle.pam_outside.specs.Counts.{RisesIf};
 ghost use Rattle.pam_library.specs.Plain.{gear_in};
 ghost use Rattle.pam_base.specs.Call.{is_fit};
-ghost use Rattle.pam_library.specs.Slots.{lists_of};
-ghost use Rattle.pam_library.specs.Sound.{IsSound};
-ghost use Rattle.session_run.specs.AnyWorld.{Proceeds};
+ghost use Rattle.pam_library.specs.Sound.{IsSoundFor};
+ghost use Rattle.session_run.specs.AnyWorld.{ProceedsFor};
 ghost use Rattle.script_stream.specs.Turns.{ServesTold, has_write_fault};
 ghost use Rattle.session_run.specs.State.{setting_of, state_of};
 ghost use Rattle.session_run.specs.Step.{line_step, unrefused, Fails};
@@ -37,7 +34,7 @@ pub(crate) fn serve_line<K: Sink>(
     sink: &mut K,
     world: &mut World,
 ) -> Result<Option<ScriptKind>, Stop>
-    requires { IsSound (names_of (⟦<Gear as GearTold>⟧.players (gear_in library.old))) (length (⟦<Gear as GearTold>⟧.players (gear_in library.old))) (⟦<Library as LibraryTold>⟧.slots library.old) world.old.process.ledger }
+    requires { IsSoundFor (⟦<Gear as GearTold>⟧.players (gear_in library.old)) (⟦<Library as LibraryTold>⟧.slots library.old) world.old.process.ledger }
     ensures gear { gear_in library.new ≡ gear_in library.old }
     ensures tells { ⟦<Library as LibraryTold>⟧.tells library.new ≡ ⟦<Library as LibraryTold>⟧.tells library.old }
     ensures world_tells { ⟦<World as WorldTold>⟧.tells world.new ≡ ⟦<World as WorldTold>⟧.tells world.old }
@@ -49,10 +46,10 @@ pub(crate) fn serve_line<K: Sink>(
         (state_of (⟦<Library as LibraryTold>⟧.slots library.old) (⟦<World as WorldTold>⟧.plain world.old))
         (state_of (⟦<Library as LibraryTold>⟧.slots library.new) (⟦<World as WorldTold>⟧.plain world.new))
         (K.sink_holds sink.old) (K.sink_holds sink.new)) }
-    ensures proceeds { Proceeds (notes_of (⟦<Gear as GearTold>⟧.players (gear_in library.old)))
-        world.old.process.ledger (lists_of (⟦<Library as LibraryTold>⟧.slots library.old))
-        world.new.process.ledger (lists_of (⟦<Library as LibraryTold>⟧.slots library.new)) }
-    ensures sound { IsSound (names_of (⟦<Gear as GearTold>⟧.players (gear_in library.new))) (length (⟦<Gear as GearTold>⟧.players (gear_in library.new))) (⟦<Library as LibraryTold>⟧.slots library.new) world.new.process.ledger }
+    ensures proceeds { ProceedsFor (⟦<Gear as GearTold>⟧.players (gear_in library.old))
+        world.old.process.ledger (⟦<Library as LibraryTold>⟧.slots library.old)
+        world.new.process.ledger (⟦<Library as LibraryTold>⟧.slots library.new) }
+    ensures sound { IsSoundFor (⟦<Gear as GearTold>⟧.players (gear_in library.new)) (⟦<Library as LibraryTold>⟧.slots library.new) world.new.process.ledger }
     ensures few { result ≡ Ok None → lines < 65536 }
     ensures faults { RisesIf (has_write_fault result) (K.sink_faults sink.old) (K.sink_faults sink.new) }
 {
@@ -92,7 +89,7 @@ fn serve_step<K: Sink>(
     world: &mut World,
 ) -> Result<(), Stop>
     requires fit { IsTrue (is_fit step.now.call) }
-    requires sound { IsSound (names_of (⟦<Gear as GearTold>⟧.players (gear_in library.old))) (length (⟦<Gear as GearTold>⟧.players (gear_in library.old))) (⟦<Library as LibraryTold>⟧.slots library.old) world.old.process.ledger }
+    requires sound { IsSoundFor (⟦<Gear as GearTold>⟧.players (gear_in library.old)) (⟦<Library as LibraryTold>⟧.slots library.old) world.old.process.ledger }
     ensures gear { gear_in library.new ≡ gear_in library.old }
     ensures tells { ⟦<Library as LibraryTold>⟧.tells library.new ≡ ⟦<Library as LibraryTold>⟧.tells library.old }
     ensures world_tells { ⟦<World as WorldTold>⟧.tells world.new ≡ ⟦<World as WorldTold>⟧.tells world.old }
@@ -105,10 +102,10 @@ fn serve_step<K: Sink>(
         (state_of (⟦<Library as LibraryTold>⟧.slots library.old) (⟦<World as WorldTold>⟧.plain world.old))
         (state_of (⟦<Library as LibraryTold>⟧.slots library.new) (⟦<World as WorldTold>⟧.plain world.new))
         (K.sink_holds sink.old) (K.sink_holds sink.new)) }
-    ensures proceeds { Proceeds (notes_of (⟦<Gear as GearTold>⟧.players (gear_in library.old)))
-        world.old.process.ledger (lists_of (⟦<Library as LibraryTold>⟧.slots library.old))
-        world.new.process.ledger (lists_of (⟦<Library as LibraryTold>⟧.slots library.new)) }
-    ensures sound { IsSound (names_of (⟦<Gear as GearTold>⟧.players (gear_in library.new))) (length (⟦<Gear as GearTold>⟧.players (gear_in library.new))) (⟦<Library as LibraryTold>⟧.slots library.new) world.new.process.ledger }
+    ensures proceeds { ProceedsFor (⟦<Gear as GearTold>⟧.players (gear_in library.old))
+        world.old.process.ledger (⟦<Library as LibraryTold>⟧.slots library.old)
+        world.new.process.ledger (⟦<Library as LibraryTold>⟧.slots library.new) }
+    ensures sound { IsSoundFor (⟦<Gear as GearTold>⟧.players (gear_in library.new)) (⟦<Library as LibraryTold>⟧.slots library.new) world.new.process.ledger }
     ensures faults { RisesIf (has_write_fault result) (K.sink_faults sink.old) (K.sink_faults sink.new) }
 {
     line_is_served::<Meaning>();
