@@ -71,6 +71,9 @@ fn files_of(alloc: Global, row: &Row) -> Result<MemVault, Fail> {
     for (path, bytes) in row.files {
         vault.put(alloc, path, bytes)?;
     }
+    for (path, bytes) in row.more_files {
+        vault.put(alloc, path, bytes)?;
+    }
     Ok(vault)
 }
 

@@ -1,5 +1,5 @@
 -- One tree, and the four in turn.
-use Rattle.std.proofs.Common.{◌≡◌, ℕ, ◌+◌, Bool, true, false, not, cond, eqb, List, [], ◌∷◌, ◌++◌, Option, Result, Ok, Err, refl, ap, subst, ◌∙◌, arith}
+use Rattle.std.proofs.Common.{◌≡◌, ℕ, ◌+◌, Bool, true, false, not, cond, eqb, List, [], ◌∷◌, ◌++◌, Option, Result, Ok, Err, IfOk, refl, sym, ap, subst, ◌∙◌, append_assoc, arith}
 use Rattle.std.proofs.lemmas.Bool.{eqb-true}
 use Rattle.pam_base.specs.declared.fault.Refuse.{Refuse}
 use Rattle.pam_base.specs.declared.fault.Refuse.TheVariants as refusals
@@ -18,8 +18,11 @@ use Rattle.service_load.specs.Entry.{folder_name}
 use Rattle.service_load.specs.Load.{LoadsBy, LoadsFrom, Loads, loaded_from, has_folder}
 use Rattle.service_load.specs.Names.{path_of}
 use Rattle.service_load.specs.Loading.{texts_of, counts_of, Looks, OnlyCalls, Grows, IsBounded, Makes, items_at, nodes_at}
+use Rattle.std.specs.List.{flat_map}
+use Rattle.service_load.specs.RuleType.{all_types}
+use Rattle.service_load.specs.declared.rule_type.RuleType.TheVariants.{Auth, Account, Password, Session}
 use Rattle.service_load.specs.Order.{Item, Opener, as_service, as_other, as_last, items, other_opener, tree_items}
-use Rattle.service_load.specs.Tree.{nodes, tree}
+use Rattle.service_load.specs.Tree.{nodes, tree, tree_of}
 use Rattle.service_load.proofs.Expanding.{look_past, look_stops}
 
 empty-none : (s : Stack) → eqb (count s) 0 ≡ true → s ≡ none
@@ -112,34 +115,76 @@ makes_since r root first old new was is own other type only makes =
     let P : VaultState → Type 0 = λ v. Makes r (texts_of root v) v new was is own other type in
     subst P only makes
 
-module _ (texts : List ℕ → Option (List ℕ)) (fails : List ℕ) (a b c d e : Counts) (ts us vs ws : List Item) where
-  abbrev along : List Item
-  along = ts ++ (us ++ (vs ++ (ws ++ [])))
+-- Over the vault as it was at first, some items were looked along, the last of them those of a tree, which was made.
+pub record Along (r : Result Nodes (Refuse LoadFault)) (root : List ℕ) (first new : VaultState) (start : Counts) (along : List Item) (is : Loader) (stack : Stack) : Type 0 where
+  pub looks : Looks r (look (texts_of root first) first.fails start along) (counts_of is new)
+  pub made : IfOk r (λ made. stack_of made.vec.items ≡ stack)
+  pub stays : OnlyCalls first new
 
-  pub stop_first : (s : Stop) → look texts fails a ts ≡ Err s → look texts fails a along ≡ Err s
-  stop_first s stops = look_stops texts fails a s ts (us ++ (vs ++ (ws ++ []))) stops
+-- the trees of a service, over the texts of a vault
+abbrev pub trees_over : List ℕ → VaultState → RuleFile → RuleFile → RuleType → Stack
+trees_over root vault own other type = tree_of (nodes (texts_of root vault) 17 type own) (nodes (texts_of root vault) 17 type other)
 
-  pub stop_second : (s : Stop) → look texts fails a ts ≡ Ok b → look texts fails b us ≡ Err s → look texts fails a along ≡ Err s
-  stop_second s one stops = look_past texts fails a b ts (us ++ (vs ++ (ws ++ []))) one ∙ look_stops texts fails b s us (vs ++ (ws ++ [])) stops
+pub first_tree : (r : Result Nodes (Refuse LoadFault)) (root : List ℕ) (first new : VaultState) (was is : Loader) (own other : RuleFile) (type : RuleType) → Makes r (texts_of root first) first new was is own other type
+    → Along r root first new (counts_of was first) (tree_items (texts_of root first) own other type) is (trees_over root first own other type)
+first_tree r root first new was is own other type m = record { looks = m.looks; made = m.made; stays = m.stays }
 
-  pub stop_third : (s : Stop) → look texts fails a ts ≡ Ok b → look texts fails b us ≡ Ok c → look texts fails c vs ≡ Err s → look texts fails a along ≡ Err s
-  stop_third s one two stops =
-      look_past texts fails a b ts (us ++ (vs ++ (ws ++ []))) one ∙ look_past texts fails b c us (vs ++ (ws ++ [])) two ∙ look_stops texts fails c s vs (ws ++ []) stops
+looks_on : (r : Result Nodes (Refuse LoadFault)) (texts : List ℕ → Option (List ℕ)) (fails : List ℕ) (start mid now : Counts) (before items : List Item) → look texts fails start before ≡ Ok mid
+    → Looks r (look texts fails mid items) now → Looks r (look texts fails start (before ++ items)) now
+looks_on (Ok made) texts fails start mid now before items past l = look_past texts fails start mid before items past ∙ l
+looks_on (Err (refusals.Named f)) texts fails start mid now before items past l = look_past texts fails start mid before items past ∙ l
+looks_on (Err refusals.NoMemory) texts fails start mid now before items past l = tt
 
-  pub stop_fourth : (s : Stop) → look texts fails a ts ≡ Ok b → look texts fails b us ≡ Ok c → look texts fails c vs ≡ Ok d → look texts fails d ws ≡ Err s → look texts fails a along ≡ Err s
-  stop_fourth s one two three stops =
-      look_past texts fails a b ts (us ++ (vs ++ (ws ++ []))) one ∙ look_past texts fails b c us (vs ++ (ws ++ [])) two ∙ look_past texts fails c d vs (ws ++ []) three
-      ∙ look_stops texts fails d s ws [] stops
+-- a later tree
+pub next_tree : (r : Result Nodes (Refuse LoadFault)) (root : List ℕ) (first old new : VaultState) (start : Counts) (before : List Item) (was is : Loader) (own other : RuleFile) (type : RuleType) → OnlyCalls first old
+    → look (texts_of root first) first.fails start before ≡ Ok (counts_of was old) → Makes r (texts_of root old) old new was is own other type
+    → Along r root first new start (before ++ tree_items (texts_of root first) own other type) is (trees_over root first own other type)
+next_tree r root first old new start before was is own other type only past makes =
+    let m = makes_since r root first old new was is own other type only makes in
+    record {
+      looks = looks_on r (texts_of root first) first.fails start (counts_of was old) (counts_of is new) before (tree_items (texts_of root first) own other type) past m.looks;
+      made = m.made;
+      stays = only_only first old new only makes.stays;
+    }
 
-  pub pass_four : look texts fails a ts ≡ Ok b → look texts fails b us ≡ Ok c → look texts fails c vs ≡ Ok d → look texts fails d ws ≡ Ok e → look texts fails a along ≡ Ok e
-  pass_four one two three four =
-      look_past texts fails a b ts (us ++ (vs ++ (ws ++ []))) one ∙ look_past texts fails b c us (vs ++ (ws ++ [])) two ∙ look_past texts fails c d vs (ws ++ []) three
-      ∙ ap (λ (l : List Item). look texts fails d l) (nil-append ws) ∙ four
+-- all that a load of them looks along
+abbrev pub all_items : List ℕ → VaultState → RuleFile → RuleFile → List Item
+all_items root vault own other = flat_map (tree_items (texts_of root vault) own other) all_types
 
--- a refusal, unless memory ran out, stops the load, where a fault stops the whole look
-pub loads_stop : (r : Refuse LoadFault) (part whole : Result Counts Stop) (is : Counts) (new : VaultState) (stack : RuleType → Stack) → is.calls ≡ new.calls → ((s : Stop) → part ≡ Err s → whole ≡ Err s) → Looks {A = Nodes} (Err r) part is → LoadsBy (Err r) whole new stack
-loads_stop (refusals.Named f) part whole is new stack same stops looks = stops (record { fault = f; calls = is.calls }) looks ∙ ap (λ (n : ℕ). Err (record { fault = f; calls = n })) same
-loads_stop refusals.NoMemory part whole is new stack same stops looks = tt
+-- a refusal in a tree, unless memory ran out, is the first fault of the whole load
+pub stops_whole : (r : Refuse LoadFault) (root : List ℕ) (first new : VaultState) (own other : RuleFile) (start : Counts) (along rest : List Item) (is : Loader) (one : Stack) → along ++ rest ≡ all_items root first own other
+    → Along (Err r) root first new start along is one → LoadsBy (Err r) (look (texts_of root first) first.fails start (all_items root first own other)) new (trees_over root first own other)
+stops_whole (refusals.Named f) root first new own other start along rest is one e a =
+    ap (look (texts_of root first) first.fails start) (sym e) ∙ look_stops (texts_of root first) first.fails start (record { fault = f; calls = new.calls }) along rest a.looks
+stops_whole refusals.NoMemory root first new own other start along rest is one e a = tt
+
+-- all that is looked along, by what comes up to a tree and what comes behind it
+module _ (root : List ℕ) (first : VaultState) (own other : RuleFile) where
+  abbrev pub of_type : RuleType → List Item
+  of_type = tree_items (texts_of root first) own other
+
+  pub from_second : (of_type Auth ++ of_type Account) ++ flat_map of_type (Password ∷ Session ∷ []) ≡ all_items root first own other
+  from_second = append_assoc (of_type Auth) (of_type Account) (flat_map of_type (Password ∷ Session ∷ []))
+
+  pub from_third : ((of_type Auth ++ of_type Account) ++ of_type Password) ++ flat_map of_type (Session ∷ []) ≡ all_items root first own other
+  from_third = append_assoc (of_type Auth ++ of_type Account) (of_type Password) (flat_map of_type (Session ∷ [])) ∙ from_second
+
+  pub from_fourth : (((of_type Auth ++ of_type Account) ++ of_type Password) ++ of_type Session) ++ [] ≡ all_items root first own other
+  from_fourth = append_assoc ((of_type Auth ++ of_type Account) ++ of_type Password) (of_type Session) [] ∙ from_third
+
+-- four trees, one behind another, are those of the whole load
+pub loads_four : (root : List ℕ) (first v w x new : VaultState) (own other : RuleFile) (start : Counts) (k l m is : Loader) (auth account password session : Nodes)
+    → Along (Ok auth) root first v start (of_type root first own other Auth) k (trees_over root first own other Auth)
+    → Along (Ok account) root first w start (of_type root first own other Auth ++ of_type root first own other Account) l (trees_over root first own other Account)
+    → Along (Ok password) root first x start ((of_type root first own other Auth ++ of_type root first own other Account) ++ of_type root first own other Password) m (trees_over root first own other Password)
+    → Along (Ok session) root first new start (((of_type root first own other Auth ++ of_type root first own other Account) ++ of_type root first own other Password) ++ of_type root first own other Session) is (trees_over root first own other Session)
+    → LoadsBy (Ok (record { auth = auth; account = account; password = password; session = session })) (look (texts_of root first) first.fails start (all_items root first own other)) new (trees_over root first own other)
+loads_four root first v w x new own other start k l m is auth account password session one two three four = record {
+  counts = counts_of is new;
+  no_fault = ap (look (texts_of root first) first.fails start) (sym (from_fourth root first own other) ∙ nil-append _) ∙ four.looks;
+  calls = refl;
+  trees_are = record { auth = one.made; account = two.made; password = three.made; session = four.made };
+}
 
 -- ---- the whole load
 

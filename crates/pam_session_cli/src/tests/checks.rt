@@ -8,6 +8,26 @@ const CHECK: Row = Row {
     ..RUN
 };
 
+/// The service `t`, and fifteen files behind it, each of which includes the next one.
+const INCLUDES: &[(&[u8], &[u8])] = &[
+    (b"/r/etc/pam.d/t", b"auth include l1\n"),
+    (b"/r/etc/pam.d/l1", b"auth include l2\n"),
+    (b"/r/etc/pam.d/l2", b"auth include l3\n"),
+    (b"/r/etc/pam.d/l3", b"auth include l4\n"),
+    (b"/r/etc/pam.d/l4", b"auth include l5\n"),
+    (b"/r/etc/pam.d/l5", b"auth include l6\n"),
+    (b"/r/etc/pam.d/l6", b"auth include l7\n"),
+    (b"/r/etc/pam.d/l7", b"auth include l8\n"),
+    (b"/r/etc/pam.d/l8", b"auth include l9\n"),
+    (b"/r/etc/pam.d/l9", b"auth include l10\n"),
+    (b"/r/etc/pam.d/l10", b"auth include l11\n"),
+    (b"/r/etc/pam.d/l11", b"auth include l12\n"),
+    (b"/r/etc/pam.d/l12", b"auth include l13\n"),
+    (b"/r/etc/pam.d/l13", b"auth include l14\n"),
+    (b"/r/etc/pam.d/l14", b"auth include l15\n"),
+    (b"/r/etc/pam.d/l15", b"auth include l16\n"),
+];
+
 pub static CHECKS: [Row; 16] = [
     Row {
         files: &[
@@ -68,48 +88,14 @@ pub static CHECKS: [Row; 16] = [
         ..CHECK
     },
     Row {
-        files: &[
-            (b"/r/etc/pam.d/t", b"auth include l1\n"),
-            (b"/r/etc/pam.d/l1", b"auth include l2\n"),
-            (b"/r/etc/pam.d/l2", b"auth include l3\n"),
-            (b"/r/etc/pam.d/l3", b"auth include l4\n"),
-            (b"/r/etc/pam.d/l4", b"auth include l5\n"),
-            (b"/r/etc/pam.d/l5", b"auth include l6\n"),
-            (b"/r/etc/pam.d/l6", b"auth include l7\n"),
-            (b"/r/etc/pam.d/l7", b"auth include l8\n"),
-            (b"/r/etc/pam.d/l8", b"auth include l9\n"),
-            (b"/r/etc/pam.d/l9", b"auth include l10\n"),
-            (b"/r/etc/pam.d/l10", b"auth include l11\n"),
-            (b"/r/etc/pam.d/l11", b"auth include l12\n"),
-            (b"/r/etc/pam.d/l12", b"auth include l13\n"),
-            (b"/r/etc/pam.d/l13", b"auth include l14\n"),
-            (b"/r/etc/pam.d/l14", b"auth include l15\n"),
-            (b"/r/etc/pam.d/l15", b"auth include l16\n"),
-            (b"/r/etc/pam.d/l16", PERMIT),
-        ],
+        files: INCLUDES,
+        more_files: &[(b"/r/etc/pam.d/l16", PERMIT)],
         output: b"file t\nauth required pam_permit.so\n",
         ..CHECK
     },
     Row {
-        files: &[
-            (b"/r/etc/pam.d/t", b"auth include l1\n"),
-            (b"/r/etc/pam.d/l1", b"auth include l2\n"),
-            (b"/r/etc/pam.d/l2", b"auth include l3\n"),
-            (b"/r/etc/pam.d/l3", b"auth include l4\n"),
-            (b"/r/etc/pam.d/l4", b"auth include l5\n"),
-            (b"/r/etc/pam.d/l5", b"auth include l6\n"),
-            (b"/r/etc/pam.d/l6", b"auth include l7\n"),
-            (b"/r/etc/pam.d/l7", b"auth include l8\n"),
-            (b"/r/etc/pam.d/l8", b"auth include l9\n"),
-            (b"/r/etc/pam.d/l9", b"auth include l10\n"),
-            (b"/r/etc/pam.d/l10", b"auth include l11\n"),
-            (b"/r/etc/pam.d/l11", b"auth include l12\n"),
-            (b"/r/etc/pam.d/l12", b"auth include l13\n"),
-            (b"/r/etc/pam.d/l13", b"auth include l14\n"),
-            (b"/r/etc/pam.d/l14", b"auth include l15\n"),
-            (b"/r/etc/pam.d/l15", b"auth include l16\n"),
-            (b"/r/etc/pam.d/l16", b"auth include l17\n"),
-        ],
+        files: INCLUDES,
+        more_files: &[(b"/r/etc/pam.d/l16", b"auth include l17\n")],
         output: b"refused /etc/pam.d/l16 1 TooDeep 12\n",
         status: 3,
         ..CHECK
