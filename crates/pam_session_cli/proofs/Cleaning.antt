@@ -1,13 +1,15 @@
 -- Where no transaction is open, each birth has its one receipt.
-use Rattle.std.proofs.Common.{◌≡◌, ℕ, zero, suc, ltb, if◌then◌else◌, true, false, List, [], ◌∷◌, ◌++◌, slice_get, refl, sym, ap, subst, arith}
+use Rattle.std.proofs.Common.{◌≡◌, ℕ, zero, suc, ltb, if◌then◌else◌, Bool, true, false, List, [], ◌∷◌, ◌++◌, map, slice_get, refl, sym, ap, subst, arith}
 use Rattle.data_cleanup.specs.Datum.{PlainDatum}
 use Rattle.data_cleanup.specs.Cleanup.{Notes, times}
-use Rattle.data_cleanup.specs.Due.{Event}
+use Rattle.data_cleanup.specs.Due.{Event, birth, ends}
+use Rattle.data_cleanup.specs.declared.datum.Birth.{Birth}
 use Rattle.data_cleanup.specs.Ledger.{PlainLedger}
 use Rattle.data_due.specs.Stands.{Lists, StandFor, times_held, receipts_in}
-use Rattle.pam_library.specs.Calls.{events_of}
+use Rattle.pam_library.specs.Calls.{Moved, births_added, events_of}
 use Rattle.pam_library.specs.Slots.{NoneIsOpen, PlainSlot, closed, opened, data_in, lists_of}
-use Rattle.session_run.specs.AnyWorld.{Proceeds}
+use Rattle.session_run.specs.AnyWorld.{AllEndsAre, Proceeds, ProceedsBy}
+use Rattle.session_run.specs.Ends.{EndsAre, IsEndOfRun}
 use Rattle.pam_session_cli.specs.Run.{IsCleanedUp}
 
 -- ---- closed places hold nothing
@@ -33,12 +35,32 @@ none_held (suc limit) id held nothing =
     let here : times id (held limit) ≡ 0 = ap (times id) (nothing limit) in
     omega (arith, rest, here)
 
+-- ---- ends
+
+module _ (Is : ℕ → ℕ → Type 0) where
+  both_are : (xs ys : List Event) → EndsAre Is xs → EndsAre Is ys → EndsAre Is (xs ++ ys)
+  both_are [] ys a b = b
+  both_are (birth x ∷ xs) ys a b = both_are xs ys a b
+  both_are (ends number status ∷ xs) ys a b = (a.0, both_are xs ys a.1 b)
+
+  births_end_nothing : (bs : List Birth) → EndsAre Is (map birth bs)
+  births_end_nothing [] = tt
+  births_end_nothing (b ∷ bs) = births_end_nothing bs
+
+  -- the events of calls, by the ends that these are
+  events_are : (ledger : PlainLedger) (calls : List Moved) → AllEndsAre Is calls → EndsAre Is (events_of ledger calls)
+  events_are ledger [] a = tt
+  events_are ledger (m ∷ calls) a =
+      both_are (map birth (births_added ledger m.ledger) ++ m.ended) (events_of m.ledger calls)
+      (both_are (map birth (births_added ledger m.ledger)) m.ended (births_end_nothing (births_added ledger m.ledger)) a.0) (events_are m.ledger calls a.1)
+
 -- ---- a run
 
-stood : (note : Notes) (ledger : PlainLedger) (slots : List PlainSlot) (events : List Event)
-    → StandFor note 17 ledger (lists_of slots) events → NoneIsOpen slots → IsCleanedUp note ledger
-stood note ledger slots events stand none = record {
+stood : (tells : Bool) (script : List ℕ) (note : Notes) (ledger : PlainLedger) (slots : List PlainSlot) (events : List Event)
+    → EndsAre (IsEndOfRun tells script) events → StandFor note 17 ledger (lists_of slots) events → NoneIsOpen slots → IsCleanedUp tells script note ledger
+stood tells script note ledger slots events are stand none = record {
   events = events;
+  ends_are = are;
   births = stand.births;
   receipts = stand.receipts;
   once = λ id.
@@ -47,23 +69,25 @@ stood note ledger slots events stand none = record {
       omega (arith, total, nothing);
 }
 
-pub cleaned_up : (note : Notes) (before now after : PlainLedger) (slots ends : List PlainSlot)
+pub cleaned_up : (tells : Bool) (script : List ℕ) (note : Notes) (before now after : PlainLedger) (slots left : List PlainSlot)
     → ((first last : PlainLedger) (lists next : Lists) (events : List Event) (p : Proceeds note first lists last next)
     → StandFor note 17 first lists events → StandFor note 17 last next (events ++ events_of first p.calls))
-    → StandFor note 17 before (lists_of slots) [] → now ≡ before → Proceeds note now (lists_of slots) after (lists_of ends) → NoneIsOpen ends
-    → IsCleanedUp note after
-cleaned_up note before now after slots ends law stand same went none =
+    → StandFor note 17 before (lists_of slots) [] → now ≡ before → ProceedsBy (IsEndOfRun tells script) note now (lists_of slots) after (lists_of left) → NoneIsOpen left
+    → IsCleanedUp tells script note after
+cleaned_up tells script note before now after slots left law stand same went none =
     let first : StandFor note 17 now (lists_of slots) [] = subst (λ (l : PlainLedger). StandFor note 17 l (lists_of slots) []) (sym same) stand in
-    stood note after ends ([] ++ events_of now went.calls) (law now after (lists_of slots) (lists_of ends) [] went first) none
+    stood tells script note after left ([] ++ events_of now went.went.calls) (events_are (IsEndOfRun tells script) now went.went.calls went.ends_are)
+    (law now after (lists_of slots) (lists_of left) [] went.went first) none
 
 -- ---- where nothing happened
 
 none_below : (id n : ℕ) → n ≡ 0 → n ≡ (if ltb id 0 then 1 else 0)
 none_below id n e = grind arith
 
-pub nothing_to_clean : (note : Notes) (ledger : PlainLedger) → ledger.births ≡ [] → ledger.filed ≡ [] → IsCleanedUp note ledger
-nothing_to_clean note ledger births filed = record {
+pub nothing_to_clean : (tells : Bool) (script : List ℕ) (note : Notes) (ledger : PlainLedger) → ledger.births ≡ [] → ledger.filed ≡ [] → IsCleanedUp tells script note ledger
+nothing_to_clean tells script note ledger births filed = record {
   events = [];
+  ends_are = tt;
   births = births;
   receipts = ap receipts_in filed;
   once = λ id. rw (births, filed) (none_below id 0 refl);

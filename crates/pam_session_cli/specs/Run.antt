@@ -13,6 +13,7 @@ use Rattle.script_stream.specs.declared.ending.Ending.TheVariants.{Done, ReadFau
 use Rattle.script_stream.specs.declared.ending.Stop.{Stop}
 use Rattle.script_stream.specs.declared.ending.Stop.TheVariants.{NoMemory, WriteFault}
 use Rattle.script_stream.specs.Run.{Run, run_of}
+use Rattle.session_run.specs.Ends.{EndsAre, IsEndOfRun}
 use Rattle.session_run.specs.State.{Setting, RunState, state_of}
 use Rattle.session_run.specs.Step.{line_step}
 use Rattle.session_run.specs.Closings.{all_closed}
@@ -109,9 +110,11 @@ IsStatus n = (result : Result Ending Stop) × (n ≡ status_of result)
 -- ---- module data, in any world
 
 -- Each datum that was set was cleaned up exactly once: the receipts are those that births and ends of transactions make due, in their
--- order, each with its status, and every birth has one.
-pub record IsCleanedUp (note : Notes) (ledger : PlainLedger) : Type 0 where
+-- order, each with its status, and every birth has one. Where the script's text is told, a transaction was ended with the status that one
+-- of its lines asks for, for that number, or with one of those with which a run ends what is open.
+pub record IsCleanedUp (tells : Bool) (script : List ℕ) (note : Notes) (ledger : PlainLedger) : Type 0 where
   pub events : List Event
+  pub ends_are : EndsAre (IsEndOfRun tells script) events
   pub births : ledger.births ≡ births_of events
   pub receipts : receipts_in ledger.filed ≡ due note events
   pub once : (id : ℕ) → times_filed id (receipts_in ledger.filed) ≡ (if nat_lt id (length ledger.births) then 1 else 0)

@@ -111,7 +111,7 @@ pub fn pamsess<S: Source, K: Sink>(
     ensures no_write_fault { result ≢ 6 → K.sink_faults out.new ≡ K.sink_faults out.old }
 
     // In any world, whatever the status: every module datum that was set was cleaned up exactly once, with its due status.
-    ensures cleaned_up { IsCleanedUp (notes_of (⟦<Desk as DeskTold>⟧.players desk)) world.new.process.ledger }
+    ensures cleaned_up { IsCleanedUp (S.source_tells script.old) (S.source_holds script.old).left (notes_of (⟦<Desk as DeskTold>⟧.players desk)) world.new.process.ledger }
 
     // What tells before the run tells after it.
     ensures source_tells { S.source_tells script.new ≡ S.source_tells script.old }
@@ -154,7 +154,7 @@ fn run<S: Source, K: Sink>(
         Runs (setting_of (⟦<Desk as DeskTold>⟧.players desk) number) result (⟦<Desk as DeskTold>⟧.slots desk) root.now (⟦<World as WorldTold>⟧.plain world.old) (⟦<World as WorldTold>⟧.plain world.new)
         (S.source_holds script.old) (S.source_holds script.new) (K.sink_holds out.old) (K.sink_holds out.new) }
     ensures statuses { IsStatus result }
-    ensures cleaned_up { IsCleanedUp (notes_of (⟦<Desk as DeskTold>⟧.players desk)) world.new.process.ledger }
+    ensures cleaned_up { IsCleanedUp (S.source_tells script.old) (S.source_holds script.old).left (notes_of (⟦<Desk as DeskTold>⟧.players desk)) world.new.process.ledger }
     ensures read_fault { result ≡ 5 → Rose (S.source_faults script.old) (S.source_faults script.new) }
     ensures no_read_fault { (result ≡ 0) ⊎ (result ≡ 7) → S.source_faults script.new ≡ S.source_faults script.old }
     ensures write_fault { result ≡ 6 → Rose (K.sink_faults out.old) (K.sink_faults out.new) }
@@ -194,7 +194,7 @@ fn run_over<S: Source, K: Sink>(
         IsBegun (setting_of (⟦<Gear as GearTold>⟧.players (gear_in library)) number) result (opening (⟦<Library as LibraryTold>⟧.slots library) root (⟦<World as WorldTold>⟧.plain world.old)) (⟦<World as WorldTold>⟧.plain world.new)
         (S.source_holds script.old) (S.source_holds script.new) (K.sink_holds out.old) (K.sink_holds out.new) }
     ensures statuses { IsStatus result }
-    ensures cleaned_up { IsCleanedUp (notes_of (⟦<Gear as GearTold>⟧.players (gear_in library))) world.new.process.ledger }
+    ensures cleaned_up { IsCleanedUp (S.source_tells script.old) (S.source_holds script.old).left (notes_of (⟦<Gear as GearTold>⟧.players (gear_in library))) world.new.process.ledger }
     ensures read_fault { result ≡ 5 → Rose (S.source_faults script.old) (S.source_faults script.new) }
     ensures no_read_fault { (result ≡ 0) ⊎ (result ≡ 7) → S.source_faults script.new ≡ S.source_faults script.old }
     ensures write_fault { result ≡ 6 → Rose (K.sink_faults out.old) (K.sink_faults out.new) }

@@ -1,6 +1,7 @@
 mod Rows
 pub mod Lowest
 pub mod Serving
+pub mod Asking
 pub mod Reporting
 pub mod Telling
 pub mod Proceeding

@@ -5,14 +5,19 @@ use Rattle.pam_base.specs.declared.call.AppCall.TheVariants as calls
 use Rattle.data_cleanup.specs.DataList.{PlainDataList}
 use Rattle.data_cleanup.specs.Ledger.{PlainLedger}
 use Rattle.data_cleanup.specs.Cleanup.{Notes, receipts_for}
-use Rattle.data_cleanup.specs.Due.{Event}
+use Rattle.data_cleanup.specs.Due.{Event, birth, ends}
 use Rattle.data_cleanup.specs.Grows.{Grows}
 use Rattle.data_due.specs.Stands.{Lists}
 use Rattle.data_due.specs.Moves.{Moves}
-use Rattle.pam_library.specs.AnyWorld.{SpendsAs, SpendsAt}
+use Rattle.pam_library.specs.AnyWorld.{SpendsAs, SpendsAt, end_at}
+use Rattle.pam_library.specs.Closing.{end_of}
 use Rattle.pam_library.specs.Calls.{MoveOn, Moved, last_ledger, last_lists}
 use Rattle.pam_library.specs.Slots.{PlainSlot, closed, opened}
-use Rattle.session_run.specs.AnyWorld.{Proceeds}
+use Rattle.pam_base.specs.Code.{number_of}
+use Rattle.pam_base.specs.declared.code.Code.{Code}
+use Rattle.pam_base.specs.declared.call.Step.{Step}
+use Rattle.session_run.specs.Ends.{EndsAre, HasStatus, IsEndStep}
+use Rattle.session_run.specs.AnyWorld.{AllEndsAre, ProceedsBy}
 
 -- ---- receipts stay
 
@@ -44,12 +49,15 @@ receipts_stay note modules (Some (opened h)) call old new before after s = spent
 
 -- ---- calls
 
-module _ (note : Notes) where
-  pub nothing_done : (before after : PlainLedger) (lists next : Lists) → after ≡ before → next ≡ lists → Proceeds note before lists after next
-  nothing_done before after lists next l e = record { calls = []; moves = tt; ledger = sym l; lists_are = sym e }
+module _ (Is : ℕ → ℕ → Type 0) (note : Notes) where
+  pub nothing_done : (before after : PlainLedger) (lists next : Lists) → after ≡ before → next ≡ lists → ProceedsBy Is note before lists after next
+  nothing_done before after lists next l e = record { went = record { calls = []; moves = tt; ledger = sym l; lists_are = sym e }; ends_are = tt }
 
-  pub one_call : (before after : PlainLedger) (lists next : Lists) (ended : List Event) → Moves note 17 ended before lists after next → Proceeds note before lists after next
-  one_call before after lists next ended m = record { calls = record { ended = ended; ledger = after; lists = next } ∷ []; moves = (m, tt); ledger = refl; lists_are = refl }
+  pub one_call : (before after : PlainLedger) (lists next : Lists) (ended : List Event) → Moves note 17 ended before lists after next → EndsAre Is ended → ProceedsBy Is note before lists after next
+  one_call before after lists next ended m are = record {
+    went = record { calls = record { ended = ended; ledger = after; lists = next } ∷ []; moves = (m, tt); ledger = refl; lists_are = refl };
+    ends_are = (are, tt);
+  }
 
   moves-append : (xs ys : List Moved) (ledger : PlainLedger) (lists : Lists) → MoveOn note 17 ledger lists xs → MoveOn note 17 (last_ledger ledger xs) (last_lists lists xs) ys → MoveOn note 17 ledger lists (xs ++ ys)
   moves-append [] ys ledger lists a b = b
@@ -63,10 +71,44 @@ module _ (note : Notes) where
   lists-append [] ys lists = refl
   lists-append (x ∷ xs) ys lists = lists-append xs ys x.lists
 
-  pub goes_on : (a b c : PlainLedger) (k l m : Lists) → Proceeds note a k b l → Proceeds note b l c m → Proceeds note a k c m
+  ends-append : (xs ys : List Moved) → AllEndsAre Is xs → AllEndsAre Is ys → AllEndsAre Is (xs ++ ys)
+  ends-append [] ys a b = b
+  ends-append (x ∷ xs) ys a b = (a.0, ends-append xs ys a.1 b)
+
+  pub goes_on : (a b c : PlainLedger) (k l m : Lists) → ProceedsBy Is note a k b l → ProceedsBy Is note b l c m → ProceedsBy Is note a k c m
   goes_on a b c k l m x y = record {
-    calls = x.calls ++ y.calls;
-    moves = moves-append x.calls y.calls a k x.moves (rw (x.ledger, x.lists_are) y.moves);
-    ledger = ledger-append x.calls y.calls a ∙ ap (λ (t : PlainLedger). last_ledger t y.calls) x.ledger ∙ y.ledger;
-    lists_are = lists-append x.calls y.calls k ∙ ap (λ (t : Lists). last_lists t y.calls) x.lists_are ∙ y.lists_are;
+    went = record {
+      calls = x.went.calls ++ y.went.calls;
+      moves = moves-append x.went.calls y.went.calls a k x.went.moves (rw (x.went.ledger, x.went.lists_are) y.went.moves);
+      ledger = ledger-append x.went.calls y.went.calls a ∙ ap (λ (t : PlainLedger). last_ledger t y.went.calls) x.went.ledger ∙ y.went.ledger;
+      lists_are = lists-append x.went.calls y.went.calls k ∙ ap (λ (t : Lists). last_lists t y.went.calls) x.went.lists_are ∙ y.went.lists_are;
+    };
+    ends_are = ends-append x.went.calls y.went.calls x.ends_are y.ends_are;
   }
+
+-- ends that are some of these are some of those
+module _ (Is Are : ℕ → ℕ → Type 0) (so : (number status : ℕ) → Is number status → Are number status) where
+  ends_so : (events : List Event) → EndsAre Is events → EndsAre Are events
+  ends_so [] are = tt
+  ends_so (birth b ∷ events) are = ends_so events are
+  ends_so (ends number status ∷ events) are = (so number status are.0, ends_so events are.1)
+
+  all_so : (calls : List Moved) → AllEndsAre Is calls → AllEndsAre Are calls
+  all_so [] are = tt
+  all_so (m ∷ calls) are = (ends_so m.ended are.0, all_so calls are.1)
+
+  pub proceeds_so : (note : Notes) (before after : PlainLedger) (lists next : Lists) → ProceedsBy Is note before lists after next → ProceedsBy Are note before lists after next
+  proceeds_so note before after lists next p = record { went = p.went; ends_are = all_so p.went.calls p.ends_are }
+
+-- the end that a call is, if it is one
+pub call_ends : (slot : Option PlainSlot) (number : ℕ) (call : AppCall) → EndsAre (IsEndStep (record { number = number; call = call })) (end_at slot number call)
+call_ends None number call = tt
+call_ends (Some (closed conv)) number call = tt
+call_ends (Some (opened h)) number (calls.End status) = (refl, tt)
+call_ends (Some (opened h)) number (calls.Start service user) = tt
+call_ends (Some (opened h)) number other = tt
+
+-- the end of the open transaction of the lowest number
+pub closing_ends : (code : Code) (status : ℕ) (number : Option ℕ) → status ≡ number_of code → EndsAre (HasStatus code) (end_of status number)
+closing_ends code status None e = tt
+closing_ends code status (Some n) e = (e, tt)

@@ -29,7 +29,7 @@ without_by : (b : Bool) (line : List ℕ) → 513 < length line → 512 < length
 without_by true line lt = omega (arith, lt, length-take (length line - 1) line)
 without_by false line lt = omega (arith, lt)
 
-long_line : (line : List ℕ) → 513 < length line → parsed line ≡ Err LineTooLong
+pub long_line : (line : List ℕ) → 513 < length line → parsed line ≡ Err LineTooLong
 long_line line lt = rw (lt-ltb 512 (length (without_return line)) (without_by (ends_with nat_eq line (codes "\r")) line lt)) refl
 
 -- ---- a call that found no memory, where all tells

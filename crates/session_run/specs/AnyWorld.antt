@@ -1,11 +1,12 @@
 -- What a run does to module data in any world (this project's own).
-use Rattle.std.specs.Prelude.{◌≡◌, List}
+use Rattle.std.specs.Prelude.{◌≡◌, ℕ, List, [], ◌∷◌}
 use Rattle.data_cleanup.specs.Ledger.{PlainLedger}
 use Rattle.data_cleanup.specs.Cleanup.{Notes}
 use Rattle.data_due.specs.Stands.{Lists}
 use Rattle.pam_room.specs.Module.{Player, notes_of}
 use Rattle.pam_library.specs.Calls.{MoveOn, Moved, last_ledger, last_lists}
 use Rattle.pam_library.specs.Slots.{PlainSlot, lists_of}
+use Rattle.session_run.specs.Ends.{EndsAre}
 
 -- Calls of a library were made, one after another: each moved on by the births that it added and the end that it was.
 pub record Proceeds (note : Notes) (before : PlainLedger) (lists : Lists) (after : PlainLedger) (next : Lists) : Type 0 where
@@ -14,6 +15,15 @@ pub record Proceeds (note : Notes) (before : PlainLedger) (lists : Lists) (after
   pub ledger : last_ledger before calls ≡ after
   pub lists_are : last_lists lists calls ≡ next
 
+-- the ends of these calls are some of these
+abbrev pub AllEndsAre : (ℕ → ℕ → Type 0) → List Moved → Type 0
+AllEndsAre Is [] = Unit {0}
+AllEndsAre Is (m ∷ calls) = EndsAre Is m.ended × AllEndsAre Is calls
+
+pub record ProceedsBy (Is : ℕ → ℕ → Type 0) (note : Notes) (before : PlainLedger) (lists : Lists) (after : PlainLedger) (next : Lists) : Type 0 where
+  pub went : Proceeds note before lists after next
+  pub ends_are : AllEndsAre Is went.calls
+
 -- the same of a library with these modules, from its places and the ledger to those afterwards
-abbrev pub ProceedsFor : List Player → PlainLedger → List PlainSlot → PlainLedger → List PlainSlot → Type 0
-ProceedsFor players before slots after next = Proceeds (notes_of players) before (lists_of slots) after (lists_of next)
+abbrev pub ProceedsFor : (ℕ → ℕ → Type 0) → List Player → PlainLedger → List PlainSlot → PlainLedger → List PlainSlot → Type 0
+ProceedsFor Is players before slots after next = ProceedsBy Is (notes_of players) before (lists_of slots) after (lists_of next)

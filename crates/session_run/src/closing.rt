@@ -4,6 +4,7 @@ ghost use Rattle.pam_library.specs.Plain.{gear_in};
 ghost use Rattle.pam_library.specs.Slots.{NoneIsOpen};
 ghost use Rattle.pam_library.specs.Sound.{IsSoundFor};
 ghost use Rattle.session_run.specs.AnyWorld.{ProceedsFor};
+ghost use Rattle.session_run.specs.Ends.{HasStatus};
 ghost use Rattle.script_stream.specs.Turns.{has_write_fault};
 ghost use Rattle.session_run.specs.State.{state_of};
 ghost use Rattle.session_run.specs.Closings.{EndsNext, all_closed, open_count};
@@ -38,7 +39,7 @@ pub(crate) fn close_reported<K: Sink>(
         (state_of (⟦<Library as LibraryTold>⟧.slots library.new) (⟦<World as WorldTold>⟧.plain world.new))
         (K.sink_holds sink.old) (K.sink_holds sink.new) }
     ensures none_open { OnOk result (NoneIsOpen (⟦<Library as LibraryTold>⟧.slots library.new)) }
-    ensures proceeds { ProceedsFor (⟦<Gear as GearTold>⟧.players (gear_in library.old))
+    ensures proceeds { ProceedsFor (HasStatus status) (⟦<Gear as GearTold>⟧.players (gear_in library.old))
         world.old.process.ledger (⟦<Library as LibraryTold>⟧.slots library.old)
         world.new.process.ledger (⟦<Library as LibraryTold>⟧.slots library.new) }
     ensures sound { IsSoundFor (⟦<Gear as GearTold>⟧.players (gear_in library.new)) (⟦<Library as LibraryTold>⟧.slots library.new) world.new.process.ledger }
@@ -73,7 +74,7 @@ fn close_next<K: Sink>(
         (K.sink_holds sink.old) (K.sink_holds sink.new) }
     ensures fewer { result ≡ Ok true → open_count (⟦<Library as LibraryTold>⟧.slots library.new) < open_count (⟦<Library as LibraryTold>⟧.slots library.old) }
     ensures none_open { result ≡ Ok false → NoneIsOpen (⟦<Library as LibraryTold>⟧.slots library.new) }
-    ensures proceeds { ProceedsFor (⟦<Gear as GearTold>⟧.players (gear_in library.old))
+    ensures proceeds { ProceedsFor (HasStatus status) (⟦<Gear as GearTold>⟧.players (gear_in library.old))
         world.old.process.ledger (⟦<Library as LibraryTold>⟧.slots library.old)
         world.new.process.ledger (⟦<Library as LibraryTold>⟧.slots library.new) }
     ensures sound { IsSoundFor (⟦<Gear as GearTold>⟧.players (gear_in library.new)) (⟦<Library as LibraryTold>⟧.slots library.new) world.new.process.ledger }
@@ -109,7 +110,7 @@ pub(crate) fn close_silently(library: &mut Library, status: Code, world: &mut Wo
     ensures closed { state_of (⟦<Library as LibraryTold>⟧.slots library.new) (⟦<World as WorldTold>⟧.plain world.new)
         ≡ all_closed (⟦<Gear as GearTold>⟧.players (gear_in library.old)) status (state_of (⟦<Library as LibraryTold>⟧.slots library.old) (⟦<World as WorldTold>⟧.plain world.old)) }
     ensures none_open { NoneIsOpen (⟦<Library as LibraryTold>⟧.slots library.new) }
-    ensures proceeds { ProceedsFor (⟦<Gear as GearTold>⟧.players (gear_in library.old))
+    ensures proceeds { ProceedsFor (HasStatus status) (⟦<Gear as GearTold>⟧.players (gear_in library.old))
         world.old.process.ledger (⟦<Library as LibraryTold>⟧.slots library.old)
         world.new.process.ledger (⟦<Library as LibraryTold>⟧.slots library.new) }
     ensures sound { IsSoundFor (⟦<Gear as GearTold>⟧.players (gear_in library.new)) (⟦<Library as LibraryTold>⟧.slots library.new) world.new.process.ledger }
@@ -130,7 +131,7 @@ fn end_next(library: &mut Library, status: Code, world: &mut World) -> Option<u3
     ensures filed { length world.old.process.ledger.filed ≤ length world.new.process.ledger.filed }
     ensures stays { IfNone result (state_of (⟦<Library as LibraryTold>⟧.slots library.new) (⟦<World as WorldTold>⟧.plain world.new)
         ≡ state_of (⟦<Library as LibraryTold>⟧.slots library.old) (⟦<World as WorldTold>⟧.plain world.old)) }
-    ensures proceeds { ProceedsFor (⟦<Gear as GearTold>⟧.players (gear_in library.old))
+    ensures proceeds { ProceedsFor (HasStatus status) (⟦<Gear as GearTold>⟧.players (gear_in library.old))
         world.old.process.ledger (⟦<Library as LibraryTold>⟧.slots library.old)
         world.new.process.ledger (⟦<Library as LibraryTold>⟧.slots library.new) }
     ensures sound { IsSoundFor (⟦<Gear as GearTold>⟧.players (gear_in library.new)) (⟦<Library as LibraryTold>⟧.slots library.new) world.new.process.ledger }

@@ -1,9 +1,10 @@
-ghost use Rattle.std.specs.Prelude.{◌≡◌, ◌&&◌, ◌≤◌, ◌+◌, ℕ, None, Ok, IsTrue};
+ghost use Rattle.std.specs.Prelude.{◌≡◌, ◌&&◌, ◌≤◌, ◌+◌, ◌++◌, ℕ, None, Ok, IsTrue};
 ghost use Rattle.pam_base.specs.declared.code.Code.{Code};
 ghost use Rattle.pam_outside.specs.Counts.{RisesIf};
 ghost use Rattle.pam_library.specs.Plain.{gear_in};
 ghost use Rattle.pam_library.specs.Sound.{IsSoundFor};
 ghost use Rattle.session_run.specs.AnyWorld.{ProceedsFor};
+ghost use Rattle.session_run.specs.Ends.{IsEndIn, LeadsTo};
 ghost use Rattle.script_stream.specs.Turns.{Turns, has_read_fault, has_write_fault};
 ghost use Rattle.script_stream.specs.Whole.{Runs, at_last};
 ghost use Rattle.session_run.specs.State.{setting_of, state_of};
@@ -49,7 +50,7 @@ pub(crate) fn serve_lines<S: Source, K: Sink>(
         (S.source_holds source.old) (S.source_holds source.new)
         (K.sink_holds sink.old) (K.sink_holds sink.new)) }
     ensures few { lines.new ≤ 65536 }
-    ensures proceeds { ProceedsFor (⟦<Gear as GearTold>⟧.players (gear_in library.old))
+    ensures proceeds { ProceedsFor (IsEndIn (S.source_tells source.old) (S.source_holds source.old).left) (⟦<Gear as GearTold>⟧.players (gear_in library.old))
         world.old.process.ledger (⟦<Library as LibraryTold>⟧.slots library.old)
         world.new.process.ledger (⟦<Library as LibraryTold>⟧.slots library.new) }
     ensures sound { IsSoundFor (⟦<Gear as GearTold>⟧.players (gear_in library.new)) (⟦<Library as LibraryTold>⟧.slots library.new) world.new.process.ledger }
@@ -101,7 +102,8 @@ fn take_turn<S: Source, K: Sink>(
         (K.sink_holds sink.old) (K.sink_holds sink.new)) }
     ensures few { lines.new ≤ 65536 }
     ensures next { result ≡ Ok None → lines.new ≡ lines.old + 1 }
-    ensures proceeds { ProceedsFor (⟦<Gear as GearTold>⟧.players (gear_in library.old))
+    ensures leads { result ≡ Ok None → IsTrue (S.source_tells source.old) → LeadsTo (reader.old ++ (S.source_holds source.old).left) (reader.new ++ (S.source_holds source.new).left) }
+    ensures proceeds { ProceedsFor (IsEndIn (S.source_tells source.old) (reader.old ++ (S.source_holds source.old).left)) (⟦<Gear as GearTold>⟧.players (gear_in library.old))
         world.old.process.ledger (⟦<Library as LibraryTold>⟧.slots library.old)
         world.new.process.ledger (⟦<Library as LibraryTold>⟧.slots library.new) }
     ensures sound { IsSoundFor (⟦<Gear as GearTold>⟧.players (gear_in library.new)) (⟦<Library as LibraryTold>⟧.slots library.new) world.new.process.ledger }

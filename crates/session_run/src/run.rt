@@ -7,8 +7,9 @@ ghost use Rattle.pam_library.specs.Slots.{NoneIsOpen};
 ghost use Rattle.pam_library.specs.Sound.{IsSoundFor};
 ghost use Rattle.script_stream.specs.Turns.{has_read_fault, has_write_fault};
 ghost use Rattle.session_run.specs.AnyWorld.{ProceedsFor};
+ghost use Rattle.session_run.specs.Ends.{HasStatus, IsEndOfRun};
 ghost use Rattle.session_run.specs.State.{setting_of, state_of};
-ghost use Rattle.session_run.specs.Whole.{Completes, EndsWith, RunsScript, last_line};
+ghost use Rattle.session_run.specs.Whole.{Completes, EndsWith, RunsScript, ending_status, last_line};
 
 use crate::closing::{close_reported, close_silently};
 use crate::lines::serve_lines;
@@ -61,7 +62,7 @@ pub fn run_script<S: Source, K: Sink>(
     // In any world: what is due for cleanup was cleaned up, and no transaction is open.
     ensures none_open { NoneIsOpen (⟦<Library as LibraryTold>⟧.slots library.new) }
     ensures filed { (id : ℕ) → id < length world.new.process.ledger.births → is_filed world.new.process.ledger id ≡ true }
-    ensures proceeds { ProceedsFor (⟦<Gear as GearTold>⟧.players (gear_in library.old))
+    ensures proceeds { ProceedsFor (IsEndOfRun (S.source_tells source.old) (S.source_holds source.old).left) (⟦<Gear as GearTold>⟧.players (gear_in library.old))
         world.old.process.ledger (⟦<Library as LibraryTold>⟧.slots library.old)
         world.new.process.ledger (⟦<Library as LibraryTold>⟧.slots library.new) }
     ensures sound { IsSoundFor (⟦<Gear as GearTold>⟧.players (gear_in library.new)) (⟦<Library as LibraryTold>⟧.slots library.new) world.new.process.ledger }
@@ -115,7 +116,7 @@ fn finish<K: Sink>(
         (state_of (⟦<Library as LibraryTold>⟧.slots library.new) (⟦<World as WorldTold>⟧.plain world.new))
         (K.sink_holds sink.old) (K.sink_holds sink.new) }
     ensures none_open { OnOk result (NoneIsOpen (⟦<Library as LibraryTold>⟧.slots library.new)) }
-    ensures proceeds { ProceedsFor (⟦<Gear as GearTold>⟧.players (gear_in library.old))
+    ensures proceeds { ProceedsFor (HasStatus (ending_status ending)) (⟦<Gear as GearTold>⟧.players (gear_in library.old))
         world.old.process.ledger (⟦<Library as LibraryTold>⟧.slots library.old)
         world.new.process.ledger (⟦<Library as LibraryTold>⟧.slots library.new) }
     ensures sound { IsSoundFor (⟦<Gear as GearTold>⟧.players (gear_in library.new)) (⟦<Library as LibraryTold>⟧.slots library.new) world.new.process.ledger }

@@ -7,6 +7,7 @@ ghost use Rattle.pam_library.specs.Plain.{gear_in};
 ghost use Rattle.pam_base.specs.Call.{is_fit};
 ghost use Rattle.pam_library.specs.Sound.{IsSoundFor};
 ghost use Rattle.session_run.specs.AnyWorld.{ProceedsFor};
+ghost use Rattle.session_run.specs.Ends.{AsksEndAt, IsEndStep};
 ghost use Rattle.script_stream.specs.Turns.{ServesTold, has_write_fault};
 ghost use Rattle.session_run.specs.State.{setting_of, state_of};
 ghost use Rattle.session_run.specs.Step.{line_step, unrefused, Fails};
@@ -46,7 +47,7 @@ pub(crate) fn serve_line<K: Sink>(
         (state_of (⟦<Library as LibraryTold>⟧.slots library.old) (⟦<World as WorldTold>⟧.plain world.old))
         (state_of (⟦<Library as LibraryTold>⟧.slots library.new) (⟦<World as WorldTold>⟧.plain world.new))
         (K.sink_holds sink.old) (K.sink_holds sink.new)) }
-    ensures proceeds { ProceedsFor (⟦<Gear as GearTold>⟧.players (gear_in library.old))
+    ensures proceeds { ProceedsFor (AsksEndAt lines line.now) (⟦<Gear as GearTold>⟧.players (gear_in library.old))
         world.old.process.ledger (⟦<Library as LibraryTold>⟧.slots library.old)
         world.new.process.ledger (⟦<Library as LibraryTold>⟧.slots library.new) }
     ensures sound { IsSoundFor (⟦<Gear as GearTold>⟧.players (gear_in library.new)) (⟦<Library as LibraryTold>⟧.slots library.new) world.new.process.ledger }
@@ -102,7 +103,7 @@ fn serve_step<K: Sink>(
         (state_of (⟦<Library as LibraryTold>⟧.slots library.old) (⟦<World as WorldTold>⟧.plain world.old))
         (state_of (⟦<Library as LibraryTold>⟧.slots library.new) (⟦<World as WorldTold>⟧.plain world.new))
         (K.sink_holds sink.old) (K.sink_holds sink.new)) }
-    ensures proceeds { ProceedsFor (⟦<Gear as GearTold>⟧.players (gear_in library.old))
+    ensures proceeds { ProceedsFor (IsEndStep step.now) (⟦<Gear as GearTold>⟧.players (gear_in library.old))
         world.old.process.ledger (⟦<Library as LibraryTold>⟧.slots library.old)
         world.new.process.ledger (⟦<Library as LibraryTold>⟧.slots library.new) }
     ensures sound { IsSoundFor (⟦<Gear as GearTold>⟧.players (gear_in library.new)) (⟦<Library as LibraryTold>⟧.slots library.new) world.new.process.ledger }

@@ -23,7 +23,7 @@ returns-in-Some-Run-clause-complete g c root number asked given source sink both
     completes_asked _ _ _ _ _ _ _ _ _ _ _ (asked_root c.in-Some-Run.root.now _ root _ (rw c.in-Some-Run.field-0-is at c.in-Some-Run.ensures) asked c.as_bytes.ensures.value) _ _ (c.run.ensures.told number given source sink both) c.run.ensures.read_fault c.run.ensures.write_fault
 
 pub returns-in-None-clause-cleaned_up : goal.returns-in-None-clause-cleaned_up
-returns-in-None-clause-cleaned_up g c = nothing_to_clean _ _ c.requires.no_births c.requires.no_receipts
+returns-in-None-clause-cleaned_up g c = nothing_to_clean _ _ _ _ c.requires.no_births c.requires.no_receipts
 
 pub returns-in-Some-Check-clause-cleaned_up : goal.returns-in-Some-Check-clause-cleaned_up
-returns-in-Some-Check-clause-cleaned_up g c = nothing_to_clean _ _ c.requires.no_births c.requires.no_receipts
+returns-in-Some-Check-clause-cleaned_up g c = nothing_to_clean _ _ _ _ c.requires.no_births c.requires.no_receipts

@@ -18,7 +18,7 @@ returns-clause-told g c number given source sink both =
     (both_true _ _ (both_left _ _ both) (c.in-Ok-new.ensures.tells ∙ both_right _ _ both))))
 
 pub returns-in_default-clause-cleaned_up : goal.returns-in_default-clause-cleaned_up
-returns-in_default-clause-cleaned_up g c = nothing_to_clean _ _ c.requires.no_births c.requires.no_receipts
+returns-in_default-clause-cleaned_up g c = nothing_to_clean _ _ _ _ c.requires.no_births c.requires.no_receipts
 
 pub returns-in_default-new-clause-cleaned_up : goal.returns-in_default-new-clause-cleaned_up
-returns-in_default-new-clause-cleaned_up g c = nothing_to_clean _ _ c.requires.no_births c.requires.no_receipts
+returns-in_default-new-clause-cleaned_up g c = nothing_to_clean _ _ _ _ c.requires.no_births c.requires.no_receipts

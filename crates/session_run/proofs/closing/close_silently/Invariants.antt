@@ -5,7 +5,8 @@ use Rattle.pam_room.specs.Plain.{plain_world}
 use Rattle.pam_library.specs.Plain.{gear_in, slots_in, tells_in}
 use Rattle.pam_library.specs.Slots.{lists_of}
 use Rattle.pam_library.specs.Sound.{IsSound}
-use Rattle.session_run.specs.AnyWorld.{Proceeds}
+use Rattle.session_run.specs.AnyWorld.{ProceedsBy}
+use Rattle.session_run.specs.Ends.{HasStatus}
 use Rattle.session_run.specs.State.{RunState, state_of}
 use Rattle.session_run.specs.Closings.{all_closed, open_count}
 use Rattle.session_run.proofs.closing.close_silently.Given as goal
@@ -27,7 +28,7 @@ invariant-loop-number g l =
       tells : tells_in (λ b. (goal.Conv-dyn g (b.vtable, b.value)).conv_tells b.value) l.library ≡ tells_in (λ b. (goal.Conv-dyn g (b.vtable, b.value)).conv_tells b.value) l.fn.library;
       world_tells : world_now ≡ world_start;
       left : all_closed players_start l.status start ≡ all_closed players_start l.status now;
-      proceeds : Proceeds (notes_of players_start) l.fn.world.process.ledger (lists_of start.slots) l.world.process.ledger (lists_of now.slots);
+      proceeds : ProceedsBy (HasStatus l.status) (notes_of players_start) l.fn.world.process.ledger (lists_of start.slots) l.world.process.ledger (lists_of now.slots);
       sound : IsSound (names_of players) (length players) now.slots l.world.process.ledger;
     }
 

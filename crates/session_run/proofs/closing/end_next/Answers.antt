@@ -1,5 +1,5 @@
 use Rattle.session_run.proofs.Lowest.{some_ends, none_stays, receipts_by}
-use Rattle.session_run.proofs.Proceeding.{one_call}
+use Rattle.session_run.proofs.Proceeding.{closing_ends, one_call}
 use Rattle.session_run.proofs.closing.end_next.Goals as goal
 
 pub returns-clause-some : goal.returns-clause-some
@@ -12,4 +12,4 @@ pub returns-clause-filed : goal.returns-clause-filed
 returns-clause-filed g c = receipts_by _ c.args.status _ _ _ _ _ (rw c.code_number.ensures at c.close_one.ensures.closes)
 
 pub returns-clause-proceeds : goal.returns-clause-proceeds
-returns-clause-proceeds g c = one_call _ _ _ _ _ _ c.close_one.ensures.moves
+returns-clause-proceeds g c = one_call _ _ _ _ _ _ _ c.close_one.ensures.moves (closing_ends c.args.status _ _ c.code_number.ensures)

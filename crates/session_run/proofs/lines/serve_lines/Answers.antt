@@ -1,13 +1,33 @@
-use Rattle.std.proofs.Common.{◌∙◌, Some, None, Ok, Err}
+use Rattle.std.proofs.Common.{◌∙◌, Some, None, Ok, Err, refl, ap, arith}
 use Rattle.script_stream.specs.declared.ending.Stop.TheVariants.{NoMemory}
 use Rattle.script_stream.specs.Turns.{has_read_fault}
-use Rattle.session_run.proofs.Proceeding.{goes_on}
+use Rattle.session_run.proofs.Asking.{asks_before, leads_nowhere, leads_on}
+use Rattle.session_run.proofs.Proceeding.{goes_on, nothing_done, proceeds_so}
 use Rattle.session_run.proofs.Telling.{both_tell}
 use Rattle.session_run.proofs.lines.serve_lines.Goals as goal
 
 pub returns-in-Err-clause-told : goal.returns-in-Err-clause-told
 returns-in-Err-clause-told g c = λ delay is told source sink.
     rw c.requires.first (c.turns_are_a_run.ensures _ (Err NoMemory) _ _ _ _ _ _ _ _ (c.first_turn.ensures.no_memory _ _ _ _))
+
+pub returns-in-Err-clause-proceeds : goal.returns-in-Err-clause-proceeds
+returns-in-Err-clause-proceeds g c = nothing_done _ _ _ _ _ _ refl refl
+
+pub loop-ending-init : goal.loop-ending-init
+loop-ending-init g c = record {
+  gear = refl;
+  tells = refl;
+  world_tells = refl;
+  sink_tells = refl;
+  source_tells = refl;
+  told = λ delay is told source sink. rw (c.requires.first, c.in-Ok.ensures) (c.first_turn.ensures.none_yet _ _ _ _);
+  few = omega (arith, c.requires.first);
+  source_faults = refl;
+  sink_faults = refl;
+  leads = λ source. rw c.in-Ok.ensures (leads_nowhere _);
+  proceeds = nothing_done _ _ _ _ _ _ refl refl;
+  sound = c.requires.sound;
+}
 
 pub loop-ending-preserved : goal.loop-ending-preserved
 loop-ending-preserved g c =
@@ -26,7 +46,8 @@ loop-ending-preserved g c =
       few = c.take_turn.ensures.few;
       source_faults = read ∙ was.source_faults;
       sink_faults = c.in-Ok-None.ensures.sink_faults ∙ was.sink_faults;
-      proceeds = goes_on _ _ _ _ _ _ _ was.proceeds (rw was.gear at c.take_turn.ensures.proceeds);
+      leads = λ source. leads_on _ _ _ (was.leads source) (c.take_turn.ensures.leads (c.in-Ok-None.is ∙ ap Ok c.in-Ok-None.field-0-is) (was.source_tells ∙ source));
+      proceeds = goes_on _ _ _ _ _ _ _ _ was.proceeds (proceeds_so _ _ (λ number status has source. asks_before _ _ (was.leads source) number status (has (was.source_tells ∙ source))) _ _ _ _ _ (rw was.gear at c.take_turn.ensures.proceeds));
       sound = c.take_turn.ensures.sound;
     }
 
@@ -48,9 +69,9 @@ returns-in-Err-take_turn-clause-told g c = λ delay is told source sink.
 pub returns-in-Ok-Some-clause-proceeds : goal.returns-in-Ok-Some-clause-proceeds
 returns-in-Ok-Some-clause-proceeds g c =
     let was = c.loop-ending.invariant in
-    goes_on _ _ _ _ _ _ _ was.proceeds (rw was.gear at c.take_turn.ensures.proceeds)
+    goes_on _ _ _ _ _ _ _ _ was.proceeds (proceeds_so _ _ (λ number status has source. asks_before _ _ (was.leads source) number status (has (was.source_tells ∙ source))) _ _ _ _ _ (rw was.gear at c.take_turn.ensures.proceeds))
 
 pub returns-in-Err-take_turn-clause-proceeds : goal.returns-in-Err-take_turn-clause-proceeds
 returns-in-Err-take_turn-clause-proceeds g c =
     let was = c.loop-ending.invariant in
-    goes_on _ _ _ _ _ _ _ was.proceeds (rw was.gear at c.take_turn.ensures.proceeds)
+    goes_on _ _ _ _ _ _ _ _ was.proceeds (proceeds_so _ _ (λ number status has source. asks_before _ _ (was.leads source) number status (has (was.source_tells ∙ source))) _ _ _ _ _ (rw was.gear at c.take_turn.ensures.proceeds))

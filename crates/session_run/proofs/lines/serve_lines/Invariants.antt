@@ -1,4 +1,4 @@
-use Rattle.std.proofs.Common.{◌≡◌, ◌≤◌, ◌-◌, ◌&&◌, ℕ, Bool, true, List, [], length, map, None, Ok}
+use Rattle.std.proofs.Common.{◌≡◌, ◌≤◌, ◌-◌, ◌&&◌, ℕ, Bool, true, List, [], ◌++◌, length, map, None, Ok}
 use Rattle.pam_base.specs.declared.code.Code.{Code}
 use Rattle.dispatch_core.specs.Lines.{names_of}
 use Rattle.pam_room.specs.Module.{Player, notes_of, player_of}
@@ -6,7 +6,8 @@ use Rattle.pam_room.specs.Plain.{plain_world}
 use Rattle.pam_library.specs.Plain.{gear_in, slots_in, tells_in}
 use Rattle.pam_library.specs.Slots.{lists_of}
 use Rattle.pam_library.specs.Sound.{IsSound}
-use Rattle.session_run.specs.AnyWorld.{Proceeds}
+use Rattle.session_run.specs.AnyWorld.{ProceedsBy}
+use Rattle.session_run.specs.Ends.{IsEndIn, LeadsTo}
 use Rattle.script_stream.specs.Turns.{Turns}
 use Rattle.session_run.specs.State.{RunState, setting_of, state_of}
 use Rattle.session_run.specs.Step.{line_step, Fails}
@@ -38,7 +39,8 @@ invariant-loop-ending g l =
       few : l.lines ≤ 65536;
       source_faults : g.S.Source.source_faults l.source ≡ g.S.Source.source_faults l.fn.source;
       sink_faults : g.K.Sink.sink_faults l.sink ≡ g.K.Sink.sink_faults l.fn.sink;
-      proceeds : Proceeds (notes_of players_start) l.fn.world.process.ledger (lists_of start.slots) l.world.process.ledger (lists_of now.slots);
+      leads : g.S.Source.source_tells l.fn.source ≡ true → LeadsTo (g.S.Source.source_holds l.fn.source).left (l.reader ++ (g.S.Source.source_holds l.source).left);
+      proceeds : ProceedsBy (IsEndIn (g.S.Source.source_tells l.fn.source) (g.S.Source.source_holds l.fn.source).left) (notes_of players_start) l.fn.world.process.ledger (lists_of start.slots) l.world.process.ledger (lists_of now.slots);
       sound : IsSound (names_of players) (length players) now.slots l.world.process.ledger;
     }
 

@@ -1,4 +1,6 @@
-use Rattle.std.proofs.Common.{Some, None, Ok, Err}
+use Rattle.std.proofs.Common.{Some, None, Ok, Err, refl, ◌∙◌}
+use Rattle.session_run.proofs.Asking.{line_asks, line_leads, rest_asks}
+use Rattle.session_run.proofs.Proceeding.{nothing_done, proceeds_so}
 use Rattle.session_run.proofs.lines.take_turn.Goals as goal
 
 pub returns-in-Err-clause-told : goal.returns-in-Err-clause-told
@@ -55,3 +57,57 @@ returns-in-Ok-None-serve_line-clause-told g c = λ delay is told source sink.
     let finds = rw c.in-Ok-Rest.field-0-is at c.in-Ok-Rest.ensures.told in
     let served = rw (c.bytes-in-Ok-Rest.ensures, c.in-Ok-None-serve_line.field-0-is) at c.in-Ok-None-serve_line.ensures.told in
     c.found_line_is_a_turn.ensures.rest _ c.limit_of-limit.result _ _ _ _ _ _ _ _ _ (Ok None) c.limit_of-limit.ensures found (finds source) (served delay is told sink)
+
+pub returns-in-Err-clause-proceeds : goal.returns-in-Err-clause-proceeds
+returns-in-Err-clause-proceeds g c = nothing_done _ _ _ _ _ _ refl refl
+
+pub returns-in-Ok-End-clause-proceeds : goal.returns-in-Ok-End-clause-proceeds
+returns-in-Ok-End-clause-proceeds g c = nothing_done _ _ _ _ _ _ refl refl
+
+pub returns-in-Err-serve_line-clause-proceeds : goal.returns-in-Err-serve_line-clause-proceeds
+returns-in-Err-serve_line-clause-proceeds g c =
+    let found = rw c.in-Ok-Line.field-0-is at c.in-Ok-Line.ensures.found in
+    let finds = rw c.in-Ok-Line.field-0-is at c.in-Ok-Line.ensures.told in
+    let served = rw c.bytes.ensures at c.serve_line.ensures.proceeds in
+    proceeds_so _ _ (λ number status asks source. line_asks _ _ _ _ _ _ found (finds source) _ number status asks) _ _ _ _ _ served
+
+pub returns-in-Ok-Some-clause-proceeds : goal.returns-in-Ok-Some-clause-proceeds
+returns-in-Ok-Some-clause-proceeds g c =
+    let found = rw c.in-Ok-Line.field-0-is at c.in-Ok-Line.ensures.found in
+    let finds = rw c.in-Ok-Line.field-0-is at c.in-Ok-Line.ensures.told in
+    let served = rw c.bytes.ensures at c.serve_line.ensures.proceeds in
+    proceeds_so _ _ (λ number status asks source. line_asks _ _ _ _ _ _ found (finds source) _ number status asks) _ _ _ _ _ served
+
+pub returns-in-Ok-None-clause-proceeds : goal.returns-in-Ok-None-clause-proceeds
+returns-in-Ok-None-clause-proceeds g c =
+    let found = rw c.in-Ok-Line.field-0-is at c.in-Ok-Line.ensures.found in
+    let finds = rw c.in-Ok-Line.field-0-is at c.in-Ok-Line.ensures.told in
+    let served = rw c.bytes.ensures at c.serve_line.ensures.proceeds in
+    proceeds_so _ _ (λ number status asks source. line_asks _ _ _ _ _ _ found (finds source) _ number status asks) _ _ _ _ _ served
+
+pub returns-in-Err-serve_line-2-clause-proceeds : goal.returns-in-Err-serve_line-2-clause-proceeds
+returns-in-Err-serve_line-2-clause-proceeds g c =
+    let found = rw c.in-Ok-Rest.field-0-is at c.in-Ok-Rest.ensures.found in
+    let finds = rw c.in-Ok-Rest.field-0-is at c.in-Ok-Rest.ensures.told in
+    let served = rw c.bytes-in-Ok-Rest.ensures at c.serve_line-in-Ok-Rest.ensures.proceeds in
+    proceeds_so _ _ (λ number status asks source. rest_asks _ _ _ _ _ _ c.limit_of-limit.ensures found (finds source) number status asks) _ _ _ _ _ served
+
+pub returns-in-Ok-Some-serve_line-clause-proceeds : goal.returns-in-Ok-Some-serve_line-clause-proceeds
+returns-in-Ok-Some-serve_line-clause-proceeds g c =
+    let found = rw c.in-Ok-Rest.field-0-is at c.in-Ok-Rest.ensures.found in
+    let finds = rw c.in-Ok-Rest.field-0-is at c.in-Ok-Rest.ensures.told in
+    let served = rw c.bytes-in-Ok-Rest.ensures at c.serve_line-in-Ok-Rest.ensures.proceeds in
+    proceeds_so _ _ (λ number status asks source. rest_asks _ _ _ _ _ _ c.limit_of-limit.ensures found (finds source) number status asks) _ _ _ _ _ served
+
+pub returns-in-Ok-None-serve_line-clause-proceeds : goal.returns-in-Ok-None-serve_line-clause-proceeds
+returns-in-Ok-None-serve_line-clause-proceeds g c =
+    let found = rw c.in-Ok-Rest.field-0-is at c.in-Ok-Rest.ensures.found in
+    let finds = rw c.in-Ok-Rest.field-0-is at c.in-Ok-Rest.ensures.told in
+    let served = rw c.bytes-in-Ok-Rest.ensures at c.serve_line-in-Ok-Rest.ensures.proceeds in
+    proceeds_so _ _ (λ number status asks source. rest_asks _ _ _ _ _ _ c.limit_of-limit.ensures found (finds source) number status asks) _ _ _ _ _ served
+
+pub returns-in-Ok-None-clause-leads : goal.returns-in-Ok-None-clause-leads
+returns-in-Ok-None-clause-leads g c = λ none source.
+    let found = rw c.in-Ok-Line.field-0-is at c.in-Ok-Line.ensures.found in
+    let finds = rw c.in-Ok-Line.field-0-is at c.in-Ok-Line.ensures.told in
+    rw c.skip.ensures (line_leads _ _ _ _ _ _ found (finds source))

@@ -1,4 +1,9 @@
+use Rattle.std.proofs.Common.{Ok, refl, ap, ◌∙◌}
 use Rattle.std.proofs.lemmas.Bool.{and_parts}
+use Rattle.script_lang.specs.declared.line.Line.TheVariants as script_lines
+use Rattle.pam_base.specs.declared.call.Step.{Step}
+use Rattle.pam_room.specs.declared.process.Process.{Process}
+use Rattle.session_run.proofs.Proceeding.{nothing_done, proceeds_so}
 use Rattle.session_run.proofs.Serving.{too_many, refused, accepted}
 use Rattle.session_run.proofs.serve.serve_line.Goals as goal
 
@@ -42,3 +47,34 @@ pub returns-clause-told : goal.returns-clause-told
 returns-clause-told g c = λ delay is told sink.
     let e = rw c.in-Ok-Step.field-0-is at c.in-Ok-Step.ensures.ok in
     c.in-Err.ensures.told delay is told sink _ _ c.if-lines-ge-MAX_LINES.false e
+
+pub returns-in-Ok-clause-proceeds : goal.returns-in-Ok-clause-proceeds
+returns-in-Ok-clause-proceeds g c =
+    let e = rw c.in-Ok-Step.field-0-is at c.in-Ok-Step.ensures.ok in
+    proceeds_so _ _ (λ number status is. (c.if-lines-ge-MAX_LINES.false, e ∙ ap (λ (s : Step). Ok (script_lines.Step s)) is)) _ _ _ _ _ c.serve_step.ensures.proceeds
+
+pub returns-clause-proceeds : goal.returns-clause-proceeds
+returns-clause-proceeds g c =
+    let e = rw c.in-Ok-Step.field-0-is at c.in-Ok-Step.ensures.ok in
+    proceeds_so _ _ (λ number status is. (c.if-lines-ge-MAX_LINES.false, e ∙ ap (λ (s : Step). Ok (script_lines.Step s)) is)) _ _ _ _ _ c.serve_step.ensures.proceeds
+
+pub returns-then-lines-ge-MAX_LINES-clause-proceeds : goal.returns-then-lines-ge-MAX_LINES-clause-proceeds
+returns-then-lines-ge-MAX_LINES-clause-proceeds g c = nothing_done _ _ _ _ _ _ refl refl
+
+pub returns-in-Err-NoMemory-clause-proceeds : goal.returns-in-Err-NoMemory-clause-proceeds
+returns-in-Err-NoMemory-clause-proceeds g c = nothing_done _ _ _ _ _ _ refl refl
+
+pub returns-in-Err-Named-clause-proceeds : goal.returns-in-Err-Named-clause-proceeds
+returns-in-Err-Named-clause-proceeds g c = nothing_done _ _ _ _ _ _ refl refl
+
+pub returns-in-Ok-Blank-clause-proceeds : goal.returns-in-Ok-Blank-clause-proceeds
+returns-in-Ok-Blank-clause-proceeds g c = nothing_done _ _ _ _ _ _ refl refl
+
+pub returns-in-Ok-At-clause-proceeds : goal.returns-in-Ok-At-clause-proceeds
+returns-in-Ok-At-clause-proceeds g c = nothing_done _ _ _ _ _ _ (ap (λ (p : Process). p.ledger) c.set_world_moment.ensures.process) refl
+
+pub returns-in-Ok-Random-clause-proceeds : goal.returns-in-Ok-Random-clause-proceeds
+returns-in-Ok-Random-clause-proceeds g c = nothing_done _ _ _ _ _ _ (ap (λ (p : Process). p.ledger) c.set_world_word.ensures.process) refl
+
+pub returns-in-Ok-Caller-clause-proceeds : goal.returns-in-Ok-Caller-clause-proceeds
+returns-in-Ok-Caller-clause-proceeds g c = nothing_done _ _ _ _ _ _ c.set_caller.ensures.ledger refl

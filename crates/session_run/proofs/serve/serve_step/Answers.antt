@@ -1,5 +1,5 @@
 use Rattle.std.proofs.Common.{Ok, Err, refl}
-use Rattle.session_run.proofs.Proceeding.{one_call, receipts_stay}
+use Rattle.session_run.proofs.Proceeding.{call_ends, one_call, receipts_stay}
 use Rattle.session_run.proofs.Serving.{failed_place, called_line, applied_only, failed_call}
 use Rattle.session_run.proofs.serve.serve_step.Goals as goal
 
@@ -34,13 +34,13 @@ pub step_report-requires-clause-from : goal.step_report-requires-clause-from
 step_report-requires-clause-from g c = rw c.in-Ok.ensures.filed_from (receipts_stay _ _ _ _ _ _ _ _ c.apply.ensures.spends)
 
 pub returns-in-Err-clause-proceeds : goal.returns-in-Err-clause-proceeds
-returns-in-Err-clause-proceeds g c = one_call _ _ _ _ _ _ c.apply.ensures.moves
+returns-in-Err-clause-proceeds g c = one_call _ _ _ _ _ _ _ c.apply.ensures.moves (call_ends _ _ _)
 
 pub returns-in-Err-step_report-clause-proceeds : goal.returns-in-Err-step_report-clause-proceeds
-returns-in-Err-step_report-clause-proceeds g c = one_call _ _ _ _ _ _ c.apply.ensures.moves
+returns-in-Err-step_report-clause-proceeds g c = one_call _ _ _ _ _ _ _ c.apply.ensures.moves (call_ends _ _ _)
 
 pub returns-in-Ok-write_all-clause-proceeds : goal.returns-in-Ok-write_all-clause-proceeds
-returns-in-Ok-write_all-clause-proceeds g c = one_call _ _ _ _ _ _ c.apply.ensures.moves
+returns-in-Ok-write_all-clause-proceeds g c = one_call _ _ _ _ _ _ _ c.apply.ensures.moves (call_ends _ _ _)
 
 pub returns-clause-proceeds : goal.returns-clause-proceeds
-returns-clause-proceeds g c = one_call _ _ _ _ _ _ c.apply.ensures.moves
+returns-clause-proceeds g c = one_call _ _ _ _ _ _ _ c.apply.ensures.moves (call_ends _ _ _)
