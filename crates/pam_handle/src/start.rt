@@ -3,9 +3,10 @@ ghost use Rattle.std.specs.Option.{option_copied};
 ghost use Rattle.pam_base.specs.ServiceName.{is_service_name};
 ghost use Rattle.dispatch_core.specs.Lines.{names_of};
 ghost use Rattle.pam_room.specs.Stays.{IsReady};
+ghost use Rattle.service_load.specs.Load.{AreBounded};
 ghost use Rattle.service_load.specs.Loading.{CountsFaults, OnlyCalls};
 ghost use Rattle.pam_handle.specs.Plain.{in_box, plain_handle, room_in, stacks_in};
-ghost use Rattle.pam_handle.specs.Start.{Opens, Prepares, RefusalCounts, Refuses, first_texts, handle_with, new_handle, started};
+ghost use Rattle.pam_handle.specs.Start.{Opens, Prepares, RefusalCounts, Refuses, first_texts, handle_with, new_handle, stacks_of_trees, started};
 
 use crate::chains::Chains;
 use crate::gear::{Gear, GearTold};
@@ -14,9 +15,9 @@ use crate::prepare::{first_items, lay_flat, module_names};
 use conv_port::Conv;
 use frozen_chain::Kept;
 use item_store::Items;
-use pam_base::Refuse;
+use pam_base::{NoMemory, Refuse};
 use pam_room::{Room, RoomTold, Transaction, World, WorldTold};
-use service_load::{LoadFault, load};
+use service_load::{LoadFault, Trees, load};
 use std::alloc::Global;
 
 /// A start that was refused: the conversation, as it was handed in, and why.
@@ -88,8 +89,25 @@ fn prepare(
         world.process.root.bytes(),
         service,
     )?;
+    Ok(laid_out(alloc, gear, &trees, service, user)?)
+}
+
+// The items and the stacks of a transaction, once its service is loaded.
+fn laid_out(
+    alloc: Global,
+    gear: &Gear,
+    trees: &Trees,
+    service: &[u8],
+    user: Option<&[u8]>,
+) -> Result<(Items, Chains), NoMemory>
+    requires few { length (⟦<Gear as GearTold>⟧.players gear.now) < 2 ^ 32 }
+    requires bounded { AreBounded trees.now }
+    ensures items { IfOk result (λ parts. parts.0 ≡ first_texts service.now (option_copied user.entry)) }
+    ensures stacks { IfOk result (λ parts. stacks_in parts.1 ≡ stacks_of_trees trees.now) }
+    ensures names { IfOk result (λ parts. parts.1.auth.names ≡ names_of (⟦<Gear as GearTold>⟧.players gear.now)) }
+{
     let names = module_names(alloc, gear)?;
-    let chains = lay_flat(alloc, &trees, &names)?;
+    let chains = lay_flat(alloc, trees, &names)?;
     let items = first_items(alloc, service, user)?;
     Ok((items, chains))
 }
