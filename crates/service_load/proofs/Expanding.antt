@@ -1,5 +1,5 @@
 -- What the entries of a file bring, one after another.
-use Rattle.std.proofs.Common.{◌≡◌, ℕ, ◌+◌, ◌-◌, ◌≤◌, ◌<◌, length, Bool, true, false, List, [], ◌∷◌, ◌++◌, Option, Some, None, Result, Ok, Err, refl, sym, ap, subst, ◌∙◌, arith}
+use Rattle.std.proofs.Common.{◌≡◌, ℕ, ◌+◌, ◌-◌, ◌≤◌, ◌<◌, length, Bool, true, false, cond, List, [], ◌∷◌, ◌++◌, Option, Some, None, Result, Ok, Err, refl, sym, ap, subst, ◌∙◌, arith}
 use Rattle.std.specs.Prelude.{OnOk}
 use Rattle.std.proofs.lemmas.Bool.{lt-leb, le-leb}
 use Rattle.pam_base.specs.declared.fault.Refuse.{Refuse}
@@ -8,16 +8,19 @@ use Rattle.pam_base.specs.declared.fault.FaultKind.TheVariants.{TooManyLines}
 use Rattle.pam_outside.specs.Files.{VaultState}
 use Rattle.control_words.specs.declared.nodes.Rule.{Rule}
 use Rattle.control_words.specs.Stack.{Stack, none, line, sub, joined, lines_in, depth}
+use Rattle.service_load.specs.declared.entry.Content.{Content}
+use Rattle.service_load.specs.declared.entry.Content.TheVariants.{Line, Include, Substack}
 use Rattle.service_load.specs.declared.entry.Entry.{Entry}
+use Rattle.service_load.specs.declared.inclusion.Inclusion.{Inclusion}
 use Rattle.service_load.specs.declared.load_fault.LoadFault.{LoadFault}
 use Rattle.service_load.specs.declared.loader.Loader.{Loader}
 use Rattle.service_load.specs.declared.rule_file.RuleFile.{RuleFile}
 use Rattle.service_load.specs.declared.rule_type.RuleType.{RuleType}
 use Rattle.service_load.specs.Files.{plain_file}
 use Rattle.service_load.specs.FirstFault.{Counts, Stop, fault_at, behind, going_on, look}
-use Rattle.service_load.specs.Loading.{texts_of, counts_of, Looks, OnlyCalls, CountsFaults, AddsLine, Opens, Brings, Grows, items_at, nodes_at, entries_items, entries_nodes}
-use Rattle.service_load.specs.Order.{Item, Opener, made, content_items}
-use Rattle.service_load.specs.Tree.{serves, content_nodes}
+use Rattle.service_load.specs.Loading.{texts_of, counts_of, Looks, OnlyCalls, AddsLine, Opens, Brings, Grows, entry_items_at, entry_nodes_at, items_at, nodes_at, entries_items, entries_nodes, TakesContent, brought_in}
+use Rattle.service_load.specs.Order.{Item, Opener, by_rule, made, content_items}
+use Rattle.service_load.specs.Tree.{content_nodes}
 
 -- ---- stacks behind one another
 
@@ -52,60 +55,44 @@ nothing_left (e ∷ es) n zero counted = absurd (omega (arith, zero, counted))
 pub more_left : (old left : List Entry) (e : Entry) (n m : ℕ) → old ≡ e ∷ left → m + 1 ≡ n → n ≡ length old → m ≡ length left
 more_left old left e n m steps fewer counted = omega (arith, ap length steps, fewer, counted)
 
-pub serving_is : (r b : Bool) → r ≡ b → r ≡ true → b ≡ true
-serving_is r b same yes' = sym same ∙ yes'
-
-pub skipped_is : (r b : Bool) → r ≡ b → r ≡ false → b ≡ false
-skipped_is r b same no' = sym same ∙ no'
-
 -- ---- in any world
 
 pub grows_none : (level : ℕ) (was : Loader) (s : Stack) → level ≤ 16 → Grows level was was s s
 grows_none level was s low = record { within = low; lines = refl; few = λ few. few; deep = λ n le left. le }
 
-pub grows_line : (level : ℕ) (was is : Loader) (before now : Stack) (rule : Rule) → Grows level was is before now → is.lines < 4096 → Grows level was (record is { lines = is.lines + 1 }) before (joined now (line rule none))
-grows_line level was is before now rule g few = record {
-  within = g.within;
-  lines = omega (arith, g.lines, lines-joined now (line rule none));
+pub grows_line : (level : ℕ) (is : Loader) (now : Stack) (rule : Rule) → level ≤ 16 → is.lines < 4096 → Grows level is (record is { lines = is.lines + 1 }) now (joined now (line rule none))
+grows_line level is now rule low few = record {
+  within = low;
+  lines = omega (arith, lines-joined now (line rule none));
   few = λ _. omega arith;
-  deep = λ n le left. depth-joined n now (line rule none) (g.deep n le left) (omega arith);
+  deep = λ n le left. depth-joined n now (line rule none) le (omega arith);
 }
 
-pub grows_file : (level : ℕ) (was is on : Loader) (before now after : Stack) → Grows level was is before now → Grows (level + 1) is on now after → Grows level was on before after
-grows_file level was is on before now after g h = record {
+-- by a file that is brought in, one level deeper
+pub grows_in : (level : ℕ) (is on : Loader) (now inner : Stack) (as_substack : Bool) → Grows (level + 1) is on none inner → Grows level is on now (joined now (brought_in as_substack inner))
+grows_in level is on now inner true g = record {
+  within = omega (arith, g.within);
+  lines = omega (arith, g.lines, lines-joined now (sub inner none));
+  few = g.few;
+  deep = λ n le left.
+      let below : depth inner ≤ n - 1 = g.deep (n - 1) (omega arith) (omega (arith, g.within, left)) in
+      depth-joined n now (sub inner none) le (omega (arith, below, g.within, left));
+}
+grows_in level is on now inner false g = record {
+  within = omega (arith, g.within);
+  lines = omega (arith, g.lines, lines-joined now inner);
+  few = g.few;
+  deep = λ n le left. depth-joined n now inner le (g.deep n (omega arith) (omega (arith, left)));
+}
+
+-- by one entry after another
+pub grows_on : (level : ℕ) (was is on : Loader) (before now after : Stack) → Grows level was is before now → Grows level is on now after → Grows level was on before after
+grows_on level was is on before now after g h = record {
   within = g.within;
   lines = omega (arith, g.lines, h.lines);
   few = λ few. h.few (g.few few);
-  deep = λ n le left. h.deep n (g.deep n le left) (omega (arith, left));
+  deep = λ n le left. h.deep n (g.deep n le left) left;
 }
-
-pub grows_sub : (level : ℕ) (was is on : Loader) (before now inner : Stack) → Grows level was is before now → Grows (level + 1) is on none inner → Grows level was on before (joined now (sub inner none))
-grows_sub level was is on before now inner g h = record {
-  within = g.within;
-  lines = omega (arith, g.lines, h.lines, lines-joined now (sub inner none));
-  few = λ few. h.few (g.few few);
-  deep = λ n le left.
-      let below : depth inner ≤ n - 1 = h.deep (n - 1) (omega arith) (omega (arith, h.within, left)) in
-      depth-joined n now (sub inner none) (g.deep n le left) (omega (arith, below, h.within, left));
-}
-
--- counted from the lines that stood before a file was opened
-pub grows_from : (level : ℕ) (was opened is : Loader) (before after : Stack) → opened.lines ≡ was.lines → Grows level opened is before after → Grows level was is before after
-grows_from level was opened is before after same g = record {
-  within = g.within;
-  lines = omega (arith, g.lines, same);
-  few = λ few. g.few (omega (arith, same, few));
-  deep = g.deep;
-}
-
--- ---- the vault's count of faults
-
-pub line_counts : (r : Refuse LoadFault) (was is : Loader) (before after : Stack) (name : List ℕ) (number : ℕ) (rule : Rule) (old now : ℕ) → AddsLine {A = Unit {0}} (Err r) was is before after name number rule → now ≡ old → CountsFaults {A = Bool} (Err r) old now
-line_counts (refusals.Named f) was is before after name number rule old now adds same = rw adds.2 same
-line_counts refusals.NoMemory was is before after name number rule old now adds same = omega (arith, same)
-
-pub memory_counts : (old now : ℕ) → now ≡ old → old ≤ now
-memory_counts old now same = omega (arith, same)
 
 -- ---- a look
 
@@ -139,72 +126,117 @@ module _ (texts : List ℕ → Option (List ℕ)) (fails : List ℕ) where
 
   module _ (was is : Counts) (level : ℕ) (type : RuleType) (name : List ℕ) (all left : List Entry) (before now : Stack) (e : Entry) where
     abbrev its_items : List Item
-    its_items = content_items (items_at texts (level + 1) type) name e.line e.content
+    its_items = entry_items_at texts level type name e
 
     abbrev its_nodes : Stack
-    its_nodes = content_nodes (λ name. nodes_at texts (level + 1) type (plain_file name)) e.content
-
-    -- an entry for another type
-    pub going_skip : serves type e.rule_type ≡ false → Going was is level type name all (e ∷ left) before now → Going was is level type name all left before now
-    going_skip other g = record { looks = g.looks ∙ rw other refl; nodes = g.nodes ∙ rw other refl }
+    its_nodes = entry_nodes_at texts level type e
 
     -- an entry whose items were passed, and whose nodes were added
-    pub going_past : (on : Counts) (after : Stack) → serves type e.rule_type ≡ true → Going was is level type name all (e ∷ left) before now → look texts fails is its_items ≡ Ok on → after ≡ joined now its_nodes → Going was on level type name all left before after
-    going_past on after serving g past added = record {
-      looks = g.looks ∙ rw serving (look_past is on its_items (entries_items texts level type name left) past);
-      nodes = g.nodes ∙ rw serving (sym (joined-joined now its_nodes (entries_nodes texts level type left)) ∙ ap (λ (s : Stack). joined s (entries_nodes texts level type left)) (sym added));
+    pub going_past : (on : Counts) (after : Stack) → Going was is level type name all (e ∷ left) before now → look texts fails is its_items ≡ Ok on → after ≡ joined now its_nodes → Going was on level type name all left before after
+    going_past on after g past added = record {
+      looks = g.looks ∙ look_past is on its_items (entries_items texts level type name left) past;
+      nodes = g.nodes ∙ sym (joined-joined now its_nodes (entries_nodes texts level type left)) ∙ ap (λ (s : Stack). joined s (entries_nodes texts level type left)) (sym added);
     }
 
     -- an entry that stops the look
-    pub going_stops : (s : Stop) → serves type e.rule_type ≡ true → Going was is level type name all (e ∷ left) before now → look texts fails is its_items ≡ Err s → look texts fails was (entries_items texts level type name all) ≡ Err s
-    going_stops s serving g stops = g.looks ∙ rw serving (look_stops is s its_items (entries_items texts level type name left) stops)
+    pub going_stops : (s : Stop) → Going was is level type name all (e ∷ left) before now → look texts fails is its_items ≡ Err s → look texts fails was (entries_items texts level type name all) ≡ Err s
+    going_stops s g stops = g.looks ∙ look_stops is s its_items (entries_items texts level type name left) stops
 
   -- a line, which fits or is one too many
-  pub look_line : (counts : Counts) (name : List ℕ) (number : ℕ) → counts.lines < 4096 → look texts fails counts (made name number ∷ []) ≡ Ok (record counts { lines = counts.lines + 1 })
+  look_line : (counts : Counts) (name : List ℕ) (number : ℕ) → counts.lines < 4096 → look texts fails counts (made name number ∷ []) ≡ Ok (record counts { lines = counts.lines + 1 })
   unfolding look
   look_line counts name number few = rw (lt-leb 4096 counts.lines few) refl
 
-  pub look_line_over : (counts : Counts) (name : List ℕ) (number : ℕ) → 4096 ≤ counts.lines → look texts fails counts (made name number ∷ []) ≡ Err (record { fault = fault_at name number TooManyLines; calls = counts.calls })
+  look_line_over : (counts : Counts) (name : List ℕ) (number : ℕ) → 4096 ≤ counts.lines → look texts fails counts (made name number ∷ []) ≡ Err (record { fault = fault_at name number TooManyLines; calls = counts.calls })
   unfolding look
   look_line_over counts name number many = rw (le-leb 4096 counts.lines many) refl
 
-  -- where one entry stops the load, so do all
-  pub all_stop : (r : Refuse LoadFault) (was is on : Counts) (level : ℕ) (type : RuleType) (name : List ℕ) (all left : List Entry) (before now : Stack) (e : Entry) → serves type e.rule_type ≡ true → Going was is level type name all (e ∷ left) before now
-      → Looks {A = Unit {0}} (Err r) (look texts fails is (its_items was is level type name all left before now e)) on → Looks {A = Bool} (Err r) (look texts fails was (entries_items texts level type name all)) on
-  all_stop (refusals.Named f) was is on level type name all left before now e serving g looks = going_stops was is level type name all left before now e (record { fault = f; calls = on.calls }) serving g looks
-  all_stop refusals.NoMemory was is on level type name all left before now e serving g looks = tt
+  -- where the file that an entry brings in stops the load, so does the entry
+  pub file_stops : (r : Refuse LoadFault) (is on : Counts) (items its : List Item) → its ≡ items → Looks {A = Bool} (Err r) (look texts fails is items) on → Looks {A = Option Inclusion} (Err r) (look texts fails is its) on
+  file_stops (refusals.Named f) is on items its same looks = rw same looks
+  file_stops refusals.NoMemory is on items its same looks = tt
 
-  pub line_stops : (r : Refuse LoadFault) (was is : Loader) (before after : Stack) (vault : VaultState) (name : List ℕ) (number : ℕ) (rule : Rule) → AddsLine {A = Unit {0}} (Err r) was is before after name number rule
-      → Looks {A = Unit {0}} (Err r) (look texts fails (counts_of was vault) (made name number ∷ [])) (counts_of is vault)
+  -- where one entry stops the load, so do all
+  pub all_stop : (r : Refuse LoadFault) (was is on : Counts) (level : ℕ) (type : RuleType) (name : List ℕ) (all left : List Entry) (before now : Stack) (e : Entry) → Going was is level type name all (e ∷ left) before now
+      → Looks {A = Option Inclusion} (Err r) (look texts fails is (entry_items_at texts level type name e)) on → Looks {A = Bool} (Err r) (look texts fails was (entries_items texts level type name all)) on
+  all_stop (refusals.Named f) was is on level type name all left before now e g looks = going_stops was is level type name all left before now e (record { fault = f; calls = on.calls }) g looks
+  all_stop refusals.NoMemory was is on level type name all left before now e g looks = tt
+
+  line_stops : (r : Refuse LoadFault) (was is : Loader) (before after : Stack) (vault : VaultState) (name : List ℕ) (number : ℕ) (rule : Rule) → AddsLine {A = Option Inclusion} (Err r) was is before after name number rule
+      → Looks {A = Option Inclusion} (Err r) (look texts fails (counts_of was vault) (made name number ∷ [])) (counts_of is vault)
   line_stops (refusals.Named f) was is before after vault name number rule adds = rw adds.2 (look_line_over (counts_of was vault) name number adds.0)
   line_stops refusals.NoMemory was is before after vault name number rule adds = tt
 
-  pub line_past : (was is : Loader) (before after : Stack) (vault : VaultState) (name : List ℕ) (number : ℕ) (rule : Rule) → AddsLine {A = Unit {0}} (Ok tt) was is before after name number rule
-      → look texts fails (counts_of was vault) (made name number ∷ []) ≡ Ok (counts_of is vault)
-  line_past was is before after vault name number rule adds = rw adds.1 (look_line (counts_of was vault) name number adds.0)
+  -- an entry that is refused, one that is passed with its line, and one that brings in a file
+  module _ (vault : VaultState) (was is : Loader) (before after : Stack) (level : ℕ) (type : RuleType) (name : List ℕ) (number : ℕ) where
+    abbrev items_if : Bool → Content → List Item
+    items_if serving content = cond serving (content_items (items_at texts (level + 1) type) name number content) []
+
+    abbrev nodes_if : Bool → Content → Stack
+    nodes_if serving content = cond serving (content_nodes (λ file. nodes_at texts (level + 1) type (plain_file file)) content) none
+
+    pub taking_stops : (serving : Bool) (content : Content) (r : Refuse LoadFault) → TakesContent serving content (Err r) was is before after name number → Looks {A = Option Inclusion} (Err r) (look texts fails (counts_of was vault) (items_if serving content)) (counts_of is vault)
+    taking_stops false content r takes = absurd cc
+    taking_stops true (Line rule) r takes = line_stops r was is before after vault name number rule takes.0
+    taking_stops true (Include file) r takes = absurd cc
+    taking_stops true (Substack file) r takes = absurd cc
+
+    pub taking_looks : (serving : Bool) (content : Content) → TakesContent serving content (Ok None) was is before after name number → look texts fails (counts_of was vault) (items_if serving content) ≡ Ok (counts_of is vault)
+    unfolding look
+    taking_looks false content takes = rw takes.1 refl
+    taking_looks true (Line rule) takes = rw takes.0.1 (look_line (counts_of was vault) name number takes.0.0)
+    taking_looks true (Include file) takes = absurd cc
+    taking_looks true (Substack file) takes = absurd cc
+
+    pub taking_adds : (serving : Bool) (content : Content) → TakesContent serving content (Ok None) was is before after name number → after ≡ joined before (nodes_if serving content)
+    taking_adds false content takes = takes.2 ∙ sym (joined-none before)
+    taking_adds true (Line rule) takes = takes.0.2
+    taking_adds true (Include file) takes = absurd cc
+    taking_adds true (Substack file) takes = absurd cc
+
+    pub taking_grows : (serving : Bool) (content : Content) → level ≤ 16 → TakesContent serving content (Ok None) was is before after name number → Grows level was is before after
+    taking_grows false content low takes = rw (takes.1, takes.2) (grows_none level was before low)
+    taking_grows true (Line rule) low takes = rw (takes.0.1, takes.0.2) (grows_line level was before rule low takes.0.0)
+    taking_grows true (Include file) low takes = absurd cc
+    taking_grows true (Substack file) low takes = absurd cc
+
+    -- what such an entry brings is what the file brings
+    pub record BringsIn (serving : Bool) (content : Content) (i : Inclusion) : Type 0 where
+      pub items : items_if serving content ≡ items_at texts (level + 1) type (by_rule name i.line) i.file
+      pub nodes : nodes_if serving content ≡ brought_in i.as_substack (nodes_at texts (level + 1) type i.file)
+      pub loader : is ≡ was
+      pub stack : after ≡ before
+
+    same_inclusion : (i j : Inclusion) → ◌≡◌ {A = Result (Option Inclusion) (Refuse LoadFault)} (Ok (Some i)) (Ok (Some j)) → i ≡ j
+    same_inclusion i j e = cc
+
+    pub taking_file : (serving : Bool) (content : Content) (i : Inclusion) → TakesContent serving content (Ok (Some i)) was is before after name number → BringsIn serving content i
+    taking_file false content i takes = absurd cc
+    taking_file true (Line rule) i takes = absurd cc
+    taking_file true (Include file) i takes = let same = same_inclusion i (record { line = number; file = plain_file file; as_substack = false }) takes.0 in record { items = rw same refl; nodes = rw same refl; loader = takes.1; stack = takes.2 }
+    taking_file true (Substack file) i takes = let same = same_inclusion i (record { line = number; file = plain_file file; as_substack = true }) takes.0 in record { items = rw same refl; nodes = rw same refl; loader = takes.1; stack = takes.2 }
 
   pub going_none : (was : Counts) (level : ℕ) (type : RuleType) (name : List ℕ) (all : List Entry) (before : Stack) → Going was was level type name all all before before
   going_none was level type name all before = record { looks = refl; nodes = refl }
 
   -- all entries were gone through
-  pub going_end : (was is : Counts) (level : ℕ) (type : RuleType) (name : List ℕ) (all : List Entry) (before now : Stack) → Going was is level type name all [] before now → look texts fails was (entries_items texts level type name all) ≡ Ok is
+  going_end : (was is : Counts) (level : ℕ) (type : RuleType) (name : List ℕ) (all : List Entry) (before now : Stack) → Going was is level type name all [] before now → look texts fails was (entries_items texts level type name all) ≡ Ok is
   unfolding look
   going_end was is level type name all before now g = g.looks
 
 -- ---- over a vault of which only the calls have changed
 
--- what an included file brings, said of the vault as it was
-pub record Since (r : Result Bool (Refuse LoadFault)) (root : List ℕ) (first old new : VaultState) (was is : Loader) (level : ℕ) (type : RuleType) (opener : Opener) (file : RuleFile) (before after : Stack) : Type 0 where
-  pub looks : Looks r (look (texts_of root first) first.fails (counts_of was old) (items_at (texts_of root first) level type opener file)) (counts_of is new)
-  pub nodes : OnOk r (after ≡ joined before (nodes_at (texts_of root first) level type file))
+-- what a part of a load brings, said of the vault as it was
+pub record Since {A : Type 0} (r : Result A (Refuse LoadFault)) (root : List ℕ) (first old new : VaultState) (was is : Loader) (items : List Item) (before after added : Stack) : Type 0 where
+  pub looks : Looks r (look (texts_of root first) first.fails (counts_of was old) items) (counts_of is new)
+  pub nodes : OnOk r (after ≡ joined before added)
   pub stays : OnlyCalls first new
 
-pub since : (r : Result Bool (Refuse LoadFault)) (root : List ℕ) (first old new : VaultState) (was is : Loader) (level : ℕ) (type : RuleType) (opener : Opener) (file : RuleFile) (before after : Stack)
-    → OnlyCalls first old
-    → Brings r (texts_of root old) old new was is (items_at (texts_of root old) level type opener file) before after (nodes_at (texts_of root old) level type file)
-    → Since r root first old new was is level type opener file before after
-since r root first old new was is level type opener file before after only brings =
-    let P : VaultState → Type 0 = λ v. Brings r (texts_of root v) v new was is (items_at (texts_of root v) level type opener file) before after (nodes_at (texts_of root v) level type file) in
+pub since : {A : Type 0} (r : Result A (Refuse LoadFault)) (root : List ℕ) (first old new : VaultState) (was is : Loader) (items : (List ℕ → Option (List ℕ)) → List Item) (before after : Stack) (added : (List ℕ → Option (List ℕ)) → Stack)
+    → OnlyCalls first old → Brings r (texts_of root old) old new was is (items (texts_of root old)) before after (added (texts_of root old))
+    → Since r root first old new was is (items (texts_of root first)) before after (added (texts_of root first))
+since r root first old new was is items before after added only brings =
+    let P : VaultState → Type 0 = λ v. Brings r (texts_of root v) v new was is (items (texts_of root v)) before after (added (texts_of root v)) in
     let b : P (record first { calls = old.calls }) = subst P only brings in
     record { looks = b.looks; nodes = b.nodes; stays = b.stays }
 

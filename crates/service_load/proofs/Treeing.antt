@@ -13,16 +13,15 @@ use Rattle.service_load.specs.declared.rule_file.RuleFile.{RuleFile}
 use Rattle.service_load.specs.declared.rule_type.RuleType.{RuleType}
 use Rattle.service_load.specs.declared.trees.Trees.{Trees}
 use Rattle.service_load.specs.Files.{held, is_absent}
-use Rattle.service_load.specs.FirstFault.{Counts, Stop, look}
+use Rattle.service_load.specs.FirstFault.{Counts, look}
 use Rattle.service_load.specs.Entry.{folder_name}
 use Rattle.service_load.specs.Load.{LoadsBy, LoadsFrom, Loads, loaded_from, has_folder}
 use Rattle.service_load.specs.Names.{path_of}
 use Rattle.service_load.specs.Loading.{texts_of, counts_of, Looks, OnlyCalls, Grows, IsBounded, Makes, items_at, nodes_at}
 use Rattle.std.specs.List.{flat_map}
-use Rattle.service_load.specs.RuleType.{all_types}
 use Rattle.service_load.specs.declared.rule_type.RuleType.TheVariants.{Auth, Account, Password, Session}
-use Rattle.service_load.specs.Order.{Item, Opener, as_service, as_other, as_last, items, other_opener, tree_items}
-use Rattle.service_load.specs.Tree.{nodes, tree, tree_of}
+use Rattle.service_load.specs.Order.{Item, Opener, as_service, as_other, as_last, items, other_opener, tree_items, trees_items}
+use Rattle.service_load.specs.Tree.{nodes, tree, tree_from}
 use Rattle.service_load.proofs.Expanding.{look_past, look_stops}
 
 empty-none : (s : Stack) → eqb (count s) 0 ≡ true → s ≡ none
@@ -121,12 +120,8 @@ pub record Along (r : Result Nodes (Refuse LoadFault)) (root : List ℕ) (first 
   pub made : IfOk r (λ made. stack_of made.vec.items ≡ stack)
   pub stays : OnlyCalls first new
 
--- the trees of a service, over the texts of a vault
-abbrev pub trees_over : List ℕ → VaultState → RuleFile → RuleFile → RuleType → Stack
-trees_over root vault own other type = tree_of (nodes (texts_of root vault) 17 type own) (nodes (texts_of root vault) 17 type other)
-
 pub first_tree : (r : Result Nodes (Refuse LoadFault)) (root : List ℕ) (first new : VaultState) (was is : Loader) (own other : RuleFile) (type : RuleType) → Makes r (texts_of root first) first new was is own other type
-    → Along r root first new (counts_of was first) (tree_items (texts_of root first) own other type) is (trees_over root first own other type)
+    → Along r root first new (counts_of was first) (tree_items (texts_of root first) own other type) is (tree_from (texts_of root first) own other type)
 first_tree r root first new was is own other type m = record { looks = m.looks; made = m.made; stays = m.stays }
 
 looks_on : (r : Result Nodes (Refuse LoadFault)) (texts : List ℕ → Option (List ℕ)) (fails : List ℕ) (start mid now : Counts) (before items : List Item) → look texts fails start before ≡ Ok mid
@@ -138,7 +133,7 @@ looks_on (Err refusals.NoMemory) texts fails start mid now before items past l =
 -- a later tree
 pub next_tree : (r : Result Nodes (Refuse LoadFault)) (root : List ℕ) (first old new : VaultState) (start : Counts) (before : List Item) (was is : Loader) (own other : RuleFile) (type : RuleType) → OnlyCalls first old
     → look (texts_of root first) first.fails start before ≡ Ok (counts_of was old) → Makes r (texts_of root old) old new was is own other type
-    → Along r root first new start (before ++ tree_items (texts_of root first) own other type) is (trees_over root first own other type)
+    → Along r root first new start (before ++ tree_items (texts_of root first) own other type) is (tree_from (texts_of root first) own other type)
 next_tree r root first old new start before was is own other type only past makes =
     let m = makes_since r root first old new was is own other type only makes in
     record {
@@ -147,13 +142,9 @@ next_tree r root first old new start before was is own other type only past make
       stays = only_only first old new only makes.stays;
     }
 
--- all that a load of them looks along
-abbrev pub all_items : List ℕ → VaultState → RuleFile → RuleFile → List Item
-all_items root vault own other = flat_map (tree_items (texts_of root vault) own other) all_types
-
 -- a refusal in a tree, unless memory ran out, is the first fault of the whole load
-pub stops_whole : (r : Refuse LoadFault) (root : List ℕ) (first new : VaultState) (own other : RuleFile) (start : Counts) (along rest : List Item) (is : Loader) (one : Stack) → along ++ rest ≡ all_items root first own other
-    → Along (Err r) root first new start along is one → LoadsBy (Err r) (look (texts_of root first) first.fails start (all_items root first own other)) new (trees_over root first own other)
+pub stops_whole : (r : Refuse LoadFault) (root : List ℕ) (first new : VaultState) (own other : RuleFile) (start : Counts) (along rest : List Item) (is : Loader) (one : Stack) → along ++ rest ≡ trees_items (texts_of root first) own other
+    → Along (Err r) root first new start along is one → LoadsBy (Err r) (look (texts_of root first) first.fails start (trees_items (texts_of root first) own other)) new (tree_from (texts_of root first) own other)
 stops_whole (refusals.Named f) root first new own other start along rest is one e a =
     ap (look (texts_of root first) first.fails start) (sym e) ∙ look_stops (texts_of root first) first.fails start (record { fault = f; calls = new.calls }) along rest a.looks
 stops_whole refusals.NoMemory root first new own other start along rest is one e a = tt
@@ -163,22 +154,22 @@ module _ (root : List ℕ) (first : VaultState) (own other : RuleFile) where
   abbrev pub of_type : RuleType → List Item
   of_type = tree_items (texts_of root first) own other
 
-  pub from_second : (of_type Auth ++ of_type Account) ++ flat_map of_type (Password ∷ Session ∷ []) ≡ all_items root first own other
+  pub from_second : (of_type Auth ++ of_type Account) ++ flat_map of_type (Password ∷ Session ∷ []) ≡ trees_items (texts_of root first) own other
   from_second = append_assoc (of_type Auth) (of_type Account) (flat_map of_type (Password ∷ Session ∷ []))
 
-  pub from_third : ((of_type Auth ++ of_type Account) ++ of_type Password) ++ flat_map of_type (Session ∷ []) ≡ all_items root first own other
+  pub from_third : ((of_type Auth ++ of_type Account) ++ of_type Password) ++ flat_map of_type (Session ∷ []) ≡ trees_items (texts_of root first) own other
   from_third = append_assoc (of_type Auth ++ of_type Account) (of_type Password) (flat_map of_type (Session ∷ [])) ∙ from_second
 
-  pub from_fourth : (((of_type Auth ++ of_type Account) ++ of_type Password) ++ of_type Session) ++ [] ≡ all_items root first own other
+  pub from_fourth : (((of_type Auth ++ of_type Account) ++ of_type Password) ++ of_type Session) ++ [] ≡ trees_items (texts_of root first) own other
   from_fourth = append_assoc ((of_type Auth ++ of_type Account) ++ of_type Password) (of_type Session) [] ∙ from_third
 
 -- four trees, one behind another, are those of the whole load
 pub loads_four : (root : List ℕ) (first v w x new : VaultState) (own other : RuleFile) (start : Counts) (k l m is : Loader) (auth account password session : Nodes)
-    → Along (Ok auth) root first v start (of_type root first own other Auth) k (trees_over root first own other Auth)
-    → Along (Ok account) root first w start (of_type root first own other Auth ++ of_type root first own other Account) l (trees_over root first own other Account)
-    → Along (Ok password) root first x start ((of_type root first own other Auth ++ of_type root first own other Account) ++ of_type root first own other Password) m (trees_over root first own other Password)
-    → Along (Ok session) root first new start (((of_type root first own other Auth ++ of_type root first own other Account) ++ of_type root first own other Password) ++ of_type root first own other Session) is (trees_over root first own other Session)
-    → LoadsBy (Ok (record { auth = auth; account = account; password = password; session = session })) (look (texts_of root first) first.fails start (all_items root first own other)) new (trees_over root first own other)
+    → Along (Ok auth) root first v start (of_type root first own other Auth) k (tree_from (texts_of root first) own other Auth)
+    → Along (Ok account) root first w start (of_type root first own other Auth ++ of_type root first own other Account) l (tree_from (texts_of root first) own other Account)
+    → Along (Ok password) root first x start ((of_type root first own other Auth ++ of_type root first own other Account) ++ of_type root first own other Password) m (tree_from (texts_of root first) own other Password)
+    → Along (Ok session) root first new start (((of_type root first own other Auth ++ of_type root first own other Account) ++ of_type root first own other Password) ++ of_type root first own other Session) is (tree_from (texts_of root first) own other Session)
+    → LoadsBy (Ok (record { auth = auth; account = account; password = password; session = session })) (look (texts_of root first) first.fails start (trees_items (texts_of root first) own other)) new (tree_from (texts_of root first) own other)
 loads_four root first v w x new own other start k l m is auth account password session one two three four = record {
   counts = counts_of is new;
   no_fault = ap (look (texts_of root first) first.fails start) (sym (from_fourth root first own other) ∙ nil-append _) ∙ four.looks;

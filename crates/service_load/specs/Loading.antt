@@ -5,10 +5,13 @@ use Rattle.pam_base.specs.declared.fault.Refuse.TheVariants.{NoMemory, Named}
 use Rattle.pam_base.specs.declared.fault.FaultKind.TheVariants.{TooManyLines, ReadFailed}
 use Rattle.pam_outside.specs.Files.{VaultState}
 use Rattle.conf_lex.specs.declared.token.LexFault.{LexFault}
-use Rattle.control_words.specs.Stack.{Stack, none, line, joined, lines_in, depth, stack_of}
+use Rattle.control_words.specs.Stack.{Stack, none, line, sub, joined, lines_in, depth, stack_of}
 use Rattle.control_words.specs.declared.nodes.Nodes.{Nodes}
 use Rattle.control_words.specs.declared.nodes.Rule.{Rule}
+use Rattle.service_load.specs.declared.entry.Content.{Content}
+use Rattle.service_load.specs.declared.entry.Content.TheVariants.{Line, Include, Substack}
 use Rattle.service_load.specs.declared.entry.Entry.{Entry}
+use Rattle.service_load.specs.declared.inclusion.Inclusion.{Inclusion}
 use Rattle.service_load.specs.declared.load_fault.LoadFault.{LoadFault}
 use Rattle.service_load.specs.declared.loader.Loader.{Loader}
 use Rattle.service_load.specs.declared.rule_file.RuleFile.{RuleFile}
@@ -20,8 +23,8 @@ use Rattle.service_load.specs.Kinds.{KindCounts}
 use Rattle.service_load.specs.Names.{texts_under}
 use Rattle.service_load.specs.declared.opener.Opener.{Opener as Because}
 use Rattle.service_load.specs.declared.opener.Opener.TheVariants as openers
-use Rattle.service_load.specs.Order.{Item, Opener, as_service, as_other, as_last, by_rule, items, items_of, tree_items}
-use Rattle.service_load.specs.Tree.{nodes, nodes_of, tree_of}
+use Rattle.service_load.specs.Order.{Item, Opener, as_service, as_other, as_last, by_rule, entry_items, items, items_of, tree_items}
+use Rattle.service_load.specs.Tree.{serves, entry_nodes, nodes, nodes_of, tree_from}
 
 -- the texts of the files that a vault tells of, under a root
 abbrev pub texts_of : List ℕ → VaultState → List ℕ → Option (List ℕ)
@@ -71,6 +74,21 @@ AddsLine (Ok x) was is before after name number rule = (was.lines < 4096) × (is
 AddsLine (Err (Named f)) was is before after name number rule = (4096 ≤ was.lines) × (is ≡ was) × (f ≡ fault_at name number TooManyLines)
 AddsLine (Err NoMemory) was is before after name number rule = Unit {0}
 
+-- an entry was taken, which serves the type or doesn't: its line was added, or it gives the file that it brings in
+abbrev pub TakesContent : Bool → Content → Result (Option Inclusion) (Refuse LoadFault) → Loader → Loader → Stack → Stack → List ℕ → ℕ → Type 0
+TakesContent false content result was is before after name number = (result ≡ Ok None) × (is ≡ was) × (after ≡ before)
+TakesContent true (Line rule) result was is before after name number = AddsLine result was is before after name number rule × IfOk result (λ left. left ≡ None)
+TakesContent true (Include file) result was is before after name number = (result ≡ Ok (Some (record { line = number; file = plain_file file; as_substack = false }))) × (is ≡ was) × (after ≡ before)
+TakesContent true (Substack file) result was is before after name number = (result ≡ Ok (Some (record { line = number; file = plain_file file; as_substack = true }))) × (is ≡ was) × (after ≡ before)
+
+abbrev pub TakesEntry : Result (Option Inclusion) (Refuse LoadFault) → Loader → Loader → Stack → Stack → RuleType → List ℕ → Entry → Type 0
+TakesEntry result was is before after type name entry = TakesContent (serves type entry.rule_type) entry.content result was is before after name entry.line
+
+-- the nodes of a file as they are brought in: as a substack of them, or they themselves
+abbrev pub brought_in : Bool → Stack → Stack
+brought_in true inner = sub inner none
+brought_in false inner = inner
+
 module _ (texts : List ℕ → Option (List ℕ)) where
   -- what a file that is opened at this level brings: what a load meets, and its nodes
   abbrev pub items_at : ℕ → RuleType → Opener → RuleFile → List Item
@@ -78,6 +96,13 @@ module _ (texts : List ℕ → Option (List ℕ)) where
 
   abbrev pub nodes_at : ℕ → RuleType → RuleFile → Stack
   nodes_at level type file = nodes texts (17 - level) type file
+
+  -- what an entry of the file with this name brings, at this level
+  abbrev pub entry_items_at : ℕ → RuleType → List ℕ → Entry → List Item
+  entry_items_at level type name entry = entry_items (items_at (level + 1) type) type name entry
+
+  abbrev pub entry_nodes_at : ℕ → RuleType → Entry → Stack
+  entry_nodes_at level type entry = entry_nodes (λ name. nodes_at (level + 1) type (plain_file name)) type entry
 
   -- what the entries of a file at this level bring
   abbrev pub entries_items : ℕ → RuleType → List ℕ → List Entry → List Item
@@ -120,7 +145,7 @@ pub record Grows (level : ℕ) (was is : Loader) (before after : Stack) : Type 0
 -- over a vault that tells, a tree was made along its items
 pub record Makes (result : Result Nodes (Refuse LoadFault)) (texts : List ℕ → Option (List ℕ)) (old new : VaultState) (was is : Loader) (own other : RuleFile) (type : RuleType) : Type 0 where
   pub looks : Looks result (look texts old.fails (counts_of was old) (tree_items texts own other type)) (counts_of is new)
-  pub made : IfOk result (λ made. stack_of made.vec.items ≡ tree_of (nodes texts 17 type own) (nodes texts 17 type other))
+  pub made : IfOk result (λ made. stack_of made.vec.items ≡ tree_from texts own other type)
   pub stays : OnlyCalls old new
 
 -- in any world a stack has at most 4,096 lines, and substacks nested at most 16 deep

@@ -66,6 +66,10 @@ module _ (texts : List ℕ → Option (List ℕ)) where
   tree_items own other type =
       begin ∷ (items 17 type as_service own ++ (if count (nodes texts 17 type own) == 0 then items 17 type (other_opener own) other else []))
 
+  -- the four trees of a service's file and that of `other`, in turn
+  abbrev pub trees_items : RuleFile → RuleFile → List Item
+  trees_items own other = flat_map (tree_items own other) all_types
+
   -- the whole order
   abbrev pub order : Bool → List ℕ → List Item
-  order is_folder service = flat_map (tree_items (service_file is_folder service) (service_file is_folder (codes "other"))) all_types
+  order is_folder service = trees_items (service_file is_folder service) (service_file is_folder (codes "other"))

@@ -39,6 +39,10 @@ module _ (texts : List ℕ → Option (List ℕ)) where
   nodes zero type file = none
   nodes (suc levels) type file = nodes_of (λ name. nodes levels type (plain_file name)) type (entries_of (is_in_folder file) (rules_held (held texts file)))
 
-  -- the tree of a service for a type: the service's nodes, at level 0 of 16, or those of `other` where it has none
+  -- the tree of a service's file for a type: its nodes, at level 0 of 16, or those of the file of `other` where it has none
+  abbrev pub tree_from : RuleFile → RuleFile → RuleType → Stack
+  tree_from own other type = tree_of (nodes 17 type own) (nodes 17 type other)
+
+  -- the tree of a service for a type
   abbrev pub tree : Bool → List ℕ → RuleType → Stack
-  tree is_folder service type = tree_of (nodes 17 type (service_file is_folder service)) (nodes 17 type (service_file is_folder (codes "other")))
+  tree is_folder service = tree_from (service_file is_folder service) (service_file is_folder (codes "other"))

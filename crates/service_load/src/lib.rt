@@ -4,6 +4,7 @@
 
 mod entry;
 mod file_rules;
+mod inclusion;
 mod laws;
 mod load_fault;
 mod loader;

@@ -3,20 +3,24 @@ ghost use Rattle.pam_outside.specs.Counts.{fails_next};
 ghost use Rattle.pam_outside.specs.Files.{counted};
 ghost use Rattle.control_words.specs.Stack.{stack_of};
 ghost use Rattle.service_load.specs.Answers.{Answers, IsRefusal};
-ghost use Rattle.service_load.specs.FirstFault.{opening_fault};
+ghost use Rattle.service_load.specs.FirstFault.{look, opening_fault};
 ghost use Rattle.service_load.specs.Checking.{entries_held};
 ghost use Rattle.service_load.specs.Files.{held, is_absent, is_in_folder};
-ghost use Rattle.service_load.specs.Order.{as_last, as_other};
-ghost use Rattle.service_load.specs.Loading.{AddsLine, Brings, CountsFaults, Grows, IfCalled, IsBounded, Makes, OnlyCalls, Opens, counts_of, items_at, nodes_at, opened_answer, opener_of, texts_of};
+ghost use Rattle.service_load.specs.Load.{AreBounded, LoadsBy};
+ghost use Rattle.service_load.specs.Order.{as_last, as_other, trees_items};
+ghost use Rattle.service_load.specs.Tree.{tree_from};
+ghost use Rattle.service_load.specs.Loading.{AddsLine, Brings, CountsFaults, Grows, IfCalled, IsBounded, Makes, OnlyCalls, Opens, TakesEntry, counts_of, items_at, nodes_at, opened_answer, opener_of, texts_of};
 
 use crate::entry::{Content, Entries, Entry};
 use crate::file_rules::entries_in;
+use crate::inclusion::Inclusion;
 use crate::load_fault::{LoadFault, refused};
 use crate::names::path_of;
 use crate::opener::Opener;
 use crate::position::Position;
 use crate::rule_file::RuleFile;
 use crate::rule_type::RuleType;
+use crate::trees::Trees;
 use control_words::{Node, Nodes, Rule};
 use pam_base::{FaultKind, Refuse};
 use pam_outside::{Vault, VaultFault, read_file};
@@ -133,6 +137,38 @@ impl Loader {
         Ok(())
     }
 
+    /// Takes an entry of the file with this name, where it serves the type: adds its line, or gives the file that it
+    /// brings in.
+    fn take_entry(
+        &mut self,
+        alloc: Global,
+        rule_type: RuleType,
+        name: &[u8],
+        entry: Entry,
+        nodes: &mut Nodes,
+    ) -> Result<Option<Inclusion>, Refuse<LoadFault>>
+        ensures { TakesEntry result self.old self.new (stack_of nodes.old.vec.items) (stack_of nodes.new.vec.items)
+            rule_type name.now entry }
+    {
+        if !entry.serves(rule_type) {
+            return Ok(None);
+        }
+        let Entry { line, content, .. } = entry;
+        let (included, as_substack) = match content {
+            Content::Line(rule) => {
+                self.add_line(alloc, name, line, rule, nodes)?;
+                return Ok(None);
+            }
+            Content::Include(included) => (included, false),
+            Content::Substack(included) => (included, true),
+        };
+        Ok(Some(Inclusion {
+            line,
+            file: RuleFile::plain(included),
+            as_substack,
+        }))
+    }
+
     /// Adds the nodes of a file, and answers whether it is there.
     pub(crate) fn add_file(
         &mut self,
@@ -165,24 +201,14 @@ impl Loader {
             ..at
         };
         for entry in entries.into_vec() {
-            if !entry.serves(at.rule_type) {
+            let name = file.name.bytes();
+            let Some(inclusion) = self.take_entry(alloc, at.rule_type, name, entry, nodes)? else {
                 continue;
-            }
-            let Entry { line, content, .. } = entry;
-            let by_rule = Opener::Rule(file.name.bytes(), line);
-            match content {
-                Content::Line(rule) => self.add_line(alloc, file.name.bytes(), line, rule, nodes)?,
-                Content::Include(name) => {
-                    let included = RuleFile::plain(name);
-                    self.add_file(alloc, vault, deeper, by_rule, &included, nodes)?;
-                }
-                Content::Substack(name) => {
-                    let included = RuleFile::plain(name);
-                    let mut inner = Nodes::new(alloc);
-                    self.add_file(alloc, vault, deeper, by_rule, &included, &mut inner)?;
-                    nodes.push(Node::Sub(inner))?;
-                }
-            }
+            };
+            let by_rule = Opener::Rule(name, inclusion.line);
+            let mut inner = Nodes::new(alloc);
+            self.add_file(alloc, vault, deeper, by_rule, &inclusion.file, &mut inner)?;
+            inclusion.bring_in(inner, nodes)?;
         }
         Ok(true)
     }
@@ -218,6 +244,36 @@ impl Loader {
         let opener = opener_of_other(there, own);
         self.add_file(alloc, vault, at, opener, other, &mut nodes)?;
         Ok(nodes)
+    }
+
+    /// The stacks of a service for all four types.
+    pub(crate) fn trees(
+        &mut self,
+        alloc: Global,
+        vault: &mut dyn Vault,
+        root: &[u8],
+        own: &RuleFile,
+        other: &RuleFile,
+    ) -> Result<Trees, Refuse<LoadFault>>
+        ensures tells { vault_tells vault.new ≡ vault_tells vault.old }
+        ensures told { IsTrue (vault_tells vault.old) → LoadsBy result
+            (look (texts_of root.now (vault_holds vault.old)) (vault_holds vault.old).fails (counts_of self.old (vault_holds vault.old))
+                (trees_items (texts_of root.now (vault_holds vault.old)) own.now other.now))
+            (vault_holds vault.new) (tree_from (texts_of root.now (vault_holds vault.old)) own.now other.now) }
+        ensures stays { IsTrue (vault_tells vault.old) → OnlyCalls (vault_holds vault.old) (vault_holds vault.new) }
+        ensures bounded { IfOk result (λ trees. AreBounded trees) }
+        ensures faults { CountsFaults result (vault_faults vault.old) (vault_faults vault.new) }
+    {
+        let auth = self.tree(alloc, vault, root, RuleType::Auth, own, other)?;
+        let account = self.tree(alloc, vault, root, RuleType::Account, own, other)?;
+        let password = self.tree(alloc, vault, root, RuleType::Password, own, other)?;
+        let session = self.tree(alloc, vault, root, RuleType::Session, own, other)?;
+        Ok(Trees {
+            auth,
+            account,
+            password,
+            session,
+        })
     }
 }
 

@@ -7,7 +7,6 @@ use crate::load_fault::{LoadFault, refused};
 use crate::loader::Loader;
 use crate::names::path_of;
 use crate::rule_file::RuleFile;
-use crate::rule_type::RuleType;
 use crate::trees::Trees;
 use pam_base::{FaultKind, Refuse};
 use pam_outside::{ReplaceFault, Vault, is_folder};
@@ -75,14 +74,5 @@ fn load_from(
         openings: 0,
         lines: 0,
     };
-    let auth = loader.tree(alloc, vault, root, RuleType::Auth, &own, &other)?;
-    let account = loader.tree(alloc, vault, root, RuleType::Account, &own, &other)?;
-    let password = loader.tree(alloc, vault, root, RuleType::Password, &own, &other)?;
-    let session = loader.tree(alloc, vault, root, RuleType::Session, &own, &other)?;
-    Ok(Trees {
-        auth,
-        account,
-        password,
-        session,
-    })
+    loader.trees(alloc, vault, root, &own, &other)
 }

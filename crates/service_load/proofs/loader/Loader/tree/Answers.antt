@@ -1,5 +1,6 @@
 use Rattle.std.proofs.Common.{◌≡◌, cond, Ok, Err, refl, sym, ◌∙◌, rules}
 use Rattle.control_words.specs.Stack.{stack_of}
+use Rattle.service_load.specs.Loading.{items_at, nodes_at}
 use Rattle.service_load.specs.Order.{as_other, as_last}
 use Rattle.service_load.proofs.Expanding.{since}
 use Rattle.service_load.proofs.Treeing.{bounded_one, bounded_two, makes_own, makes_other, stop_own, stop_other}
@@ -56,7 +57,7 @@ returns-in_err-add_file-clause-told g c = λ tells.
     let opener = cond there as_other (as_last own.name) in
     let empty = sym c.is_empty.ensures ∙ c.if-not-is_empty.false in
     let told = rw c.opener_of_other-opener.ensures at (c.in_err-add_file.ensures.told (c.in_ok-there.ensures.tells ∙ tells)) in
-    let s = since (Err r) root first mid now half is 0 type opener other stack after brings.stays told in
+    let s = since (Err r) root first mid now half is (λ texts. items_at texts 0 type opener other) stack after (λ texts. nodes_at texts 0 type other) brings.stays told in
     let answered : c.from_residual-in_err-add_file.result ≡ Err r = search rules in
     rw answered (stop_other root first was own other type mid now half is stack there brings.looks brings.nodes empty (c.in_ok-there.ensures.there tells) r s.looks s.stays)
 
@@ -79,7 +80,7 @@ returns-clause-told g c = λ tells.
     let opener = cond there as_other (as_last own.name) in
     let empty = sym c.is_empty.ensures ∙ c.if-not-is_empty.false in
     let told = rw c.opener_of_other-opener.ensures at (c.in_ok-add_file.ensures.told (c.in_ok-there.ensures.tells ∙ tells)) in
-    let s = since (Ok c.in_ok-add_file.field-0) root first mid now half is 0 type opener other stack after brings.stays told in
+    let s = since (Ok c.in_ok-add_file.field-0) root first mid now half is (λ texts. items_at texts 0 type opener other) stack after (λ texts. nodes_at texts 0 type other) brings.stays told in
     makes_other root first was own other type mid now half is stack there brings.looks brings.nodes empty (c.in_ok-there.ensures.there tells) c.add_file-2.new.nodes s.looks s.nodes s.stays
 
 pub returns-clause-bounded : goal.returns-clause-bounded

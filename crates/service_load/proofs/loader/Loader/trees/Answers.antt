@@ -1,15 +1,15 @@
 use Rattle.std.proofs.Common.{◌≡◌, ◌∙◌, Ok, Err, refl, rules}
 use Rattle.service_load.proofs.Treeing.{first_tree, from_fourth, from_second, from_third, loads_four, next_tree, only_only, stops_whole}
-use Rattle.service_load.proofs.loading.load_from.Goals as goal
+use Rattle.service_load.proofs.loader.Loader.trees.Goals as goal
 
 pub returns-in_err-auth-clause-told : goal.returns-in_err-auth-clause-told
 returns-in_err-auth-clause-told g c = λ tells.
     let root = c.args.root.now in
     let first = (goal.Vault-dyn g c.args.vault.now).vault_holds c.args.vault.now.1 in
     let r = c.in_err-auth.field-0.0 in
-    let answered : c.from_residual-in_err-auth.result ≡ Err r = search rules in
+    let answered : c.from_residual.result ≡ Err r = search rules in
     let one = first_tree (Err r) root first _ _ _ _ _ _ (c.in_err-auth.ensures.told tells) in
-    rw answered (rw (c.in_ok-own.ensures, c.in_ok-other.ensures) at (stops_whole r root first _ c.in_ok-own.own c.in_ok-other.other _ _ _ _ _ refl one))
+    rw answered ((stops_whole r root first _ c.args.own.now c.args.other.now _ _ _ _ _ refl one))
 
 pub returns-in_err-auth-clause-stays : goal.returns-in_err-auth-clause-stays
 returns-in_err-auth-clause-stays g c = λ tells. (c.in_err-auth.ensures.told tells).stays
@@ -22,7 +22,7 @@ returns-in_err-account-clause-told g c = λ tells.
     let answered : c.from_residual-in_err-account.result ≡ Err r = search rules in
     let one = first_tree (Ok c.in_ok-auth.auth) root first _ _ _ _ _ _ (c.in_ok-auth.ensures.told tells) in
     let two = next_tree (Err r) root first _ _ _ _ _ _ _ _ _ one.stays one.looks (c.in_err-account.ensures.told (c.in_ok-auth.ensures.tells ∙ tells)) in
-    rw answered (rw (c.in_ok-own.ensures, c.in_ok-other.ensures) at (stops_whole r root first _ c.in_ok-own.own c.in_ok-other.other _ _ _ _ _ (from_second root first c.in_ok-own.own c.in_ok-other.other) two))
+    rw answered ((stops_whole r root first _ c.args.own.now c.args.other.now _ _ _ _ _ (from_second root first c.args.own.now c.args.other.now) two))
 
 pub returns-in_err-account-clause-stays : goal.returns-in_err-account-clause-stays
 returns-in_err-account-clause-stays g c = λ tells.
@@ -40,7 +40,7 @@ returns-in_err-password-clause-told g c = λ tells.
     let one = first_tree (Ok c.in_ok-auth.auth) root first _ _ _ _ _ _ (c.in_ok-auth.ensures.told tells) in
     let two = next_tree (Ok c.in_ok-account.account) root first _ _ _ _ _ _ _ _ _ one.stays one.looks (c.in_ok-account.ensures.told (c.in_ok-auth.ensures.tells ∙ tells)) in
     let three = next_tree (Err r) root first _ _ _ _ _ _ _ _ _ two.stays two.looks (c.in_err-password.ensures.told (c.in_ok-account.ensures.tells ∙ c.in_ok-auth.ensures.tells ∙ tells)) in
-    rw answered (rw (c.in_ok-own.ensures, c.in_ok-other.ensures) at (stops_whole r root first _ c.in_ok-own.own c.in_ok-other.other _ _ _ _ _ (from_third root first c.in_ok-own.own c.in_ok-other.other) three))
+    rw answered ((stops_whole r root first _ c.args.own.now c.args.other.now _ _ _ _ _ (from_third root first c.args.own.now c.args.other.now) three))
 
 pub returns-in_err-password-clause-stays : goal.returns-in_err-password-clause-stays
 returns-in_err-password-clause-stays g c = λ tells.
@@ -60,7 +60,7 @@ returns-in_err-session-clause-told g c = λ tells.
     let two = next_tree (Ok c.in_ok-account.account) root first _ _ _ _ _ _ _ _ _ one.stays one.looks (c.in_ok-account.ensures.told (c.in_ok-auth.ensures.tells ∙ tells)) in
     let three = next_tree (Ok c.in_ok-password.password) root first _ _ _ _ _ _ _ _ _ two.stays two.looks (c.in_ok-password.ensures.told (c.in_ok-account.ensures.tells ∙ c.in_ok-auth.ensures.tells ∙ tells)) in
     let four = next_tree (Err r) root first _ _ _ _ _ _ _ _ _ three.stays three.looks (c.in_err-session.ensures.told (c.in_ok-password.ensures.tells ∙ c.in_ok-account.ensures.tells ∙ c.in_ok-auth.ensures.tells ∙ tells)) in
-    rw answered (rw (c.in_ok-own.ensures, c.in_ok-other.ensures) at (stops_whole r root first _ c.in_ok-own.own c.in_ok-other.other _ _ _ _ _ (from_fourth root first c.in_ok-own.own c.in_ok-other.other) four))
+    rw answered ((stops_whole r root first _ c.args.own.now c.args.other.now _ _ _ _ _ (from_fourth root first c.args.own.now c.args.other.now) four))
 
 pub returns-in_err-session-clause-stays : goal.returns-in_err-session-clause-stays
 returns-in_err-session-clause-stays g c = λ tells.
@@ -79,7 +79,7 @@ returns-clause-told g c = λ tells.
     let two = next_tree (Ok c.in_ok-account.account) root first _ _ _ _ _ _ _ _ _ one.stays one.looks (c.in_ok-account.ensures.told (c.in_ok-auth.ensures.tells ∙ tells)) in
     let three = next_tree (Ok c.in_ok-password.password) root first _ _ _ _ _ _ _ _ _ two.stays two.looks (c.in_ok-password.ensures.told (c.in_ok-account.ensures.tells ∙ c.in_ok-auth.ensures.tells ∙ tells)) in
     let four = next_tree (Ok c.in_ok-session.session) root first _ _ _ _ _ _ _ _ _ three.stays three.looks (c.in_ok-session.ensures.told (c.in_ok-password.ensures.tells ∙ c.in_ok-account.ensures.tells ∙ c.in_ok-auth.ensures.tells ∙ tells)) in
-    rw (c.in_ok-own.ensures, c.in_ok-other.ensures) at (loads_four root first _ _ _ _ c.in_ok-own.own c.in_ok-other.other _ _ _ _ _ _ _ _ _ one two three four)
+    (loads_four root first _ _ _ _ c.args.own.now c.args.other.now _ _ _ _ _ _ _ _ _ one two three four)
 
 pub returns-clause-stays : goal.returns-clause-stays
 returns-clause-stays g c = λ tells.
