@@ -258,7 +258,7 @@ impl Loader {
         ensures tells { vault_tells vault.new ≡ vault_tells vault.old }
         ensures told { IsTrue (vault_tells vault.old) → LoadsBy result
             (look (texts_of root.now (vault_holds vault.old)) (vault_holds vault.old).fails (counts_of self.old (vault_holds vault.old))
-                (trees_items (texts_of root.now (vault_holds vault.old)) own.now other.now))
+            (trees_items (texts_of root.now (vault_holds vault.old)) own.now other.now))
             (vault_holds vault.new) (tree_from (texts_of root.now (vault_holds vault.old)) own.now other.now) }
         ensures stays { IsTrue (vault_tells vault.old) → OnlyCalls (vault_holds vault.old) (vault_holds vault.new) }
         ensures bounded { IfOk result (λ trees. AreBounded trees) }

@@ -89,7 +89,7 @@ loop-entry-preserved g t c =
     let brings = rw (c.bytes-name.ensures, c.new-inner.ensures) at c.in_ok-add_file.ensures in
     let added = rw taken.stack at c.in_ok-bring_in.ensures in
     let moved = λ (tells : _). since (Ok c.in_ok-add_file.field-0) root first here new is on (λ texts. items_at texts (level + 1) type (by_rule name i.line) i.file) none inner (λ texts. nodes_at texts (level + 1) type i.file) (inv.stays tells)
-        (brings.told (inv.tells ∙ tells)) in
+    (brings.told (inv.tells ∙ tells)) in
     record {
       tells = brings.tells ∙ inv.tells;
       going = λ tells. going_past texts first.fails (counts_of c.open.new.self old) (counts_of was here) level type name (into_iter_items c.into_iter-entry-iterator.result) left before now e (counts_of on new) (stack_of c.bring_in.new.nodes.vec.items) (rw steps.0 at (inv.going tells))
@@ -155,10 +155,10 @@ returns-in_err-add_file-clause-told g t c = λ tells.
     let r = c.in_err-add_file.field-0.0 in
     let answered : c.from_residual-in_err-add_file.result ≡ Err r = search rules in
     let s = since (Err r) root first here new is on (λ texts. items_at texts (level + 1) type (by_rule name i.line) i.file) none (stack_of c.add_file.new.nodes.vec.items) (λ texts. nodes_at texts (level + 1) type i.file) (inv.stays tells)
-        (rw (c.bytes-name.ensures, c.new-inner.ensures) at (c.in_err-add_file.ensures.told (inv.tells ∙ tells))) in
+    (rw (c.bytes-name.ensures, c.new-inner.ensures) at (c.in_err-add_file.ensures.told (inv.tells ∙ tells))) in
     rw answered (brings_stop root first old new c.args.self.now c.open.new.self on level type (opener_of c.args.opener) c.args.file.now entries before after r opens
     (all_stop texts first.fails r (counts_of c.open.new.self old) (counts_of was here) (counts_of on new) level type name entries left before now e (rw (c.in-Some-entry.ensures.steps.0, whole) at (inv.going tells))
-        (file_stops texts first.fails r (counts_of was here) (counts_of on new) _ _ taken.items (rw taken.loader at s.looks))) s.stays)
+    (file_stops texts first.fails r (counts_of was here) (counts_of on new) _ _ taken.items (rw taken.loader at s.looks))) s.stays)
 
 pub returns-clause-told : goal.returns-clause-told
 returns-clause-told g t c = λ tells.
