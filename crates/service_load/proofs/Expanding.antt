@@ -240,6 +240,13 @@ since r root first old new was is items before after added only brings =
     let b : P (record first { calls = old.calls }) = subst P only brings in
     record { looks = b.looks; nodes = b.nodes; stays = b.stays }
 
+-- what a file that is brought in brings
+pub file_since : (r : Result Bool (Refuse LoadFault)) (root : List ℕ) (first old new : VaultState) (was is : Loader) (level : ℕ) (type : RuleType) (name : List ℕ) (i : Inclusion) (inner : Stack) → OnlyCalls first old
+    → Brings r (texts_of root old) old new was is (items_at (texts_of root old) (level + 1) type (by_rule name i.line) i.file) none inner (nodes_at (texts_of root old) (level + 1) type i.file)
+    → Since r root first old new was is (items_at (texts_of root first) (level + 1) type (by_rule name i.line) i.file) none inner (nodes_at (texts_of root first) (level + 1) type i.file)
+file_since r root first old new was is level type name i inner =
+    since r root first old new was is (λ texts. items_at texts (level + 1) type (by_rule name i.line) i.file) none inner (λ texts. nodes_at texts (level + 1) type i.file)
+
 -- ---- a file
 
 module _ (root : List ℕ) (first old now : VaultState) (was opened is : Loader) (level : ℕ) (type : RuleType) (opener : Opener) (file : RuleFile) (entries : List Entry) (before after : Stack) where

@@ -17,12 +17,12 @@ use Rattle.service_load.specs.FirstFault.{Counts, look}
 use Rattle.service_load.specs.Entry.{folder_name}
 use Rattle.service_load.specs.Load.{LoadsBy, LoadsFrom, Loads, loaded_from, has_folder}
 use Rattle.service_load.specs.Names.{path_of}
-use Rattle.service_load.specs.Loading.{texts_of, counts_of, Looks, OnlyCalls, Grows, IsBounded, Makes, items_at, nodes_at}
+use Rattle.service_load.specs.Loading.{texts_of, counts_of, Looks, OnlyCalls, Brings, Grows, IsBounded, Makes, items_at, nodes_at}
 use Rattle.std.specs.List.{flat_map}
 use Rattle.service_load.specs.declared.rule_type.RuleType.TheVariants.{Auth, Account, Password, Session}
 use Rattle.service_load.specs.Order.{Item, Opener, as_service, as_other, as_last, items, other_opener, tree_items, trees_items}
 use Rattle.service_load.specs.Tree.{nodes, tree, tree_from}
-use Rattle.service_load.proofs.Expanding.{look_past, look_stops}
+use Rattle.service_load.proofs.Expanding.{Since, since, look_past, look_stops}
 
 empty-none : (s : Stack) → eqb (count s) 0 ≡ true → s ≡ none
 empty-none none e = refl
@@ -101,6 +101,13 @@ module _ (root : List ℕ) (first : VaultState) (was : Loader) (own other : Rule
     pub stop_other : (r : Refuse LoadFault) → Looks {A = Bool} (Err r) (look texts first.fails (counts_of half mid) (items_at texts 0 type opener other)) (counts_of is now) → OnlyCalls first now → Makes (Err r) texts first now was is own other type
     stop_other (refusals.Named f) looks only = record { looks = on_to_other ∙ looks; made = tt; stays = only }
     stop_other refusals.NoMemory looks only = record { looks = tt; made = tt; stays = only }
+
+-- what the file of `other` brings, said of the vault as it was
+pub other_since : (r : Result Bool (Refuse LoadFault)) (root : List ℕ) (first mid now : VaultState) (half is : Loader) (own other : RuleFile) (type : RuleType) (there : Bool) (before after : Stack) → OnlyCalls first mid
+    → Brings r (texts_of root mid) mid now half is (items_at (texts_of root mid) 0 type (cond there as_other (as_last own.name)) other) before after (nodes_at (texts_of root mid) 0 type other)
+    → Since r root first mid now half is (items_at (texts_of root first) 0 type (cond there as_other (as_last own.name)) other) before after (nodes_at (texts_of root first) 0 type other)
+other_since r root first mid now half is own other type there before after =
+    since r root first mid now half is (λ texts. items_at texts 0 type (cond there as_other (as_last own.name)) other) before after (λ texts. nodes_at texts 0 type other)
 
 -- ---- the four trees
 

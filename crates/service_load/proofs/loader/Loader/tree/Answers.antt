@@ -1,87 +1,44 @@
-use Rattle.std.proofs.Common.{◌≡◌, cond, Ok, Err, refl, sym, ◌∙◌, rules}
+use Rattle.std.proofs.Common.{◌≡◌, Ok, Err, refl, sym, ◌∙◌, rules}
 use Rattle.control_words.specs.Stack.{stack_of}
-use Rattle.service_load.specs.Loading.{items_at, nodes_at}
-use Rattle.service_load.specs.Order.{as_other, as_last}
-use Rattle.service_load.proofs.Expanding.{since}
-use Rattle.service_load.proofs.Treeing.{bounded_one, bounded_two, makes_own, makes_other, stop_own, stop_other}
+use Rattle.service_load.proofs.Treeing.{bounded_one, bounded_two, other_since, makes_own, makes_other, stop_own, stop_other}
 use Rattle.service_load.proofs.loader.Loader.tree.Goals as goal
 
 pub returns-in_err-there-clause-told : goal.returns-in_err-there-clause-told
 returns-in_err-there-clause-told g c = λ tells.
-    let root = c.args.root.now in
-    let type = c.args.rule_type in
-    let own = c.args.own.now in
-    let other = c.args.other.now in
-    let was = c.args.self.now in
     let first = (goal.Vault-dyn g c.args.vault.now).vault_holds c.args.vault.now.1 in
-    let mid = (goal.Vault-dyn g (c.args.vault.now.0, c.add_file.new.vault)).vault_holds c.add_file.new.vault in
     let r = c.in_err-there.field-0.0 in
     let answered : c.from_residual.result ≡ Err r = search rules in
     let brings = rw c.new-nodes.ensures at (c.in_err-there.ensures.told tells) in
-    rw answered (stop_own root first was own other type r mid c.add_file.new.self brings.looks brings.stays)
+    rw answered (stop_own c.args.root.now first _ _ _ _ r _ _ brings.looks brings.stays)
 
 pub returns-then-not-is_empty-clause-told : goal.returns-then-not-is_empty-clause-told
 returns-then-not-is_empty-clause-told g c = λ tells.
-    let root = c.args.root.now in
-    let type = c.args.rule_type in
-    let own = c.args.own.now in
-    let other = c.args.other.now in
-    let was = c.args.self.now in
     let first = (goal.Vault-dyn g c.args.vault.now).vault_holds c.args.vault.now.1 in
-    let mid = (goal.Vault-dyn g (c.args.vault.now.0, c.add_file.new.vault)).vault_holds c.add_file.new.vault in
     let brings = rw c.new-nodes.ensures at (c.in_ok-there.ensures.told tells) in
-    let half = c.add_file.new.self in
-    let stack = stack_of c.add_file.new.nodes.vec.items in
-    makes_own root first was own other type c.add_file.new.nodes mid half brings.looks brings.nodes (sym c.is_empty.ensures ∙ c.if-not-is_empty.true) brings.stays
+    makes_own c.args.root.now first _ _ _ _ c.add_file.new.nodes _ _ brings.looks brings.nodes (sym c.is_empty.ensures ∙ c.if-not-is_empty.true) brings.stays
 
 pub returns-then-not-is_empty-clause-bounded : goal.returns-then-not-is_empty-clause-bounded
 returns-then-not-is_empty-clause-bounded g c = bounded_one (record c.args.self.now { lines = 0 }) c.add_file.new.self (stack_of c.add_file.new.nodes.vec.items) refl (rw c.new-nodes.ensures at c.in_ok-there.ensures.grows)
 
 pub returns-in_err-add_file-clause-told : goal.returns-in_err-add_file-clause-told
 returns-in_err-add_file-clause-told g c = λ tells.
-    let root = c.args.root.now in
-    let type = c.args.rule_type in
-    let own = c.args.own.now in
-    let other = c.args.other.now in
-    let was = c.args.self.now in
     let first = (goal.Vault-dyn g c.args.vault.now).vault_holds c.args.vault.now.1 in
     let mid = (goal.Vault-dyn g (c.args.vault.now.0, c.add_file.new.vault)).vault_holds c.add_file.new.vault in
-    let brings = rw c.new-nodes.ensures at (c.in_ok-there.ensures.told tells) in
-    let half = c.add_file.new.self in
-    let stack = stack_of c.add_file.new.nodes.vec.items in
     let r = c.in_err-add_file.field-0.0 in
-    let now = (goal.Vault-dyn g (c.args.vault.now.0, c.add_file-2.new.vault)).vault_holds c.add_file-2.new.vault in
-    let is = c.add_file-2.new.self in
-    let after = stack_of c.add_file-2.new.nodes.vec.items in
-    let there = c.in_ok-there.there in
-    let opener = cond there as_other (as_last own.name) in
-    let empty = sym c.is_empty.ensures ∙ c.if-not-is_empty.false in
-    let told = rw c.opener_of_other-opener.ensures at (c.in_err-add_file.ensures.told (c.in_ok-there.ensures.tells ∙ tells)) in
-    let s = since (Err r) root first mid now half is (λ texts. items_at texts 0 type opener other) stack after (λ texts. nodes_at texts 0 type other) brings.stays told in
     let answered : c.from_residual-in_err-add_file.result ≡ Err r = search rules in
-    rw answered (stop_other root first was own other type mid now half is stack there brings.looks brings.nodes empty (c.in_ok-there.ensures.there tells) r s.looks s.stays)
+    let brings = rw c.new-nodes.ensures at (c.in_ok-there.ensures.told tells) in
+    let told = rw c.opener_of_other-opener.ensures at (c.in_err-add_file.ensures.told (c.in_ok-there.ensures.tells ∙ tells)) in
+    let s = other_since (Err r) c.args.root.now first mid _ _ _ c.args.own.now c.args.other.now c.args.rule_type c.in_ok-there.there _ _ brings.stays told in
+    rw answered (stop_other c.args.root.now first _ c.args.own.now _ _ mid _ _ _ _ c.in_ok-there.there brings.looks brings.nodes (sym c.is_empty.ensures ∙ c.if-not-is_empty.false) (c.in_ok-there.ensures.there tells) r s.looks s.stays)
 
 pub returns-clause-told : goal.returns-clause-told
 returns-clause-told g c = λ tells.
-    let root = c.args.root.now in
-    let type = c.args.rule_type in
-    let own = c.args.own.now in
-    let other = c.args.other.now in
-    let was = c.args.self.now in
     let first = (goal.Vault-dyn g c.args.vault.now).vault_holds c.args.vault.now.1 in
     let mid = (goal.Vault-dyn g (c.args.vault.now.0, c.add_file.new.vault)).vault_holds c.add_file.new.vault in
     let brings = rw c.new-nodes.ensures at (c.in_ok-there.ensures.told tells) in
-    let half = c.add_file.new.self in
-    let stack = stack_of c.add_file.new.nodes.vec.items in
-    let now = (goal.Vault-dyn g (c.args.vault.now.0, c.add_file-2.new.vault)).vault_holds c.add_file-2.new.vault in
-    let is = c.add_file-2.new.self in
-    let after = stack_of c.add_file-2.new.nodes.vec.items in
-    let there = c.in_ok-there.there in
-    let opener = cond there as_other (as_last own.name) in
-    let empty = sym c.is_empty.ensures ∙ c.if-not-is_empty.false in
     let told = rw c.opener_of_other-opener.ensures at (c.in_ok-add_file.ensures.told (c.in_ok-there.ensures.tells ∙ tells)) in
-    let s = since (Ok c.in_ok-add_file.field-0) root first mid now half is (λ texts. items_at texts 0 type opener other) stack after (λ texts. nodes_at texts 0 type other) brings.stays told in
-    makes_other root first was own other type mid now half is stack there brings.looks brings.nodes empty (c.in_ok-there.ensures.there tells) c.add_file-2.new.nodes s.looks s.nodes s.stays
+    let s = other_since (Ok c.in_ok-add_file.field-0) c.args.root.now first mid _ _ _ c.args.own.now c.args.other.now c.args.rule_type c.in_ok-there.there _ _ brings.stays told in
+    makes_other c.args.root.now first _ c.args.own.now _ _ mid _ _ _ _ c.in_ok-there.there brings.looks brings.nodes (sym c.is_empty.ensures ∙ c.if-not-is_empty.false) (c.in_ok-there.ensures.there tells) c.add_file-2.new.nodes s.looks s.nodes s.stays
 
 pub returns-clause-bounded : goal.returns-clause-bounded
 returns-clause-bounded g c =
