@@ -1,10 +1,11 @@
 -- What an authentication comes to, of its pass and of the wait behind it.
-use Rattle.std.proofs.Common.{◌≡◌, ℕ, List, [], Option, Some, None, Bool, true, false, ◌&&◌, is_none, IsTrue, refl, sym, ◌∙◌, ap, subst}
+use Rattle.std.proofs.Common.{◌≡◌, ℕ, List, [], Option, Some, None, Result, Ok, Err, IfOk, Bool, true, false, ◌&&◌, IsTrue, refl, sym, ◌∙◌, ap, subst}
 use Rattle.fail_delay.specs.Delay.{asked_delay}
 use Rattle.fail_delay.specs.Wait.{wait_of}
 use Rattle.item_store.specs.Items.{ItemTexts}
 use Rattle.pam_base.specs.declared.code.Code.{Code}
 use Rattle.pam_base.specs.declared.call.Func.{Func}
+use Rattle.pam_base.specs.declared.fault.NoMemory.{NoMemory}
 use Rattle.pam_base.specs.declared.call.Func.TheVariants.{Authenticate}
 use Rattle.stack_walk.specs.Route.{KeptAnswers}
 use Rattle.pam_base.specs.declared.code.Code.TheVariants.{Abort}
@@ -15,16 +16,14 @@ use Rattle.pam_handle.specs.declared.wait.Wait.{Wait}
 use Rattle.pam_handle.specs.Handle.{Pending, PlainHandle}
 use Rattle.pam_handle.specs.Items.{with_items}
 use Rattle.pam_handle.specs.Pass.{Passed, PassesTo, passed}
-use Rattle.pam_handle.specs.Call.{Called, CallsAs, called, begun_or_going_on, is_other_pending, items_begun, past_in, pending_behind, request_forgotten, rested_by, tokens_cleared, same_func, waited_by}
+use Rattle.pam_handle.specs.Call.{Called, CallsAs, WaitsBehind, called, code_at_end, begun_or_going_on, is_other_pending, items_begun, past_in, pending_behind, request_forgotten, rested_by, tokens_cleared, same_func, waited_by}
+use Rattle.pam_handle.specs.AnyWorld.{Waits, WaitsOnlyAtEnd}
 use Rattle.pam_handle.specs.StackCalls.{authenticate, authenticated, authentication}
 use Rattle.pam_handle.proofs.Calling.{runs}
+use Rattle.pam_handle.proofs.Changing.{room_behind}
 
 false_true : false ≡ true → ⊥
 false_true e = (cc)
-
-pub none_there : (o : Option (List Code)) → is_none o ≡ true → o ≡ None
-none_there None e = refl
-none_there (Some past) e = absurd (false_true e)
 
 -- what tells beside another tells
 pub tells_beside : (a b c : Bool) → c ≡ b → IsTrue (a && b) → IsTrue c
@@ -61,21 +60,42 @@ waited_behind number code h w last longest waited l e = record {
   world_is = e.1 ∙ ap (λ (n : ℕ). rested_by (wait_of h.delay_on number code (asked_delay n w.clock.word)) w) l;
 }
 
-pub authenticated_as : (players : List Player) (number : Code → ℕ → ℕ) (flags : ℕ) (h : PlainHandle) (w : PlainWorld)
-    (given : List Code) (items : ItemTexts) (code : Code) (kept : Option KeptAnswers) (paused : Option (List Code)) (room : PlainRoom) (world last : PlainWorld) (longest : ℕ) (waited : Option Wait) (new : PlainHandle)
-    → is_other_pending h.pending Authenticate ≡ false → given ≡ past_in h.pending → items ≡ items_begun h.pending h.room.transaction.items → paused ≡ None
-    → PassesTo (passed players Authenticate flags Keep h.authenticated h.stacks.auth given (state_of (with_items items h).room w)) code kept paused (state_of room world) → longest ≡ room.transaction.delay
-    → (waited ≡ waited_by code (asked_delay longest world.clock.word) (wait_of h.delay_on number code (asked_delay longest world.clock.word)) h.waited)
-    × (last ≡ rested_by (wait_of h.delay_on number code (asked_delay longest world.clock.word)) world)
-    → new ≡ record (request_forgotten (tokens_cleared (record h { room = room; authenticated = kept; pending = None }))) { waited = waited }
-    → CallsAs (authenticate players number flags h w) code new last
-authenticated_as players number flags h w given items code kept paused room world last longest waited new other g i over e l waits n =
+-- behind a pass, put off or not
+authenticated_is : (number : Code → ℕ → ℕ) (paused : Option (List Code)) (code : Code) (h : PlainHandle) (kept : Option KeptAnswers) (room : PlainRoom) (world last : PlainWorld) (longest : ℕ) (waited : Option Wait) → longest ≡ room.transaction.delay
+    → WaitsBehind number (code_at_end paused (Ok code)) longest h.delay_on h.waited world waited last
+    → CallsAs (authenticated number paused code (record h { room = room; authenticated = kept; pending = pending_behind Authenticate None paused }) world) code
+    (record h { room = room_behind paused room; authenticated = kept; pending = pending_behind Authenticate None paused; waited = waited }) last
+authenticated_is number None code h kept room world last longest waited l e = waited_behind number code (record h { room = room; authenticated = kept; pending = None }) world last longest waited l e
+authenticated_is number (Some past) code h kept room world last longest waited l e = record {
+  code_is = refl;
+  handle_is = ap (λ (o : Option Wait). record h { room = room; authenticated = kept; pending = pending_behind Authenticate None (Some past); waited = o }) e.0;
+  world_is = e.1;
+}
+
+pub authenticated_as : (result : Result Code NoMemory) (players : List Player) (number : Code → ℕ → ℕ) (flags : ℕ) (h : PlainHandle) (w : PlainWorld)
+    (given : List Code) (items : ItemTexts) (kept : Option KeptAnswers) (paused : Option (List Code)) (room : PlainRoom) (world last : PlainWorld) (longest : ℕ) (waited : Option Wait) (new : PlainHandle)
+    → is_other_pending h.pending Authenticate ≡ false → given ≡ past_in h.pending → items ≡ items_begun h.pending h.room.transaction.items
+    → IfOk result (λ code. PassesTo (passed players Authenticate flags Keep h.authenticated h.stacks.auth given (state_of (with_items items h).room w)) code kept paused (state_of room world)) → longest ≡ room.transaction.delay
+    → WaitsBehind number (code_at_end paused result) longest h.delay_on h.waited world waited last
+    → new ≡ record h { room = room_behind paused room; authenticated = kept; pending = pending_behind Authenticate None paused; waited = waited }
+    → IfOk result (λ code. CallsAs (authenticate players number flags h w) code new last)
+authenticated_as (Err none) players number flags h w given items kept paused room world last longest waited new other g i e l waits n = tt
+authenticated_as (Ok code) players number flags h w given items kept paused room world last longest waited new other g i e l waits n =
     let act : List Code → PlainHandle → Called = λ past begun. authentication players number flags past begun w in
     subst (λ (x : PlainHandle). CallsAs (authenticate players number flags h w) code x last) (sym n)
-    (subst (λ (c : Called). CallsAs c code (record (request_forgotten (tokens_cleared (record h { room = room; authenticated = kept; pending = None }))) { waited = waited }) last)
-    (ap (λ (o : Option (List Code)). authenticated number o code (record h { room = room; authenticated = kept; pending = pending_behind Authenticate None o }) world) (sym over)
-    ∙ passed_on number (passed players Authenticate flags Keep h.authenticated h.stacks.auth given (state_of (with_items items h).room w)) h code kept paused room world e
+    (subst (λ (c : Called). CallsAs c code (record h { room = room_behind paused room; authenticated = kept; pending = pending_behind Authenticate None paused; waited = waited }) last)
+    (passed_on number (passed players Authenticate flags Keep h.authenticated h.stacks.auth given (state_of (with_items items h).room w)) h code kept paused room world e
     ∙ ap (λ (past : List Code). act past (with_items items h)) g
     ∙ ap (λ (texts : ItemTexts). act (past_in h.pending) (with_items texts h)) i
     ∙ sym (goes_with_tokens h.pending Authenticate (called Abort h w) act (λ p. authentication players number flags p.past h w) h other (λ p. refl)))
-    (waited_behind number code (record h { room = room; authenticated = kept; pending = None }) world last longest waited l waits))
+    (authenticated_is number paused code h kept room world last longest waited l waits))
+
+some_none : (p : Pending) → ◌≡◌ {A = Option Pending} (Some p) None → ⊥
+some_none p e = (cc)
+
+-- a call that isn't pending any more has waited
+pub waited_at_end : (result : Result Code NoMemory) (paused : Option (List Code)) (room : PlainRoom) (h mid new : PlainHandle) → new ≡ record mid { room = room; pending = pending_behind Authenticate None paused }
+    → WaitsOnlyAtEnd (code_at_end paused result) h.delay_on h.waited mid.waited → IfOk result (λ code. new.pending ≡ None → Waits code h new)
+waited_at_end (Ok code) None room h mid new n w = subst (λ (x : PlainHandle). x.pending ≡ None → Waits code h x) (sym n) (λ _. w)
+waited_at_end (Ok code) (Some past) room h mid new n w = subst (λ (x : PlainHandle). x.pending ≡ None → Waits code h x) (sym n) (λ e. absurd (some_none _ e))
+waited_at_end (Err none) paused room h mid new n w = tt

@@ -179,10 +179,10 @@ sound_behind note modules h items (Some past) room a b e s = record {
   grows = s.grows;
 }
 
-pub change_sound : (note : Notes) (modules : ℕ) (h new : PlainHandle) (items : ItemTexts) (first : Option KeptAnswers) (paused : Option (List Code)) (room : PlainRoom) (a b : PlainProcess)
-    → items ≡ items_begun h.pending h.room.transaction.items
-    → new ≡ record h { room = room_behind paused room; pending = pending_behind ChAuthTok first paused }
+pub runs_soundly : (note : Notes) (modules : ℕ) (h mid new : PlainHandle) (items : ItemTexts) (pending : Option Pending) (paused : Option (List Code)) (room : PlainRoom) (a b : PlainProcess)
+    → items ≡ items_begun h.pending h.room.transaction.items → mid.stacks ≡ h.stacks → mid.names ≡ h.names → mid.delay_on ≡ h.delay_on
+    → new ≡ record mid { room = room_behind paused room; pending = pending }
     → GoesSoundly note modules (record h.room.transaction { items = items }) room.transaction a b → RunsSoundly note modules h new a b
-change_sound note modules h new items first paused room a b i n s =
+runs_soundly note modules h mid new items pending paused room a b i stacks names delay_on n s =
     subst (λ (x : PlainHandle). RunsSoundly note modules h x a b) (sym n)
-    (record { stacks = refl; names = refl; delay_on = refl; goes = sound_behind note modules h items paused room a b (ap (λ (x : ItemTexts). x.service) i ∙ service_begun h.pending h.room.transaction.items) s })
+    (record { stacks = stacks; names = names; delay_on = delay_on; goes = sound_behind note modules h items paused room a b (ap (λ (x : ItemTexts). x.service) i ∙ service_begun h.pending h.room.transaction.items) s })

@@ -76,6 +76,11 @@ pub record WaitsFor (code : Code) (delay_on : Bool) (old new : Option Wait) : Ty
 abbrev pub Waits : Code → PlainHandle → PlainHandle → Type 0
 Waits code old new = WaitsFor code old.delay_on old.waited new.waited
 
+-- behind a call that has ended with a code, or that hasn't
+abbrev pub WaitsOnlyAtEnd : Option Code → Bool → Option Wait → Option Wait → Type 0
+WaitsOnlyAtEnd None delay_on old new = new ≡ old
+WaitsOnlyAtEnd (Some code) delay_on old new = WaitsFor code delay_on old new
+
 -- ---- want of memory
 
 -- what a call keeps without memory: nothing of its own where it keeps answers, and what was kept elsewhere

@@ -1,8 +1,10 @@
 -- What a call of the application comes to, and what of a transaction's calls is common to several (pam_fail_delay(3); that a
 -- call may be put off, and what others answer meanwhile, is this project's own).
-use Rattle.std.specs.Prelude.{◌≡◌, ℕ, Bool, true, false, not, Option, Some, None, List, [], if◌then◌else◌, ◌==◌}
+use Rattle.std.specs.Prelude.{◌≡◌, ℕ, Bool, true, false, not, Option, Some, None, List, [], Result, if◌then◌else◌, ◌==◌}
+use Rattle.std.specs.Result.{result_ok}
 use Rattle.pam_base.specs.declared.code.Code.{Code}
 use Rattle.pam_base.specs.declared.call.Func.{Func}
+use Rattle.pam_base.specs.declared.fault.NoMemory.{NoMemory}
 use Rattle.pam_base.specs.declared.call.Func.TheVariants.{Authenticate, SetCred, AcctMgmt, OpenSession, CloseSession, ChAuthTok}
 use Rattle.item_store.specs.Items.{ItemTexts, without_tokens}
 use Rattle.fail_delay.specs.Delay.{asked_delay}
@@ -100,6 +102,11 @@ abbrev pub items_behind : Option (List Code) → ItemTexts → ItemTexts
 items_behind None items = without_tokens items
 items_behind (Some past) items = items
 
+-- the code with which a call has ended: none where it was put off, and none without memory
+abbrev pub code_at_end : Option (List Code) → Result Code NoMemory → Option Code
+code_at_end None result = result_ok result
+code_at_end (Some past) result = None
+
 -- ---- the wait after an authentication
 
 -- a wait, where there is one, takes the place of what was to be told of an earlier one
@@ -120,3 +127,10 @@ abbrev pub waits_after : (Code → ℕ → ℕ) → Code → PlainHandle → Pla
 waits_after number code h w =
     let asked = asked_delay h.room.transaction.delay w.clock.word in
     waits code asked (wait_of h.delay_on number code asked) h w
+
+-- what was to be told of a wait and what the world is behind a call that has ended with a code, or that hasn't
+abbrev pub WaitsBehind : (Code → ℕ → ℕ) → Option Code → ℕ → Bool → Option Wait → PlainWorld → Option Wait → PlainWorld → Type 0
+WaitsBehind number None longest on before w after last = (after ≡ before) × (last ≡ w)
+WaitsBehind number (Some code) longest on before w after last =
+    let asked = asked_delay longest w.clock.word in
+    (after ≡ waited_by code asked (wait_of on number code asked) before) × (last ≡ rested_by (wait_of on number code asked) w)

@@ -11,9 +11,8 @@ ghost use Rattle.pam_handle.specs.StackCalls.{authenticate};
 use crate::gear::{Gear, GearTold};
 use crate::handle::Handle;
 use crate::pass::pass;
-use crate::pending::{clear_unless_pending, taken_up};
-use crate::put_off::PutOff;
-use crate::waiting::wait;
+use crate::pending::{clear_unless_pending, clear_unless_put_off, code_at_end, taken_up};
+use crate::waiting::wait_behind;
 use data_cleanup::nothing_grows;
 use fail_delay::{DelayFn, DelayTold};
 use frozen_chain::Kept;
@@ -78,19 +77,11 @@ impl Handle {
             &mut self.room,
             world,
         );
-        if !paused.is_none() {
-            self.pending = Some(PutOff {
-                func: Func::Authenticate,
-                paused,
-                first: Kept::none(),
-            });
-            return result;
-        }
-        self.room.transaction.items.clear_tokens();
         let longest = self.room.transaction.delay.longest();
-        self.room.transaction.delay.forget();
-        let code = result?;
-        wait(gear, world, self.delay_on, longest, code, &mut self.waited);
-        Ok(code)
+        clear_unless_put_off(&mut self.room.transaction.items, &paused);
+        let code = code_at_end(&result, &paused);
+        wait_behind(gear, world, self.delay_on, longest, code, &mut self.waited);
+        self.settle(Func::Authenticate, paused, Kept::none());
+        result
     }
 }

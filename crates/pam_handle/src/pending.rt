@@ -1,7 +1,7 @@
 ghost use Rattle.std.specs.Prelude.{◌≡◌, false, None};
 ghost use Rattle.std.specs.Option.{option_map};
 ghost use Rattle.dispatch_core.specs.Given.{past_of};
-ghost use Rattle.pam_handle.specs.Call.{first_in, is_other_pending, items_begun, items_behind, past_in, pending_behind, pending_func, request_behind, same_func};
+ghost use Rattle.pam_handle.specs.Call.{code_at_end, first_in, is_other_pending, items_begun, items_behind, past_in, pending_behind, pending_func, request_behind, same_func};
 ghost use Rattle.pam_handle.specs.Pass.{kept_answers};
 ghost use Rattle.pam_handle.specs.Plain.{pending_of, plain_handle, room_in};
 
@@ -10,7 +10,7 @@ use crate::put_off::PutOff;
 use dispatch_core::Paused;
 use frozen_chain::Kept;
 use item_store::Items;
-use pam_base::Func;
+use pam_base::{Code, Func, NoMemory};
 use pam_room::{Room, RoomTold};
 
 impl Handle {
@@ -84,6 +84,13 @@ pub(crate) fn clear_unless_put_off(items: &mut Items, paused: &Paused)
     if paused.is_none() {
         items.clear_tokens();
     }
+}
+
+/// The code with which a call has ended; none where it was put off, and none without memory.
+pub(crate) fn code_at_end(answer: &Result<Code, NoMemory>, paused: &Paused) -> Option<Code>
+    ensures { result ≡ code_at_end paused.now answer.now }
+{
+    if paused.is_none() { answer.ok() } else { None }
 }
 
 fn is_same(a: Func, b: Func) -> bool

@@ -2,8 +2,8 @@ ghost use Rattle.std.specs.Prelude.{◌≡◌, ◌≤◌, ℕ, false, Some, IfSo
 ghost use Rattle.fail_delay.specs.Delay.{asked_delay};
 ghost use Rattle.fail_delay.specs.Wait.{wait_of};
 ghost use Rattle.pam_base.specs.declared.code.Code.{Code};
-ghost use Rattle.pam_handle.specs.AnyWorld.{WaitsFor};
-ghost use Rattle.pam_handle.specs.Call.{rested_by, waited_by};
+ghost use Rattle.pam_handle.specs.AnyWorld.{WaitsFor, WaitsOnlyAtEnd};
+ghost use Rattle.pam_handle.specs.Call.{WaitsBehind, rested_by, waited_by};
 
 use crate::gear::Gear;
 use crate::wait::Wait;
@@ -12,9 +12,9 @@ use pam_base::Code;
 use pam_outside::{random_word, rest};
 use pam_room::{World, WorldTold};
 
-/// Waits behind the code of an authentication (`pam_fail_delay(3)`), by the longest request in microseconds and by the
-/// delay function, where it is on. A wait takes the place of what was to be told of an earlier one.
-pub(crate) fn wait(
+// Waits behind the code of an authentication (`pam_fail_delay(3)`), by the longest request in microseconds and by the
+// delay function, where it is on. A wait takes the place of what was to be told of an earlier one.
+fn wait(
     gear: &Gear,
     world: &mut World,
     delay_on: bool,
@@ -35,6 +35,27 @@ pub(crate) fn wait(
     if let Some(wait) = wait_by(gear, delay_on, code, asked) {
         rest_for(world, wait);
         *waited = Some(Wait { code, asked, wait });
+    }
+}
+
+/// Waits behind an authentication that has ended with this code, and not behind one that hasn't.
+pub(crate) fn wait_behind(
+    gear: &Gear,
+    world: &mut World,
+    delay_on: bool,
+    longest: u32,
+    code: Option<Code>,
+    waited: &mut Option<Wait>,
+)
+    requires { longest ≤ 60000000 }
+    ensures tells { ⟦<World as WorldTold>⟧.tells world.new ≡ ⟦<World as WorldTold>⟧.tells world.old }
+    ensures told { (number : Code → ℕ → ℕ) → ⟦<DelayFn as DelayTold>⟧.delay_is gear.now.delay number → IsTrue (⟦<World as WorldTold>⟧.tells world.old) →
+        WaitsBehind number code longest delay_on waited.old (⟦<World as WorldTold>⟧.plain world.old) waited.new (⟦<World as WorldTold>⟧.plain world.new) }
+    ensures sound { WaitsOnlyAtEnd code delay_on waited.old waited.new }
+    ensures process { world.new.process ≡ world.old.process }
+{
+    if let Some(code) = code {
+        wait(gear, world, delay_on, longest, code, waited);
     }
 }
 

@@ -1,13 +1,15 @@
-use Rattle.std.proofs.Common.{Option, map, refl, sym, ◌∙◌, ap}
+use Rattle.std.proofs.Common.{Option, None, map, length, refl, sym, ◌∙◌, ap}
 use Rattle.std.specs.Option.{option_map}
-use Rattle.pam_room.specs.Module.{player_of}
+use Rattle.pam_base.specs.declared.call.Func.TheVariants.{Authenticate}
+use Rattle.pam_room.specs.Module.{notes_of, player_of}
 use Rattle.pam_room.specs.Plain.{plain_room, plain_world}
-use Rattle.pam_handle.specs.Call.{past_in}
+use Rattle.pam_handle.specs.Call.{past_in, pending_behind}
 use Rattle.pam_handle.specs.Handle.{PlainHandle}
 use Rattle.pam_handle.specs.Pass.{kept_answers}
 use Rattle.pam_handle.specs.Plain.{pending_of, plain_handle}
 use Rattle.pam_handle.specs.declared.put_off.PutOff.{PutOff}
-use Rattle.pam_handle.proofs.Authenticating.{authenticated_as, none_there, tells_beside}
+use Rattle.pam_handle.proofs.Authenticating.{authenticated_as, tells_beside, waited_at_end}
+use Rattle.pam_handle.proofs.Changing.{room_behind, runs_soundly}
 use Rattle.pam_handle.proofs.handle.Handle.authenticate.Goals as goal
 
 pub returns-clause-told : goal.returns-clause-told
@@ -15,12 +17,27 @@ returns-clause-told g c = λ number is told.
     let h : PlainHandle = plain_handle (plain_room (λ b. (goal.Conv-dyn g (b.vtable, b.value)).conv_holds b.value)) c.args.self.now in
     let w = plain_world (λ b. (goal.Vault-dyn g (b.vtable, b.value)).vault_holds b.value) (λ b. (goal.Clock-dyn g (b.vtable, b.value)).clock_holds b.value) (λ b. (goal.Nap-dyn g (b.vtable, b.value)).nap_holds b.value) c.args.world.now in
     let players = map (player_of (λ b. (goal.Module-dyn g (b.vtable, b.value)).label b.value) (λ b. (goal.Module-dyn g (b.vtable, b.value)).plays b.value) (λ b. (goal.Module-dyn g (b.vtable, b.value)).note b.value)) c.args.gear.now.mods.items in
-    authenticated_as players number c.args.flags h w _ _ c.in_ok-code.code (kept_answers c.pass-result.new.kept) c.pass-result.new.paused
-    (plain_room (λ b. (goal.Conv-dyn g (b.vtable, b.value)).conv_holds b.value) c.pass-result.new.room) _ _ c.longest-longest.result _ _
+    authenticated_as c.pass-result.result players number c.args.flags h w _ _ (kept_answers c.pass-result.new.kept) c.pass-result.new.paused
+    (plain_room (λ b. (goal.Conv-dyn g (b.vtable, b.value)).conv_holds b.value) c.pass-result.new.room) _ _ c.longest-longest.result c.wait_behind.new.waited _
     (sym c.is_other_pending.ensures ∙ c.if-is_other_pending.false)
     (c.taken_up-paused.ensures.past ∙ ap (λ (p : Option PutOff). past_in (option_map pending_of p)) c.take.ensures.value)
-    c.clear_unless_pending.ensures
-    (none_there c.pass-result.new.paused (sym c.is_none.ensures ∙ c.if-not-is_none.false))
-    (c.in_ok-code.ensures.told told) c.longest-longest.ensures.longest
-    (c.wait.ensures.told number is (tells_beside _ _ _ c.pass-result.ensures.world_tells told))
-    (rw (c.pass-result.ensures.nodes, c.pass-result.ensures.names, c.take.ensures.after, c.clear_tokens.ensures, c.forget.ensures) refl)
+    c.clear_unless_pending.ensures (c.pass-result.ensures.told told) c.longest-longest.ensures.longest
+    (rw c.code_at_end-code.ensures at (c.wait_behind.ensures.told number is (tells_beside _ _ _ c.pass-result.ensures.world_tells told)))
+    (c.settle.ensures.plain ∙ rw (c.pass-result.ensures.nodes, c.pass-result.ensures.names, c.clear_unless_put_off.ensures, c.none.ensures) refl)
+
+pub returns-clause-waited : goal.returns-clause-waited
+returns-clause-waited g c = λ other.
+    let h : PlainHandle = plain_handle (plain_room (λ b. (goal.Conv-dyn g (b.vtable, b.value)).conv_holds b.value)) c.args.self.now in
+    waited_at_end c.pass-result.result c.pass-result.new.paused (room_behind c.pass-result.new.paused (plain_room (λ b. (goal.Conv-dyn g (b.vtable, b.value)).conv_holds b.value) c.pass-result.new.room)) h (record h { authenticated = kept_answers c.pass-result.new.kept; waited = c.wait_behind.new.waited }) _
+    (c.settle.ensures.plain ∙ rw (c.pass-result.ensures.nodes, c.pass-result.ensures.names, c.clear_unless_put_off.ensures, c.none.ensures) refl)
+    (rw c.code_at_end-code.ensures at c.wait_behind.ensures.sound)
+
+pub returns-clause-sound : goal.returns-clause-sound
+returns-clause-sound g c =
+    let h : PlainHandle = plain_handle (plain_room (λ b. (goal.Conv-dyn g (b.vtable, b.value)).conv_holds b.value)) c.args.self.now in
+    let players = map (player_of (λ b. (goal.Module-dyn g (b.vtable, b.value)).label b.value) (λ b. (goal.Module-dyn g (b.vtable, b.value)).plays b.value) (λ b. (goal.Module-dyn g (b.vtable, b.value)).note b.value)) c.args.gear.now.mods.items in
+    runs_soundly (notes_of players) (length players) h (record h { authenticated = kept_answers c.pass-result.new.kept; waited = c.wait_behind.new.waited }) _ c.clear_unless_pending.new.items (pending_behind Authenticate None c.pass-result.new.paused) c.pass-result.new.paused
+    (plain_room (λ b. (goal.Conv-dyn g (b.vtable, b.value)).conv_holds b.value) c.pass-result.new.room) _ _
+    c.clear_unless_pending.ensures refl refl refl
+    (c.settle.ensures.plain ∙ rw (c.pass-result.ensures.nodes, c.pass-result.ensures.names, c.clear_unless_put_off.ensures, c.none.ensures) refl)
+    (rw c.wait_behind.ensures.process c.pass-result.ensures.sound)

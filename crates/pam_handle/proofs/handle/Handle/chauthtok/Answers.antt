@@ -1,14 +1,15 @@
 use Rattle.std.proofs.Common.{Option, map, length, refl, sym, ◌∙◌, ap}
 use Rattle.std.specs.Option.{option_map}
+use Rattle.pam_base.specs.declared.call.Func.TheVariants.{ChAuthTok}
 use Rattle.pam_room.specs.Module.{notes_of, player_of}
 use Rattle.pam_room.specs.Plain.{plain_room, plain_world}
-use Rattle.pam_handle.specs.Call.{first_in, past_in}
+use Rattle.pam_handle.specs.Call.{first_in, past_in, pending_behind}
 use Rattle.pam_handle.specs.Handle.{PlainHandle}
 use Rattle.pam_handle.specs.Items.{with_items}
 use Rattle.pam_handle.specs.Pass.{kept_answers}
 use Rattle.pam_handle.specs.Plain.{pending_of, plain_handle}
 use Rattle.pam_handle.specs.declared.put_off.PutOff.{PutOff}
-use Rattle.pam_handle.proofs.Changing.{change_sound, changed_as, failed_change}
+use Rattle.pam_handle.proofs.Changing.{changed_as, failed_change, runs_soundly}
 use Rattle.pam_handle.proofs.handle.Handle.chauthtok.Goals as goal
 
 pub returns-clause-told : goal.returns-clause-told
@@ -41,7 +42,7 @@ pub returns-clause-sound : goal.returns-clause-sound
 returns-clause-sound g c =
     let h : PlainHandle = plain_handle (plain_room (λ b. (goal.Conv-dyn g (b.vtable, b.value)).conv_holds b.value)) c.args.self.now in
     let players = map (player_of (λ b. (goal.Module-dyn g (b.vtable, b.value)).label b.value) (λ b. (goal.Module-dyn g (b.vtable, b.value)).plays b.value) (λ b. (goal.Module-dyn g (b.vtable, b.value)).note b.value)) c.args.gear.now.mods.items in
-    change_sound (notes_of players) (length players) h _ c.clear_unless_pending.new.items (kept_answers c.change-result.new.first) c.change-result.new.paused (plain_room (λ b. (goal.Conv-dyn g (b.vtable, b.value)).conv_holds b.value) c.change-result.new.room) _ _
-    c.clear_unless_pending.ensures
+    runs_soundly (notes_of players) (length players) h h _ c.clear_unless_pending.new.items (pending_behind ChAuthTok (kept_answers c.change-result.new.first) c.change-result.new.paused) c.change-result.new.paused (plain_room (λ b. (goal.Conv-dyn g (b.vtable, b.value)).conv_holds b.value) c.change-result.new.room) _ _
+    c.clear_unless_pending.ensures refl refl refl
     (c.settle.ensures.plain ∙ rw (c.change-result.ensures.nodes, c.clear_unless_put_off.ensures) refl)
     c.change-result.ensures.sound
