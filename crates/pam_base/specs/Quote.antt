@@ -12,5 +12,9 @@ quoted_byte b =
     else if nat_le 32 b && nat_le b 126 then b ∷ []
     else codes "\\x" ++ (hex_digit (b / 16) ∷ hex_digit (b % 16) ∷ [])
 
+-- a number that is no byte counts by its remainder
+abbrev pub quoted_rest : ℕ → List ℕ
+quoted_rest b = quoted_byte (b % 256)
+
 abbrev pub quoted_text : List ℕ → List ℕ
-quoted_text bytes = flat_map quoted_byte bytes
+quoted_text bytes = flat_map quoted_rest bytes

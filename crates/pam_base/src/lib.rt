@@ -23,7 +23,7 @@ pub use fault::{BadItem, ConvErr, Failed, FaultKind, NoMemory, NoModuleData, Ref
 pub use item::{ALL_ITEMS, ItemName, item_named};
 pub use lines::Lines;
 pub use number::{are_digits, number_in};
-pub use quote::quoted;
+pub use quote::{push_quoted, quoted};
 pub use sequence::{Numbers, Sequence, Text, Texts};
 pub use service_name::is_service_name;
 pub use style::Style;

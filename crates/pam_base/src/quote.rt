@@ -10,10 +10,18 @@ pub fn quoted(alloc: Global, bytes: &[u8]) -> Result<String, NoMemory>
     ensures { IfOk result (λ text. string_bytes text ≡ quoted_text bytes.now) }
 {
     let mut text = String::new(alloc);
-    for byte in bytes {
-        quote_byte(&mut text, *byte)?;
-    }
+    push_quoted(&mut text, bytes)?;
     Ok(text)
+}
+
+/// Adds the bytes in that form to a text.
+pub fn push_quoted(text: &mut String, bytes: &[u8]) -> Result<(), NoMemory>
+    ensures { OnOk result (string_bytes text.new ≡ string_bytes text.old ++ quoted_text bytes.now) }
+{
+    for byte in bytes {
+        quote_byte(text, *byte)?;
+    }
+    Ok(())
 }
 
 fn quote_byte(text: &mut String, byte: u8) -> Result<(), NoMemory>

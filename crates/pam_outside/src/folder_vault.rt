@@ -4,7 +4,7 @@ ghost use Rattle.pam_outside.specs.Counts.{Rose, next_count};
 ghost use Rattle.pam_outside.specs.Files.{ReadsFile, TellsFolder, Replaces, counted, file_at};
 
 use crate::beside::replace_beside;
-use crate::limited::read_to_limit;
+use crate::limited::{CHUNK, read_to_limit};
 use crate::reader_source::ReaderSource;
 use crate::vault::{ReplaceFault, Vault, VaultFault};
 use pam_base::Text;
@@ -21,6 +21,8 @@ use std::rt::Files;
 pub struct FolderVault<R: Files + Drop> {
     rt: R,
     faults: u64,
+    /// What a read goes by, so that it isn't cleared for each.
+    piece: [u8; CHUNK],
 }
 
 impl<R: Files + Drop> Model for FolderVault<R> {
@@ -36,7 +38,11 @@ impl<R: Files + Drop> FolderVault<R> {
     pub fn new(rt: R) -> Self
         ensures { result ≡ record { inner = rt; faults = 0 } }
     {
-        FolderVault { rt, faults: 0 }
+        FolderVault {
+            rt,
+            faults: 0,
+            piece: [0; CHUNK],
+        }
     }
 }
 
@@ -72,7 +78,7 @@ impl<R: Files + Drop> Vault for FolderVault<R> {
         ensures stays { result ≢ Err VaultFault.Failed → self.new ≡ self.old }
         ensures not_text { ¬ (IsUtf8 path.now) → result ≡ Err VaultFault.Failed }
     {
-        let result = file_bytes(&self.rt, alloc, path, limit);
+        let result = file_bytes(&self.rt, alloc, &mut self.piece, path, limit);
         if let Err(VaultFault::Failed) = result {
             self.faults = self.faults.saturating_add(1);
         }
@@ -147,13 +153,19 @@ impl<R: Files + Drop> Vault for FolderVault<R> {
     }
 }
 
-fn file_bytes<R: Files>(rt: &R, alloc: Global, path: &[u8], limit: u32) -> Result<Text, VaultFault>
+fn file_bytes<R: Files>(
+    rt: &R,
+    alloc: Global,
+    piece: &mut [u8; CHUNK],
+    path: &[u8],
+    limit: u32,
+) -> Result<Text, VaultFault>
     ensures bound { IfOk result (λ text. length text ≤ limit) }
     ensures not_text { ¬ (IsUtf8 path.now) → result ≡ Err VaultFault.Failed }
 {
     let path = str::from_utf8(path).map_err(|_| VaultFault::Failed)?;
     let file = fs::open(rt, path).map_err(|error| opening_fault(error.kind()))?;
-    read_to_limit(alloc, &mut ReaderSource::new(file), limit)
+    read_to_limit(alloc, &mut ReaderSource::new(file), piece, limit)
 }
 
 // Why a file isn't opened.

@@ -9,13 +9,15 @@ use pam_base::Text;
 use std::alloc::Global;
 use std::io::Read;
 
-const CHUNK: usize = 4096;
+/// How many bytes are read at once.
+pub const CHUNK: usize = 4096;
 
-/// All that a reader has left, where it is at most so many bytes. TooLong comes only where it is more, Failed only
+/// All that a reader has left, where it is at most so many bytes, read by way of a piece of memory. TooLong comes only where it is more, Failed only
 /// where the reader gave an error, and Absent never.
 pub fn read_to_limit<F: Read + Drop>(
     alloc: Global,
     source: &mut ReaderSource<F>,
+    piece: &mut [u8; CHUNK],
     limit: u32,
 ) -> Result<Text, VaultFault>
     ensures bound { IfOk result (λ text. length text ≤ limit) }
@@ -31,7 +33,7 @@ pub fn read_to_limit<F: Read + Drop>(
     let mut bytes = Vec::new(alloc);
     let most = limit as usize + 1;
     while bytes.len() < most {
-        if read_more(source, &mut bytes, most)? == 0 {
+        if read_more(source, piece, &mut bytes, most)? == 0 {
             return Ok(Text::from_vec(bytes));
         }
     }
@@ -41,6 +43,7 @@ pub fn read_to_limit<F: Read + Drop>(
 // Reads once, and adds what it read to the bytes, at most so many in all.
 fn read_more<F: Read + Drop>(
     source: &mut ReaderSource<F>,
+    piece: &mut [u8; CHUNK],
     bytes: &mut Vec<u8>,
     most: usize,
 ) -> Result<usize, VaultFault>
@@ -57,7 +60,6 @@ fn read_more<F: Read + Drop>(
         source.new.faults ≡ next_count source.old.faults }
     ensures no_fault { result ≢ Err VaultFault.Failed → source.new.faults ≡ source.old.faults }
 {
-    let mut piece = [0u8; CHUNK];
     let room = (most - bytes.len()).min(CHUNK);
     let n = source
         .read(&mut piece[..room])
