@@ -1,6 +1,7 @@
 -- What a file that is opened comes to, along the items that it brings.
 use Rattle.std.proofs.Common.{◌≡◌, ℕ, suc, ◌+◌, ◌-◌, ◌≤◌, ◌<◌, Bool, true, false, cond, List, [], ◌∷◌, ◌++◌, map, length, Option, Some, None, Result, Ok, Err, refl, sym, ap, ◌∙◌, arith, inl, inr}
 use Rattle.std.specs.Prelude.{IsSomeAnd, ◌⊎◌}
+use Rattle.std.specs.Option.{option_map}
 use Rattle.std.proofs.lemmas.Bool.{lt-ltb, le-ltb, le-leb, lt-leb}
 use Rattle.pam_base.specs.declared.fault.Refuse.{Refuse}
 use Rattle.pam_base.specs.declared.fault.Refuse.TheVariants as refusals
@@ -19,13 +20,13 @@ use Rattle.service_load.specs.declared.opener.Opener.TheVariants as openers
 use Rattle.service_load.specs.declared.rule_file.RuleFile.{RuleFile}
 use Rattle.service_load.specs.declared.rule_type.RuleType.{RuleType}
 use Rattle.service_load.specs.Answers.{Answers, IsRefusal, result_map}
-use Rattle.service_load.specs.Checking.{with_entry, checked_entries, entries_held}
+use Rattle.service_load.specs.Checking.{with_entry, checked_entries, entries_held, served}
 use Rattle.service_load.specs.Entry.{entry_of}
 use Rattle.service_load.specs.Files.{plain_file, Held, absent, faulty, holds, held, held_text, rules_held, is_in_folder, entries_of, all_fine}
 use Rattle.service_load.specs.FirstFault.{Counts, Stop, fault_at, opening_fault, asked, absent_file, checked_rule, held_file, going_on, look}
 use Rattle.service_load.specs.Loading.{counts_of, opener_of, Opens, IfCalled, opened_answer, items_at, nodes_at, entries_items, entries_nodes}
 use Rattle.service_load.specs.Order.{Item, opening, checked, Opener, file_items, items}
-use Rattle.service_load.specs.Tree.{nodes, nodes_of}
+use Rattle.service_load.specs.Tree.{serves, nodes, nodes_of}
 
 -- a text that is too long has that fault
 pub held_long : (service text : Option (List ℕ)) → IsSomeAnd text (λ bytes. 65536 < length bytes) → held_text service text ≡ faulty (record { line = 0; kind = FileTooLong })
@@ -33,9 +34,9 @@ unfolding answer_to
 held_long service (Some text) long = rw (lt-ltb 65536 (length text) long) refl
 held_long service None long = absurd long
 
-pub long_answers : (b in_folder : Bool) (name : List ℕ) (service text : Option (List ℕ)) (r : Refuse LoadFault) → b ≡ false → IsSomeAnd text (λ bytes. 65536 < length bytes) → IsRefusal r (fault_at name 0 FileTooLong) → Answers {A = Option (List Entry)} (Err r) (opened_answer b name (entries_held in_folder (held_text service text)))
-long_answers b in_folder name service text (refusals.Named f) fine long refused = rw (fine, held_long service text long, refused) refl
-long_answers b in_folder name service text refusals.NoMemory fine long refused = tt
+pub long_answers : (type : RuleType) (b in_folder : Bool) (name : List ℕ) (service text : Option (List ℕ)) (r : Refuse LoadFault) → b ≡ false → IsSomeAnd text (λ bytes. 65536 < length bytes) → IsRefusal r (fault_at name 0 FileTooLong) → Answers {A = Option (List Entry)} (Err r) (opened_answer b name (result_map (option_map (served type)) (entries_held in_folder (held_text service text))))
+long_answers type b in_folder name service text (refusals.Named f) fine long refused = rw (fine, held_long service text long, refused) refl
+long_answers type b in_folder name service text refusals.NoMemory fine long refused = tt
 
 -- a service's file, and that of `other` where the service is there, needn't be there
 pub needs_nothing : (because : Because) (counts : Counts) → (because ≡ openers.Service) ⊎ (because ≡ openers.Other) → absent_file counts (opener_of because) ≡ Ok counts
@@ -43,10 +44,10 @@ needs_nothing because counts (inl is) = rw is refl
 needs_nothing because counts (inr is) = rw is refl
 
 -- the counts once the vault was asked
-pub asked_is : (was is : Loader) (old new : VaultState) → is ≡ record { openings = was.openings + 1; lines = was.lines } → new ≡ counted old → counts_of is new ≡ asked (counts_of was old)
+pub asked_is : (was is : Loader) (old new : VaultState) → is ≡ record was { openings = was.openings + 1 } → new ≡ counted old → counts_of is new ≡ asked (counts_of was old)
 asked_is was is old new one called = rw (one, called) refl
 
-pub asked_if : (r : Refuse LoadFault) (was is : Loader) (old new : VaultState) → is ≡ record { openings = was.openings + 1; lines = was.lines } → IfCalled {A = Option (List Entry)} (Err r) (new ≡ counted old) → IfCalled {A = Option (List Entry)} (Err r) (counts_of is new ≡ asked (counts_of was old))
+pub asked_if : (r : Refuse LoadFault) (was is : Loader) (old new : VaultState) → is ≡ record was { openings = was.openings + 1 } → IfCalled {A = Option (List Entry)} (Err r) (new ≡ counted old) → IfCalled {A = Option (List Entry)} (Err r) (counts_of is new ≡ asked (counts_of was old))
 asked_if (refusals.Named f) was is old new one called = asked_is was is old new one called
 asked_if refusals.NoMemory was is old new one called = tt
 
@@ -241,3 +242,51 @@ module _ (texts : List ℕ → Option (List ℕ)) (fails : List ℕ) (file : Rul
       pub opens_err : (r : Refuse LoadFault) → level ≤ 16 → was.openings < 256 → IfCalled {A = Option (List Entry)} (Err r) (is ≡ asked was) → Answers {A = Option (List Entry)} (Err r) (opened_answer (fails_next was.calls fails) file.name (entries_held (is_in_folder file) (held texts file))) → Opens texts (Err r) fails was is level type opener file
       opens_err refusals.NoMemory low few same e = tt
       opens_err (refusals.Named f) low few same e = err_by (fails_next was.calls fails) f low few refl e ∙ rw same refl
+
+-- ---- the entries that serve a type alone
+
+module _ (type : RuleType) (name : List ℕ) where
+  some_served : (b : Bool) (found : Result (Option (List Entry)) LexFault) (es : List Entry) → opened_answer b name (result_map (option_map (served type)) found) ≡ Ok (Some es)
+      → (all : List Entry) × (opened_answer b name found ≡ Ok (Some all)) × (es ≡ served type all)
+  some_served true found es e = absurd cc
+  some_served false (Ok None) es e = absurd cc
+  some_served false (Ok (Some all)) es e = (all, refl, sym cc)
+  some_served false (Err f) es e = absurd cc
+
+  pub none_served : (b : Bool) (found : Result (Option (List Entry)) LexFault) → opened_answer b name (result_map (option_map (served type)) found) ≡ Ok None → opened_answer b name found ≡ Ok None
+  none_served true found e = absurd cc
+  none_served false (Ok None) e = refl
+  none_served false (Ok (Some all)) e = absurd cc
+  none_served false (Err f) e = absurd cc
+
+  pub err_served : (b : Bool) (found : Result (Option (List Entry)) LexFault) (r : Refuse LoadFault) → Answers {A = Option (List Entry)} (Err r) (opened_answer b name (result_map (option_map (served type)) found)) → Answers {A = Option (List Entry)} (Err r) (opened_answer b name found)
+  err_served true found (refusals.Named f) e = let same : fault_at name 0 ReadFailed ≡ f = cc in ap Err same
+  err_served false (Ok None) (refusals.Named f) e = absurd cc
+  err_served false (Ok (Some all)) (refusals.Named f) e = absurd cc
+  err_served false (Err g) (refusals.Named f) e = let same : fault_at name g.line g.kind ≡ f = cc in ap Err same
+  err_served b found refusals.NoMemory e = tt
+
+-- an entry that doesn't serve the type brings nothing
+module _ (texts : List ℕ → Option (List ℕ)) (level : ℕ) (type : RuleType) where
+  items_by : (b : Bool) (name : List ℕ) (e : Entry) (es all : List Entry) → serves type e.rule_type ≡ b → entries_items texts level type name es ≡ entries_items texts level type name all → entries_items texts level type name (cond b (e ∷ es) es) ≡ entries_items texts level type name (e ∷ all)
+  items_by true name e es all is same = rw same refl
+  items_by false name e es all is same = rw is same
+
+  items_served : (name : List ℕ) (entries : List Entry) → entries_items texts level type name (served type entries) ≡ entries_items texts level type name entries
+  items_served name [] = refl
+  items_served name (e ∷ es) = items_by (serves type e.rule_type) name e (served type es) es refl (items_served name es)
+
+  nodes_by : (b : Bool) (e : Entry) (es all : List Entry) → serves type e.rule_type ≡ b → entries_nodes texts level type es ≡ entries_nodes texts level type all → entries_nodes texts level type (cond b (e ∷ es) es) ≡ entries_nodes texts level type (e ∷ all)
+  nodes_by true e es all is same = rw same refl
+  nodes_by false e es all is same = rw is same
+
+  nodes_served : (entries : List Entry) → entries_nodes texts level type (served type entries) ≡ entries_nodes texts level type entries
+  nodes_served [] = refl
+  nodes_served (e ∷ es) = nodes_by (serves type e.rule_type) e (served type es) es refl (nodes_served es)
+
+  pub opens_served : (fails : List ℕ) (was is : Counts) (opener : Opener) (file : RuleFile) (es : List Entry) → level ≤ 16 → was.openings < 256 → is ≡ asked was
+      → opened_answer (fails_next was.calls fails) file.name (result_map (option_map (served type)) (entries_held (is_in_folder file) (held texts file))) ≡ Ok (Some es)
+      → Opens texts (Ok (Some es)) fails was is level type opener file
+  opens_served fails was is opener file es low few same e =
+      let found = some_served type file.name (fails_next was.calls fails) (entries_held (is_in_folder file) (held texts file)) es e in
+      rw (found.2, items_served file.name found.0, nodes_served found.0) (opens_some texts fails file type opener level was is found.0 low few same found.1)

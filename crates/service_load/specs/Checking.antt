@@ -1,13 +1,16 @@
 -- The check of a file's rules, one after another (this project's own).
 use Rattle.std.specs.Prelude.{◌≡◌, ℕ, Bool, List, [], ◌∷◌, Option, Some, None, Result, Ok, Err}
+use Rattle.std.specs.List.{filter}
 use Rattle.pam_base.specs.declared.fault.FaultKind.{FaultKind}
 use Rattle.conf_lex.specs.declared.token.Token.{Token}
 use Rattle.conf_lex.specs.declared.token.RawRule.{RawRule}
 use Rattle.conf_lex.specs.declared.token.LexFault.{LexFault}
 use Rattle.service_load.specs.declared.entry.Entry.{Entry}
+use Rattle.service_load.specs.declared.rule_type.RuleType.{RuleType}
 use Rattle.service_load.specs.Answers.{result_map}
 use Rattle.service_load.specs.Entry.{entry_of}
 use Rattle.service_load.specs.Files.{Held, absent, faulty, holds}
+use Rattle.service_load.specs.Tree.{serves}
 
 -- an entry in front of those of the rules behind it, or the fault of the rule in this line
 abbrev pub with_entry : ℕ → Result Entry FaultKind → Result (List Entry) LexFault → Result (List Entry) LexFault
@@ -29,3 +32,7 @@ entries_held in_folder (holds rules) = result_map Some (checked_entries in_folde
 abbrev pub GivesFields : Option (List Token) → ℕ → List RawRule → Type 0
 GivesFields None line own = own ≡ []
 GivesFields (Some tokens) line own = own ≡ record { line = line; tokens = tokens } ∷ []
+
+-- the entries that serve a type (pam.conf(5))
+abbrev pub served : RuleType → List Entry → List Entry
+served type entries = filter (λ e. serves type e.rule_type) entries

@@ -78,6 +78,51 @@ impl Entry {
             None => true,
         }
     }
+
+    pub(crate) fn copied(&self, alloc: Global) -> Result<Entry, NoMemory>
+        ensures { IfOk result (λ copy. copy ≡ self.now) }
+    {
+        Ok(Entry {
+            line: self.line,
+            rule_type: self.rule_type,
+            content: self.content.copied(alloc)?,
+        })
+    }
+}
+
+impl Content {
+    fn copied(&self, alloc: Global) -> Result<Content, NoMemory>
+        ensures { IfOk result (λ copy. copy ≡ self.now) }
+    {
+        match self {
+            Content::Line(rule) => Ok(Content::Line(copy_of_rule(alloc, rule)?)),
+            Content::Include(name) => Ok(Content::Include(Text::from_bytes(alloc, name.bytes())?)),
+            Content::Substack(name) => {
+                Ok(Content::Substack(Text::from_bytes(alloc, name.bytes())?))
+            }
+        }
+    }
+}
+
+fn copy_of_rule(alloc: Global, rule: &Rule) -> Result<Rule, NoMemory>
+    ensures { IfOk result (λ copy. copy ≡ rule.now) }
+{
+    Ok(Rule {
+        silent: rule.silent,
+        control: rule.control,
+        path: Text::from_bytes(alloc, rule.path.bytes())?,
+        args: copy_of_texts(alloc, &rule.args)?,
+    })
+}
+
+fn copy_of_texts(alloc: Global, texts: &Texts) -> Result<Texts, NoMemory>
+    ensures { IfOk result (λ copy. copy ≡ texts.now) }
+{
+    let mut copy = Texts::new(alloc);
+    for text in texts.items() {
+        copy.push(Text::from_bytes(alloc, text.bytes())?)?;
+    }
+    Ok(copy)
 }
 
 // What follows the type.

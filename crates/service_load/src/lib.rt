@@ -5,6 +5,7 @@
 mod entry;
 mod file_rules;
 mod inclusion;
+mod kept;
 mod laws;
 mod load_fault;
 mod loader;

@@ -1,10 +1,11 @@
 ghost use Rattle.std.specs.Prelude.{◌≡◌, ◌+◌, ◌<◌, ◌≤◌, not, IsTrue, IfOk, OnOk, if◌then◌else◌};
+ghost use Rattle.std.specs.Option.{option_map};
 ghost use Rattle.pam_outside.specs.Counts.{fails_next};
 ghost use Rattle.pam_outside.specs.Files.{counted};
 ghost use Rattle.control_words.specs.Stack.{stack_of};
-ghost use Rattle.service_load.specs.Answers.{Answers, IsRefusal};
+ghost use Rattle.service_load.specs.Answers.{Answers, IsRefusal, result_map};
 ghost use Rattle.service_load.specs.FirstFault.{look, opening_fault};
-ghost use Rattle.service_load.specs.Checking.{entries_held};
+ghost use Rattle.service_load.specs.Checking.{entries_held, served};
 ghost use Rattle.service_load.specs.Files.{held, is_absent, is_in_folder};
 ghost use Rattle.service_load.specs.Load.{AreBounded, LoadsBy};
 ghost use Rattle.service_load.specs.Order.{as_last, as_other, trees_items};
@@ -12,8 +13,8 @@ ghost use Rattle.service_load.specs.Tree.{tree_from};
 ghost use Rattle.service_load.specs.Loading.{AddsLine, Brings, CountsFaults, Grows, IfCalled, IsBounded, Makes, OnlyCalls, Opens, TakesEntry, counts_of, items_at, nodes_at, opened_answer, opener_of, texts_of};
 
 use crate::entry::{Content, Entries, Entry};
-use crate::file_rules::entries_in;
 use crate::inclusion::Inclusion;
+use crate::kept::Kept;
 use crate::load_fault::{LoadFault, refused};
 use crate::names::path_of;
 use crate::opener::Opener;
@@ -42,15 +43,18 @@ pub(crate) struct Loader {
     pub(crate) openings: u32,
     /// How many lines the present tree has.
     pub(crate) lines: u32,
+    /// What was read.
+    pub(crate) kept: Kept,
 }
 
 impl Loader {
-    /// Reads a file, and checks all its rules; None where it isn't there.
+    /// Reads a file, checks all its rules, and gives the entries that serve a type; None where it isn't there.
     fn read(
         &mut self,
         alloc: Global,
         vault: &mut dyn Vault,
         root: &[u8],
+        rule_type: RuleType,
         file: &RuleFile,
     ) -> Result<Option<Entries>, Refuse<LoadFault>>
         requires { self.old.openings < 256 }
@@ -58,7 +62,8 @@ impl Loader {
         ensures tells { vault_tells vault.new ≡ vault_tells vault.old }
         ensures told { IsTrue (vault_tells vault.old) → Answers result
             (opened_answer (fails_next (vault_holds vault.old).calls (vault_holds vault.old).fails) file.now.name
-            (entries_held (is_in_folder file.now) (held (texts_of root.now (vault_holds vault.old)) file.now))) }
+            (result_map (option_map (served rule_type))
+            (entries_held (is_in_folder file.now) (held (texts_of root.now (vault_holds vault.old)) file.now)))) }
         ensures calls { IsTrue (vault_tells vault.old) →
             IfCalled result (vault_holds vault.new ≡ counted (vault_holds vault.old)) }
         ensures stays { IsTrue (vault_tells vault.old) → OnlyCalls (vault_holds vault.old) (vault_holds vault.new) }
@@ -68,7 +73,7 @@ impl Loader {
         let name = file.name.bytes();
         let path = path_of(alloc, root, name)?;
         match read_file(vault, alloc, path.bytes(), MAX_FILE) {
-            Ok(text) => match entries_in(alloc, file, text.bytes()) {
+            Ok(text) => match self.kept.entries_in(alloc, file, rule_type, text) {
                 Ok(entries) => Ok(entries),
                 Err(Refuse::NoMemory) => Err(Refuse::NoMemory),
                 Err(Refuse::Named(fault)) => Err(refused(alloc, name, fault.line, fault.kind)),
@@ -105,7 +110,7 @@ impl Loader {
         if self.openings >= MAX_OPENINGS {
             return Err(refused_opening(alloc, opener, file, FaultKind::TooManyFiles));
         }
-        match self.read(alloc, vault, at.root, file)? {
+        match self.read(alloc, vault, at.root, at.rule_type, file)? {
             Some(entries) => Ok(Some(entries)),
             None => match opener {
                 Opener::Service | Opener::Other => Ok(None),

@@ -3,6 +3,7 @@ ghost use Rattle.pam_outside.specs.Files.{counted, is_failing};
 ghost use Rattle.service_load.specs.Load.{AreBounded, Loads, LoadsFrom};
 ghost use Rattle.service_load.specs.Loading.{CountsFaults, OnlyCalls};
 
+use crate::kept::Kept;
 use crate::load_fault::{LoadFault, refused};
 use crate::loader::Loader;
 use crate::names::path_of;
@@ -30,8 +31,9 @@ const FOLDER: &[u8; 10] = b"/etc/pam.d";
 /// means the file as a whole.
 ///
 /// A load asks the vault once for the folder and once for each file that it opens. It takes memory for the
-/// text and the rules of the files that are open, at most 17, and for the stacks. Without memory nothing is
-/// given; of what the vault tells only its number of calls has changed, as with every answer.
+/// texts that it reads with their rules, each different text once and until its end, for the rules of the files
+/// that are open, at most 17, and for the stacks. Without memory nothing is given; of what the vault tells only
+/// its number of calls has changed, as with every answer.
 pub fn load(
     alloc: Global,
     vault: &mut dyn Vault,
@@ -73,6 +75,7 @@ fn load_from(
     let mut loader = Loader {
         openings: 0,
         lines: 0,
+        kept: Kept::new(alloc),
     };
     loader.trees(alloc, vault, root, &own, &other)
 }

@@ -7,4 +7,4 @@ pub returns-in-Err-TooLong-clause-told : goal.returns-in-Err-TooLong-clause-told
 returns-in-Err-TooLong-clause-told g c = λ tells.
     let path = c.bytes.ensures ∙ c.in_ok-path.ensures ∙ ap (λ (n : List ℕ). path_of c.args.root.now n) c.bytes-name.ensures in
     let told = rw c.in-Err-TooLong.field-0-is at (c.in-Err-TooLong.ensures.told tells) in
-    long_answers _ _ _ _ _ _ told.0 (rw path at told.1) (rw c.bytes-name.ensures at c.refused-in-Err-TooLong.ensures)
+    long_answers _ _ _ _ _ _ _ told.0 (rw path at told.1) (rw c.bytes-name.ensures at c.refused-in-Err-TooLong.ensures)

@@ -1,0 +1,136 @@
+ghost use Rattle.std.specs.Prelude.{◌≡◌, Ok, Some, IsTrue, IfOk, IfSome, false};
+ghost use Rattle.std.specs.Option.{is_none, option_map};
+ghost use Rattle.service_load.specs.Answers.{Answers, result_map};
+ghost use Rattle.service_load.specs.Checking.{entries_held, served};
+ghost use Rattle.service_load.specs.Files.{held_text, is_in_folder};
+ghost use Rattle.service_load.specs.Kinds.{IfNamed, is_read_failed};
+
+use crate::entry::{Entries, Entry};
+use crate::file_rules::entries_in;
+use crate::rule_file::RuleFile;
+use crate::rule_type::RuleType;
+use conf_lex::LexFault;
+use pam_base::{NoMemory, Refuse, Sequence, Text};
+use std::alloc::Global;
+use std::marker::Model;
+
+/// A text of a file that a load has read, and what its rules say.
+#[derive(Drop)]
+struct KeptFile {
+    /// Where the file has the form of `pam.conf(5)`, the service meant.
+    service: Option<Text>,
+    text: Text,
+    /// None where it has no rule of the service.
+    entries: Option<Entries>,
+    ghost said: { entries_held (is_none service) (held_text service (Some text)) ≡ Ok entries },
+}
+
+/// The texts that a load has read, so that a text which comes again isn't parsed again. Contracts see nothing of it.
+#[derive(Drop)]
+pub(crate) struct Kept {
+    files: Sequence<KeptFile>,
+}
+
+impl Model for Kept {
+    ghost Value = { Unit {0} };
+
+    ghost view = { λ k. tt };
+}
+
+impl KeptFile {
+    // Whether it is of a file of this form, with this text.
+    fn is_of(&self, file: &RuleFile, text: &[u8]) -> bool
+        ensures { IsTrue result → (self.now.service ≡ file.now.service) × (self.now.text ≡ text.now) }
+    {
+        self.text.bytes() == text && is_same(&self.service, &file.service)
+    }
+
+    // A copy of its entries that serve a type.
+    fn entries_for(&self, alloc: Global, rule_type: RuleType) -> Result<Option<Entries>, NoMemory>
+        ensures { IfOk result (λ entries. entries ≡ option_map (served rule_type) self.now.entries) }
+    {
+        match &self.entries {
+            None => Ok(None),
+            Some(entries) => Ok(Some(served(alloc, rule_type, entries.items())?)),
+        }
+    }
+}
+
+impl Kept {
+    pub(crate) fn new(alloc: Global) -> Kept {
+        Kept {
+            files: Sequence::new(alloc),
+        }
+    }
+
+    /// What the rules of a file with this text say of a type, where all are as they should be; None where the file
+    /// is `pam.conf(5)` and has no rule of the service.
+    pub(crate) fn entries_in(
+        &mut self,
+        alloc: Global,
+        file: &RuleFile,
+        rule_type: RuleType,
+        text: Text,
+    ) -> Result<Option<Entries>, Refuse<LexFault>>
+        ensures answer { Answers result (result_map (option_map (served rule_type))
+            (entries_held (is_in_folder file.now) (held_text file.now.service (Some text)))) }
+        ensures kinds { IfNamed result (λ fault. is_read_failed fault.kind ≡ false) }
+    {
+        if let Some(kept) = self.found(file, text.bytes()) {
+            return Ok(kept.entries_for(alloc, rule_type)?);
+        }
+        let entries = entries_in(alloc, file, text.bytes())?;
+        let kept = KeptFile {
+            service: copy_of(alloc, &file.service)?,
+            text,
+            entries,
+        };
+        let served = kept.entries_for(alloc, rule_type)?;
+        self.files.push(kept)?;
+        Ok(served)
+    }
+
+    // What is kept of a file with this text.
+    fn found(&self, file: &RuleFile, text: &[u8]) -> Option<&KeptFile>
+        ensures { IfSome result (λ kept. (kept.now.service ≡ file.now.service) × (kept.now.text ≡ text.now)) }
+    {
+        for kept in self.files.items() {
+            if kept.is_of(file, text) {
+                return Some(kept);
+            }
+        }
+        None
+    }
+}
+
+fn is_same(one: &Option<Text>, other: &Option<Text>) -> bool
+    ensures { IsTrue result → one.now ≡ other.now }
+{
+    match (one, other) {
+        (None, None) => true,
+        (Some(one), Some(other)) => one.bytes() == other.bytes(),
+        _ => false,
+    }
+}
+
+fn copy_of(alloc: Global, text: &Option<Text>) -> Result<Option<Text>, NoMemory>
+    ensures { IfOk result (λ copy. copy ≡ text.now) }
+{
+    match text {
+        None => Ok(None),
+        Some(text) => Ok(Some(Text::from_bytes(alloc, text.bytes())?)),
+    }
+}
+
+// A copy of the entries that serve a type.
+fn served(alloc: Global, rule_type: RuleType, entries: &[Entry]) -> Result<Entries, NoMemory>
+    ensures { IfOk result (λ copy. copy ≡ served rule_type entries.now) }
+{
+    let mut copy = Entries::new(alloc);
+    for entry in entries {
+        if entry.serves(rule_type) {
+            copy.push(entry.copied(alloc)?)?;
+        }
+    }
+    Ok(copy)
+}
