@@ -10,10 +10,14 @@ use Rattle.conv_port.specs.Terminal.{all_shown, behind_line, behind_replies, has
 use Rattle.conv_port.specs.Conv.{ConvState, answer_to, state_after, offer_taken}
 
 abbrev ready : List Offer → ConvState
-ready offers = record { offers = offers; waits = false }
+ready offers = record { offers = offers; waits = false; handed = [] }
+
+-- the same, behind one exchange
+abbrev behind : List Message → ConvState → ConvState
+behind messages s = record s { handed = messages ∷ [] }
 
 abbrev waiting : List Offer → ConvState
-waiting offers = record { offers = offers; waits = true }
+waiting offers = record { offers = offers; waits = true; handed = [] }
 
 abbrev a_reply : List ℕ → Reply
 a_reply text = record { text = text }
@@ -32,35 +36,35 @@ a_text = record { style = TextInfo; text = codes "hi" } ∷ []
 replies_in_order : answer_to (ready (Answer (codes "joe") ∷ Answer (codes "x") ∷ Later ∷ [])) two_prompts ≡ Ok (a_reply [] ∷ a_reply (codes "joe") ∷ a_reply (codes "x") ∷ [])
 replies_in_order = refl
 
-mark_stays_behind : state_after (ready (Answer (codes "joe") ∷ Answer (codes "x") ∷ Later ∷ [])) two_prompts ≡ ready (Later ∷ [])
+mark_stays_behind : state_after (ready (Answer (codes "joe") ∷ Answer (codes "x") ∷ Later ∷ [])) two_prompts ≡ behind two_prompts (ready (Later ∷ []))
 mark_stays_behind = refl
 
 -- a mark behind too few replies ends the exchange, and nothing is taken
 too_few : answer_to (ready (Answer (codes "joe") ∷ Later ∷ Answer (codes "x") ∷ [])) two_prompts ≡ Err Gone
 too_few = refl
 
-none_taken : state_after (ready (Answer (codes "joe") ∷ Later ∷ Answer (codes "x") ∷ [])) two_prompts ≡ ready (Answer (codes "joe") ∷ Later ∷ Answer (codes "x") ∷ [])
+none_taken : state_after (ready (Answer (codes "joe") ∷ Later ∷ Answer (codes "x") ∷ [])) two_prompts ≡ behind two_prompts (ready (Answer (codes "joe") ∷ Later ∷ Answer (codes "x") ∷ []))
 none_taken = refl
 
 -- a mark in front puts it off, and is taken
 put_off : answer_to (ready (Later ∷ Answer (codes "joe") ∷ [])) two_prompts ≡ Err Again
 put_off = refl
 
-mark_taken : state_after (ready (Later ∷ Answer (codes "joe") ∷ [])) two_prompts ≡ ready (Answer (codes "joe") ∷ [])
+mark_taken : state_after (ready (Later ∷ Answer (codes "joe") ∷ [])) two_prompts ≡ behind two_prompts (ready (Answer (codes "joe") ∷ []))
 mark_taken = refl
 
 -- without a prompt a mark stays
 no_prompt : answer_to (ready (Later ∷ [])) a_text ≡ Ok (a_reply [] ∷ [])
 no_prompt = refl
 
-mark_untouched : state_after (ready (Later ∷ [])) a_text ≡ ready (Later ∷ [])
+mark_untouched : state_after (ready (Later ∷ [])) a_text ≡ behind a_text (ready (Later ∷ []))
 mark_untouched = refl
 
 -- one that waits puts off where a reply is missing, and keeps what it holds
 waits : answer_to (waiting (Answer (codes "joe") ∷ [])) two_prompts ≡ Err Again
 waits = refl
 
-keeps : state_after (waiting (Answer (codes "joe") ∷ [])) two_prompts ≡ waiting (Answer (codes "joe") ∷ [])
+keeps : state_after (waiting (Answer (codes "joe") ∷ [])) two_prompts ≡ behind two_prompts (waiting (Answer (codes "joe") ∷ []))
 keeps = refl
 
 -- six bytes are a mark, and only to one that doesn't wait

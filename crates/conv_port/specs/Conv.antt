@@ -12,10 +12,12 @@ use Rattle.pam_base.specs.Style.{is_prompt}
 use Rattle.conv_port.specs.Message.{prompt_count}
 
 -- What was offered and isn't taken yet, in order, and whether the conversation waits where too little was. One
--- that waits holds no marks.
+-- that waits holds no marks. And all that it was handed: each exchange with its messages, in order, also those that it
+-- put off or didn't answer.
 pub record ConvState : Type 0 where
   pub offers : List Offer
   pub waits : Bool
+  pub handed : List (List Message)
 
 -- the replies that stand before the first mark
 abbrev pub ready_replies : List Offer → List (List ℕ)
@@ -54,11 +56,12 @@ answer_to s messages =
     if has_replies s messages then Ok (replies_from (ready_replies s.offers) messages)
     else if s.waits || starts_with_mark s.offers then Err Again else Err Gone
 
--- What it holds after it. A mark puts off one exchange. Where a reply is missing, none is taken.
+-- What it holds after it. A mark puts off one exchange. Where a reply is missing, none is taken. It was handed these messages.
 abbrev pub state_after : ConvState → List Message → ConvState
 state_after s messages =
-    if has_replies s messages then record s { offers = drop (prompt_count messages) s.offers }
-    else if s.waits then s else record s { offers = without_mark s.offers }
+    if has_replies s messages then record s { offers = drop (prompt_count messages) s.offers; handed = s.handed ++ messages ∷ [] }
+    else if s.waits then record s { handed = s.handed ++ messages ∷ [] }
+    else record s { offers = without_mark s.offers; handed = s.handed ++ messages ∷ [] }
 
 -- an exchange: exactly that answer, or there was no memory, and then nothing changed
 abbrev pub Talks : Result (List Reply) ConvFault → List Message → ConvState → ConvState → Type 0

@@ -7,11 +7,12 @@ use Rattle.conv_port.specs.declared.offer.Offer.{Offer}
 use Rattle.conv_port.specs.declared.offer.Offer.TheVariants.{Answer, Later}
 use Rattle.pam_base.specs.Style.{is_prompt}
 
--- what was offered and isn't taken yet, and its two counts
+-- what was offered and isn't taken yet, its two counts, and the exchanges that it was handed, in order
 pub record QueueState : Type 0 where
   pub offers : List Offer
   pub faults : ℕ
   pub deferrals : ℕ
+  pub handed : List (List Message)
 
 abbrev pub IsShort : Offer → Type 0
 IsShort (Answer text) = length text ≤ 512

@@ -34,7 +34,8 @@ pub trait Conv: Drop {
     /// Whether it tells what it holds. It does so for ever or never.
     ghost conv_tells: { Self → Bool };
 
-    /// What was offered to it and isn't taken yet, and whether it waits where too little was, where it tells.
+    /// What was offered to it and isn't taken yet, whether it waits where too little was, and what it was handed, where it
+    /// tells.
     ghost conv_holds: { Self → ConvState };
 
     /// How often it answered Gone. The count never falls, and stands still at 2^64 - 1.
@@ -46,8 +47,8 @@ pub trait Conv: Drop {
     /// One exchange, of 1 to 32 messages of at most 512 bytes each. It gives one reply for each message, of at
     /// most 512 bytes, and the empty one for a message that is no prompt. Gone comes only where the count of
     /// faults rose, Again only where a message is a prompt and the count of deferrals rose, and neither count
-    /// rises otherwise. One that tells answers exactly by what it holds, unless there is no memory; then it
-    /// holds what it held.
+    /// rises otherwise. One that tells answers exactly by what it holds, and adds the messages to what it was handed,
+    /// whatever it answers, unless there is no memory; then it holds what it held.
     fn talk(&mut self, alloc: Global, messages: &Messages) -> Result<Replies, ConvFault>
         requires { IsExchange messages.now }
         ensures replies { IfOk result (λ replies. AreReplies messages.now replies) }

@@ -1,5 +1,6 @@
 //! Conversations (`pam_conv(3)`): how a module asks the user and tells them something, through what the
-//! application has given. One over replies that are held ready, and one over a terminal.
+//! application has given. One over replies that are held ready, one that waits for
+//! them, and one over a terminal.
 #![tactic(auto)]
 
 mod conv;
@@ -8,6 +9,7 @@ mod message;
 mod offer;
 mod queue_conv;
 mod term_conv;
+mod wire_conv;
 
 pub use conv::{Conv, ConvFault, offer_to, talk_with};
 pub use laws::exchange_without_replies;
@@ -15,3 +17,4 @@ pub use message::{Message, Messages, Replies, Reply};
 pub use offer::Offer;
 pub use queue_conv::QueueConv;
 pub use term_conv::TermConv;
+pub use wire_conv::WireConv;

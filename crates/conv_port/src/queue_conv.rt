@@ -12,6 +12,7 @@ use pam_base::{NoMemory, Text};
 use std::alloc::Global;
 use std::collections::VecDeque;
 use std::marker::Model;
+use std::snapshot::Snapshot;
 
 /// A conversation over replies that were offered to it, in order. It tells what it holds, and doesn't wait.
 #[derive(Drop)]
@@ -19,14 +20,17 @@ pub struct QueueConv {
     offers: VecDeque<Offer>,
     faults: u64,
     deferrals: u64,
+    // What it was handed, for its contracts alone: an element has no bytes, and so has the block of the list.
+    handed: Vec<Snapshot<Messages>>,
 }
 
 impl Model for QueueConv {
+    ghost use Rattle.std.specs.Prelude.{map};
     ghost use Rattle.conv_port.specs.Queue.{QueueState, AreShort};
 
     ghost Value = { QueueState };
 
-    ghost view = { λ q. record { offers = q.offers.items; faults = q.faults; deferrals = q.deferrals } };
+    ghost view = { λ q. record { offers = q.offers.items; faults = q.faults; deferrals = q.deferrals; handed = map (λ s. s.value) q.handed.items } };
 
     ghost invariant = { λ q. AreShort q.offers.items };
 }
@@ -34,12 +38,13 @@ impl Model for QueueConv {
 impl QueueConv {
     /// A conversation that holds nothing. It takes no memory before the first offer.
     pub fn new(alloc: Global) -> Self
-        ensures { result ≡ record { offers = []; faults = 0; deferrals = 0 } }
+        ensures { result ≡ record { offers = []; faults = 0; deferrals = 0; handed = [] } }
     {
         QueueConv {
             offers: VecDeque::new(alloc),
             faults: 0,
             deferrals: 0,
+            handed: Vec::new(alloc),
         }
     }
 }
@@ -49,17 +54,20 @@ impl Conv for QueueConv {
 
     ghost conv_tells = { λ q. true };
 
-    ghost conv_holds = { λ q. record { offers = q.offers; waits = false } };
+    ghost conv_holds = { λ q. record { offers = q.offers; waits = false; handed = q.handed } };
 
     ghost conv_faults = { λ q. q.faults };
 
     ghost conv_deferrals = { λ q. q.deferrals };
 
     fn talk(&mut self, alloc: Global, messages: &Messages) -> Result<Replies, ConvFault> {
+        self.handed.reserve(1).map_err(|_| ConvFault::NoMemory)?;
         if prompts_in(messages.items()) <= ready_in(&self.offers) {
             let replies = take_replies(alloc, messages.items(), &mut self.offers)?;
+            self.handed.push(Snapshot::of(messages)).unwrap();
             return Ok(Replies::from_vec(replies));
         }
+        self.handed.push(Snapshot::of(messages)).unwrap();
         if take_mark(&mut self.offers) {
             self.deferrals = self.deferrals.saturating_add(1);
             Err(ConvFault::Again)
@@ -78,7 +86,7 @@ impl Conv for QueueConv {
 }
 
 // How many replies stand before the first mark, or in all.
-fn ready_in(offers: &VecDeque<Offer>) -> usize
+pub(crate) fn ready_in(offers: &VecDeque<Offer>) -> usize
     ensures { result ≡ length (ready_replies offers.now.items) }
 {
     let mut ready = 0;
@@ -102,7 +110,7 @@ fn take_mark(offers: &mut VecDeque<Offer>) -> bool
 }
 
 // Gives each prompt the next reply. All memory is taken before the first reply is.
-fn take_replies(
+pub(crate) fn take_replies(
     alloc: Global,
     messages: &[Message],
     offers: &mut VecDeque<Offer>,

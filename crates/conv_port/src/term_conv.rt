@@ -47,7 +47,7 @@ impl<R: Read + Drop, W: Write + Drop> Conv for TermConv<R, W> {
     ghost conv_tells = { λ t. false };
 
     // never told
-    ghost conv_holds = { λ t. record { offers = []; waits = false } };
+    ghost conv_holds = { λ t. record { offers = []; waits = false; handed = [] } };
 
     ghost conv_faults = { λ t. t.faults };
 

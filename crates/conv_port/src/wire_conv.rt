@@ -1,0 +1,77 @@
+ghost use Rattle.std.specs.Prelude.{◌≡◌, []};
+
+use crate::conv::{Conv, ConvFault};
+use crate::message::{Messages, Replies, prompts_in};
+use crate::offer::Offer;
+use crate::queue_conv::{ready_in, take_replies};
+use pam_base::{NoMemory, Text};
+use std::alloc::Global;
+use std::collections::VecDeque;
+use std::marker::Model;
+use std::snapshot::Snapshot;
+
+/// A conversation with a front end that is elsewhere. It tells what it holds, and waits: an exchange with more prompts
+/// than there are replies is put off, and takes none. It is never gone.
+#[derive(Drop)]
+pub struct WireConv {
+    offers: VecDeque<Offer>,
+    deferrals: u64,
+    // What it was handed, for its contracts alone: an element has no bytes, and so has the block of the list.
+    handed: Vec<Snapshot<Messages>>,
+}
+
+impl Model for WireConv {
+    ghost use Rattle.std.specs.Prelude.{map};
+    ghost use Rattle.conv_port.specs.Queue.{QueueState, AreShort};
+
+    ghost Value = { QueueState };
+
+    ghost view = { λ q. record { offers = q.offers.items; faults = 0; deferrals = q.deferrals; handed = map (λ s. s.value) q.handed.items } };
+
+    ghost invariant = { λ q. AreShort q.offers.items };
+}
+
+impl WireConv {
+    /// A conversation that holds nothing. It takes no memory before the first offer.
+    pub fn new(alloc: Global) -> Self
+        ensures { result ≡ record { offers = []; faults = 0; deferrals = 0; handed = [] } }
+    {
+        WireConv {
+            offers: VecDeque::new(alloc),
+            deferrals: 0,
+            handed: Vec::new(alloc),
+        }
+    }
+}
+
+impl Conv for WireConv {
+    ghost use Rattle.std.specs.Prelude.{true};
+
+    ghost conv_tells = { λ q. true };
+
+    ghost conv_holds = { λ q. record { offers = q.offers; waits = true; handed = q.handed } };
+
+    ghost conv_faults = { λ q. 0 };
+
+    ghost conv_deferrals = { λ q. q.deferrals };
+
+    fn talk(&mut self, alloc: Global, messages: &Messages) -> Result<Replies, ConvFault> {
+        self.handed.reserve(1).map_err(|_| ConvFault::NoMemory)?;
+        if prompts_in(messages.items()) <= ready_in(&self.offers) {
+            let replies = take_replies(alloc, messages.items(), &mut self.offers)?;
+            self.handed.push(Snapshot::of(messages)).unwrap();
+            return Ok(Replies::from_vec(replies));
+        }
+        self.handed.push(Snapshot::of(messages)).unwrap();
+        self.deferrals = self.deferrals.saturating_add(1);
+        Err(ConvFault::Again)
+    }
+
+    // Any text is a reply: there are no marks.
+    fn offer(&mut self, alloc: Global, text: &[u8]) -> Result<(), NoMemory> {
+        self.offers.reserve(1)?;
+        let text = Text::from_bytes(alloc, text)?;
+        self.offers.push_back(Offer::Answer(text)).unwrap();
+        Ok(())
+    }
+}
