@@ -36,6 +36,7 @@ pub fn ask_line(
     requires ready { IsReady (length mods.now) (plain_transaction room.old.transaction) (plain_process world.old.process) }
     ensures room_tells { ⟦<Room as RoomTold>⟧.tells room.new ≡ ⟦<Room as RoomTold>⟧.tells room.old }
     ensures world_tells { ⟦<World as WorldTold>⟧.tells world.new ≡ ⟦<World as WorldTold>⟧.tells world.old }
+    ensures nap { world.new.nap ≡ world.old.nap }
     ensures told { IsTrue (⟦<Room as RoomTold>⟧.tells room.old && ⟦<World as WorldTold>⟧.tells world.old) →
         IfOk result (λ answer. AnswersAs (answers_by (map (player_of label plays note) mods.now) request.func request.flags (rule_at chain.now.nodes i) (i + 1)
         (state_of (⟦<Room as RoomTold>⟧.plain room.old) (⟦<World as WorldTold>⟧.plain world.old)))

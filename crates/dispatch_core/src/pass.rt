@@ -48,6 +48,7 @@ fn walk(
     requires ready { IsReady (length mods.now) (plain_transaction room.old.transaction) (plain_process world.old.process) }
     ensures room_tells { ⟦<Room as RoomTold>⟧.tells room.new ≡ ⟦<Room as RoomTold>⟧.tells room.old }
     ensures world_tells { ⟦<World as WorldTold>⟧.tells world.new ≡ ⟦<World as WorldTold>⟧.tells world.old }
+    ensures nap { world.new.nap ≡ world.old.nap }
     ensures told { IsTrue (⟦<Room as RoomTold>⟧.tells room.old && ⟦<World as WorldTold>⟧.tells world.old) →
         IfOk result (λ end. WalksAs (pass_after request.kind (by_place follows.now) (answers_by (map (player_of label plays note) mods.now) request.func request.flags) chain.old.nodes supplies.old.given.past
         (state_of (⟦<Room as RoomTold>⟧.plain room.old) (⟦<World as WorldTold>⟧.plain world.old)))
@@ -103,6 +104,7 @@ fn walk_all(
     requires ready { IsReady (length mods.now) (plain_transaction room.old.transaction) (plain_process world.old.process) }
     ensures room_tells { ⟦<Room as RoomTold>⟧.tells room.new ≡ ⟦<Room as RoomTold>⟧.tells room.old }
     ensures world_tells { ⟦<World as WorldTold>⟧.tells world.new ≡ ⟦<World as WorldTold>⟧.tells world.old }
+    ensures nap { world.new.nap ≡ world.old.nap }
     ensures told { IsTrue (⟦<Room as RoomTold>⟧.tells room.old && ⟦<World as WorldTold>⟧.tells world.old) →
         IfOk result (λ code. PassesAs request.kind (pass_after request.kind (by_place follows.now) (answers_by (map (player_of label plays note) mods.now) request.func request.flags) chain.old.nodes (past_of paused.old)
         (state_of (⟦<Room as RoomTold>⟧.plain room.old) (⟦<World as WorldTold>⟧.plain world.old)))
@@ -177,6 +179,7 @@ pub fn dispatch(
     requires ready { IsReady (length mods.now) (plain_transaction room.old.transaction) (plain_process world.old.process) }
     ensures room_tells { ⟦<Room as RoomTold>⟧.tells room.new ≡ ⟦<Room as RoomTold>⟧.tells room.old }
     ensures world_tells { ⟦<World as WorldTold>⟧.tells world.new ≡ ⟦<World as WorldTold>⟧.tells world.old }
+    ensures nap { world.new.nap ≡ world.old.nap }
     ensures told { IsTrue (⟦<Room as RoomTold>⟧.tells room.old && ⟦<World as WorldTold>⟧.tells world.old) →
         IfOk result (λ code. LeavesAs kind (pass_after kind (by_place kept.old) (answers_by (map (player_of label plays note) mods.now) func flags) chain.old.nodes (past_of paused.old)
         (state_of (⟦<Room as RoomTold>⟧.plain room.old) (⟦<World as WorldTold>⟧.plain world.old)))

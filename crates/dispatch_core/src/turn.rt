@@ -67,6 +67,7 @@ pub fn next_answer(
     requires ready { IsReady (length mods.now) (plain_transaction room.old.transaction) (plain_process world.old.process) }
     ensures room_tells { ⟦<Room as RoomTold>⟧.tells room.new ≡ ⟦<Room as RoomTold>⟧.tells room.old }
     ensures world_tells { ⟦<World as WorldTold>⟧.tells world.new ≡ ⟦<World as WorldTold>⟧.tells world.old }
+    ensures nap { world.new.nap ≡ world.old.nap }
     ensures told { IsTrue (⟦<Room as RoomTold>⟧.tells room.old && ⟦<World as WorldTold>⟧.tells world.old) →
         IfOk result (λ answer. (kind : PassKind) (kept : KeptAnswers) (visits : List Visit) →
         ServedAs (serving kind kept (answers_by (map (player_of label plays note) mods.now) request.func request.flags) (rule_at chain.now.nodes i) (i + 1)
@@ -130,6 +131,7 @@ pub fn take_turn(
     requires cells { is_some keeps.old ≡ true → walker.old.at < lines_kept keeps.old }
     ensures room_tells { ⟦<Room as RoomTold>⟧.tells room.new ≡ ⟦<Room as RoomTold>⟧.tells room.old }
     ensures world_tells { ⟦<World as WorldTold>⟧.tells world.new ≡ ⟦<World as WorldTold>⟧.tells world.old }
+    ensures nap { world.new.nap ≡ world.old.nap }
     ensures told { IsTrue (⟦<Room as RoomTold>⟧.tells room.old && ⟦<World as WorldTold>⟧.tells world.old) → IfOk result (λ answer. (visits : List Visit) →
         walk_on request.kind (serving request.kind (by_place follows.now) (answers_by (map (player_of label plays note) mods.now) request.func request.flags)) chain.old.nodes walker.old
         (pass_state supplies.old.given.past visits (state_of (⟦<Room as RoomTold>⟧.plain room.old) (⟦<World as WorldTold>⟧.plain world.old)))

@@ -23,7 +23,7 @@ call_of func flags args = record { func = func; flags = flags; args = args }
 -- transaction 1 with a conversation that holds this, in a process of this user
 abbrev start : List Offer → ℕ → State
 start offers caller = state_of
-    (room_of (new_transaction 1) (record { offers = offers; waits = false }))
+    (room_of (new_transaction 1) (record { offers = offers; waits = false; handed = [] }))
     (world_of (record { files = []; calls = 0; fails = [] }) (record { moment = 0; word = 0 }) (record { waits = 0; sum = 0 }) (record { ledger = record { births = []; filed = [] }; root = []; caller = caller }))
 
 abbrev play : Plays → PlainCall → State → Played

@@ -1,5 +1,6 @@
 -- What an authentication comes to, of its pass and of the wait behind it.
-use Rattle.std.proofs.Common.{◌≡◌, ℕ, List, [], Option, Some, None, Result, Ok, Err, IfOk, Bool, true, false, ◌&&◌, IsTrue, refl, sym, ◌∙◌, ap, subst}
+use Rattle.std.proofs.Common.{◌≡◌, ℕ, List, [], Option, Some, None, Result, Ok, Err, IfOk, OnErr, Bool, true, false, ◌&&◌, IsTrue, refl, sym, ◌∙◌, ap, subst}
+use Rattle.std.specs.Prelude.{IfNone}
 use Rattle.fail_delay.specs.Delay.{asked_delay}
 use Rattle.fail_delay.specs.Wait.{wait_of}
 use Rattle.item_store.specs.Items.{ItemTexts}
@@ -99,3 +100,9 @@ pub waited_at_end : (result : Result Code NoMemory) (paused : Option (List Code)
 waited_at_end (Ok code) None room h mid new n w = subst (λ (x : PlainHandle). x.pending ≡ None → Waits code h x) (sym n) (λ _. w)
 waited_at_end (Ok code) (Some past) room h mid new n w = subst (λ (x : PlainHandle). x.pending ≡ None → Waits code h x) (sym n) (λ e. absurd (some_none _ e))
 waited_at_end (Err none) paused room h mid new n w = tt
+
+-- without memory nothing is rested behind a pass that left the nap as it was
+pub not_rested : {A : Type 0} (result : Result Code NoMemory) (paused : Option (List Code)) (code : Option Code) (x y z : A) → code ≡ code_at_end paused result → y ≡ x → IfNone code (z ≡ y) → OnErr result (z ≡ x)
+not_rested (Ok value) paused code x y z is same rest = tt
+not_rested (Err none) None code x y z is same rest = let left : z ≡ y = rw is at rest in left ∙ same
+not_rested (Err none) (Some past) code x y z is same rest = let left : z ≡ y = rw is at rest in left ∙ same

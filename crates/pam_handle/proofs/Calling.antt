@@ -70,8 +70,8 @@ on_err (Err none) p = p
 pub failed : (result : Result Code NoMemory) (func : Func) (paused : Option (List Code)) (room : PlainRoom) (h mid new : PlainHandle)
     → OnErr result (paused ≡ None) → new ≡ record mid { room = request_behind paused room; pending = pending_behind func None paused }
     → OnErr result (mid.authenticated ≡ authenticated_failed func h.authenticated) → OnErr result (mid.opened ≡ opened_failed func h.opened) → mid.waited ≡ h.waited
-    → ClearsTokens func room.transaction.items → OnErr result (FailsAs func h new)
-failed (Ok code) func paused room h mid new p n a o w t = tt
-failed (Err none) func paused room h mid new p n a o w t =
+    → ClearsTokens func room.transaction.items → mid.stacks ≡ h.stacks → mid.names ≡ h.names → mid.delay_on ≡ h.delay_on → OnErr result (FailsAs func h new)
+failed (Ok code) func paused room h mid new p n a o w t s m d = tt
+failed (Err none) func paused room h mid new p n a o w t s m d =
     subst (λ (x : PlainHandle). FailsAs func h x) (sym (n ∙ ap (λ (q : Option (List Code)). record mid { room = request_behind q room; pending = pending_behind func None q }) p))
-    (record { pending = refl; request = refl; authenticated = a; opened = o; tokens = t; waited = w })
+    (record { pending = refl; request = refl; authenticated = a; opened = o; tokens = t; waited = w; stacks = s; names = m; delay_on = d })

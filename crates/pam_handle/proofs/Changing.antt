@@ -158,7 +158,7 @@ pub failed_change : (result : Result Code NoMemory) (first : Option KeptAnswers)
 failed_change (Ok code) first paused room h new p n = tt
 failed_change (Err none) first paused room h new p n =
     subst (λ (x : PlainHandle). FailsAs ChAuthTok h x) (sym (n ∙ ap (λ (o : Option (List Code)). record h { room = room_behind o room; pending = pending_behind ChAuthTok first o }) p))
-    (record { pending = refl; request = refl; authenticated = refl; opened = refl; tokens = (refl, refl); waited = refl })
+    (record { pending = refl; request = refl; authenticated = refl; opened = refl; tokens = (refl, refl); waited = refl; stacks = refl; names = refl; delay_on = refl })
 
 service_begun : (pending : Option Pending) (items : ItemTexts) → (items_begun pending items).service ≡ items.service
 service_begun None items = refl

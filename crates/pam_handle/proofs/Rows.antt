@@ -69,7 +69,7 @@ stacks auth password session = record { auth = auth; account = none; password = 
 
 -- transaction 1 of the user joe, with these modules
 abbrev started_with : List Player → List Offer → Stacks → PlainHandle
-started_with players offers s = new_handle 1 (codes "t") (Some (codes "joe")) (record { offers = offers; waits = false }) (names_of players) s
+started_with players offers s = new_handle 1 (codes "t") (Some (codes "joe")) (record { offers = offers; waits = false; handed = [] }) (names_of players) s
 
 abbrev world : ℕ → PlainWorld
 world word = world_of (record { files = []; calls = 0; fails = [] }) (record { moment = 0; word = word }) (record { waits = 0; sum = 0 }) (record { ledger = record { births = []; filed = [] }; root = []; caller = 0 })

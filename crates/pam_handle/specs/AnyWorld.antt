@@ -100,3 +100,6 @@ pub record FailsAs (func : Func) (old new : PlainHandle) : Type 0 where
   pub opened : new.opened ≡ opened_failed func old.opened
   pub tokens : ClearsTokens func new.room.transaction.items
   pub waited : new.waited ≡ old.waited
+  pub stacks : new.stacks ≡ old.stacks
+  pub names : new.names ≡ old.names
+  pub delay_on : new.delay_on ≡ old.delay_on

@@ -53,6 +53,7 @@ impl Handle {
             IfOk result (λ code. LeavesPending Func.Authenticate code (plain_handle ⟦<Room as RoomTold>⟧.plain self.old) (plain_handle ⟦<Room as RoomTold>⟧.plain self.new) (plain_handle ⟦<Room as RoomTold>⟧.plain self.new).pending) }
         ensures waited { is_other_pending (plain_handle ⟦<Room as RoomTold>⟧.plain self.old).pending Func.Authenticate ≡ false →
             IfOk result (λ code. (plain_handle ⟦<Room as RoomTold>⟧.plain self.new).pending ≡ None → Waits code (plain_handle ⟦<Room as RoomTold>⟧.plain self.old) (plain_handle ⟦<Room as RoomTold>⟧.plain self.new)) }
+        ensures no_nap { OnErr result (world.new.nap ≡ world.old.nap) }
         ensures err { OnErr result (FailsAs Func.Authenticate (plain_handle ⟦<Room as RoomTold>⟧.plain self.old) (plain_handle ⟦<Room as RoomTold>⟧.plain self.new)) }
         ensures others { LeavesOthers Func.Authenticate (plain_handle ⟦<Room as RoomTold>⟧.plain self.old) (plain_handle ⟦<Room as RoomTold>⟧.plain self.new) }
         ensures sound { RunsSoundly (notes_of (⟦<Gear as GearTold>⟧.players gear.now)) (length (⟦<Gear as GearTold>⟧.players gear.now))

@@ -56,6 +56,7 @@ impl Handle {
             (result ≡ Ok Code.Abort) × (self.new ≡ self.old) × (world.new ≡ world.old) }
         ensures left { has_pass_flag flags ≡ false → is_other_pending (plain_handle ⟦<Room as RoomTold>⟧.plain self.old).pending Func.ChAuthTok ≡ false →
             IfOk result (λ code. LeavesPending Func.ChAuthTok code (plain_handle ⟦<Room as RoomTold>⟧.plain self.old) (plain_handle ⟦<Room as RoomTold>⟧.plain self.new) (plain_handle ⟦<Room as RoomTold>⟧.plain self.new).pending) }
+        ensures no_nap { OnErr result (world.new.nap ≡ world.old.nap) }
         ensures err { OnErr result (FailsAs Func.ChAuthTok (plain_handle ⟦<Room as RoomTold>⟧.plain self.old) (plain_handle ⟦<Room as RoomTold>⟧.plain self.new)) }
         ensures others { LeavesOthers Func.ChAuthTok (plain_handle ⟦<Room as RoomTold>⟧.plain self.old) (plain_handle ⟦<Room as RoomTold>⟧.plain self.new) }
         ensures sound { RunsSoundly (notes_of (⟦<Gear as GearTold>⟧.players gear.now)) (length (⟦<Gear as GearTold>⟧.players gear.now))
@@ -103,6 +104,7 @@ fn change(
     requires ready { IsReady (length (⟦<Gear as GearTold>⟧.players gear.now)) (plain_transaction room.old.transaction) (plain_process world.old.process) }
     ensures tells { ⟦<Room as RoomTold>⟧.tells room.new ≡ ⟦<Room as RoomTold>⟧.tells room.old }
     ensures world_tells { ⟦<World as WorldTold>⟧.tells world.new ≡ ⟦<World as WorldTold>⟧.tells world.old }
+    ensures nap { world.new.nap ≡ world.old.nap }
     ensures told { IsTrue (⟦<Room as RoomTold>⟧.tells room.old && ⟦<World as WorldTold>⟧.tells world.old) → (h : PlainHandle) → h.room ≡ ⟦<Room as RoomTold>⟧.plain room.old → h.stacks.password ≡ chain.old.nodes →
         IfOk result (λ code. change_goes_on (⟦<Gear as GearTold>⟧.players gear.now) flags (past_of paused.old) (kept_answers first.old) h (⟦<World as WorldTold>⟧.plain world.old)
         ≡ changed paused.new code (record h { room = ⟦<Room as RoomTold>⟧.plain room.new; pending = pending_behind Func.ChAuthTok (kept_answers first.new) paused.new }) (⟦<World as WorldTold>⟧.plain world.new)) }
@@ -138,6 +140,7 @@ fn check(
     requires first { first.old ≡ None }
     ensures tells { ⟦<Room as RoomTold>⟧.tells room.new ≡ ⟦<Room as RoomTold>⟧.tells room.old }
     ensures world_tells { ⟦<World as WorldTold>⟧.tells world.new ≡ ⟦<World as WorldTold>⟧.tells world.old }
+    ensures nap { world.new.nap ≡ world.old.nap }
     ensures told { IsTrue (⟦<Room as RoomTold>⟧.tells room.old && ⟦<World as WorldTold>⟧.tells world.old) → (h : PlainHandle) → h.room ≡ ⟦<Room as RoomTold>⟧.plain room.old → h.stacks.password ≡ chain.old.nodes →
         IfOk result (λ code. check (⟦<Gear as GearTold>⟧.players gear.now) flags (past_of paused.old) h (⟦<World as WorldTold>⟧.plain world.old)
         ≡ changed paused.new code (record h { room = ⟦<Room as RoomTold>⟧.plain room.new; pending = pending_behind Func.ChAuthTok (kept_answers first.new) paused.new }) (⟦<World as WorldTold>⟧.plain world.new)) }
@@ -188,6 +191,7 @@ fn update(
     requires ready { IsReady (length (⟦<Gear as GearTold>⟧.players gear.now)) (plain_transaction room.old.transaction) (plain_process world.old.process) }
     ensures tells { ⟦<Room as RoomTold>⟧.tells room.new ≡ ⟦<Room as RoomTold>⟧.tells room.old }
     ensures world_tells { ⟦<World as WorldTold>⟧.tells world.new ≡ ⟦<World as WorldTold>⟧.tells world.old }
+    ensures nap { world.new.nap ≡ world.old.nap }
     ensures told { IsTrue (⟦<Room as RoomTold>⟧.tells room.old && ⟦<World as WorldTold>⟧.tells world.old) → (h : PlainHandle) → h.room ≡ ⟦<Room as RoomTold>⟧.plain room.old → h.stacks.password ≡ chain.old.nodes →
         IfOk result (λ code. update (⟦<Gear as GearTold>⟧.players gear.now) flags (kept_answers first.old) (past_of paused.old) h (⟦<World as WorldTold>⟧.plain world.old)
         ≡ changed paused.new code (record h { room = ⟦<Room as RoomTold>⟧.plain room.new; pending = pending_behind Func.ChAuthTok (kept_answers first.new) paused.new }) (⟦<World as WorldTold>⟧.plain world.new)) }

@@ -37,6 +37,7 @@ pub(crate) fn pass(
     requires ready { IsReady (length (⟦<Gear as GearTold>⟧.players gear.now)) (plain_transaction room.old.transaction) (plain_process world.old.process) }
     ensures tells { ⟦<Room as RoomTold>⟧.tells room.new ≡ ⟦<Room as RoomTold>⟧.tells room.old }
     ensures world_tells { ⟦<World as WorldTold>⟧.tells world.new ≡ ⟦<World as WorldTold>⟧.tells world.old }
+    ensures nap { world.new.nap ≡ world.old.nap }
     ensures told { IsTrue (⟦<Room as RoomTold>⟧.tells room.old && ⟦<World as WorldTold>⟧.tells world.old) →
         IfOk result (λ code. PassesTo (passed (⟦<Gear as GearTold>⟧.players gear.now) func flags kind (kept_answers kept.old) chain.old.nodes (past_of paused.old)
         (state_of (⟦<Room as RoomTold>⟧.plain room.old) (⟦<World as WorldTold>⟧.plain world.old)))

@@ -46,6 +46,7 @@ impl Handle {
             (result ≡ Ok Code.Abort) × (self.new ≡ self.old) × (world.new ≡ world.old) }
         ensures left { is_other_pending (plain_handle ⟦<Room as RoomTold>⟧.plain self.old).pending Func.SetCred ≡ false →
             IfOk result (λ code. LeavesPending Func.SetCred code (plain_handle ⟦<Room as RoomTold>⟧.plain self.old) (plain_handle ⟦<Room as RoomTold>⟧.plain self.new) (plain_handle ⟦<Room as RoomTold>⟧.plain self.new).pending) }
+        ensures no_nap { OnErr result (world.new.nap ≡ world.old.nap) }
         ensures err { OnErr result (FailsAs Func.SetCred (plain_handle ⟦<Room as RoomTold>⟧.plain self.old) (plain_handle ⟦<Room as RoomTold>⟧.plain self.new)) }
         ensures others { LeavesOthers Func.SetCred (plain_handle ⟦<Room as RoomTold>⟧.plain self.old) (plain_handle ⟦<Room as RoomTold>⟧.plain self.new) }
         ensures sound { RunsSoundly (notes_of (⟦<Gear as GearTold>⟧.players gear.now)) (length (⟦<Gear as GearTold>⟧.players gear.now))

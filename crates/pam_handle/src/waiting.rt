@@ -1,4 +1,4 @@
-ghost use Rattle.std.specs.Prelude.{◌≡◌, ◌≤◌, ℕ, false, Some, IfSome, IsTrue};
+ghost use Rattle.std.specs.Prelude.{◌≡◌, ◌≤◌, ℕ, false, Some, IfNone, IfSome, IsTrue};
 ghost use Rattle.fail_delay.specs.Delay.{asked_delay};
 ghost use Rattle.fail_delay.specs.Wait.{wait_of};
 ghost use Rattle.pam_base.specs.declared.code.Code.{Code};
@@ -52,6 +52,7 @@ pub(crate) fn wait_behind(
     ensures told { (number : Code → ℕ → ℕ) → ⟦<DelayFn as DelayTold>⟧.delay_is gear.now.delay number → IsTrue (⟦<World as WorldTold>⟧.tells world.old) →
         WaitsBehind number code longest delay_on waited.old (⟦<World as WorldTold>⟧.plain world.old) waited.new (⟦<World as WorldTold>⟧.plain world.new) }
     ensures sound { WaitsOnlyAtEnd code delay_on waited.old waited.new }
+    ensures nap { IfNone code (world.new.nap ≡ world.old.nap) }
     ensures process { world.new.process ≡ world.old.process }
 {
     if let Some(code) = code {

@@ -29,7 +29,7 @@ is_put_off (Err faults.Gone) before = before
 is_put_off (Err faults.NoMemory) before = before
 is_put_off (Ok replies) before = before
 
--- messages are added to what was said, and then handed to the conversation
+-- messages are added to what was said, and then handed to the conversation, which holds that it was handed them
 abbrev pub speak : List Message → SeenRoom → Spoken
 speak messages room = record {
   answer = answer_to room.conv messages;

@@ -12,7 +12,8 @@ use std::alloc::Global;
 use std::mem;
 
 /// Hands messages to the user (`pam_conv(3)`), and gives one reply of at most 512 bytes for each, an empty one for a
-/// message that is no prompt. They are added to what was said first, all or none.
+/// message that is no prompt. They are added to what was said first, all or none, and a conversation that tells shows
+/// that it was handed these very messages, as one exchange.
 ///
 /// ConvErr comes exactly where the conversation answered Gone or Again in this call, and Again alone puts the
 /// transaction off. Without memory either nothing was said, or all of it and the conversation is as it was.
@@ -27,6 +28,7 @@ pub fn say(
     ensures told { IsTrue (conv_tells conv.old) →
         Says result (speak messages.now (seen_of (room_of (plain_transaction transaction.old) (conv_holds conv.old))))
         (seen_of (room_of (plain_transaction transaction.new) (conv_holds conv.new))) }
+    ensures untaken { IsTrue (conv_tells conv.old) → result ≡ Err Refuse.NoMemory → conv_holds conv.new ≡ conv_holds conv.old }
     ensures shows { Shows result (signs (conv_faults conv.old) (conv_deferrals conv.old) transaction.old.put_off) (signs (conv_faults conv.new) (conv_deferrals conv.new) transaction.new.put_off) }
     ensures replies { IfOk result (λ replies. AreReplies messages.now replies) }
     ensures said { result ≢ Err Refuse.NoMemory → transaction.new.said ≡ transaction.old.said ++ messages.now }
@@ -59,6 +61,7 @@ pub fn send(
     ensures told { IsTrue (conv_tells conv.old) →
         Sends result (speak (record { style = style; text = text } ∷ []) (seen_of (room_of (plain_transaction transaction.old) (conv_holds conv.old))))
         (seen_of (room_of (plain_transaction transaction.new) (conv_holds conv.new))) }
+    ensures untaken { IsTrue (conv_tells conv.old) → result ≡ Err Refuse.NoMemory → conv_holds conv.new ≡ conv_holds conv.old }
     ensures shows { Shows result (signs (conv_faults conv.old) (conv_deferrals conv.old) transaction.old.put_off) (signs (conv_faults conv.new) (conv_deferrals conv.new) transaction.new.put_off) }
     ensures reply { IfOk result (λ reply. IsReply (record { style = style; text = text }) reply) }
     ensures said { result ≢ Err Refuse.NoMemory → transaction.new.said ≡ transaction.old.said ++ record { style = style; text = text } ∷ [] }

@@ -49,6 +49,7 @@ pub fn serve_line(
     requires ready { IsReady (length mods.now) (plain_transaction room.old.transaction) (plain_process world.old.process) }
     ensures room_tells { ⟦<Room as RoomTold>⟧.tells room.new ≡ ⟦<Room as RoomTold>⟧.tells room.old }
     ensures world_tells { ⟦<World as WorldTold>⟧.tells world.new ≡ ⟦<World as WorldTold>⟧.tells world.old }
+    ensures nap { world.new.nap ≡ world.old.nap }
     ensures told { IsTrue (⟦<Room as RoomTold>⟧.tells room.old && ⟦<World as WorldTold>⟧.tells world.old) →
         IfOk result (λ code. AnswersAs (serve_line (map (player_of label plays note) mods.now) line.module_number line.place line.path (plain_call call.now)
         (state_of (⟦<Room as RoomTold>⟧.plain room.old) (⟦<World as WorldTold>⟧.plain world.old)))
@@ -90,6 +91,7 @@ fn serve_by(
     requires ready { IsReady (length mods.now) (plain_transaction room.old.transaction) (plain_process world.old.process) }
     ensures room_tells { ⟦<Room as RoomTold>⟧.tells room.new ≡ ⟦<Room as RoomTold>⟧.tells room.old }
     ensures world_tells { ⟦<World as WorldTold>⟧.tells world.new ≡ ⟦<World as WorldTold>⟧.tells world.old }
+    ensures nap { world.new.nap ≡ world.old.nap }
     ensures told { IsTrue (⟦<Room as RoomTold>⟧.tells room.old && ⟦<World as WorldTold>⟧.tells world.old) →
         IfOk result (λ code. AnswersAs (served (map (player_of label plays note) mods.now) (Some number) (plain_call call.now)
         (state_of (⟦<Room as RoomTold>⟧.plain room.old) (⟦<World as WorldTold>⟧.plain world.old)))
@@ -139,6 +141,7 @@ fn play(
         IfOk result (λ code. PlaysIn (plays handler.now) (plain_call call.now)
         (scene_in (state_of (⟦<Room as RoomTold>⟧.plain room.old) (⟦<World as WorldTold>⟧.plain world.old))) code
         (scene_in (state_of (⟦<Room as RoomTold>⟧.plain room.new) (⟦<World as WorldTold>⟧.plain world.new)))) }
+    ensures no_nap { world.new.nap ≡ world.old.nap }
     ensures nap { (⟦<World as WorldTold>⟧.plain world.new).nap ≡ (⟦<World as WorldTold>⟧.plain world.old).nap }
     ensures stays { Stays (plain_transaction room.old.transaction) (plain_transaction room.new.transaction) (plain_process world.old.process) (plain_process world.new.process) }
     ensures serving { room.new.transaction.serving ≡ room.old.transaction.serving }

@@ -39,6 +39,7 @@ invariant-loop-walker g l =
       held : is_some l.keeps ≡ is_some l.fn.keeps;
       room_tells : room_now ≡ room_start;
       world_tells : world_now ≡ world_start;
+      nap : l.world.nap ≡ l.fn.world.nap;
       nodes : l.chain.nodes ≡ l.fn.chain.nodes;
       names : l.chain.names ≡ l.fn.chain.names;
       looks : l.chain.looks + 4 * (length l.fn.room.transaction.trail.visits + length l.supplies.given.past) ≤ l.fn.chain.looks + 4 * (length l.room.transaction.trail.visits + length l.fn.supplies.given.past);

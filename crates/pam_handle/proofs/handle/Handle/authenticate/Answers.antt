@@ -8,7 +8,7 @@ use Rattle.pam_handle.specs.Handle.{PlainHandle}
 use Rattle.pam_handle.specs.Pass.{kept_answers}
 use Rattle.pam_handle.specs.Plain.{pending_of, plain_handle}
 use Rattle.pam_handle.specs.declared.put_off.PutOff.{PutOff}
-use Rattle.pam_handle.proofs.Authenticating.{authenticated_as, tells_beside, waited_at_end}
+use Rattle.pam_handle.proofs.Authenticating.{authenticated_as, not_rested, tells_beside, waited_at_end}
 use Rattle.pam_handle.proofs.Changing.{room_behind, runs_soundly}
 use Rattle.pam_handle.proofs.handle.Handle.authenticate.Goals as goal
 
@@ -41,3 +41,6 @@ returns-clause-sound g c =
     c.clear_unless_pending.ensures refl refl refl
     (c.settle.ensures.plain ∙ rw (c.pass-result.ensures.nodes, c.pass-result.ensures.names, c.clear_unless_put_off.ensures, c.none.ensures) refl)
     (rw c.wait_behind.ensures.process c.pass-result.ensures.sound)
+
+pub returns-clause-no_nap : goal.returns-clause-no_nap
+returns-clause-no_nap g c = not_rested c.pass-result.result c.pass-result.new.paused _ _ _ _ c.code_at_end-code.ensures c.pass-result.ensures.nap c.wait_behind.ensures.nap

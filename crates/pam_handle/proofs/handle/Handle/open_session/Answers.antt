@@ -28,4 +28,4 @@ pub returns-clause-err : goal.returns-clause-err
 returns-clause-err g c =
     let h : PlainHandle = plain_handle (plain_room (λ b. (goal.Conv-dyn g (b.vtable, b.value)).conv_holds b.value)) c.args.self.now in
     failed c.pass-result.result OpenSession c.pass-result.new.paused (plain_room (λ b. (goal.Conv-dyn g (b.vtable, b.value)).conv_holds b.value) c.pass-result.new.room) h (record h { opened = kept_answers c.pass-result.new.kept }) _
-    c.pass-result.ensures.paused (c.settle.ensures.plain ∙ rw (c.pass-result.ensures.nodes, c.none.ensures) refl) (on_err c.pass-result.result refl) (kept_nothing c.pass-result.result c.args.self.now.opened c.pass-result.new.kept c.pass-result.ensures.kept) refl tt
+    c.pass-result.ensures.paused (c.settle.ensures.plain ∙ rw (c.pass-result.ensures.nodes, c.none.ensures) refl) (on_err c.pass-result.result refl) (kept_nothing c.pass-result.result c.args.self.now.opened c.pass-result.new.kept c.pass-result.ensures.kept) refl tt refl refl refl

@@ -28,4 +28,4 @@ pub returns-clause-err : goal.returns-clause-err
 returns-clause-err g c =
     let h : PlainHandle = plain_handle (plain_room (λ b. (goal.Conv-dyn g (b.vtable, b.value)).conv_holds b.value)) c.args.self.now in
     failed c.pass-result.result SetCred c.pass-result.new.paused (plain_room (λ b. (goal.Conv-dyn g (b.vtable, b.value)).conv_holds b.value) c.pass-result.new.room) h (record h { authenticated = kept_answers c.pass-result.new.kept }) _
-    c.pass-result.ensures.paused (c.settle.ensures.plain ∙ rw (c.pass-result.ensures.nodes, c.pass-result.ensures.names, c.none.ensures) refl) (followed_failed c.pass-result.result c.args.self.now.authenticated c.pass-result.new.kept c.following-kind.result c.following-kind.ensures c.pass-result.ensures.kept) (on_err c.pass-result.result refl) refl tt
+    c.pass-result.ensures.paused (c.settle.ensures.plain ∙ rw (c.pass-result.ensures.nodes, c.pass-result.ensures.names, c.none.ensures) refl) (followed_failed c.pass-result.result c.args.self.now.authenticated c.pass-result.new.kept c.following-kind.result c.following-kind.ensures c.pass-result.ensures.kept) (on_err c.pass-result.result refl) refl tt refl refl refl
