@@ -1,7 +1,8 @@
 -- A status is written as the format of eight hexadecimal digits has it.
-use Rattle.std.proofs.Common.{◌≡◌, ℕ, ◌^◌, ◌-◌, ◌++◌, List, length, false, [], arith}
+use Rattle.std.proofs.Common.{◌≡◌, ℕ, ◌^◌, ◌-◌, ◌<◌, ◌++◌, sym, ◌∙◌, ap, List, length, false, [], arith}
 use Rattle.std.specs.Prelude.{replicate}
 use Rattle.std.specs.Fmt.{digits, padded_integral, format_spec, char_count}
+use Rattle.std.proofs.Math.Nat.{mod-eq_of_lt}
 use Rattle.std.proofs.lemmas.Grind.{common_steps}
 use Rattle.session_report.specs.Cleaned.{status_words}
 
@@ -9,5 +10,6 @@ pub numeral_is_padded : (numeral : List ℕ) → padded_integral (format_spec 32
 unfolding padded_integral char_count
 numeral_is_padded numeral = grind (arith, common_steps)
 
-pub status_is_padded : (status : ℕ) → padded_integral (format_spec 32 0 4 8 (2 ^ 64 - 1)) false [] (digits 16 false status) ≡ status_words status
-status_is_padded status = numeral_is_padded (digits 16 false status)
+pub status_is_padded : (status : ℕ) → status < 2 ^ 32 → padded_integral (format_spec 32 0 4 8 (2 ^ 64 - 1)) false [] (digits 16 false status) ≡ status_words status
+status_is_padded status small =
+    numeral_is_padded (digits 16 false status) ∙ ap (λ (n : ℕ). replicate (8 - length (digits 16 false n)) 48 ++ digits 16 false n) (sym (mod-eq_of_lt small))

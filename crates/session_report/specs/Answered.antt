@@ -8,7 +8,7 @@ use Rattle.pam_base.specs.Quote.{quoted_text}
 use Rattle.script_lang.specs.Command.{word_of_func}
 use Rattle.pam_library.specs.declared.outcome.Answer.{Answer}
 use Rattle.pam_library.specs.declared.outcome.Answer.TheVariants as answers
-use Rattle.session_report.specs.Code.{code_words}
+use Rattle.session_report.specs.Code.{number_words, code_words}
 use Rattle.session_report.specs.Fault.{refused_words}
 
 -- H COMMAND WORDS
@@ -30,7 +30,7 @@ variable_text handle variable = decimal handle ++ (codes " env " ++ (quoted_text
 
 -- a line for each variable, and H envlist COUNT
 abbrev pub environment_text : ℕ → List ℕ → List (List ℕ) → List ℕ
-environment_text handle command variables = flat_map (variable_text handle) variables ++ result_text handle command (decimal (length variables))
+environment_text handle command variables = flat_map (variable_text handle) variables ++ result_text handle command (number_words (length variables))
 
 -- the lines of an answer
 abbrev pub answer_text : ℕ → List ℕ → Answer → List ℕ

@@ -1,100 +1,145 @@
-ghost use Rattle.std.specs.Prelude.{◌≡◌, IfOk, string_bytes};
+ghost use Rattle.std.specs.Prelude.{◌≡◌, ◌++◌, Some, OnOk, string_bytes};
 ghost use Rattle.std.specs.List.{flat_map};
 ghost use Rattle.session_report.specs.Answered.{result_text, value_words, pending_words, variable_text, environment_text, answer_text};
+ghost use Rattle.session_report.specs.Code.{code_words};
+ghost use Rattle.session_report.specs.Fault.{refused_words};
 
-use crate::code::code_words;
-use crate::fault::refused_words;
-use pam_base::{Code, Func, NoMemory, Text, quoted};
+use crate::fault::write_refused;
+use pam_base::{Code, Func, NoMemory, Text, code_name, code_number, push_quoted};
 use pam_library::Answer;
 use script_lang::func_word;
-use std::alloc::{AllocError, Global};
+use service_load::LoadFault;
 
-/// The lines of an answer to a command.
-pub(crate) fn answer_report(
-    alloc: Global,
+/// Adds the lines of an answer to a command.
+pub(crate) fn write_answer(
+    text: &mut String,
     handle: u32,
     command: &str,
     answer: &Answer,
-) -> Result<String, NoMemory>
-    ensures { IfOk result (λ text. string_bytes text ≡ answer_text handle command.now answer.now) }
+) -> Result<(), NoMemory>
+    ensures { OnOk result (string_bytes text.new ≡ string_bytes text.old ++ answer_text handle command.now answer.now) }
 {
-    let words = match answer {
-        Answer::Code(code) => code_words(alloc, *code)?,
-        Answer::Refused(fault) => refused_words(alloc, fault)?,
-        Answer::Value(value) => value_words(alloc, value)?,
-        Answer::List(variables) => {
-            return environment_report(alloc, handle, command, variables.items());
-        }
-        Answer::NotOpen => String::from_str(alloc, "not open")?,
-        Answer::AlreadyOpen => String::from_str(alloc, "already open")?,
-        Answer::BadNumber => String::from_str(alloc, "bad number")?,
-        Answer::Pending(func) => pending_words(alloc, *func)?,
-        Answer::Nothing => return Ok(String::new(alloc)),
-    };
-    Ok(result_report(alloc, handle, command, &words)?)
-}
-
-/// The line of a result, as `1 authenticate SUCCESS 0`.
-pub(crate) fn result_report(
-    alloc: Global,
-    handle: u32,
-    command: &str,
-    words: &str,
-) -> Result<String, AllocError>
-    ensures { IfOk result (λ text. string_bytes text ≡ result_text handle command.now words.now) }
-{
-    format!(in alloc; "{handle} {command} {words}\n")
-}
-
-fn value_words(alloc: Global, value: &Option<Text>) -> Result<String, NoMemory>
-    ensures { IfOk result (λ text. string_bytes text ≡ value_words value.now) }
-{
-    match value {
-        Some(text) => {
-            let shown = quoted(alloc, text.bytes())?;
-            Ok(format!(in alloc; "set {shown}")?)
-        }
-        None => Ok(String::from_str(alloc, "unset")?),
+    match answer {
+        Answer::Code(code) => write_code_result(text, handle, command, *code),
+        Answer::Refused(fault) => write_refused_result(text, handle, command, fault),
+        Answer::Value(value) => write_value_result(text, handle, command, value),
+        Answer::List(variables) => write_environment(text, handle, command, variables.items()),
+        Answer::NotOpen => write_result(text, handle, command, "not open"),
+        Answer::AlreadyOpen => write_result(text, handle, command, "already open"),
+        Answer::BadNumber => write_result(text, handle, command, "bad number"),
+        Answer::Pending(func) => write_pending_result(text, handle, command, *func),
+        Answer::Nothing => Ok(()),
     }
 }
 
-fn pending_words(alloc: Global, func: Func) -> Result<String, AllocError>
-    ensures { IfOk result (λ text. string_bytes text ≡ pending_words func) }
+fn write_result(text: &mut String, handle: u32, command: &str, words: &str) -> Result<(), NoMemory>
+    ensures { OnOk result (string_bytes text.new ≡ string_bytes text.old ++ result_text handle command.now words.now) }
 {
-    let abort = code_words(alloc, Code::Abort)?;
+    write!(text, "{handle} {command} {words}\n")?;
+    Ok(())
+}
+
+/// Adds the line of a result, as `1 authenticate SUCCESS 0`.
+pub(crate) fn write_code_result(
+    text: &mut String,
+    handle: u32,
+    command: &str,
+    code: Code,
+) -> Result<(), NoMemory>
+    ensures { OnOk result (string_bytes text.new ≡ string_bytes text.old ++ result_text handle command.now (code_words code)) }
+{
+    let name = code_name(code);
+    let number = code_number(code);
+    write!(text, "{handle} {command} {name} {number}\n")?;
+    Ok(())
+}
+
+fn write_refused_result(
+    text: &mut String,
+    handle: u32,
+    command: &str,
+    fault: &LoadFault,
+) -> Result<(), NoMemory>
+    ensures { OnOk result (string_bytes text.new ≡ string_bytes text.old ++ result_text handle command.now (refused_words fault.now)) }
+{
+    write!(text, "{handle} {command} ")?;
+    write_refused(text, fault)?;
+    text.push_str("\n")?;
+    Ok(())
+}
+
+fn write_value_result(
+    text: &mut String,
+    handle: u32,
+    command: &str,
+    value: &Option<Text>,
+) -> Result<(), NoMemory>
+    ensures { OnOk result (string_bytes text.new ≡ string_bytes text.old ++ result_text handle command.now (value_words value.now)) }
+{
+    match value {
+        Some(set) => write_set_result(text, handle, command, set),
+        None => write_result(text, handle, command, "unset"),
+    }
+}
+
+fn write_set_result(
+    text: &mut String,
+    handle: u32,
+    command: &str,
+    set: &Text,
+) -> Result<(), NoMemory>
+    ensures { OnOk result (string_bytes text.new ≡ string_bytes text.old ++ result_text handle command.now (value_words (Some set.now))) }
+{
+    write!(text, "{handle} {command} set ")?;
+    push_quoted(text, set.bytes())?;
+    text.push_str("\n")?;
+    Ok(())
+}
+
+fn write_pending_result(
+    text: &mut String,
+    handle: u32,
+    command: &str,
+    func: Func,
+) -> Result<(), NoMemory>
+    ensures { OnOk result (string_bytes text.new ≡ string_bytes text.old ++ result_text handle command.now (pending_words func)) }
+{
+    let name = code_name(Code::Abort);
+    let number = code_number(Code::Abort);
     let call = func_word(func);
-    format!(in alloc; "{abort} pending {call}")
+    write!(text, "{handle} {command} {name} {number} pending {call}\n")?;
+    Ok(())
 }
 
 // A line for each variable, in order, and the line of their number.
-fn environment_report(
-    alloc: Global,
+fn write_environment(
+    text: &mut String,
     handle: u32,
     command: &str,
     variables: &[Text],
-) -> Result<String, NoMemory>
-    ensures { IfOk result (λ text. string_bytes text ≡ environment_text handle command.now variables.now) }
+) -> Result<(), NoMemory>
+    ensures { OnOk result (string_bytes text.new ≡ string_bytes text.old ++ environment_text handle command.now variables.now) }
 {
-    let mut text = variables_report(alloc, handle, variables)?;
+    write_variables(text, handle, variables)?;
     let count = variables.len();
-    let number = format!(in alloc; "{count}")?;
-    text.push_str(&result_report(alloc, handle, command, &number)?)?;
-    Ok(text)
+    write!(text, "{handle} {command} {count}\n")?;
+    Ok(())
 }
 
-fn variables_report(alloc: Global, handle: u32, variables: &[Text]) -> Result<String, NoMemory>
-    ensures { IfOk result (λ text. string_bytes text ≡ flat_map (variable_text handle) variables.now) }
+fn write_variables(text: &mut String, handle: u32, variables: &[Text]) -> Result<(), NoMemory>
+    ensures { OnOk result (string_bytes text.new ≡ string_bytes text.old ++ flat_map (variable_text handle) variables.now) }
 {
-    let mut text = String::new(alloc);
     for variable in variables {
-        text.push_str(&variable_report(alloc, handle, variable)?)?;
+        write_variable(text, handle, variable)?;
     }
-    Ok(text)
+    Ok(())
 }
 
-fn variable_report(alloc: Global, handle: u32, variable: &Text) -> Result<String, NoMemory>
-    ensures { IfOk result (λ text. string_bytes text ≡ variable_text handle variable.now) }
+fn write_variable(text: &mut String, handle: u32, variable: &Text) -> Result<(), NoMemory>
+    ensures { OnOk result (string_bytes text.new ≡ string_bytes text.old ++ variable_text handle variable.now) }
 {
-    let shown = quoted(alloc, variable.bytes())?;
-    Ok(format!(in alloc; "{handle} env {shown}\n")?)
+    write!(text, "{handle} env ")?;
+    push_quoted(text, variable.bytes())?;
+    text.push_str("\n")?;
+    Ok(())
 }

@@ -1,72 +1,82 @@
-ghost use Rattle.std.specs.Prelude.{◌≡◌, ◌<◌, ◌≤◌, length, IfOk, string_bytes};
+ghost use Rattle.std.specs.Prelude.{◌≡◌, ◌++◌, ◌<◌, ◌≤◌, length, OnOk, string_bytes};
 ghost use Rattle.dispatch_core.specs.Lines.{names_of};
 ghost use Rattle.pam_library.specs.Plain.{gear_in};
-ghost use Rattle.session_report.specs.Cleaned.{status_words, cleanup_text, filed_text, cleanups_text, AreOwned};
+ghost use Rattle.session_report.specs.Cleaned.{status_words, names_text, cleanup_text, filed_text, cleanups_text, AreOwned};
 
 use data_cleanup::{Births, Filed, Ledger, Receipt};
-use pam_base::{NoMemory, quoted};
+use pam_base::{NoMemory, push_quoted};
 use pam_handle::{Gear, GearTold};
 use pam_library::Library;
-use std::alloc::{AllocError, Global};
+use std::alloc::AllocError;
 
-/// A line for each receipt of the ledger behind the first so many, in order. Each birth's owner is one of the library's
-/// modules.
-pub(crate) fn cleanups_report(
-    alloc: Global,
+/// Adds a line for each receipt of the ledger behind the first so many, in order. Each birth's owner is one of the
+/// library's modules.
+pub(crate) fn write_cleanups(
+    text: &mut String,
     handle: u32,
     library: &Library,
     ledger: &Ledger,
     filed_from: u64,
-) -> Result<String, NoMemory>
+) -> Result<(), NoMemory>
     requires owned { AreOwned (length (⟦<Gear as GearTold>⟧.players (gear_in library.now))) ledger.now.births }
     requires from { filed_from ≤ length ledger.now.filed }
-    ensures { IfOk result (λ text. string_bytes text ≡ cleanups_text handle (names_of (⟦<Gear as GearTold>⟧.players (gear_in library.now))) ledger.now filed_from) }
+    ensures { OnOk result (string_bytes text.new ≡ string_bytes text.old ++ cleanups_text handle (names_of (⟦<Gear as GearTold>⟧.players (gear_in library.now))) ledger.now filed_from) }
 {
     ledger.sound();
     let births = ledger.births();
-    let mut text = String::new(alloc);
     for filed in &ledger.filed()[filed_from as usize..] {
-        text.push_str(&filed_report(alloc, handle, library, births, filed)?)?;
+        write_filed(text, handle, library, births, filed)?;
     }
-    Ok(text)
+    Ok(())
 }
 
 // The line of a receipt, whose birth has its id as its place.
-fn filed_report(
-    alloc: Global,
+fn write_filed(
+    text: &mut String,
     handle: u32,
     library: &Library,
     births: &Births,
     filed: &Filed,
-) -> Result<String, NoMemory>
+) -> Result<(), NoMemory>
     requires owned { AreOwned (length (⟦<Gear as GearTold>⟧.players (gear_in library.now))) births.now }
     requires born { filed.now.receipt.id < length births.now }
-    ensures { IfOk result (λ text. string_bytes text ≡ filed_text handle (names_of (⟦<Gear as GearTold>⟧.players (gear_in library.now))) births.now filed.now) }
+    ensures { OnOk result (string_bytes text.new ≡ string_bytes text.old ++ filed_text handle (names_of (⟦<Gear as GearTold>⟧.players (gear_in library.now))) births.now filed.now) }
 {
     let birth = births.at(filed.receipt.id as usize);
     let owner = library.module_name(birth.owner);
-    cleanup_report(alloc, handle, &filed.receipt, owner, birth.name.bytes())
+    write_cleanup(text, handle, &filed.receipt, owner, birth.name.bytes())
 }
 
-fn cleanup_report(
-    alloc: Global,
+fn write_cleanup(
+    text: &mut String,
     handle: u32,
     receipt: &Receipt,
     owner: &[u8],
     datum: &[u8],
-) -> Result<String, NoMemory>
-    ensures { IfOk result (λ text. string_bytes text ≡ cleanup_text handle receipt.now owner.now datum.now) }
+) -> Result<(), NoMemory>
+    ensures { OnOk result (string_bytes text.new ≡ string_bytes text.old ++ cleanup_text handle receipt.now owner.now datum.now) }
 {
     let id = receipt.id;
-    let status = status_words(alloc, receipt.status)?;
     let note = receipt.note;
-    let module = quoted(alloc, owner)?;
-    let name = quoted(alloc, datum)?;
-    Ok(format!(in alloc; "{handle} clean {id} {status} {note} {module} {name}\n")?)
+    write!(text, "{handle} clean {id} ")?;
+    write_status(text, receipt.status)?;
+    write!(text, " {note} ")?;
+    write_names(text, owner, datum)
 }
 
-fn status_words(alloc: Global, status: u32) -> Result<String, AllocError>
-    ensures { IfOk result (λ text. string_bytes text ≡ status_words status) }
+// The end of a line: both names quoted.
+fn write_names(text: &mut String, owner: &[u8], datum: &[u8]) -> Result<(), NoMemory>
+    ensures { OnOk result (string_bytes text.new ≡ string_bytes text.old ++ names_text owner.now datum.now) }
 {
-    format!(in alloc; "{status:08x}")
+    push_quoted(text, owner)?;
+    text.push_str(" ")?;
+    push_quoted(text, datum)?;
+    text.push_str("\n")?;
+    Ok(())
+}
+
+fn write_status(text: &mut String, status: u32) -> Result<(), AllocError>
+    ensures { OnOk result (string_bytes text.new ≡ string_bytes text.old ++ status_words status) }
+{
+    write!(text, "{status:08x}")
 }

@@ -4,9 +4,8 @@ ghost use Rattle.pam_library.specs.Plain.{gear_in};
 ghost use Rattle.session_report.specs.Cleaned.{AreOwned};
 ghost use Rattle.session_report.specs.Closing.{closing_text};
 
-use crate::answered::result_report;
-use crate::cleaned::cleanups_report;
-use crate::code::code_words;
+use crate::answered::write_code_result;
+use crate::cleaned::write_cleanups;
 use data_cleanup::Ledger;
 use pam_base::{Code, NoMemory};
 use pam_handle::{Gear, GearTold};
@@ -27,8 +26,8 @@ pub fn closing_report(
     requires from { filed_from ≤ length ledger.now.filed }
     ensures { IfOk result (λ text. string_bytes text ≡ closing_text (names_of (⟦<Gear as GearTold>⟧.players (gear_in library.now))) handle status ledger.now filed_from) }
 {
-    let mut text = cleanups_report(alloc, handle, library, ledger, filed_from)?;
-    let code = code_words(alloc, status)?;
-    text.push_str(&result_report(alloc, handle, "closed", &code)?)?;
+    let mut text = String::new(alloc);
+    write_cleanups(&mut text, handle, library, ledger, filed_from)?;
+    write_code_result(&mut text, handle, "closed", status)?;
     Ok(text)
 }

@@ -1,7 +1,7 @@
-ghost use Rattle.std.specs.Prelude.{◌≡◌, IfOk, string_bytes};
+ghost use Rattle.std.specs.Prelude.{◌≡◌, ◌++◌, IfOk, OnOk, string_bytes};
 ghost use Rattle.session_report.specs.Fault.{refused_words, refused_text};
 
-use pam_base::{NoMemory, quoted};
+use pam_base::{NoMemory, push_quoted};
 use service_load::LoadFault;
 use std::alloc::Global;
 
@@ -10,17 +10,20 @@ use std::alloc::Global;
 pub fn refused_report(alloc: Global, fault: &LoadFault) -> Result<String, NoMemory>
     ensures { IfOk result (λ text. string_bytes text ≡ refused_text fault.now) }
 {
-    let mut text = refused_words(alloc, fault)?;
+    let mut text = String::new(alloc);
+    write_refused(&mut text, fault)?;
     text.push_str("\n")?;
     Ok(text)
 }
 
-pub(crate) fn refused_words(alloc: Global, fault: &LoadFault) -> Result<String, NoMemory>
-    ensures { IfOk result (λ text. string_bytes text ≡ refused_words fault.now) }
+pub(crate) fn write_refused(text: &mut String, fault: &LoadFault) -> Result<(), NoMemory>
+    ensures { OnOk result (string_bytes text.new ≡ string_bytes text.old ++ refused_words fault.now) }
 {
-    let file = quoted(alloc, fault.file.bytes())?;
+    text.push_str("refused ")?;
+    push_quoted(text, fault.file.bytes())?;
     let line = fault.line;
     let name = fault.kind.name();
     let number = fault.kind.number();
-    Ok(format!(in alloc; "refused {file} {line} {name} {number}")?)
+    write!(text, " {line} {name} {number}")?;
+    Ok(())
 }

@@ -1,27 +1,27 @@
-ghost use Rattle.std.specs.Prelude.{◌≡◌, IfOk, string_bytes};
+ghost use Rattle.std.specs.Prelude.{◌≡◌, ◌++◌, OnOk, string_bytes};
 ghost use Rattle.session_report.specs.Missing.{missing_text, all_missing_text};
 
-use pam_base::{NoMemory, Text, quoted};
-use std::alloc::Global;
+use pam_base::{NoMemory, Text, push_quoted};
 
-/// A line for each module that is missing, in order.
-pub(crate) fn all_missing_report(
-    alloc: Global,
+/// Adds a line for each module that is missing, in order.
+pub(crate) fn write_all_missing(
+    text: &mut String,
     handle: u32,
     names: &[Text],
-) -> Result<String, NoMemory>
-    ensures { IfOk result (λ text. string_bytes text ≡ all_missing_text handle names.now) }
+) -> Result<(), NoMemory>
+    ensures { OnOk result (string_bytes text.new ≡ string_bytes text.old ++ all_missing_text handle names.now) }
 {
-    let mut text = String::new(alloc);
     for name in names {
-        text.push_str(&missing_report(alloc, handle, name)?)?;
+        write_missing(text, handle, name)?;
     }
-    Ok(text)
+    Ok(())
 }
 
-fn missing_report(alloc: Global, handle: u32, name: &Text) -> Result<String, NoMemory>
-    ensures { IfOk result (λ text. string_bytes text ≡ missing_text handle name.now) }
+fn write_missing(text: &mut String, handle: u32, name: &Text) -> Result<(), NoMemory>
+    ensures { OnOk result (string_bytes text.new ≡ string_bytes text.old ++ missing_text handle name.now) }
 {
-    let module = quoted(alloc, name.bytes())?;
-    Ok(format!(in alloc; "{handle} note missing {module}\n")?)
+    write!(text, "{handle} note missing ")?;
+    push_quoted(text, name.bytes())?;
+    text.push_str("\n")?;
+    Ok(())
 }

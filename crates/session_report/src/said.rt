@@ -1,29 +1,29 @@
-ghost use Rattle.std.specs.Prelude.{◌≡◌, IfOk, string_bytes};
+ghost use Rattle.std.specs.Prelude.{◌≡◌, ◌++◌, OnOk, string_bytes};
 ghost use Rattle.session_report.specs.Said.{message_text, messages_text};
 
 use conv_port::Message;
-use pam_base::{NoMemory, quoted};
-use std::alloc::Global;
+use pam_base::{NoMemory, push_quoted};
 
-/// A line for each message, in order.
-pub(crate) fn messages_report(
-    alloc: Global,
+/// Adds a line for each message, in order.
+pub(crate) fn write_messages(
+    text: &mut String,
     handle: u32,
     messages: &[Message],
-) -> Result<String, NoMemory>
-    ensures { IfOk result (λ text. string_bytes text ≡ messages_text handle «messages».now) }
+) -> Result<(), NoMemory>
+    ensures { OnOk result (string_bytes text.new ≡ string_bytes text.old ++ messages_text handle «messages».now) }
 {
-    let mut text = String::new(alloc);
     for message in messages {
-        text.push_str(&message_report(alloc, handle, message)?)?;
+        write_message(text, handle, message)?;
     }
-    Ok(text)
+    Ok(())
 }
 
-fn message_report(alloc: Global, handle: u32, message: &Message) -> Result<String, NoMemory>
-    ensures { IfOk result (λ text. string_bytes text ≡ message_text handle message.now) }
+fn write_message(text: &mut String, handle: u32, message: &Message) -> Result<(), NoMemory>
+    ensures { OnOk result (string_bytes text.new ≡ string_bytes text.old ++ message_text handle message.now) }
 {
     let style = message.style.number();
-    let said = quoted(alloc, message.text.bytes())?;
-    Ok(format!(in alloc; "{handle} say {style} {said}\n")?)
+    write!(text, "{handle} say {style} ")?;
+    push_quoted(text, message.text.bytes())?;
+    text.push_str("\n")?;
+    Ok(())
 }

@@ -5,12 +5,12 @@ ghost use Rattle.pam_library.specs.Plain.{gear_in};
 ghost use Rattle.session_report.specs.Cleaned.{AreOwned};
 ghost use Rattle.session_report.specs.Step.{step_text};
 
-use crate::answered::answer_report;
-use crate::cleaned::cleanups_report;
-use crate::missing::all_missing_report;
-use crate::said::messages_report;
-use crate::visited::visits_report;
-use crate::waited::waited_report;
+use crate::answered::write_answer;
+use crate::cleaned::write_cleanups;
+use crate::missing::write_all_missing;
+use crate::said::write_messages;
+use crate::visited::write_visits;
+use crate::waited::write_waited;
 use data_cleanup::Ledger;
 use pam_base::{NoMemory, Step};
 use pam_handle::{Gear, GearTold};
@@ -34,11 +34,12 @@ pub fn step_report(
 {
     let handle = step.number;
     let command = call_word(&step.call);
-    let mut text = messages_report(alloc, handle, outcome.said.items())?;
-    text.push_str(&visits_report(alloc, handle, outcome.trail.items())?)?;
-    text.push_str(&cleanups_report(alloc, handle, library, ledger, outcome.filed_from)?)?;
-    text.push_str(&waited_report(alloc, handle, &outcome.wait)?)?;
-    text.push_str(&all_missing_report(alloc, handle, outcome.missing.items())?)?;
-    text.push_str(&answer_report(alloc, handle, command, &outcome.answer)?)?;
+    let mut text = String::new(alloc);
+    write_messages(&mut text, handle, outcome.said.items())?;
+    write_visits(&mut text, handle, outcome.trail.items())?;
+    write_cleanups(&mut text, handle, library, ledger, outcome.filed_from)?;
+    write_waited(&mut text, handle, &outcome.wait)?;
+    write_all_missing(&mut text, handle, outcome.missing.items())?;
+    write_answer(&mut text, handle, command, &outcome.answer)?;
     Ok(text)
 }

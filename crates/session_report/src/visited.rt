@@ -1,32 +1,29 @@
-ghost use Rattle.std.specs.Prelude.{◌≡◌, IfOk, string_bytes};
+ghost use Rattle.std.specs.Prelude.{◌≡◌, ◌++◌, OnOk, string_bytes};
 ghost use Rattle.session_report.specs.Visited.{visit_text, visits_text};
 
-use crate::code::code_words;
+use crate::code::write_code;
 use control_words::module_name;
-use pam_base::{NoMemory, quoted};
+use pam_base::{NoMemory, push_quoted};
 use pam_room::Visit;
-use std::alloc::Global;
 
-/// A line for each visit, in order.
-pub(crate) fn visits_report(
-    alloc: Global,
-    handle: u32,
-    visits: &[Visit],
-) -> Result<String, NoMemory>
-    ensures { IfOk result (λ text. string_bytes text ≡ visits_text handle visits.now) }
+/// Adds a line for each visit, in order.
+pub(crate) fn write_visits(text: &mut String, handle: u32, visits: &[Visit]) -> Result<(), NoMemory>
+    ensures { OnOk result (string_bytes text.new ≡ string_bytes text.old ++ visits_text handle visits.now) }
 {
-    let mut text = String::new(alloc);
     for visit in visits {
-        text.push_str(&visit_report(alloc, handle, visit)?)?;
+        write_visit(text, handle, visit)?;
     }
-    Ok(text)
+    Ok(())
 }
 
-fn visit_report(alloc: Global, handle: u32, visit: &Visit) -> Result<String, NoMemory>
-    ensures { IfOk result (λ text. string_bytes text ≡ visit_text handle visit.now) }
+fn write_visit(text: &mut String, handle: u32, visit: &Visit) -> Result<(), NoMemory>
+    ensures { OnOk result (string_bytes text.new ≡ string_bytes text.old ++ visit_text handle visit.now) }
 {
     let place = visit.place;
-    let module = quoted(alloc, module_name(visit.path.bytes()))?;
-    let answer = code_words(alloc, visit.answer)?;
-    Ok(format!(in alloc; "{handle} line {place} {module} {answer}\n")?)
+    write!(text, "{handle} line {place} ")?;
+    push_quoted(text, module_name(visit.path.bytes()))?;
+    text.push_str(" ")?;
+    write_code(text, visit.answer)?;
+    text.push_str("\n")?;
+    Ok(())
 }

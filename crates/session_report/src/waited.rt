@@ -1,29 +1,31 @@
-ghost use Rattle.std.specs.Prelude.{◌≡◌, IfOk, string_bytes};
+ghost use Rattle.std.specs.Prelude.{◌≡◌, ◌++◌, OnOk, string_bytes};
 ghost use Rattle.session_report.specs.Waited.{wait_text, waited_text};
 
-use crate::code::code_words;
+use crate::code::write_code;
+use pam_base::NoMemory;
 use pam_handle::Wait;
-use std::alloc::{AllocError, Global};
 
-/// The line of a wait, where there was one.
-pub(crate) fn waited_report(
-    alloc: Global,
+/// Adds the line of a wait, where there was one.
+pub(crate) fn write_waited(
+    text: &mut String,
     handle: u32,
     waited: &Option<Wait>,
-) -> Result<String, AllocError>
-    ensures { IfOk result (λ text. string_bytes text ≡ waited_text handle waited.now) }
+) -> Result<(), NoMemory>
+    ensures { OnOk result (string_bytes text.new ≡ string_bytes text.old ++ waited_text handle waited.now) }
 {
     match waited {
-        Some(wait) => wait_report(alloc, handle, wait),
-        None => Ok(String::new(alloc)),
+        Some(wait) => write_wait(text, handle, wait),
+        None => Ok(()),
     }
 }
 
-fn wait_report(alloc: Global, handle: u32, waited: &Wait) -> Result<String, AllocError>
-    ensures { IfOk result (λ text. string_bytes text ≡ wait_text handle waited.now) }
+fn write_wait(text: &mut String, handle: u32, waited: &Wait) -> Result<(), NoMemory>
+    ensures { OnOk result (string_bytes text.new ≡ string_bytes text.old ++ wait_text handle waited.now) }
 {
-    let code = code_words(alloc, waited.code)?;
+    write!(text, "{handle} wait ")?;
+    write_code(text, waited.code)?;
     let asked = waited.asked;
     let wait = waited.wait;
-    format!(in alloc; "{handle} wait {code} {asked} {wait}\n")
+    write!(text, " {asked} {wait}\n")?;
+    Ok(())
 }
