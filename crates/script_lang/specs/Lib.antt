@@ -7,3 +7,4 @@ pub mod Number
 pub mod Place
 pub mod Value
 pub mod Written
+pub mod Numbered

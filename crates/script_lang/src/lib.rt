@@ -11,5 +11,5 @@ mod place;
 mod value;
 
 pub use command::{call_word, func_word};
-pub use law::written_is_read;
+pub use law::{numbers_are_short, written_is_read};
 pub use line::{Line, parse};
