@@ -1,5 +1,5 @@
 -- The lines that are looked at.
-use Rattle.std.proofs.Common.{◌≡◌, ℕ, ◌+◌, ◌<◌, Bool, true, false, ◌||◌, leb, ltb, eqb, List, [], ◌∷◌, ◌++◌, length, refl, sym, ap, append_assoc, length-append, arith}
+use Rattle.std.proofs.Common.{◌≡◌, ℕ, ◌+◌, ◌<◌, Bool, true, false, ◌||◌, leb, ltb, eqb, List, [], ◌∷◌, ◌++◌, length, cond, refl, sym, ap, ◌∙◌, append_assoc, length-append, arith}
 use Rattle.pam_base.specs.Bytes.{has_byte}
 use Rattle.pam_base.specs.Lines.{Cut, onto, cut, cut-line, cut-part, last_line, lines_of}
 use Rattle.script_stream.specs.Looked.{looked, last_looked}
@@ -112,3 +112,21 @@ last_all n (b ∷ bs) = refl
 pub looked-all : (n : ℕ) (bytes : List ℕ) → looked n bytes true ≡ lines_of bytes
 unfolding looked lines_of
 looked-all n bytes = ap (λ (ls : List (List ℕ)). (cut bytes).lines ++ ls) (last_all (n + length (cut bytes).lines) (cut bytes).rest)
+
+-- ---- bytes of which no line is whole
+
+onto-none : (x : ℕ) (ls : List (List ℕ)) (r : List ℕ) → (onto x ls r).lines ≡ [] → ls ≡ []
+onto-none x [] r e = refl
+onto-none x (l ∷ ls) r e = absurd cc
+
+one_by : (x : ℕ) (xs : List ℕ) (whole : Cut) (t : Bool) → eqb x 10 ≡ t → ((cut xs).lines ≡ [] → has_byte 10 xs ≡ false) → whole.lines ≡ [] ∷ (cut xs).lines
+    → (cond t whole (onto x (cut xs).lines (cut xs).rest)).lines ≡ [] → has_byte 10 (x ∷ xs) ≡ false
+one_by x xs whole true h rest w e =
+    let no : ◌≡◌ {A = List (List ℕ)} ([] ∷ (cut xs).lines) [] = sym w ∙ e in
+    absurd cc
+one_by x xs whole false h rest w e = rw h (rest (onto-none x (cut xs).lines (cut xs).rest e))
+
+pub one_part : (bytes : List ℕ) → (cut bytes).lines ≡ [] → has_byte 10 bytes ≡ false
+unfolding cut
+one_part [] e = refl
+one_part (x ∷ xs) e = one_by x xs _ (eqb x 10) refl (one_part xs) refl e

@@ -6,7 +6,8 @@ use Rattle.pam_base.specs.declared.fault.ScriptKind.TheVariants.{LineTooLong, To
 use Rattle.pam_base.specs.Bytes.{has_byte}
 use Rattle.pam_base.specs.Lines.{cut}
 use Rattle.script_stream.specs.Looked.{last_looked, looked}
-use Rattle.script_stream.specs.Run.{LineStep, Run, with_text, after, step_at, run_lines, run_of}
+use Rattle.item_stream.specs.Run.{with_text, after, run_items, run_of as run_of_items}
+use Rattle.script_stream.specs.Run.{LineStep, Run, step_at, run_of}
 use Rattle.script_stream.proofs.Looking.{before, cut-before, looked-append, rest-has_no_newline}
 
 or_third : (a b c d : Bool) → (b || c) ≡ true → (c ≡ true → d ≡ true) → (a || b || d) ≡ true
@@ -53,20 +54,20 @@ module _ {State : Type 0} (step : LineStep State) where
   after-refused n c (Ok x) f g k h e = ap (with_text x.1) (h x.0 e)
   after-refused n c (Err j) f g k h e = refl
 
-  core : (ls t u : List (List ℕ)) (n : ℕ) (c : State) (k : ScriptKind) → ((d : State) → (run_lines step (n + length ls) d t).refused ≡ Some k → run_lines step (n + length ls) d u ≡ run_lines step (n + length ls) d t)
-      → (run_lines step n c (ls ++ t)).refused ≡ Some k → run_lines step n c (ls ++ u) ≡ run_lines step n c (ls ++ t)
-  unfolding run_lines
+  core : (ls t u : List (List ℕ)) (n : ℕ) (c : State) (k : ScriptKind) → ((d : State) → (run_items (step_at step) (n + length ls) d t).refused ≡ Some k → run_items (step_at step) (n + length ls) d u ≡ run_items (step_at step) (n + length ls) d t)
+      → (run_items (step_at step) n c (ls ++ t)).refused ≡ Some k → run_items (step_at step) n c (ls ++ u) ≡ run_items (step_at step) n c (ls ++ t)
+  unfolding run_items
   core [] t u n c k h e =
       let z : n + 0 ≡ n = omega arith in
       (rw z at h) c e
   core (l ∷ ls) t u n c k h e =
       let z : n + length (l ∷ ls) ≡ (n + 1) + length ls = omega arith in
-      after-refused n c (step_at step n c l) (λ d. run_lines step (n + 1) d (ls ++ t)) (λ d. run_lines step (n + 1) d (ls ++ u)) k
+      after-refused n c (step_at step n c l) (λ d. run_items (step_at step) (n + 1) d (ls ++ t)) (λ d. run_items (step_at step) (n + 1) d (ls ++ u)) k
       (λ x r. core ls t u (n + 1) x k (rw z at h) r) e
 
   last_by : (d : State) (n x : ℕ) (xs more : List ℕ) (ended : Bool) (k : ScriptKind) (t : Bool) → (leb 65536 n || ltb 513 (length (x ∷ xs))) ≡ t → has_byte 10 (x ∷ xs) ≡ false
-      → (run_lines step n d (last_looked n (x ∷ xs) false)).refused ≡ Some k → run_lines step n d (looked n ((x ∷ xs) ++ more) ended) ≡ run_lines step n d (last_looked n (x ∷ xs) false)
-  unfolding run_lines last_looked
+      → (run_items (step_at step) n d (last_looked n (x ∷ xs) false)).refused ≡ Some k → run_items (step_at step) n d (looked n ((x ∷ xs) ++ more) ended) ≡ run_items (step_at step) n d (last_looked n (x ∷ xs) false)
+  unfolding run_items last_looked
   last_by d n x xs more ended k true h e q =
       let first = first_by n x xs more ended (cut more).lines (cut more).rest h (cut-before (x ∷ xs) more e) in
       let over = over_by n d (x ∷ xs) first.line (leb 65536 n) refl h first.longer in
@@ -76,16 +77,16 @@ module _ {State : Type 0} (step : LineStep State) where
       absurd cc
 
   last-stays : (d : State) (n : ℕ) (r more : List ℕ) (ended : Bool) (k : ScriptKind) → has_byte 10 r ≡ false
-      → (run_lines step n d (last_looked n r false)).refused ≡ Some k → run_lines step n d (looked n (r ++ more) ended) ≡ run_lines step n d (last_looked n r false)
-  unfolding run_lines last_looked
+      → (run_items (step_at step) n d (last_looked n r false)).refused ≡ Some k → run_items (step_at step) n d (looked n (r ++ more) ended) ≡ run_items (step_at step) n d (last_looked n r false)
+  unfolding run_items last_looked
   last-stays d n [] more ended k e q = absurd cc
   last-stays d n (x ∷ xs) more ended k e q = last_by d n x xs more ended k _ refl e q
 
   -- what is refused among some bytes is refused, whatever stands behind them, and with the same text before it
   pub run-stays : (n : ℕ) (c : State) (taken more : List ℕ) (ended : Bool) (k : ScriptKind) → (run_of step n c taken false).refused ≡ Some k → run_of step n c (taken ++ more) ended ≡ run_of step n c taken false
-  unfolding run_of looked
+  unfolding run_of_items looked
   run-stays n c taken more ended k e =
       let m = n + length (cut taken).lines in
-      ap (run_lines step n c) (looked-append n taken more ended)
+      ap (run_items (step_at step) n c) (looked-append n taken more ended)
       ∙ core (cut taken).lines (last_looked m (cut taken).rest false) (looked m ((cut taken).rest ++ more) ended) n c k
       (λ d q. last-stays d m (cut taken).rest more ended k (rest-has_no_newline taken) q) e

@@ -4,7 +4,8 @@ use Rattle.std.specs.Str.{bytes_eq}
 use Rattle.pam_base.specs.declared.fault.ScriptKind.TheVariants.{BadWord, LineTooLong, TooManyLines}
 use Rattle.pam_base.specs.Lines.{cut}
 use Rattle.script_stream.specs.Looked.{last_looked, looked}
-use Rattle.script_stream.specs.Run.{LineStep, Run, come_to, step_at, run_lines, run_of}
+use Rattle.item_stream.specs.Run.{come_to, run_items, run_of as run_of_items}
+use Rattle.script_stream.specs.Run.{LineStep, Run, step_at, run_of}
 
 echo : LineStep ℕ
 echo count line = if bytes_eq line (codes "x") then Err BadWord else Ok (count + 1, line ++ codes "\n")
@@ -17,29 +18,29 @@ bytes_of zero = []
 bytes_of (suc n) = 97 ∷ bytes_of n
 
 last_line_needs_no_newline : ran (codes "a\nb") true ≡ come_to (codes "a\nb\n") 2 2 None
-unfolding ran echo run_of run_lines step_at looked last_looked cut
+unfolding ran echo run_of_items run_items step_at looked last_looked cut
 last_line_needs_no_newline = refl
 
 last_line_waits_for_the_end : ran (codes "a\nb") false ≡ come_to (codes "a\n") 1 1 None
-unfolding ran echo run_of run_lines step_at looked last_looked cut
+unfolding ran echo run_of_items run_items step_at looked last_looked cut
 last_line_waits_for_the_end = refl
 
 first_refused_line_ends_it : ran (codes "a\nx\nc\nx") true ≡ come_to (codes "a\n") 1 1 (Some BadWord)
-unfolding ran echo run_of run_lines step_at looked last_looked cut
+unfolding ran echo run_of_items run_items step_at looked last_looked cut
 first_refused_line_ends_it = refl
 
 empty_lines_are_lines : ran (codes "\n\n") true ≡ come_to (codes "\n\n") 2 2 None
-unfolding ran echo run_of run_lines step_at looked last_looked cut
+unfolding ran echo run_of_items run_items step_at looked last_looked cut
 empty_lines_are_lines = refl
 
 held_513_bytes_wait : ran (bytes_of 513) false ≡ come_to [] 0 0 None
-unfolding ran echo bytes_of run_of run_lines step_at looked last_looked cut
+unfolding ran echo bytes_of run_of_items run_items step_at looked last_looked cut
 held_513_bytes_wait = refl
 
 held_514_bytes_are_too_long : ran (bytes_of 514) false ≡ come_to [] 0 0 (Some LineTooLong)
-unfolding ran echo bytes_of run_of run_lines step_at looked last_looked cut
+unfolding ran echo bytes_of run_of_items run_items step_at looked last_looked cut
 held_514_bytes_are_too_long = refl
 
 first_byte_begins_a_line_too_many : run_of echo 65536 0 (codes "a") false ≡ come_to [] 0 65536 (Some TooManyLines)
-unfolding echo run_of run_lines step_at looked last_looked cut
+unfolding echo run_of_items run_items step_at looked last_looked cut
 first_byte_begins_a_line_too_many = refl

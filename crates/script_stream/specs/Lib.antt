@@ -1,6 +1,3 @@
-pub mod Laws
 pub mod Looked
 pub mod Run
-pub mod Taking
 pub mod Turns
-pub mod Whole

@@ -1,5 +1,5 @@
 -- Which lines of a script are looked at, of the bytes that were taken so far.
-use Rattle.std.specs.Prelude.{ℕ, ◌+◌, Bool, List, [], ◌∷◌, ◌++◌, length, ◌||◌, if◌then◌else◌, nat_le, nat_lt}
+use Rattle.std.specs.Prelude.{◌⊎◌, ℕ, ◌+◌, ◌≤◌, ◌<◌, Bool, List, [], ◌∷◌, ◌++◌, length, ◌||◌, if◌then◌else◌, nat_le, nat_lt}
 use Rattle.pam_base.specs.Lines.{cut}
 
 -- What stands behind the last newline is looked at where the input has ended; before that only where it is one line
@@ -11,3 +11,7 @@ last_looked n (b ∷ bs) ended = if ended || nat_le 65536 n || nat_lt 513 (lengt
 -- the lines among some bytes that are looked at, where n lines stand before them
 unfoldable pub looked : ℕ → List ℕ → Bool → List (List ℕ)
 looked n bytes ended = (cut bytes).lines ++ last_looked (n + length (cut bytes).lines) (cut bytes).rest ended
+
+-- a line that is one too many, or too long, whatever it ends with
+abbrev pub IsOver : ℕ → List ℕ → Type 0
+IsOver n line = (65536 ≤ n) ⊎ (513 < length line)

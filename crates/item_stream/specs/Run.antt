@@ -1,0 +1,43 @@
+-- A run: the steps of items, one after the other, whatever an item is and does (this project's own).
+use Rattle.std.specs.Prelude.{ℕ, ◌+◌, Bool, List, [], ◌∷◌, ◌++◌, Option, Some, None, Result, Ok, Err}
+
+-- which items are looked at of some bytes that stand behind so many items; and whether the input ends behind them
+abbrev pub Looks : Type 0
+Looks = ℕ → List ℕ → Bool → List (List ℕ)
+
+-- which items that stand behind so many are refused in every state
+abbrev pub Refuses : Type 1
+Refuses = ℕ → List ℕ → Type 0
+
+-- what an item that stands behind so many does to a state: the state after it and the text that is written for it, or
+-- why it is refused
+abbrev pub ItemStep : Type 0 → Type 0 → Type 0
+ItemStep State Kind = ℕ → State → List ℕ → Result (State × List ℕ) Kind
+
+-- what items come to: the text of those before the first refused one, the state after them, how many items stand
+-- before what follows, and why an item was refused
+pub record Run (State Kind : Type 0) : Type 0 where
+  pub text : List ℕ
+  pub last : State
+  pub items : ℕ
+  pub refused : Option Kind
+
+abbrev pub come_to : {State Kind : Type 0} → List ℕ → State → ℕ → Option Kind → Run State Kind
+come_to text last items refused = record { text = text; last = last; items = items; refused = refused }
+
+abbrev pub with_text : {State Kind : Type 0} → List ℕ → Run State Kind → Run State Kind
+with_text text r = record { text = text ++ r.text; last = r.last; items = r.items; refused = r.refused }
+
+-- an item's outcome, and what follows it
+abbrev pub after : {State Kind : Type 0} → ℕ → State → Result (State × List ℕ) Kind → (State → Run State Kind) → Run State Kind
+after n s (Ok x) next = with_text x.1 (next x.0)
+after n s (Err kind) next = come_to [] s n (Some kind)
+
+-- the fold of the steps over items that have n items before them
+unfoldable pub run_items : {State Kind : Type 0} → ItemStep State Kind → ℕ → State → List (List ℕ) → Run State Kind
+run_items step n s [] = come_to [] s n None
+run_items step n s (l ∷ ls) = after n s (step n s l) (λ t. run_items step (n + 1) t ls)
+
+-- what bytes come to that stand behind n items; `ended` says that the input ends behind them
+unfoldable pub run_of : {State Kind : Type 0} → Looks → ItemStep State Kind → ℕ → State → List ℕ → Bool → Run State Kind
+run_of looked step n s bytes ended = run_items step n s (looked n bytes ended)

@@ -1,0 +1,121 @@
+ghost use Rattle.std.specs.Prelude.{◌≡◌, ◌≤◌, ◌<◌, ◌+◌, ◌==◌, if◌then◌else◌, [], drop, length, List, ℕ, IsTrue, IfOk, OnErr, is_err};
+ghost use Rattle.pam_outside.specs.Counts.{RisesIf};
+ghost use Rattle.item_stream.specs.Taking.{Adds, Fills, Finds, IsFound};
+
+use crate::stepping::{Front, Stepping};
+use pam_base::{Failed, NoMemory};
+use pam_outside::Source;
+use std::alloc::Global;
+use std::marker::Model;
+
+const CHUNK: usize = 512;
+
+/// Room for 581 bytes that are waited with, and for what one read adds to it.
+const ROOM: usize = 1093;
+
+/// The bytes that were taken from a source and not handed on.
+#[derive(Drop)]
+pub struct Reader {
+    held: Vec<u8>,
+}
+
+impl Model for Reader {
+    ghost use Rattle.std.specs.Prelude.{List, ℕ, ◌≤◌, vec_capacity};
+
+    ghost Value = { List ℕ };
+
+    ghost view = { λ r. r.held.items };
+
+    ghost invariant = { λ r. 1093 ≤ vec_capacity r.held };
+}
+
+/// What stands at the front of what is held.
+#[derive(Clone, Copy)]
+pub enum Found {
+    /// An item, of so many bytes, and before what follows it so many.
+    Item { length: usize, size: usize },
+    /// The last item that is looked at: all that is held.
+    Rest,
+    /// Nothing, and the source has ended.
+    End,
+}
+
+impl Reader {
+    /// All the memory that it needs is taken here.
+    pub fn new(alloc: Global) -> Result<Reader, NoMemory>
+        ensures { IfOk result (λ r. r ≡ []) }
+    {
+        Ok(Reader {
+            held: Vec::with_capacity(alloc, ROOM)?,
+        })
+    }
+
+    pub fn bytes(&self) -> &[u8]
+        ensures { result.now ≡ self.now }
+    {
+        &self.held
+    }
+
+    /// Hands the first n bytes on.
+    pub fn skip(&mut self, n: usize)
+        requires { n ≤ length self.old }
+        ensures { self.new ≡ drop n self.old }
+    {
+        let left = self.held.len() - n;
+        self.held.rotate_left(n);
+        self.held.truncate(left);
+    }
+
+    /// Takes bytes until an item is whole, or what is held is refused, whatever follows.
+    pub fn find<R: Stepping, S: Source>(
+        &mut self,
+        source: &mut S,
+        before: u32,
+    ) -> Result<Found, Failed>
+        ensures found { IsFound R.looked result before self.new }
+        ensures tells { S.source_tells source.new ≡ S.source_tells source.old }
+        ensures told { IsTrue (S.source_tells source.old) →
+            Finds R.looked R.refuses result before self.old self.new
+            (S.source_holds source.old) (S.source_holds source.new) }
+        ensures faults { RisesIf (is_err result) (S.source_faults source.old) (S.source_faults source.new) }
+    {
+        R::cuts();
+        loop {
+            match R::front(before, self.bytes()) {
+                Front::Item { length, size } => return Ok(Found::Item { length, size }),
+                Front::Last => return Ok(Found::Rest),
+                Front::Wait => {}
+            }
+            if self.fill(source)? == 0 {
+                return Ok(self.last());
+            }
+        }
+    }
+
+    // What is found where the source has ended.
+    fn last(&self) -> Found
+        ensures { result ≡ (if length self.now == 0 then Found.End else Found.Rest) }
+    {
+        if self.bytes().is_empty() {
+            Found::End
+        } else {
+            Found::Rest
+        }
+    }
+
+    // Takes bytes from the source.
+    fn fill<S: Source>(&mut self, source: &mut S) -> Result<usize, Failed>
+        requires { length self.old ≤ 581 }
+        ensures more { IfOk result (λ n. Adds n self.old self.new) }
+        ensures err { OnErr result (self.new ≡ self.old) }
+        ensures tells { S.source_tells source.new ≡ S.source_tells source.old }
+        ensures told { IsTrue (S.source_tells source.old) →
+            Fills result self.old self.new (S.source_holds source.old) (S.source_holds source.new) }
+        ensures faults { RisesIf (is_err result) (S.source_faults source.old) (S.source_faults source.new) }
+    {
+        let mut chunk = [0u8; CHUNK];
+        let n = source.read(&mut chunk)?;
+        self.held.extend_from_slice(&chunk[..n]).unwrap();
+        Ok(n)
+    }
+}

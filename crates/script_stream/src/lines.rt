@@ -1,0 +1,54 @@
+ghost use Rattle.std.specs.Prelude.{List, ℕ, Result};
+ghost use Rattle.pam_base.specs.declared.fault.ScriptKind.{ScriptKind};
+
+use crate::front::front_of_lines;
+use item_stream::{Front, Stepping};
+use std::marker::PhantomData;
+
+/// What the lines of a script do, for those who state what a run over them comes to. It has ghost members alone.
+pub trait LineStepping {
+    /// What stays the same in a run.
+    ghost Setting: { Type 0 };
+
+    /// What a line changes.
+    ghost State: { Type 0 };
+
+    /// The state after a line, without its newline, and the text that is written for it; or why it is refused.
+    ghost line_step: { Setting → State → List ℕ → Result (State × List ℕ) ScriptKind };
+
+    /// The states that a line may leave whose call found no memory.
+    ghost fails: { Setting → State → List ℕ → State → Type 0 };
+}
+
+/// The stream of the lines that do so.
+pub struct Lines<R: LineStepping> {
+    of: PhantomData<R>,
+}
+
+impl<R: LineStepping> Stepping for Lines<R> {
+    ghost use Rattle.pam_base.specs.declared.fault.ScriptKind.{ScriptKind};
+    ghost use Rattle.script_stream.specs.Looked.{IsOver, looked};
+    ghost use Rattle.script_stream.specs.Run.{step_at};
+
+    ghost Kind = { ScriptKind };
+
+    ghost Setting = { R.Setting };
+
+    ghost State = { R.State };
+
+    ghost looked = { looked };
+
+    ghost step = { λ setting. step_at (R.line_step setting) };
+
+    ghost refuses = { IsOver };
+
+    ghost fails = { R.fails };
+
+    fn front(before: u32, held: &[u8]) -> Front {
+        front_of_lines(before, held)
+    }
+
+    fn cuts() {}
+
+    fn keeps() {}
+}
