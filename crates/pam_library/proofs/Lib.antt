@@ -10,4 +10,15 @@ pub mod Starting
 pub mod Onward
 pub mod Applying
 pub mod Ending
+pub mod Forgetting
+pub mod Recording
+pub mod Quiet
+pub mod Twins
+pub mod Alongside
+pub mod Twofold
+pub mod Looking
+pub mod Placewise
+pub mod Isolating
+pub mod Ordering
+pub mod Filing
 mod Rows

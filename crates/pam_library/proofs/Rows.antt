@@ -58,7 +58,7 @@ number_of code asked = 0
 -- ---- sixteen places, a world, and a transaction whose stacks have one line each
 
 abbrev no_offers : ConvState
-no_offers = record { offers = []; waits = false }
+no_offers = record { offers = []; waits = false; handed = [] }
 
 abbrev all_closed : List PlainSlot
 all_closed = replicate 16 (closed no_offers)
@@ -135,7 +135,7 @@ unset = record { outcome = refl; slots_are = refl; world_is = refl }
 replied : Stepped
 replied = of_step (first_open (codes "p")) 2 (calls.Reply (codes "y"))
 
-reply_stays : replied.slots ≡ opened (of_joe 1 (codes "p")) ∷ closed (record { offers = Answer (codes "y") ∷ []; waits = false }) ∷ replicate 14 (closed no_offers)
+reply_stays : replied.slots ≡ opened (of_joe 1 (codes "p")) ∷ closed (record { offers = Answer (codes "y") ∷ []; waits = false; handed = [] }) ∷ replicate 14 (closed no_offers)
 unfolding stepped replied
 reply_stays = refl
 

@@ -6,6 +6,8 @@ pub mod Closing
 pub mod Sound
 pub mod AnyWorld
 pub mod SideBySide
+pub mod Alike
 pub mod Calls
 pub mod Plain
 pub mod InPlace
+pub mod Plays

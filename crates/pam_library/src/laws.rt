@@ -1,8 +1,13 @@
-ghost use Rattle.std.specs.Prelude.{◌≡◌, ℕ, List, [], ◌++◌, map, length, Option, Some};
+ghost use Rattle.std.specs.Prelude.{◌≡◌, ℕ, List, [], ◌++◌, map, length, nat_eq, false, Option, Some};
 ghost use Rattle.pam_base.specs.declared.code.Code.{Code};
 ghost use Rattle.pam_base.specs.declared.call.AppCall.{AppCall};
+ghost use Rattle.pam_base.specs.declared.call.Step.{Step};
+ghost use Rattle.pam_outside.specs.Files.{File, VaultState};
+ghost use Rattle.pam_room.specs.State.{PlainWorld};
+ghost use Rattle.pam_library.specs.Plays.{GoesOn};
+ghost use Rattle.pam_library.specs.Step.{stepped};
 ghost use Rattle.conv_port.specs.Conv.{ConvState};
-ghost use Rattle.data_cleanup.specs.Ledger.{AreNumbered, PlainLedger};
+ghost use Rattle.data_cleanup.specs.Ledger.{AreNumbered, IsSound as LedgerIsSound, PlainLedger};
 ghost use Rattle.data_cleanup.specs.Cleanup.{Notes};
 ghost use Rattle.data_cleanup.specs.Due.{Event};
 ghost use Rattle.data_due.specs.Stands.{Lists, StandFor};
@@ -12,6 +17,7 @@ ghost use Rattle.pam_library.specs.Slots.{PlainSlot, closed, data_in, lists_of, 
 ghost use Rattle.pam_library.specs.Sound.{IsAtPlace, IsSound};
 ghost use Rattle.pam_library.specs.AnyWorld.{SpendsAt, end_at};
 ghost use Rattle.pam_library.specs.Calls.{MoveOn, Moved, events_of, last_ledger, last_lists};
+ghost use Rattle.pam_library.specs.Alike.{AreAlike, AreInOrder, ComeToSame, NoCallFails};
 ghost use Rattle.pam_library.specs.SideBySide.{Met, alone, outcomes_alone, outcomes_on, own_steps, slots_after};
 
 use data_cleanup::nothing_grows;
@@ -73,4 +79,38 @@ pub fn places_stand_side_by_side()
     ensures outcomes { (players : List Player) (number_of : Code → ℕ → ℕ) (number : ℕ) (steps : List Met) (slots : List PlainSlot) (slot : PlainSlot) →
         slot_at slots number ≡ Some slot →
         outcomes_on players number_of number slots steps ≡ outcomes_alone players number_of number slot (own_steps number steps) }
+{}
+
+/// Places and a ledger between two calls are in order; and so are closed places and a ledger without births.
+pub fn sound_places_are_in_order()
+    ensures sound { (names : List (List ℕ)) (modules : ℕ) (slots : List PlainSlot) (ledger : PlainLedger) →
+        IsSound names modules slots ledger → AreNumbered 0 ledger.births → LedgerIsSound ledger.births ledger.filed → AreInOrder slots ledger }
+    ensures closed { (convs : List ConvState) → AreInOrder (map closed convs) (record { births = []; filed = [] }) }
+{}
+
+/// Where a vault lists no number of a call that is to fail, no call is.
+pub fn no_call_fails_where_none_is_listed()
+    ensures { (vault : VaultState) → vault.fails ≡ [] → NoCallFails vault }
+{}
+
+/// What a call on one number comes to doesn't hang on the others. In two states that are alike for a number, a call on it comes
+/// to the same, and leaves two that are alike; and so does, in one of them, a call on another number that changes no
+/// file. It holds of whatever the modules play.
+pub fn calls_keep_to_themselves()
+    ensures own { (players : List Player) (number_of : Code → ℕ → ℕ) (step : Step) (slots others : List PlainSlot) (w v : PlainWorld) →
+        AreAlike step.number slots w others v →
+        ComeToSame step.number (stepped players number_of slots w step) (stepped players number_of others v step) }
+    ensures other { (players : List Player) (number_of : Code → ℕ → ℕ) (number : ℕ) (step : Step) (slots others : List PlainSlot) (w v : PlainWorld) →
+        nat_eq step.number number ≡ false → AreAlike number slots w others v →
+        (stepped players number_of slots w step).world.vault.files ≡ w.vault.files →
+        AreAlike number (stepped players number_of slots w step).slots (stepped players number_of slots w step).world others v }
+{}
+
+/// A step changes files by what modules play, one after another, and by nothing else. What some plays lead to, and others
+/// lead on from, both lead to together.
+pub fn steps_change_files_by_plays()
+    ensures step { (players : List Player) (number_of : Code → ℕ → ℕ) (slots : List PlainSlot) (w : PlainWorld) (step : Step) →
+        GoesOn players w.vault.files (stepped players number_of slots w step).world.vault.files }
+    ensures together { (players : List Player) (first middle last : List File) →
+        GoesOn players first middle → GoesOn players middle last → GoesOn players first last }
 {}

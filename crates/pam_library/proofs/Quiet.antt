@@ -1,0 +1,38 @@
+-- A vault of which no call is to fail.
+use Rattle.std.proofs.Common.{◌≡◌, ℕ, zero, suc, ◌-◌, ◌^◌, Bool, true, false, ◌&&◌, List, [], refl, ap, ◌∙◌}
+use Rattle.std.specs.Prelude.{nat_lt}
+use Rattle.pam_outside.specs.Counts.{fails_next}
+use Rattle.pam_outside.specs.Files.{File, VaultState, counted, is_failing}
+use Rattle.pam_room.specs.Module.{after_calls, failing_of}
+use Rattle.pam_library.specs.Alike.{NoCallFails}
+
+pub quiet_now : (vault : VaultState) → NoCallFails vault → is_failing vault ≡ false
+unfolding failing_of
+quiet_now vault quiet = quiet 0
+
+pub quiet_counted : (vault : VaultState) → NoCallFails vault → NoCallFails (counted vault)
+unfolding failing_of
+quiet_counted vault quiet k = quiet (suc k)
+
+pub quiet_after : (k : ℕ) (vault : VaultState) → NoCallFails vault → NoCallFails (after_calls k vault)
+quiet_after zero vault quiet = quiet
+quiet_after (suc k) vault quiet = quiet_after k (counted vault) (quiet_counted vault quiet)
+
+with_files : (files : List File) (k : ℕ) (vault : VaultState) → is_failing (after_calls k (record vault { files = files })) ≡ is_failing (after_calls k vault)
+with_files files zero vault = refl
+with_files files (suc k) vault = with_files files k (counted vault)
+
+pub quiet_with_files : (files : List File) (vault : VaultState) → NoCallFails vault → NoCallFails (record vault { files = files })
+unfolding failing_of
+quiet_with_files files vault quiet k = with_files files k vault ∙ quiet k
+
+none_listed : (calls : ℕ) (fails : List ℕ) → fails ≡ [] → fails_next calls fails ≡ false
+none_listed calls fails none = ap (fails_next calls) none ∙ (elim (nat_lt calls (2 ^ 64 - 1)) as (λ (b : Bool). (b && false) ≡ false) [ true ↦ refl | false ↦ refl ])
+
+none_listed_after : (k : ℕ) (vault : VaultState) → vault.fails ≡ [] → is_failing (after_calls k vault) ≡ false
+none_listed_after zero vault none = none_listed vault.calls vault.fails none
+none_listed_after (suc k) vault none = none_listed_after k (counted vault) none
+
+pub quiet_where_none_listed : (vault : VaultState) → vault.fails ≡ [] → NoCallFails vault
+unfolding failing_of
+quiet_where_none_listed vault none k = none_listed_after k vault none
