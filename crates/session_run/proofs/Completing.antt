@@ -1,14 +1,14 @@
 -- No run gives up by itself.
-use Rattle.std.proofs.Common.{◌≡◌, ℕ, ◌⊎◌, inl, inr, Option, Some, None, Result, Ok, Err, IfOk, refl, sym, ap, ◌∙◌}
+use Rattle.std.proofs.Common.{◌≡◌, ℕ, inl, inr, Option, Some, None, Result, Ok, Err, IfOk, refl, sym, ap, ◌∙◌}
 use Rattle.pam_base.specs.declared.fault.ScriptKind.{ScriptKind}
 use Rattle.pam_outside.specs.Counts.{RisesIf, Rose}
 use Rattle.pam_outside.specs.Streams.{SourceState, SinkState}
-use Rattle.script_stream.specs.declared.ending.Ending.{Ending}
-use Rattle.script_stream.specs.declared.ending.Ending.TheVariants.{Done, ReadFault, Refused}
-use Rattle.script_stream.specs.declared.ending.Stop.{Stop}
-use Rattle.script_stream.specs.declared.ending.Stop.TheVariants.{NoMemory, WriteFault}
+use Rattle.script_stream.specs.Turns.{Ending}
+use Rattle.item_stream.specs.declared.ending.Ending.TheVariants.{Done, ReadFault, Refused}
+use Rattle.item_stream.specs.declared.ending.Stop.{Stop}
+use Rattle.item_stream.specs.declared.ending.Stop.TheVariants.{NoMemory, WriteFault}
 use Rattle.script_stream.specs.Run.{Run}
-use Rattle.script_stream.specs.Turns.{has_read_fault, has_write_fault}
+use Rattle.item_stream.specs.Turns.{has_read_fault, has_write_fault}
 use Rattle.session_run.specs.State.{Setting, RunState}
 use Rattle.session_run.specs.Whole.{Completes, RunsScript}
 

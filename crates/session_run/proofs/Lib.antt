@@ -8,3 +8,12 @@ pub mod Proceeding
 pub mod Wholly
 pub mod Filed
 pub mod Completing
+pub mod Isolating
+pub mod Joining
+pub mod Departing
+pub mod Beside
+pub mod Happening
+pub mod Walking
+pub mod Cutting
+pub mod Consuming
+mod Filewise

@@ -15,7 +15,6 @@ use Rattle.pam_library.specs.Calls.{MoveOn, Moved, last_ledger, last_lists}
 use Rattle.pam_library.specs.Slots.{PlainSlot, closed, opened}
 use Rattle.pam_base.specs.Code.{number_of}
 use Rattle.pam_base.specs.declared.code.Code.{Code}
-use Rattle.pam_base.specs.declared.call.Step.{Step}
 use Rattle.session_run.specs.Ends.{EndsAre, HasStatus, IsEndStep}
 use Rattle.session_run.specs.AnyWorld.{AllEndsAre, ProceedsBy}
 

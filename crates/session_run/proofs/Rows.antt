@@ -1,18 +1,31 @@
--- Worked rows of a run, computed: a call that finds nothing open, a moment, and a word that is no command.
-use Rattle.std.specs.Prelude.{◌≡◌, ℕ, true, false, List, [], ◌∷◌, ◌++◌, Some, codes, refl, replicate}
-use Rattle.std.proofs.Common.{inl}
+-- Worked rows of a run, computed: a call that finds nothing open, a moment, and a word that is no command; and two transactions.
+use Rattle.std.specs.Prelude.{◌≡◌, ℕ, true, false, List, [], ◌∷◌, Some, codes, refl, replicate}
+use Rattle.std.proofs.Common.{inl, sym, ◌∙◌}
 use Rattle.std.specs.Fmt.{digits}
 use Rattle.pam_base.specs.declared.fault.ScriptKind.TheVariants.{BadWord}
 use Rattle.pam_base.specs.Lines.{cut, lines_of}
 use Rattle.pam_base.specs.Words.{words_of}
+use Rattle.pam_outside.specs.Files.{File}
+use Rattle.conf_lex.specs.Answer.{answer_to}
+use Rattle.conf_lex.specs.Lexing.{answer_at}
+use Rattle.conf_lex.specs.Reading.{first_piece, pieces_behind}
+use Rattle.pam_base.specs.declared.code.Code.TheVariants as Code
+use Rattle.pam_room.specs.Call.{PlainCall}
+use Rattle.pam_room.specs.Module.{NamedData, Player, SeenRoom, Sight, length_note}
 use Rattle.pam_room.specs.State.{PlainWorld}
+use Rattle.service_load.specs.Entry.{entry_of}
+use Rattle.service_load.specs.FirstFault.{look}
+use Rattle.service_load.specs.Order.{items}
+use Rattle.service_load.specs.Tree.{nodes}
 use Rattle.pam_library.specs.Slots.{PlainSlot, closed}
 use Rattle.pam_library.specs.Step.{stepped}
-use Rattle.script_stream.specs.declared.ending.Ending.TheVariants.{ReadFault, Refused}
+use Rattle.item_stream.specs.declared.ending.Ending.TheVariants.{ReadFault, Refused}
 use Rattle.script_stream.specs.Looked.{last_looked, looked}
-use Rattle.script_stream.specs.Run.{come_to, step_at, run_lines, run_of}
+use Rattle.item_stream.specs.Run.{come_to, run_items, run_of as run_of_items}
+use Rattle.script_stream.specs.Run.{step_at, run_of}
 use Rattle.session_run.specs.State.{Setting, RunState, state_of}
 use Rattle.session_run.specs.Ends.{HasEnd, IsEndOfRun}
+use Rattle.session_run.specs.Isolation.{LeaveFiles, alone, texts_among}
 use Rattle.session_run.specs.Step.{at_moment, line_step}
 use Rattle.session_run.specs.Closings.{closings_behind}
 use Rattle.session_run.specs.Whole.{last_words}
@@ -21,7 +34,7 @@ setting : Setting
 setting = record { players = []; delay = λ code asked. 0 }
 
 places : List PlainSlot
-places = replicate 16 (closed (record { offers = []; waits = false }))
+places = replicate 16 (closed (record { offers = []; waits = false; handed = [] }))
 
 world : PlainWorld
 world = record {
@@ -35,7 +48,7 @@ start : RunState
 start = state_of places world
 
 refused_third_line : run_of (line_step setting) 0 start (codes "end 1 0\nat 5\nx\nend 2 0") false ≡ come_to (codes "1 end not open\n") (state_of places (at_moment 5 world)) 2 (Some BadWord)
-unfolding start setting places world run_of run_lines step_at line_step looked last_looked cut words_of stepped digits
+unfolding start setting places world run_of_items run_items step_at line_step looked last_looked cut words_of stepped digits
 refused_third_line = refl
 
 its_last_words : last_words [] (Refused BadWord) 2 start ≡ codes "script 3 BadWord 1\n"
@@ -56,3 +69,46 @@ end_with_a_high_bit = record { line = codes "end 3 0x80000007"; before = codes "
 -- behind the lines a transaction is ended with ABORT where one was refused
 end_behind_a_refused_line : IsEndOfRun true (codes "x") 3 26
 end_behind_a_refused_line = λ told. inl (inl (Refused BadWord, refl))
+
+-- ---- two transactions, and the first of them alone: its lines are the same but for the id of its datum
+
+abbrev sets_datum : Player
+sets_datum = record {
+  name = codes "p";
+  plays = λ (call : PlainCall) (room : SeenRoom) (datums : List NamedData) (sight : Sight). record { code = Code.Success; room = room; births = record { name = codes "a"; payload = codes "x" } ∷ []; files = sight.files; calls = 0 };
+  note = length_note;
+}
+
+abbrev with_module : Setting
+with_module = record { players = sets_datum ∷ []; delay = λ code asked. 0 }
+
+abbrev service_files : List File
+service_files = record { path = codes "/r/etc/pam.d/t"; bytes = codes "auth required p" } ∷ []
+
+abbrev with_service : RunState
+with_service = state_of (closed (record { offers = []; waits = false; handed = [] }) ∷ closed (record { offers = []; waits = false; handed = [] }) ∷ []) (record {
+  vault = record { files = service_files; calls = 0; fails = [] };
+  clock = record { moment = 0; word = 0 };
+  nap = record { waits = 0; sum = 0 };
+  process = record { ledger = record { births = []; filed = [] }; root = codes "/r"; caller = 0 };
+})
+
+abbrev interleaved : List (List ℕ)
+interleaved = codes "start 1 t" ∷ codes "start 2 t" ∷ codes "authenticate 2" ∷ codes "authenticate 1" ∷ codes "end 1 0" ∷ []
+
+its_lines : texts_among with_module 1 0 with_service interleaved
+    ≡ codes "1 start SUCCESS 0\n" ∷ codes "1 line 1 p SUCCESS 0\n1 authenticate SUCCESS 0\n" ∷ codes "1 clean 1 00000000 1 p a\n1 end SUCCESS 0\n" ∷ []
+unfolding step_at line_step words_of stepped digits look items answer_to answer_at pieces_behind first_piece entry_of nodes
+its_lines = refl
+
+its_lines_alone : texts_among with_module 1 0 with_service (alone 1 interleaved)
+    ≡ codes "1 start SUCCESS 0\n" ∷ codes "1 line 1 p SUCCESS 0\n1 authenticate SUCCESS 0\n" ∷ codes "1 clean 0 00000000 1 p a\n1 end SUCCESS 0\n" ∷ []
+unfolding step_at line_step words_of stepped digits look items answer_to answer_at pieces_behind first_piece entry_of nodes
+its_lines_alone = refl
+
+by_these : {a c : List File} (b : List File) → a ≡ b → c ≡ b → a ≡ c
+by_these b first second = first ∙ sym second
+
+others_leave_files : LeaveFiles with_module 1 0 with_service interleaved
+unfolding step_at line_step words_of stepped digits look items answer_to answer_at pieces_behind first_piece entry_of nodes
+others_leave_files = (λ e. absurd cc, (λ e. by_these service_files refl refl, (λ e. by_these service_files refl refl, (λ e. absurd cc, (λ e. absurd cc, tt)))))

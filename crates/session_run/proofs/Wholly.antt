@@ -2,14 +2,15 @@
 use Rattle.std.proofs.Common.{◌≡◌, ℕ, ◌+◌, ◌≤◌, inl, inr, List, [], ◌∷◌, ◌++◌, length, Ok, Err, refl, sym, ap, ◌∙◌, append_assoc, append-nil, length-append, arith}
 use Rattle.pam_base.specs.declared.fault.Failed.{Failed}
 use Rattle.pam_outside.specs.Streams.{SourceState, SinkState, WritesWhole}
-use Rattle.pam_room.specs.Module.{Player}
+use Rattle.pam_room.specs.Module.{Player, notes_of}
 use Rattle.pam_library.specs.Slots.{NoneIsOpen}
-use Rattle.script_stream.specs.declared.ending.Ending.{Ending}
-use Rattle.script_stream.specs.declared.ending.Stop.{Stop}
-use Rattle.script_stream.specs.declared.ending.Stop.TheVariants.{NoMemory, WriteFault}
-use Rattle.script_stream.specs.Whole.{Runs}
+use Rattle.script_stream.specs.Turns.{Ending}
+use Rattle.item_stream.specs.declared.ending.Stop.{Stop}
+use Rattle.item_stream.specs.declared.ending.Stop.TheVariants.{NoMemory, WriteFault}
+use Rattle.script_stream.specs.Turns.{Runs}
 use Rattle.session_run.specs.State.{Setting, RunState}
 use Rattle.session_run.specs.Step.{line_step, Fails}
+use Rattle.session_run.specs.Events.{StandOn, StandsBehind, StandsCut, run_events}
 use Rattle.session_run.specs.Closings.{Closing, closings, closings_text, last_state, all_closed}
 use Rattle.session_run.specs.Reported.{Closes, ClosesTo}
 use Rattle.session_run.specs.Whole.{ending_status, stop_status, last_line, last_words, EndsTo, EndsWith, StopsIn, StopsClosing, RunsScript}
@@ -98,13 +99,14 @@ module _ (players : List Player) (ending : Ending) (n : ℕ) where
 
 module _ (setting : Setting) (start : RunState) (x y : SourceState) (p q : SinkState) where
   -- it stopped among its lines
-  pub stopped_lines : (stop : Stop) (n : ℕ) (t u : RunState) → Runs (line_step setting) (Fails setting) (Err stop) n start t x y p q → u ≡ all_closed setting.players (stop_status stop) t → RunsScript setting (Err stop) start u x y p q
-  stopped_lines stop n t u r e = record {
+  pub stopped_lines : (stop : Stop) (n : ℕ) (t u : RunState) → Runs (line_step setting) (Fails setting) (Err stop) n start t x y p q → u ≡ all_closed setting.players (stop_status stop) t
+      → ((text : List ℕ) → q.written ≡ p.written ++ text → StandsCut setting (stop_status stop) start u x.left text) → RunsScript setting (Err stop) start u x y p q
+  stopped_lines stop n t u r e stands = record {
     taken = r.taken;
     text = r.text;
     source = r.source;
     sink = r.sink;
-    outcome = inl (record { last = t; stops = r.report; closed = e });
+    outcome = inl (record { last = t; stops = r.report; closed = e; stands = stands r.text r.sink });
     last = r.last;
     reads = r.reads;
     ends = r.ends;
@@ -118,8 +120,10 @@ module _ (setting : Setting) (start : RunState) (x y : SourceState) (p q : SinkS
     writes : (words : List ℕ) → z.calls ≤ q.calls + length words + 1 → z.calls ≤ p.calls + length (r.text ++ words) + 1
     writes words w = omega (arith, w, r.writes_ok, length-append r.text words)
 
-    pub ended_run : (done : Unit {0}) → EndsWith setting.players ending n (Ok done) s t q z → RunsScript setting (Ok ending) start t x y p z
-    ended_run done w =
+    pub ended_run : (done : Unit {0}) → EndsWith setting.players ending n (Ok done) s t q z
+        → ((t ≡ all_closed setting.players (ending_status ending) s) → StandOn (notes_of setting.players) (run_events setting (ending_status ending) start x.left n s) start t)
+        → RunsScript setting (Ok ending) start t x y p z
+    ended_run done w stands =
         let words = closings_text w.whole ++ w.part in
         record {
           taken = r.taken;
@@ -133,6 +137,7 @@ module _ (setting : Setting) (start : RunState) (x y : SourceState) (p q : SinkS
             comes = r.report;
             whole = ap (λ (b : List ℕ). r.text ++ b) (words_whole setting.players ending n s t q z done w);
             closed = all_ended setting.players ending n s t q z done w;
+            stands = stands (all_ended setting.players ending n s t q z done w);
           };
           last = r.last;
           reads = r.reads;
@@ -140,8 +145,9 @@ module _ (setting : Setting) (start : RunState) (x y : SourceState) (p q : SinkS
           writes = writes words w.calls;
         }
 
-    pub stopped_behind : (stop : Stop) (u : RunState) → EndsWith setting.players ending n (Err stop) s t q z → u ≡ all_closed setting.players (stop_status stop) t → RunsScript setting (Err stop) start u x y p z
-    stopped_behind stop u w e =
+    pub stopped_behind : (stop : Stop) (u : RunState) → EndsWith setting.players ending n (Err stop) s t q z → u ≡ all_closed setting.players (stop_status stop) t
+        → StandsBehind setting (ending_status ending) (stop_status stop) n start u x.left → RunsScript setting (Err stop) start u x y p z
+    stopped_behind stop u w e stands =
         let words = closings_text w.whole ++ w.part in
         record {
           taken = r.taken;
@@ -157,6 +163,7 @@ module _ (setting : Setting) (start : RunState) (x y : SourceState) (p q : SinkS
             words = words;
             written = refl;
             stops = stops_closing setting.players ending n stop s t u q z w e;
+            stands = stands;
           });
           last = r.last;
           reads = r.reads;

@@ -1,3 +1,4 @@
+pub mod Endings
 pub mod State
 pub mod Step
 pub mod Closings
@@ -5,3 +6,7 @@ pub mod Reported
 pub mod Whole
 pub mod Ends
 pub mod AnyWorld
+pub mod Isolation
+pub mod Events
+pub mod Reading
+pub mod SideBySide

@@ -1,34 +1,24 @@
 -- A whole run of a script: its lines, and how the open transactions are ended behind them (this project's own).
 use Rattle.std.specs.Prelude.{◌≡◌, ◌⊎◌, ℕ, ◌+◌, ◌≤◌, List, [], ◌∷◌, ◌++◌, length, true, None, Result, Ok, Err}
-use Rattle.pam_base.specs.declared.code.Code.{Code}
-use Rattle.pam_base.specs.declared.code.Code.TheVariants.{Success, SystemErr, BufErr, Abort}
 use Rattle.pam_outside.specs.Streams.{SourceState, SinkState}
-use Rattle.pam_room.specs.Module.{Player}
+use Rattle.pam_room.specs.Module.{Player, notes_of}
 use Rattle.pam_library.specs.Slots.{NoneIsOpen}
-use Rattle.script_stream.specs.declared.ending.Ending.{Ending}
-use Rattle.script_stream.specs.declared.ending.Ending.TheVariants.{Done, ReadFault, Refused}
-use Rattle.script_stream.specs.declared.ending.Stop.{Stop}
-use Rattle.script_stream.specs.declared.ending.Stop.TheVariants.{NoMemory, WriteFault}
+use Rattle.script_stream.specs.Turns.{Ending}
+use Rattle.item_stream.specs.declared.ending.Ending.TheVariants.{Done, ReadFault, Refused}
+use Rattle.item_stream.specs.declared.ending.Stop.{Stop}
+use Rattle.item_stream.specs.declared.ending.Stop.TheVariants.{NoMemory}
 use Rattle.script_stream.specs.Run.{run_of}
 use Rattle.script_stream.specs.Turns.{StopsBy, LastRead}
-use Rattle.script_stream.specs.Whole.{Reports}
+use Rattle.script_stream.specs.Turns.{Reports}
 use Rattle.session_report.specs.Script.{script_text, read_fault_text}
+pub use Rattle.session_run.specs.Endings.{ending_status, stop_status}
 use Rattle.session_run.specs.State.{Setting, RunState}
 use Rattle.session_run.specs.Step.{line_step, Fails}
+use Rattle.session_run.specs.Events.{StandOn, StandsBehind, StandsCut, run_events}
 use Rattle.session_run.specs.Closings.{Closing, closings, closings_text, last_state, all_closed}
 use Rattle.session_run.specs.Reported.{CutBy}
 
--- ---- the table of endings
-
--- with which status open transactions are ended
-abbrev pub ending_status : Ending → Code
-ending_status Done = Success
-ending_status ReadFault = SystemErr
-ending_status (Refused kind) = Abort
-
-abbrev pub stop_status : Stop → Code
-stop_status NoMemory = BufErr
-stop_status WriteFault = SystemErr
+-- ---- the last line
 
 -- what is written behind their lines, where n lines were applied
 abbrev pub last_line : Ending → ℕ → List ℕ
@@ -77,7 +67,8 @@ module _ (players : List Player) where
 -- ---- the whole run
 
 module _ (setting : Setting) where
-  -- it ends: the lines are reported, the closings and the last line, and all transactions are ended
+  -- It ends: the lines are reported, the closings and the last line, and all transactions are ended. Whatever births and ends ledger
+  -- and data stood for, they stand for these and then those of the lines and closings.
   pub record EndsAs (ending : Ending) (start end : RunState) (input taken left text : List ℕ) : Type 0 where
     pub lines : ℕ
     pub last : RunState
@@ -85,12 +76,14 @@ module _ (setting : Setting) where
     pub comes : Reports (line_step setting) (Fails setting) (Ok ending) lines start last input taken left body
     pub whole : text ≡ body ++ last_words setting.players ending lines last
     pub closed : end ≡ all_closed setting.players (ending_status ending) last
+    pub stands : StandOn (notes_of setting.players) (run_events setting (ending_status ending) start input lines last) start end
 
   -- it stops among its lines, and all transactions are ended; nothing is written behind that
-  pub record StopsAmongLines (stop : Stop) (start end : RunState) (taken left text : List ℕ) : Type 0 where
+  pub record StopsAmongLines (stop : Stop) (start end : RunState) (input taken left text : List ℕ) : Type 0 where
     pub last : RunState
     pub stops : StopsBy (line_step setting) (Fails setting) stop 0 start last taken left text
     pub closed : end ≡ all_closed setting.players (stop_status stop) last
+    pub stands : StandsCut setting (stop_status stop) start end input text
 
   -- it stops behind them
   pub record StopsBehindLines (stop : Stop) (start end : RunState) (input taken left text : List ℕ) : Type 0 where
@@ -102,11 +95,12 @@ module _ (setting : Setting) where
     pub words : List ℕ
     pub written : text ≡ body ++ words
     pub stops : StopsClosing setting.players stop ending lines last end words
+    pub stands : StandsBehind setting (ending_status ending) (stop_status stop) lines start end input
 
   abbrev pub EndsOrStops : Result Ending Stop → RunState → RunState → List ℕ → List ℕ → List ℕ → List ℕ → Type 0
   EndsOrStops (Ok ending) start end input taken left text = EndsAs ending start end input taken left text
   EndsOrStops (Err stop) start end input taken left text =
-      StopsAmongLines stop start end taken left text ⊎ StopsBehindLines stop start end input taken left text
+      StopsAmongLines stop start end input taken left text ⊎ StopsBehindLines stop start end input taken left text
 
   -- what was taken and written, and how often it was read and written
   pub record RunsScript (result : Result Ending Stop) (start end : RunState) (x y : SourceState) (p q : SinkState) : Type 0 where

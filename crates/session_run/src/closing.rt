@@ -5,17 +5,17 @@ ghost use Rattle.pam_library.specs.Slots.{NoneIsOpen};
 ghost use Rattle.pam_library.specs.Sound.{IsSoundFor};
 ghost use Rattle.session_run.specs.AnyWorld.{ProceedsFor};
 ghost use Rattle.session_run.specs.Ends.{HasStatus};
-ghost use Rattle.script_stream.specs.Turns.{has_write_fault};
+ghost use Rattle.item_stream.specs.Turns.{has_write_fault};
 ghost use Rattle.session_run.specs.State.{state_of};
 ghost use Rattle.session_run.specs.Closings.{EndsNext, all_closed, open_count};
 ghost use Rattle.session_run.specs.Reported.{Closes, ClosesNext};
 
+use item_stream::Stop;
 use pam_base::{Code, Failed, NoMemory, code_number};
 use pam_handle::{Gear, GearTold};
 use pam_library::{Library, LibraryTold};
 use pam_outside::{Sink, write_all};
 use pam_room::{World, WorldTold};
-use script_stream::Stop;
 use session_report::closing_report;
 use std::alloc::Global;
 
@@ -102,7 +102,7 @@ fn close_next<K: Sink>(
 }
 
 /// Ends every open transaction with this status, the lowest number first, and writes nothing. It takes no memory.
-pub(crate) fn close_silently(library: &mut Library, status: Code, world: &mut World)
+pub fn close_silently(library: &mut Library, status: Code, world: &mut World)
     requires { IsSoundFor (⟦<Gear as GearTold>⟧.players (gear_in library.old)) (⟦<Library as LibraryTold>⟧.slots library.old) world.old.process.ledger }
     ensures gear { gear_in library.new ≡ gear_in library.old }
     ensures tells { ⟦<Library as LibraryTold>⟧.tells library.new ≡ ⟦<Library as LibraryTold>⟧.tells library.old }
@@ -118,8 +118,8 @@ pub(crate) fn close_silently(library: &mut Library, status: Code, world: &mut Wo
     while let Some(_number) = end_next(library, status, world) {}
 }
 
-// Ends the open transaction with the lowest number. None where none is open.
-fn end_next(library: &mut Library, status: Code, world: &mut World) -> Option<u32>
+/// Ends the open transaction with the lowest number. None exactly where none is open. It takes no memory.
+pub fn end_next(library: &mut Library, status: Code, world: &mut World) -> Option<u32>
     requires { IsSoundFor (⟦<Gear as GearTold>⟧.players (gear_in library.old)) (⟦<Library as LibraryTold>⟧.slots library.old) world.old.process.ledger }
     ensures gear { gear_in library.new ≡ gear_in library.old }
     ensures tells { ⟦<Library as LibraryTold>⟧.tells library.new ≡ ⟦<Library as LibraryTold>⟧.tells library.old }

@@ -1,12 +1,25 @@
-ghost use Rattle.std.specs.Prelude.{List, ◌++◌};
+ghost use Rattle.std.specs.Prelude.{◌≡◌, ℕ, Bool, List, ◌++◌, Some, map};
 ghost use Rattle.data_cleanup.specs.Cleanup.{Notes};
 ghost use Rattle.data_cleanup.specs.Due.{Event};
 ghost use Rattle.data_cleanup.specs.Ledger.{PlainLedger};
 ghost use Rattle.data_due.specs.Stands.{Lists, StandFor};
+ghost use Rattle.pam_base.specs.Lines.{lines_of};
+ghost use Rattle.dispatch_core.specs.Lines.{names_of};
 ghost use Rattle.pam_library.specs.Calls.{events_of};
+ghost use Rattle.pam_library.specs.Plays.{GoesOn};
+ghost use Rattle.pam_library.specs.Slots.{PlainSlot, slot_at};
+ghost use Rattle.script_stream.specs.Run.{run_lines};
+ghost use Rattle.session_report.specs.Code.{number_words};
 ghost use Rattle.session_run.specs.AnyWorld.{Proceeds};
+ghost use Rattle.session_run.specs.Isolation.{Came, GoesAsAlone, IsQuietStart, LeaveFiles, alone, came_among, script_alone, step_text_with, text_of, texts_among};
+ghost use Rattle.session_run.specs.SideBySide.{ComesAlone, TellsSteps};
+ghost use Rattle.session_run.specs.State.{RunState, Setting};
+ghost use Rattle.session_run.specs.Step.{line_step};
 
-use pam_library::calls_stand_for_their_events;
+use pam_library::{
+    calls_keep_to_themselves, calls_stand_for_their_events, places_stand_side_by_side,
+    steps_change_files_by_plays,
+};
 
 /// Whatever events ledger and data stood for before a run, they stand for these and then the births and ends of its
 /// calls afterwards. It does nothing: its contract is a law about the definitions.
@@ -15,4 +28,42 @@ pub fn proceeding_stands()
         StandFor note 17 before lists events → StandFor note 17 after next (events ++ events_of before p.calls) }
 {
     calls_stand_for_their_events();
+}
+
+/// A transaction goes as it would alone. In a run where no call of the vault is to fail, and where no step on another number
+/// changes a file, the steps on a number tell and answer what they do in the run of the script in which each step on another
+/// number is a blank line, from the same start; and its births and receipts are the same, in their order and but for ids and
+/// marks. It holds of whatever the modules play. It does nothing: its contract is a law about the definitions.
+pub fn transactions_go_as_alone()
+    ensures goes { (setting : Setting) (number n : ℕ) (s : RunState) (script : List (List ℕ)) →
+        IsQuietStart s → LeaveFiles setting number n s script → GoesAsAlone setting number n s script }
+
+    // What a run writes for the steps on a number, and how that is when ids are left out.
+    ensures texts { (setting : Setting) (number n : ℕ) (s : RunState) (script : List (List ℕ)) →
+        texts_among setting number n s script ≡ map (text_of (names_of setting.players)) (came_among setting number n s script) }
+    ensures words { (names : List (List ℕ)) (c : Came) → step_text_with number_words names c ≡ text_of names c }
+
+    // The lines of the script of one number, as a text.
+    ensures script { (number : ℕ) (text : List ℕ) → lines_of (script_alone number text) ≡ alone number (lines_of text) }
+{
+    calls_keep_to_themselves();
+}
+
+/// What the lines among some bytes come to, number by number. The place of a number behind them, and the outcomes of the
+/// steps on it, are what its own steps come to alone, each in the world as it stood before it (`alone`). What is reported of the
+/// lines is what is told of these steps and of the others, in order (`steps`). It does nothing: its contract is a law.
+pub fn numbers_stand_side_by_side()
+    ensures alone { (setting : Setting) (start : RunState) (bytes : List ℕ) (ended : Bool) (number : ℕ) (slot : PlainSlot) →
+        slot_at start.slots number ≡ Some slot → ComesAlone setting start bytes ended number slot }
+    ensures steps { (setting : Setting) (start : RunState) (bytes : List ℕ) (ended : Bool) → TellsSteps setting start bytes ended }
+{
+    places_stand_side_by_side();
+}
+
+/// The lines of a script change files by what modules play, one after another, and by nothing else.
+pub fn runs_change_files_by_plays()
+    ensures { (setting : Setting) (n : ℕ) (s : RunState) (script : List (List ℕ)) →
+        GoesOn setting.players s.world.vault.files (run_lines (line_step setting) n s script).last.world.vault.files }
+{
+    steps_change_files_by_plays();
 }

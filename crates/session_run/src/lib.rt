@@ -6,10 +6,16 @@ mod closing;
 mod laws;
 mod lines;
 mod meaning;
+mod reading;
 mod run;
 mod serve;
 mod status;
 mod world;
 
-pub use laws::proceeding_stands;
+pub use closing::{close_silently, end_next};
+pub use laws::{
+    numbers_stand_side_by_side, proceeding_stands, runs_change_files_by_plays,
+    transactions_go_as_alone,
+};
 pub use run::run_script;
+pub use status::stop_status;

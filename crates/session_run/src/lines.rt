@@ -5,23 +5,29 @@ ghost use Rattle.pam_library.specs.Plain.{gear_in};
 ghost use Rattle.pam_library.specs.Sound.{IsSoundFor};
 ghost use Rattle.session_run.specs.AnyWorld.{ProceedsFor};
 ghost use Rattle.session_run.specs.Ends.{IsEndIn, LeadsTo};
-ghost use Rattle.script_stream.specs.Turns.{Turns, has_read_fault, has_write_fault};
-ghost use Rattle.script_stream.specs.Whole.{Runs, at_last};
+ghost use Rattle.session_run.specs.Events.{ServesAll, ServesTurn};
+ghost use Rattle.item_stream.specs.Turns.{has_read_fault, has_write_fault};
+ghost use Rattle.script_stream.specs.Turns.{Turns};
+ghost use Rattle.item_stream.specs.Whole.{at_last};
+ghost use Rattle.script_stream.specs.Turns.{Runs};
+ghost use Rattle.session_run.specs.Reading.{ReadsAll, ReadsTurn, WritesSome};
 ghost use Rattle.session_run.specs.State.{setting_of, state_of};
 ghost use Rattle.session_run.specs.Step.{line_step, Fails};
 
 use crate::meaning::Meaning;
+use crate::reading::reading_is_turns;
 use crate::serve::serve_line;
 use fail_delay::{DelayFn, DelayTold};
-use pam_base::{Failed, NoMemory};
+use item_stream::{
+    Ending, Found, Reader, Stop, first_turn, found_item_is_a_turn, nothing_found_is_a_turn,
+    turns_are_a_run, turns_go_on,
+};
+use pam_base::{Failed, NoMemory, ScriptKind};
 use pam_handle::{Gear, GearTold};
 use pam_library::{Library, LibraryTold};
 use pam_outside::{Sink, Source};
 use pam_room::{World, WorldTold};
-use script_stream::{
-    Ending, Found, LineReader, Stop, first_turn, found_line_is_a_turn, limit_of,
-    nothing_found_is_a_turn, turns_are_a_run, turns_go_on,
-};
+use script_stream::{Lines, whole_input_is_looked_at};
 use std::alloc::Global;
 
 /// Serves the lines of a script one by one, until they end or one is refused, and counts those that were applied.
@@ -32,7 +38,7 @@ pub(crate) fn serve_lines<S: Source, K: Sink>(
     source: &mut S,
     sink: &mut K,
     world: &mut World,
-) -> Result<Ending, Stop>
+) -> Result<Ending<ScriptKind>, Stop>
     requires first { lines.old ≡ 0 }
     requires sound { IsSoundFor (⟦<Gear as GearTold>⟧.players (gear_in library.old)) (⟦<Library as LibraryTold>⟧.slots library.old) world.old.process.ledger }
     ensures gear { gear_in library.new ≡ gear_in library.old }
@@ -49,6 +55,15 @@ pub(crate) fn serve_lines<S: Source, K: Sink>(
         (state_of (⟦<Library as LibraryTold>⟧.slots library.new) (⟦<World as WorldTold>⟧.plain world.new))
         (S.source_holds source.old) (S.source_holds source.new)
         (K.sink_holds sink.old) (K.sink_holds sink.new)) }
+    ensures served { (delay : Code → ℕ → ℕ) → ⟦<DelayFn as DelayTold>⟧.delay_is (gear_in library.old).delay delay →
+        IsTrue (⟦<Library as LibraryTold>⟧.tells library.old && ⟦<World as WorldTold>⟧.tells world.old) →
+        IsTrue (S.source_tells source.old) → IsTrue (K.sink_tells sink.old) →
+        ServesAll (setting_of (⟦<Gear as GearTold>⟧.players (gear_in library.old)) delay) result lines.new
+        (state_of (⟦<Library as LibraryTold>⟧.slots library.old) (⟦<World as WorldTold>⟧.plain world.old))
+        (state_of (⟦<Library as LibraryTold>⟧.slots library.new) (⟦<World as WorldTold>⟧.plain world.new))
+        (S.source_holds source.old).left (K.sink_holds sink.old) (K.sink_holds sink.new) }
+    ensures reads { IsTrue (S.source_tells source.old) → ReadsAll result lines.new (S.source_holds source.old) (S.source_holds source.new) }
+    ensures writes { IsTrue (K.sink_tells sink.old) → WritesSome result (K.sink_holds sink.old) (K.sink_holds sink.new) }
     ensures few { lines.new ≤ 65536 }
     ensures proceeds { ProceedsFor (IsEndIn (S.source_tells source.old) (S.source_holds source.old).left) (⟦<Gear as GearTold>⟧.players (gear_in library.old))
         world.old.process.ledger (⟦<Library as LibraryTold>⟧.slots library.old)
@@ -57,10 +72,11 @@ pub(crate) fn serve_lines<S: Source, K: Sink>(
     ensures source_faults { RisesIf (has_read_fault (at_last result)) (S.source_faults source.old) (S.source_faults source.new) }
     ensures sink_faults { RisesIf (has_write_fault result) (K.sink_faults sink.old) (K.sink_faults sink.new) }
 {
-    first_turn::<Meaning>();
-    turns_go_on::<Meaning>();
-    turns_are_a_run::<Meaning>();
-    let mut reader = match LineReader::new(alloc) {
+    first_turn::<Lines<Meaning>>();
+    turns_go_on::<Lines<Meaning>>();
+    turns_are_a_run::<Lines<Meaning>>();
+    reading_is_turns();
+    let mut reader = match Reader::new(alloc) {
         Ok(reader) => reader,
         Err(NoMemory) => return Err(Stop::NoMemory),
     };
@@ -78,11 +94,11 @@ fn take_turn<S: Source, K: Sink>(
     alloc: Global,
     library: &mut Library,
     lines: &mut u32,
-    reader: &mut LineReader,
+    reader: &mut Reader,
     source: &mut S,
     sink: &mut K,
     world: &mut World,
-) -> Result<Option<Ending>, Stop>
+) -> Result<Option<Ending<ScriptKind>>, Stop>
     requires few { lines.old ≤ 65536 }
     requires sound { IsSoundFor (⟦<Gear as GearTold>⟧.players (gear_in library.old)) (⟦<Library as LibraryTold>⟧.slots library.old) world.old.process.ledger }
     ensures gear { gear_in library.new ≡ gear_in library.old }
@@ -100,6 +116,15 @@ fn take_turn<S: Source, K: Sink>(
         reader.old reader.new
         (S.source_holds source.old) (S.source_holds source.new)
         (K.sink_holds sink.old) (K.sink_holds sink.new)) }
+    ensures served { (delay : Code → ℕ → ℕ) → ⟦<DelayFn as DelayTold>⟧.delay_is (gear_in library.old).delay delay →
+        IsTrue (⟦<Library as LibraryTold>⟧.tells library.old && ⟦<World as WorldTold>⟧.tells world.old) →
+        IsTrue (S.source_tells source.old) → IsTrue (K.sink_tells sink.old) →
+        ServesTurn (setting_of (⟦<Gear as GearTold>⟧.players (gear_in library.old)) delay) result lines.old lines.new
+        (state_of (⟦<Library as LibraryTold>⟧.slots library.old) (⟦<World as WorldTold>⟧.plain world.old))
+        (state_of (⟦<Library as LibraryTold>⟧.slots library.new) (⟦<World as WorldTold>⟧.plain world.new))
+        (reader.old ++ (S.source_holds source.old).left) (reader.new ++ (S.source_holds source.new).left) (K.sink_holds sink.old) (K.sink_holds sink.new) }
+    ensures reads { IsTrue (S.source_tells source.old) → ReadsTurn result lines.old lines.new reader.old reader.new (S.source_holds source.old) (S.source_holds source.new) }
+    ensures writes { IsTrue (K.sink_tells sink.old) → WritesSome result (K.sink_holds sink.old) (K.sink_holds sink.new) }
     ensures few { lines.new ≤ 65536 }
     ensures next { result ≡ Ok None → lines.new ≡ lines.old + 1 }
     ensures leads { result ≡ Ok None → IsTrue (S.source_tells source.old) → LeadsTo (reader.old ++ (S.source_holds source.old).left) (reader.new ++ (S.source_holds source.new).left) }
@@ -110,19 +135,27 @@ fn take_turn<S: Source, K: Sink>(
     ensures source_faults { RisesIf (has_read_fault result) (S.source_faults source.old) (S.source_faults source.new) }
     ensures sink_faults { RisesIf (has_write_fault result) (K.sink_faults sink.old) (K.sink_faults sink.new) }
 {
-    nothing_found_is_a_turn::<Meaning>();
-    found_line_is_a_turn::<Meaning>();
+    nothing_found_is_a_turn::<Lines<Meaning>>();
+    found_item_is_a_turn::<Lines<Meaning>>();
+    whole_input_is_looked_at();
+    reading_is_turns();
     let before = *lines;
-    let limit = limit_of(before);
-    match reader.find(source, limit) {
+    match reader.find::<Lines<Meaning>, S>(source, before) {
         Err(Failed) => Ok(Some(Ending::ReadFault)),
         Ok(Found::End) => Ok(Some(Ending::Done)),
-        Ok(Found::Line(size)) => {
-            match serve_line(alloc, library, before, &reader.bytes()[..size], sink, world) {
+        Ok(Found::Item { length, size }) => {
+            match serve_line(
+                alloc,
+                library,
+                before,
+                &reader.bytes()[..length],
+                sink,
+                world,
+            ) {
                 Err(stop) => Err(stop),
                 Ok(Some(kind)) => Ok(Some(Ending::Refused(kind))),
                 Ok(None) => {
-                    reader.skip(size + 1);
+                    reader.skip(size);
                     *lines = before + 1;
                     Ok(None)
                 }

@@ -1,9 +1,9 @@
-use script_stream::Stepping;
+use script_stream::LineStepping;
 
 /// What the lines of a script do to sixteen transactions and their world, for contracts.
 pub(crate) struct Meaning;
 
-impl Stepping for Meaning {
+impl LineStepping for Meaning {
     ghost use Rattle.session_run.specs.State.{Setting as RunSetting, RunState};
     ghost use Rattle.session_run.specs.Step.{line_step, Fails};
 
@@ -11,7 +11,7 @@ impl Stepping for Meaning {
 
     ghost State = { RunState };
 
-    ghost step = { line_step };
+    ghost line_step = { line_step };
 
     ghost fails = { Fails };
 }

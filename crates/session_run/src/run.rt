@@ -5,23 +5,24 @@ ghost use Rattle.pam_outside.specs.Counts.{RisesIf, Rose};
 ghost use Rattle.pam_library.specs.Plain.{gear_in};
 ghost use Rattle.pam_library.specs.Slots.{NoneIsOpen};
 ghost use Rattle.pam_library.specs.Sound.{IsSoundFor};
-ghost use Rattle.script_stream.specs.Turns.{has_read_fault, has_write_fault};
+ghost use Rattle.item_stream.specs.Turns.{has_read_fault, has_write_fault};
 ghost use Rattle.session_run.specs.AnyWorld.{ProceedsFor};
 ghost use Rattle.session_run.specs.Ends.{HasStatus, IsEndOfRun};
+ghost use Rattle.session_run.specs.Reading.{ReadsScript, WritesScript};
 ghost use Rattle.session_run.specs.State.{setting_of, state_of};
 ghost use Rattle.session_run.specs.Whole.{Completes, EndsWith, RunsScript, ending_status, last_line};
 
 use crate::closing::{close_reported, close_silently};
 use crate::lines::serve_lines;
 use crate::status::{ending_status, stop_status};
-use data_due::all_are_filed;
+use data_due::{all_are_filed, end_stands};
 use fail_delay::{DelayFn, DelayTold};
-use pam_base::{Failed, NoMemory};
+use item_stream::{Ending, Stop};
+use pam_base::{Failed, NoMemory, ScriptKind};
 use pam_handle::{Gear, GearTold};
-use pam_library::{Library, LibraryTold};
+use pam_library::{Library, LibraryTold, calls_stand_for_their_events};
 use pam_outside::{Sink, Source, write_all};
 use pam_room::{World, WorldTold};
-use script_stream::{Ending, Stop};
 use session_report::{read_fault_report, script_report};
 use std::alloc::Global;
 
@@ -38,7 +39,7 @@ pub fn run_script<S: Source, K: Sink>(
     source: &mut S,
     sink: &mut K,
     world: &mut World,
-) -> Result<Ending, Stop>
+) -> Result<Ending<ScriptKind>, Stop>
     requires { IsSoundFor (⟦<Gear as GearTold>⟧.players (gear_in library.old)) (⟦<Library as LibraryTold>⟧.slots library.old) world.old.process.ledger }
 
     // Where all objects tell: what was read and written, and what library and world are afterwards.
@@ -58,6 +59,11 @@ pub fn run_script<S: Source, K: Sink>(
         Completes (setting_of (⟦<Gear as GearTold>⟧.players (gear_in library.old)) delay) result
         (state_of (⟦<Library as LibraryTold>⟧.slots library.old) (⟦<World as WorldTold>⟧.plain world.old)) (S.source_holds source.old).left
         (Rose (S.source_faults source.old) (S.source_faults source.new)) (Rose (K.sink_faults sink.old) (K.sink_faults sink.new)) }
+
+    // Where the source alone tells: how often it was read, and how the run ends by the bytes of the script. Where the sink alone does:
+    // how often it was written.
+    ensures reads { IsTrue (S.source_tells source.old) → ReadsScript result (S.source_holds source.old) (S.source_holds source.new) }
+    ensures writes { IsTrue (K.sink_tells sink.old) → WritesScript (K.sink_holds sink.old) (K.sink_holds sink.new) }
 
     // In any world: what is due for cleanup was cleaned up, and no transaction is open.
     ensures none_open { NoneIsOpen (⟦<Library as LibraryTold>⟧.slots library.new) }
@@ -79,6 +85,8 @@ pub fn run_script<S: Source, K: Sink>(
     ensures sink_tells { K.sink_tells sink.new ≡ K.sink_tells sink.old }
 {
     all_are_filed();
+    calls_stand_for_their_events();
+    end_stands();
     let mut lines = 0;
     match serve_lines(alloc, library, &mut lines, source, sink, world) {
         Err(stop) => {
@@ -98,7 +106,7 @@ pub fn run_script<S: Source, K: Sink>(
 // Ends and reports the open transactions, and writes the last line. Where that stops, some may still be open.
 fn finish<K: Sink>(
     alloc: Global,
-    ending: Ending,
+    ending: Ending<ScriptKind>,
     lines: u32,
     library: &mut Library,
     sink: &mut K,
@@ -135,7 +143,7 @@ fn finish<K: Sink>(
 }
 
 // The last line of the report, where there is one.
-fn last_report(alloc: Global, ending: Ending, lines: u32) -> Result<String, NoMemory>
+fn last_report(alloc: Global, ending: Ending<ScriptKind>, lines: u32) -> Result<String, NoMemory>
     requires { lines ≤ 65536 }
     ensures { IfOk result (λ text. string_bytes text ≡ last_line ending lines) }
 {

@@ -3,25 +3,34 @@ ghost use Rattle.script_lang.specs.declared.line.Line.TheVariants as script_line
 ghost use Rattle.script_lang.specs.Line.{parsed};
 ghost use Rattle.pam_base.specs.declared.code.Code.{Code};
 ghost use Rattle.pam_outside.specs.Counts.{RisesIf};
+ghost use Rattle.data_due.specs.Moves.{Moves};
+ghost use Rattle.pam_room.specs.Module.{notes_of};
+ghost use Rattle.pam_library.specs.AnyWorld.{end_at};
 ghost use Rattle.pam_library.specs.Plain.{gear_in};
+ghost use Rattle.pam_library.specs.Slots.{lists_of, slot_at};
 ghost use Rattle.pam_base.specs.Call.{is_fit};
 ghost use Rattle.pam_library.specs.Sound.{IsSoundFor};
 ghost use Rattle.session_run.specs.AnyWorld.{ProceedsFor};
 ghost use Rattle.session_run.specs.Ends.{AsksEndAt, IsEndStep};
-ghost use Rattle.script_stream.specs.Turns.{ServesTold, has_write_fault};
+ghost use Rattle.item_stream.specs.Turns.{has_write_fault};
+ghost use Rattle.script_stream.specs.Turns.{ServesTold};
+ghost use Rattle.session_run.specs.Events.{MovesBy};
+ghost use Rattle.session_run.specs.Reading.{ReadsLine, WritesSome};
 ghost use Rattle.session_run.specs.State.{setting_of, state_of};
 ghost use Rattle.session_run.specs.Step.{line_step, unrefused, Fails};
 
 use crate::meaning::Meaning;
 use crate::world::{set_caller, set_world_moment, set_world_word};
+use data_due::nothing_moves;
 use fail_delay::{DelayFn, DelayTold};
+use item_stream::{Stop, item_is_served};
 use pam_base::{Failed, NoMemory, Refuse, ScriptKind, Step};
 use pam_handle::{Gear, GearTold};
 use pam_library::{Library, LibraryTold};
 use pam_outside::{Sink, write_all};
 use pam_room::{World, WorldTold};
 use script_lang::{Line, parse};
-use script_stream::{MAX_LINES, Stop, line_is_served};
+use script_stream::{Lines, MAX_LINES};
 use session_report::step_report;
 use std::alloc::Global;
 
@@ -51,10 +60,15 @@ pub(crate) fn serve_line<K: Sink>(
         world.old.process.ledger (⟦<Library as LibraryTold>⟧.slots library.old)
         world.new.process.ledger (⟦<Library as LibraryTold>⟧.slots library.new) }
     ensures sound { IsSoundFor (⟦<Gear as GearTold>⟧.players (gear_in library.new)) (⟦<Library as LibraryTold>⟧.slots library.new) world.new.process.ledger }
+    ensures moves { result ≡ Ok None → MovesBy (notes_of (⟦<Gear as GearTold>⟧.players (gear_in library.old))) (⟦<Library as LibraryTold>⟧.slots library.old) line.now
+        world.old.process.ledger world.new.process.ledger (⟦<Library as LibraryTold>⟧.slots library.new) }
     ensures few { result ≡ Ok None → lines < 65536 }
+    ensures reads { ReadsLine result lines line.now }
+    ensures writes { IsTrue (K.sink_tells sink.old) → WritesSome result (K.sink_holds sink.old) (K.sink_holds sink.new) }
     ensures faults { RisesIf (has_write_fault result) (K.sink_faults sink.old) (K.sink_faults sink.new) }
 {
-    line_is_served::<Meaning>();
+    item_is_served::<Lines<Meaning>>();
+    nothing_moves();
     if lines >= MAX_LINES {
         return Ok(Some(ScriptKind::TooManyLines));
     }
@@ -103,13 +117,18 @@ fn serve_step<K: Sink>(
         (state_of (⟦<Library as LibraryTold>⟧.slots library.old) (⟦<World as WorldTold>⟧.plain world.old))
         (state_of (⟦<Library as LibraryTold>⟧.slots library.new) (⟦<World as WorldTold>⟧.plain world.new))
         (K.sink_holds sink.old) (K.sink_holds sink.new)) }
+    ensures moves { Moves (notes_of (⟦<Gear as GearTold>⟧.players (gear_in library.old))) 17
+        (end_at (slot_at (⟦<Library as LibraryTold>⟧.slots library.old) step.now.number) step.now.number step.now.call)
+        world.old.process.ledger (lists_of (⟦<Library as LibraryTold>⟧.slots library.old))
+        world.new.process.ledger (lists_of (⟦<Library as LibraryTold>⟧.slots library.new)) }
     ensures proceeds { ProceedsFor (IsEndStep step.now) (⟦<Gear as GearTold>⟧.players (gear_in library.old))
         world.old.process.ledger (⟦<Library as LibraryTold>⟧.slots library.old)
         world.new.process.ledger (⟦<Library as LibraryTold>⟧.slots library.new) }
     ensures sound { IsSoundFor (⟦<Gear as GearTold>⟧.players (gear_in library.new)) (⟦<Library as LibraryTold>⟧.slots library.new) world.new.process.ledger }
+    ensures writes { IsTrue (K.sink_tells sink.old) → WritesSome result (K.sink_holds sink.old) (K.sink_holds sink.new) }
     ensures faults { RisesIf (has_write_fault result) (K.sink_faults sink.old) (K.sink_faults sink.new) }
 {
-    line_is_served::<Meaning>();
+    item_is_served::<Lines<Meaning>>();
     let outcome = match library.apply(alloc, world, step) {
         Ok(outcome) => outcome,
         Err(NoMemory) => return Err(Stop::NoMemory),

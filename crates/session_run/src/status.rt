@@ -1,11 +1,11 @@
 ghost use Rattle.std.specs.Prelude.{◌≡◌};
 ghost use Rattle.session_run.specs.Whole.{ending_status, stop_status};
 
-use pam_base::Code;
-use script_stream::{Ending, Stop};
+use item_stream::{Ending, Stop};
+use pam_base::{Code, ScriptKind};
 
 /// The status with which open transactions are ended behind such an ending.
-pub(crate) fn ending_status(ending: Ending) -> Code
+pub(crate) fn ending_status(ending: Ending<ScriptKind>) -> Code
     ensures { result ≡ ending_status ending }
 {
     match ending {
@@ -16,7 +16,7 @@ pub(crate) fn ending_status(ending: Ending) -> Code
 }
 
 /// The status with which they are ended where nothing more is written.
-pub(crate) fn stop_status(stop: Stop) -> Code
+pub fn stop_status(stop: Stop) -> Code
     ensures { result ≡ stop_status stop }
 {
     match stop {

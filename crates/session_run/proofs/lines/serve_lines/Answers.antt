@@ -1,9 +1,11 @@
-use Rattle.std.proofs.Common.{◌∙◌, Some, None, Ok, Err, refl, ap, arith}
-use Rattle.script_stream.specs.declared.ending.Stop.TheVariants.{NoMemory}
-use Rattle.script_stream.specs.Turns.{has_read_fault}
+use Rattle.std.proofs.Common.{append-nil, sym, [], ◌∙◌, Some, None, Ok, Err, refl, ap, arith}
+use Rattle.item_stream.specs.declared.ending.Stop.TheVariants.{NoMemory}
+use Rattle.item_stream.specs.Turns.{has_read_fault}
 use Rattle.session_run.proofs.Asking.{asks_before, leads_nowhere, leads_on}
 use Rattle.session_run.proofs.Proceeding.{goes_on, nothing_done, proceeds_so}
 use Rattle.session_run.proofs.Telling.{both_tell}
+use Rattle.session_run.proofs.Walking.{broken_off, broken_on, nothing_served, served_on, served_to}
+use Rattle.session_run.proofs.Consuming.{err_then, err_unwritten, ok_then, ok_unwritten}
 use Rattle.session_run.proofs.lines.serve_lines.Goals as goal
 
 pub returns-in-Err-clause-told : goal.returns-in-Err-clause-told
@@ -21,6 +23,9 @@ loop-ending-init g c = record {
   sink_tells = refl;
   source_tells = refl;
   told = λ delay is told source sink. rw (c.requires.first, c.in-Ok.ensures) (c.first_turn.ensures.none_yet _ _ _ _);
+  served = λ delay is told source sink. nothing_served _ _ _ _ _ _ c.requires.first (rw c.in-Ok.ensures refl);
+  reads = λ source. rw (c.requires.first, c.in-Ok.ensures) (c.reading_is_turns.ensures.none_yet _ _ _);
+  writes = λ sink. ok_unwritten _ _;
   few = omega (arith, c.requires.first);
   source_faults = refl;
   sink_faults = refl;
@@ -43,6 +48,13 @@ loop-ending-preserved g c =
       told = λ delay is told source sink.
           let next = turn delay (rw (← was.gear) at is) (both_tell _ _ _ _ was.tells was.world_tells told) (was.source_tells ∙ source) (was.sink_tells ∙ sink) in
           c.turns_go_on.ensures _ (Ok None) _ _ _ _ _ _ _ _ _ _ _ _ _ _ (was.told delay is told source sink) (rw was.gear at next);
+      served = λ delay is told source sink.
+          let next = (rw c.in-Ok-None.field-0-is at c.in-Ok-None.ensures.served) delay (rw (← was.gear) at is) (both_tell _ _ _ _ was.tells was.world_tells told) (was.source_tells ∙ source) (was.sink_tells ∙ sink) in
+          served_on _ _ _ _ _ _ _ _ _ _ _ _ _ (was.served delay is told source sink) (rw was.gear at next);
+      reads = λ source.
+          let next = (rw c.in-Ok-None.field-0-is at c.in-Ok-None.ensures.reads) (was.source_tells ∙ source) in
+          c.reading_is_turns.ensures.on (Ok None) _ _ _ _ _ _ _ _ _ _ _ _ _ _ (was.reads source) next;
+      writes = λ sink. ok_then _ c.in-Ok-None.field-0 _ _ _ _ (was.writes sink) (c.in-Ok-None.ensures.writes (was.sink_tells ∙ sink));
       few = c.take_turn.ensures.few;
       source_faults = read ∙ was.source_faults;
       sink_faults = c.in-Ok-None.ensures.sink_faults ∙ was.sink_faults;
@@ -75,3 +87,49 @@ pub returns-in-Err-take_turn-clause-proceeds : goal.returns-in-Err-take_turn-cla
 returns-in-Err-take_turn-clause-proceeds g c =
     let was = c.loop-ending.invariant in
     goes_on _ _ _ _ _ _ _ _ was.proceeds (proceeds_so _ _ (λ number status has source. asks_before _ _ (was.leads source) number status (has (was.source_tells ∙ source))) _ _ _ _ _ (rw was.gear at c.take_turn.ensures.proceeds))
+
+pub returns-in-Ok-Some-clause-served : goal.returns-in-Ok-Some-clause-served
+returns-in-Ok-Some-clause-served g c = λ delay is told source sink.
+    let turn = rw c.in-Ok-Some.field-0-is at c.in-Ok-Some.ensures.served in
+    let was = c.loop-ending.invariant in
+    let next = turn delay (rw (← was.gear) at is) (both_tell _ _ _ _ was.tells was.world_tells told) (was.source_tells ∙ source) (was.sink_tells ∙ sink) in
+    served_to _ _ _ _ _ _ _ _ _ _ _ _ (was.served delay is told source sink) (rw was.gear at next)
+
+pub returns-in-Err-clause-reads : goal.returns-in-Err-clause-reads
+returns-in-Err-clause-reads g c = λ source.
+    rw c.requires.first (c.reading_is_turns.ensures.run (Err NoMemory) _ _ _ _ _ _ _ _ (c.reading_is_turns.ensures.no_memory _ _ _))
+
+pub returns-in-Ok-Some-clause-reads : goal.returns-in-Ok-Some-clause-reads
+returns-in-Ok-Some-clause-reads g c = λ source.
+    let turn = rw c.in-Ok-Some.field-0-is at c.in-Ok-Some.ensures.reads in
+    let was = c.loop-ending.invariant in
+    c.reading_is_turns.ensures.run (Ok c.in-Ok-Some.ending) _ _ _ _ _ _ _ _
+    (c.reading_is_turns.ensures.on (Ok (Some c.in-Ok-Some.ending)) _ _ _ _ _ _ _ _ _ _ _ _ _ _ (was.reads source) (turn (was.source_tells ∙ source)))
+
+pub returns-in-Err-take_turn-clause-reads : goal.returns-in-Err-take_turn-clause-reads
+returns-in-Err-take_turn-clause-reads g c = λ source.
+    let was = c.loop-ending.invariant in
+    c.reading_is_turns.ensures.run (Err c.in-Err-take_turn.stop) _ _ _ _ _ _ _ _
+    (c.reading_is_turns.ensures.on (Err c.in-Err-take_turn.stop) _ _ _ _ _ _ _ _ _ _ _ _ _ _ (was.reads source) (c.in-Err-take_turn.ensures.reads (was.source_tells ∙ source)))
+
+pub returns-in-Err-clause-writes : goal.returns-in-Err-clause-writes
+returns-in-Err-clause-writes g c = λ sink. err_unwritten _ _
+
+pub returns-in-Ok-Some-clause-writes : goal.returns-in-Ok-Some-clause-writes
+returns-in-Ok-Some-clause-writes g c = λ sink.
+    let was = c.loop-ending.invariant in
+    ok_then _ c.in-Ok-Some.field-0 _ _ _ _ (was.writes sink) (c.in-Ok-Some.ensures.writes (was.sink_tells ∙ sink))
+
+pub returns-in-Err-take_turn-clause-writes : goal.returns-in-Err-take_turn-clause-writes
+returns-in-Err-take_turn-clause-writes g c = λ sink.
+    let was = c.loop-ending.invariant in
+    err_then _ c.in-Err-take_turn.stop _ _ _ (was.writes sink) (c.in-Err-take_turn.ensures.writes (was.sink_tells ∙ sink))
+
+pub returns-in-Err-clause-served : goal.returns-in-Err-clause-served
+returns-in-Err-clause-served g c = λ delay is told source sink. broken_off _ _ _ _ _ [] _ _ (sym (append-nil _)) (nothing_done _ _ _ _ _ _ refl refl)
+
+pub returns-in-Err-take_turn-clause-served : goal.returns-in-Err-take_turn-clause-served
+returns-in-Err-take_turn-clause-served g c = λ delay is told source sink.
+    let was = c.loop-ending.invariant in
+    let next = c.in-Err-take_turn.ensures.served delay (rw (← was.gear) at is) (both_tell _ _ _ _ was.tells was.world_tells told) (was.source_tells ∙ source) (was.sink_tells ∙ sink) in
+    broken_on _ _ _ _ _ _ _ _ _ _ _ (was.served delay is told source sink) (rw was.gear at next)

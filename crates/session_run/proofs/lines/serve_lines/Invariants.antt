@@ -7,7 +7,10 @@ use Rattle.pam_library.specs.Plain.{gear_in, slots_in, tells_in}
 use Rattle.pam_library.specs.Slots.{lists_of}
 use Rattle.pam_library.specs.Sound.{IsSound}
 use Rattle.session_run.specs.AnyWorld.{ProceedsBy}
+use Rattle.pam_base.specs.Lines.{lines_of}
 use Rattle.session_run.specs.Ends.{IsEndIn, LeadsTo}
+use Rattle.session_run.specs.Events.{Served}
+use Rattle.session_run.specs.Reading.{ReadsTurn, WritesSome}
 use Rattle.script_stream.specs.Turns.{Turns}
 use Rattle.session_run.specs.State.{RunState, setting_of, state_of}
 use Rattle.session_run.specs.Step.{line_step, Fails}
@@ -36,6 +39,10 @@ invariant-loop-ending g l =
       told : (delay : Code → ℕ → ℕ) → (delay_told.ghosts g.dyn-2).delay_is (gear_in l.fn.library).delay delay → lib_start && world_start ≡ true → g.S.Source.source_tells l.fn.source ≡ true → g.K.Sink.sink_tells l.fn.sink ≡ true →
           (let setting = setting_of players_start delay in
           Turns (line_step setting) (Fails setting) (Ok None) 0 l.lines start now [] l.reader (g.S.Source.source_holds l.fn.source) (g.S.Source.source_holds l.source) (g.K.Sink.sink_holds l.fn.sink) (g.K.Sink.sink_holds l.sink));
+      served : (delay : Code → ℕ → ℕ) → (delay_told.ghosts g.dyn-2).delay_is (gear_in l.fn.library).delay delay → lib_start && world_start ≡ true → g.S.Source.source_tells l.fn.source ≡ true → g.K.Sink.sink_tells l.fn.sink ≡ true →
+          Served (setting_of players_start delay) 0 l.lines start now (g.S.Source.source_holds l.fn.source).left (lines_of (l.reader ++ (g.S.Source.source_holds l.source).left)) (g.K.Sink.sink_holds l.fn.sink) (g.K.Sink.sink_holds l.sink);
+      reads : g.S.Source.source_tells l.fn.source ≡ true → ReadsTurn (Ok None) 0 l.lines [] l.reader (g.S.Source.source_holds l.fn.source) (g.S.Source.source_holds l.source);
+      writes : g.K.Sink.sink_tells l.fn.sink ≡ true → WritesSome {T = ℕ} (Ok 0) (g.K.Sink.sink_holds l.fn.sink) (g.K.Sink.sink_holds l.sink);
       few : l.lines ≤ 65536;
       source_faults : g.S.Source.source_faults l.source ≡ g.S.Source.source_faults l.fn.source;
       sink_faults : g.K.Sink.sink_faults l.sink ≡ g.K.Sink.sink_faults l.fn.sink;

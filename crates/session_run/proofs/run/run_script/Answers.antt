@@ -1,14 +1,18 @@
-use Rattle.std.proofs.Common.{◌∙◌, Ok, Err, refl}
+use Rattle.std.proofs.Common.{◌∙◌, Ok, Err, refl, arith}
+use Rattle.session_run.proofs.Cutting.{cut_behind, cut_short}
+use Rattle.session_run.proofs.Happening.{run_stands}
 use Rattle.session_run.proofs.Completing.{completes}
 use Rattle.session_run.proofs.Filed.{no_data}
 use Rattle.session_run.proofs.Proceeding.{goes_on, proceeds_so}
 use Rattle.session_run.proofs.Asking.{by_ending, by_line, by_stop}
 use Rattle.session_run.proofs.Wholly.{stopped_lines, ended_run, stopped_behind}
+use Rattle.session_run.proofs.Consuming.{script_left, script_read, script_stopped, script_written}
 use Rattle.session_run.proofs.run.run_script.Goals as goal
 
 pub returns-in-Err-clause-told : goal.returns-in-Err-clause-told
 returns-in-Err-clause-told g c = λ delay is told source sink.
     stopped_lines _ _ _ _ _ _ c.in-Err.stop _ _ _ (c.in-Err.ensures.told delay is told source sink) (rw (c.serve_lines.ensures.gear, c.stop_status.ensures) at c.close_silently.ensures.closed)
+    (λ text written. cut_short _ c.calls_stand_for_their_events.ensures _ _ _ _ _ text _ _ (c.in-Err.ensures.served delay is told source sink) (rw (c.serve_lines.ensures.gear, c.stop_status.ensures) at c.close_silently.ensures.proceeds) written)
 
 pub returns-in-Err-clause-proceeds : goal.returns-in-Err-clause-proceeds
 returns-in-Err-clause-proceeds g c = goes_on _ _ _ _ _ _ _ _ (proceeds_so _ _ (by_line _ _) _ _ _ _ _ c.serve_lines.ensures.proceeds) (proceeds_so _ _ (by_stop _ _ c.in-Err.stop _ c.stop_status.ensures) _ _ _ _ _ (rw c.serve_lines.ensures.gear at c.close_silently.ensures.proceeds))
@@ -16,6 +20,7 @@ returns-in-Err-clause-proceeds g c = goes_on _ _ _ _ _ _ _ _ (proceeds_so _ _ (b
 pub returns-in-Ok-finish-clause-told : goal.returns-in-Ok-finish-clause-told
 returns-in-Ok-finish-clause-told g c = λ delay is told source sink.
     ended_run _ _ _ _ _ _ c.in-Ok.ending _ _ _ _ (c.in-Ok.ensures.told delay is told source sink) c.in-Ok-finish.field-0 (rw c.serve_lines.ensures.gear at (c.in-Ok-finish.ensures.told (c.serve_lines.ensures.sink_tells ∙ sink)))
+    (λ closed. run_stands _ _ c.calls_stand_for_their_events.ensures c.end_stands.ensures _ _ _ _ _ _ _ _ (c.in-Ok.ensures.served delay is told source sink).1 (omega (arith, c.serve_lines.ensures.sound.placed.sixteen)) closed)
 
 pub returns-in-Ok-finish-clause-proceeds : goal.returns-in-Ok-finish-clause-proceeds
 returns-in-Ok-finish-clause-proceeds g c = goes_on _ _ _ _ _ _ _ _ (proceeds_so _ _ (by_line _ _) _ _ _ _ _ c.serve_lines.ensures.proceeds) (proceeds_so _ _ (by_ending _ _ c.in-Ok.ending _ refl) _ _ _ _ _ (rw c.serve_lines.ensures.gear at c.finish.ensures.proceeds))
@@ -25,6 +30,8 @@ returns-in-Err-finish-clause-told g c = λ delay is told source sink.
     stopped_behind _ _ _ _ _ _ c.in-Ok.ending _ _ _ _ (c.in-Ok.ensures.told delay is told source sink) c.in-Err-finish.stop _
     (rw c.serve_lines.ensures.gear at (c.in-Err-finish.ensures.told (c.serve_lines.ensures.sink_tells ∙ sink)))
     (rw (c.finish.ensures.gear, c.serve_lines.ensures.gear, c.stop_status-in-Err-finish.ensures) at c.close_silently-in-Err-finish.ensures.closed)
+    (cut_behind _ c.calls_stand_for_their_events.ensures _ _ _ _ _ _ _ _ _ _ _ (c.in-Ok.ensures.served delay is told source sink) (rw c.serve_lines.ensures.gear at c.finish.ensures.proceeds)
+    (rw (c.finish.ensures.gear, c.serve_lines.ensures.gear, c.stop_status-in-Err-finish.ensures) at c.close_silently-in-Err-finish.ensures.proceeds))
 
 pub returns-in-Err-finish-clause-proceeds : goal.returns-in-Err-finish-clause-proceeds
 returns-in-Err-finish-clause-proceeds g c =
@@ -47,3 +54,23 @@ returns-in-Err-clause-complete g c = λ delay is told source sink.
 pub returns-in-Ok-finish-clause-complete : goal.returns-in-Ok-finish-clause-complete
 returns-in-Ok-finish-clause-complete g c = λ delay is told source sink.
     completes _ _ _ _ _ _ _ _ _ _ _ (Ok c.in-Ok.ending) (returns-in-Ok-finish-clause-told g c delay is told source sink) c.in-Ok.ensures.source_faults (c.in-Ok-finish.ensures.faults ∙ c.in-Ok.ensures.sink_faults)
+
+pub returns-in-Err-clause-reads : goal.returns-in-Err-clause-reads
+returns-in-Err-clause-reads g c = λ source. script_read (Err c.in-Err.stop) _ _ _ (c.in-Err.ensures.reads source)
+
+pub returns-in-Ok-finish-clause-reads : goal.returns-in-Ok-finish-clause-reads
+returns-in-Ok-finish-clause-reads g c = λ source. script_read (Ok c.in-Ok.ending) _ _ _ (c.in-Ok.ensures.reads source)
+
+pub returns-in-Err-finish-clause-reads : goal.returns-in-Err-finish-clause-reads
+returns-in-Err-finish-clause-reads g c = λ source. script_left c.in-Ok.ending c.in-Err-finish.stop _ _ _ (c.in-Ok.ensures.reads source)
+
+pub returns-in-Err-clause-writes : goal.returns-in-Err-clause-writes
+returns-in-Err-clause-writes g c = λ sink. script_stopped c.in-Err.stop _ _ (c.in-Err.ensures.writes sink)
+
+pub returns-in-Ok-finish-clause-writes : goal.returns-in-Ok-finish-clause-writes
+returns-in-Ok-finish-clause-writes g c = λ sink.
+    script_written _ c.in-Ok.ending _ (Ok c.in-Ok-finish.field-0) _ _ _ _ _ (c.in-Ok.ensures.writes sink) (c.in-Ok-finish.ensures.told (c.serve_lines.ensures.sink_tells ∙ sink))
+
+pub returns-in-Err-finish-clause-writes : goal.returns-in-Err-finish-clause-writes
+returns-in-Err-finish-clause-writes g c = λ sink.
+    script_written _ c.in-Ok.ending _ (Err c.in-Err-finish.stop) _ _ _ _ _ (c.in-Ok.ensures.writes sink) (c.in-Err-finish.ensures.told (c.serve_lines.ensures.sink_tells ∙ sink))

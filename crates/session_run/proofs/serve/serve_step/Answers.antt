@@ -1,11 +1,12 @@
 use Rattle.std.proofs.Common.{Ok, Err, refl}
 use Rattle.session_run.proofs.Proceeding.{call_ends, one_call, receipts_stay}
+use Rattle.session_run.proofs.Consuming.{all_written, err_unwritten, front_written}
 use Rattle.session_run.proofs.Serving.{failed_place, called_line, applied_only, failed_call}
 use Rattle.session_run.proofs.serve.serve_step.Goals as goal
 
 pub returns-in-Err-clause-told : goal.returns-in-Err-clause-told
 returns-in-Err-clause-told g c = λ delay is told sink lines line few asked.
-    c.line_is_served.ensures.begun _ _ _ _ _ _ (failed_call _ _ _ _ _ _ few asked (record {
+    c.item_is_served.ensures.begun _ _ _ _ _ _ (failed_call _ _ _ _ _ _ few asked (record {
       step = c.args.step.now;
       asked = asked;
       place = failed_place _ _ _ _ _ told c.in-Err.ensures.fails;
@@ -18,16 +19,16 @@ returns-in-Err-clause-told g c = λ delay is told sink lines line few asked.
 
 pub returns-in-Err-step_report-clause-told : goal.returns-in-Err-step_report-clause-told
 returns-in-Err-step_report-clause-told g c = λ delay is told sink lines line few asked.
-    c.line_is_served.ensures.begun _ _ _ _ _ _ (applied_only _ _ _ _ _ _ _ _ few asked (c.in-Ok.ensures.told delay is told))
+    c.item_is_served.ensures.begun _ _ _ _ _ _ (applied_only _ _ _ _ _ _ _ _ few asked (c.in-Ok.ensures.told delay is told))
 
 pub returns-in-Ok-write_all-clause-told : goal.returns-in-Ok-write_all-clause-told
 returns-in-Ok-write_all-clause-told g c = λ delay is told sink lines line few asked.
-    c.line_is_served.ensures.written _ (Ok c.in-Ok-write_all.field-0) _ _ _ _ _ _ _ (called_line _ _ _ _ _ _ _ _ _ _ few asked (c.in-Ok.ensures.told delay is told) c.in-Ok-step_report.ensures (rw c.apply.ensures.gear refl))
+    c.item_is_served.ensures.written _ (Ok c.in-Ok-write_all.field-0) _ _ _ _ _ _ _ (called_line _ _ _ _ _ _ _ _ _ _ few asked (c.in-Ok.ensures.told delay is told) c.in-Ok-step_report.ensures (rw c.apply.ensures.gear refl))
     (rw c.as_bytes.ensures.value at (c.in-Ok-write_all.ensures.told sink))
 
 pub returns-clause-told : goal.returns-clause-told
 returns-clause-told g c = λ delay is told sink lines line few asked.
-    c.line_is_served.ensures.written _ (Err c.in-Err-write_all.field-0) _ _ _ _ _ _ _ (called_line _ _ _ _ _ _ _ _ _ _ few asked (c.in-Ok.ensures.told delay is told) c.in-Ok-step_report.ensures (rw c.apply.ensures.gear refl))
+    c.item_is_served.ensures.written _ (Err c.in-Err-write_all.field-0) _ _ _ _ _ _ _ (called_line _ _ _ _ _ _ _ _ _ _ few asked (c.in-Ok.ensures.told delay is told) c.in-Ok-step_report.ensures (rw c.apply.ensures.gear refl))
     (rw c.as_bytes.ensures.value at (c.in-Err-write_all.ensures.told sink))
 
 pub step_report-requires-clause-from : goal.step_report-requires-clause-from
@@ -44,3 +45,27 @@ returns-in-Ok-write_all-clause-proceeds g c = one_call _ _ _ _ _ _ _ c.apply.ens
 
 pub returns-clause-proceeds : goal.returns-clause-proceeds
 returns-clause-proceeds g c = one_call _ _ _ _ _ _ _ c.apply.ensures.moves (call_ends _ _ _)
+
+pub returns-in-Err-clause-moves : goal.returns-in-Err-clause-moves
+returns-in-Err-clause-moves g c = c.apply.ensures.moves
+
+pub returns-in-Err-step_report-clause-moves : goal.returns-in-Err-step_report-clause-moves
+returns-in-Err-step_report-clause-moves g c = c.apply.ensures.moves
+
+pub returns-in-Ok-write_all-clause-moves : goal.returns-in-Ok-write_all-clause-moves
+returns-in-Ok-write_all-clause-moves g c = c.apply.ensures.moves
+
+pub returns-clause-moves : goal.returns-clause-moves
+returns-clause-moves g c = c.apply.ensures.moves
+
+pub returns-in-Err-clause-writes : goal.returns-in-Err-clause-writes
+returns-in-Err-clause-writes g c = λ sink. err_unwritten _ _
+
+pub returns-in-Err-step_report-clause-writes : goal.returns-in-Err-step_report-clause-writes
+returns-in-Err-step_report-clause-writes g c = λ sink. err_unwritten _ _
+
+pub returns-in-Ok-write_all-clause-writes : goal.returns-in-Ok-write_all-clause-writes
+returns-in-Ok-write_all-clause-writes g c = λ sink. all_written _ c.in-Ok-write_all.field-0 _ _ _ (c.in-Ok-write_all.ensures.told sink)
+
+pub returns-clause-writes : goal.returns-clause-writes
+returns-clause-writes g c = λ sink. front_written c.in-Err-write_all.field-0 _ _ _ (c.in-Err-write_all.ensures.told sink)

@@ -1,0 +1,16 @@
+-- With which status open transactions are ended behind the lines of a script (this project's own).
+use Rattle.pam_base.specs.declared.code.Code.{Code}
+use Rattle.pam_base.specs.declared.code.Code.TheVariants.{Success, SystemErr, BufErr, Abort}
+use Rattle.script_stream.specs.Turns.{Ending}
+use Rattle.item_stream.specs.declared.ending.Ending.TheVariants.{Done, ReadFault, Refused}
+use Rattle.item_stream.specs.declared.ending.Stop.{Stop}
+use Rattle.item_stream.specs.declared.ending.Stop.TheVariants.{NoMemory, WriteFault}
+
+abbrev pub ending_status : Ending → Code
+ending_status Done = Success
+ending_status ReadFault = SystemErr
+ending_status (Refused kind) = Abort
+
+abbrev pub stop_status : Stop → Code
+stop_status NoMemory = BufErr
+stop_status WriteFault = SystemErr

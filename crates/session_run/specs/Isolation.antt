@@ -1,0 +1,159 @@
+-- A transaction goes as it would alone (this project's own): a script in which each step on another number is a blank line, and
+-- what the steps on a number come to in a run.
+use Rattle.std.specs.Prelude.{◌≡◌, ℕ, ◌+◌, Bool, true, false, not, nat_eq, if◌then◌else◌, List, [], ◌∷◌, ◌++◌, map, drop, codes, slice_get, unwrap_or, Option, Some, None, Result, Ok, Err}
+use Rattle.std.specs.List.{flat_map}
+use Rattle.std.specs.Fmt.{decimal}
+use Rattle.pam_base.specs.declared.code.Code.{Code}
+use Rattle.pam_base.specs.declared.call.Step.{Step}
+use Rattle.pam_base.specs.declared.fault.ScriptKind.{ScriptKind}
+use Rattle.pam_base.specs.Lines.{lines_of}
+use Rattle.pam_base.specs.Quote.{quoted_text}
+use Rattle.data_cleanup.specs.Ledger.{PlainLedger}
+use Rattle.data_cleanup.specs.declared.datum.Birth.{Birth}
+use Rattle.data_cleanup.specs.declared.receipt.Filed.{Filed}
+use Rattle.data_cleanup.specs.declared.receipt.Receipt.{Receipt}
+use Rattle.dispatch_core.specs.Lines.{names_of}
+use Rattle.pam_library.specs.Alike.{AreInOrder, NoCallFails, births_on, receipts_on, told_in}
+use Rattle.pam_library.specs.Outcome.{PlainOutcome}
+use Rattle.pam_library.specs.Step.{stepped}
+use Rattle.script_lang.specs.Command.{word_of_call}
+use Rattle.script_lang.specs.declared.line.Line.{Line}
+use Rattle.script_lang.specs.declared.line.Line.TheVariants as lines
+use Rattle.script_lang.specs.Line.{parsed}
+use Rattle.script_stream.specs.Run.{run_lines, step_at}
+use Rattle.session_report.specs.Answered.{answer_text}
+use Rattle.session_report.specs.Code.{number_words}
+use Rattle.session_report.specs.Cleaned.{status_words}
+use Rattle.session_report.specs.Missing.{all_missing_text}
+use Rattle.session_report.specs.Said.{messages_text}
+use Rattle.session_report.specs.Step.{step_text}
+use Rattle.session_report.specs.Visited.{visits_text}
+use Rattle.session_report.specs.Waited.{waited_text}
+use Rattle.session_run.specs.Closings.{all_closed}
+use Rattle.session_run.specs.State.{Setting, RunState}
+use Rattle.session_run.specs.Step.{line_step}
+
+-- ---- the script of one number
+
+-- the step that a line is, if it is one
+abbrev pub step_in : Result Line ScriptKind → Option Step
+step_in (Ok (lines.Step step)) = Some step
+step_in line = None
+
+abbrev pub is_on : ℕ → Option Step → Bool
+is_on number None = false
+is_on number (Some step) = nat_eq step.number number
+
+abbrev pub is_on_another : ℕ → Option Step → Bool
+is_on_another number None = false
+is_on_another number (Some step) = not (nat_eq step.number number)
+
+-- a blank line stands in the place of a step on another number; every other line stays
+abbrev pub line_alone : ℕ → List ℕ → List ℕ
+line_alone number line = if is_on_another number (step_in (parsed line)) then [] else line
+
+abbrev pub alone : ℕ → List (List ℕ) → List (List ℕ)
+alone number lines = map (line_alone number) lines
+
+abbrev pub with_newline : List ℕ → List ℕ
+with_newline line = line ++ 10 ∷ []
+
+-- the same as a text
+abbrev pub script_alone : ℕ → List ℕ → List ℕ
+script_alone number text = flat_map with_newline (alone number (lines_of text))
+
+-- ---- what the steps on a number come to in a run
+
+-- a step, what it told and answered, and the ledger after it
+pub record Came : Type 0 where
+  pub step : Step
+  pub outcome : PlainOutcome
+  pub ledger : PlainLedger
+
+-- behind a line: what it came to, and what the lines behind it do; nothing follows a refused line
+abbrev pub came_behind : {A : Type 0} → Result (RunState × List ℕ) ScriptKind → (List ℕ → List A) → (RunState → List A) → List A
+came_behind (Ok x) here next = here x.1 ++ next x.0
+came_behind (Err kind) here next = []
+
+abbrev pub FilesStay : Result (RunState × List ℕ) ScriptKind → Bool → RunState → (RunState → Type 0) → Type 0
+FilesStay (Ok x) another s Next = (another ≡ true → x.0.world.vault.files ≡ s.world.vault.files) × Next x.0
+FilesStay (Err kind) another s Next = Unit {0}
+
+module _ (setting : Setting) where
+  abbrev pub came_to : RunState → Step → Came
+  came_to s step = let t = stepped setting.players setting.delay s.slots s.world step in record { step = step; outcome = t.outcome; ledger = t.world.process.ledger }
+
+  module _ (number : ℕ) where
+    abbrev pub came_by : RunState → Option Step → List Came
+    came_by s None = []
+    came_by s (Some step) = if nat_eq step.number number then came_to s step ∷ [] else []
+
+    -- the steps on the number, in order, among lines that have n lines before them
+    abbrev pub came_among : ℕ → RunState → List (List ℕ) → List Came
+    came_among n s [] = []
+    came_among n s (l ∷ ls) = came_behind (step_at (line_step setting) n s l) (λ text. came_by s (step_in (parsed l))) (λ t. came_among (n + 1) t ls)
+
+    -- what the run writes for them
+    abbrev pub texts_among : ℕ → RunState → List (List ℕ) → List (List ℕ)
+    texts_among n s [] = []
+    texts_among n s (l ∷ ls) = came_behind (step_at (line_step setting) n s l) (λ text. if is_on number (step_in (parsed l)) then text ∷ [] else []) (λ t. texts_among (n + 1) t ls)
+
+    -- no step on another number changes a file
+    abbrev pub LeaveFiles : ℕ → RunState → List (List ℕ) → Type 0
+    LeaveFiles n s [] = Unit {0}
+    LeaveFiles n s (l ∷ ls) = FilesStay (step_at (line_step setting) n s l) (is_on_another number (step_in (parsed l))) s (λ t. LeaveFiles (n + 1) t ls)
+
+-- a run may begin here: places and ledger belong together, and no call of the vault is to fail
+pub record IsQuietStart (s : RunState) : Type 0 where
+  pub order : AreInOrder s.slots s.world.process.ledger
+  pub quiet : NoCallFails s.world.vault
+
+-- ---- the lines of the report, where a datum's id is written by these words
+
+module _ (id_words : ℕ → List ℕ) (handle : ℕ) (names : List (List ℕ)) where
+  abbrev pub receipt_text_with : Receipt → Option Birth → List ℕ
+  receipt_text_with receipt (Some birth) =
+      decimal handle ++ (codes " clean " ++ (id_words receipt.id ++ (codes " " ++ (status_words receipt.status ++ (codes " " ++ (number_words receipt.note ++ (codes " "
+      ++ (quoted_text (unwrap_or (slice_get names birth.owner) []) ++ (codes " " ++ (quoted_text birth.name ++ codes "\n"))))))))))
+  receipt_text_with receipt None = []
+
+  abbrev pub filed_text_with : List Birth → Filed → List ℕ
+  filed_text_with births filed = receipt_text_with filed.receipt (slice_get births filed.receipt.id)
+
+abbrev pub step_text_with : (ℕ → List ℕ) → List (List ℕ) → Came → List ℕ
+step_text_with id_words names c =
+    messages_text c.step.number c.outcome.said
+    ++ (visits_text c.step.number c.outcome.trail
+    ++ (flat_map (filed_text_with id_words c.step.number names c.ledger.births) (drop c.outcome.filed_from c.ledger.filed)
+    ++ (waited_text c.step.number c.outcome.wait
+    ++ (all_missing_text c.step.number c.outcome.missing
+    ++ answer_text c.step.number (word_of_call c.step.call) c.outcome.answer))))
+
+-- with every id left out
+abbrev pub text_without_ids : List (List ℕ) → Came → List ℕ
+text_without_ids names c = step_text_with (λ (id : ℕ). []) names c
+
+-- as the report has it
+abbrev pub text_of : List (List ℕ) → Came → List ℕ
+text_of names c = step_text names c.step c.outcome c.ledger
+
+-- ---- a transaction goes as it would alone
+
+-- where the lines of a script lead, behind n lines
+abbrev pub state_behind : Setting → ℕ → RunState → List (List ℕ) → RunState
+state_behind setting n s script = (run_lines (line_step setting) n s script).last
+
+-- A run and that of the script of one number alone, from the same start: the number's steps tell and answer the same, and its
+-- births and receipts are the same, in their order and but for ids and marks, behind the lines and when all is ended behind
+-- them. Its lines of the report are the same but for ids. Both runs end at the same line, for the same fault if there is one.
+pub record GoesAsAlone (setting : Setting) (number n : ℕ) (s : RunState) (script : List (List ℕ)) : Type 0 where
+  pub outcomes : map (λ (c : Came). told_in c.outcome) (came_among setting number n s script) ≡ map (λ (c : Came). told_in c.outcome) (came_among setting number n s (alone number script))
+  pub births : births_on number (state_behind setting n s script).world.process.ledger.births ≡ births_on number (state_behind setting n s (alone number script)).world.process.ledger.births
+  pub receipts : receipts_on number (state_behind setting n s script).world.process.ledger ≡ receipts_on number (state_behind setting n s (alone number script)).world.process.ledger
+  pub ended_births : (status : Code) → births_on number (all_closed setting.players status (state_behind setting n s script)).world.process.ledger.births
+      ≡ births_on number (all_closed setting.players status (state_behind setting n s (alone number script))).world.process.ledger.births
+  pub ended_receipts : (status : Code) → receipts_on number (all_closed setting.players status (state_behind setting n s script)).world.process.ledger
+      ≡ receipts_on number (all_closed setting.players status (state_behind setting n s (alone number script))).world.process.ledger
+  pub report : map (text_without_ids (names_of setting.players)) (came_among setting number n s script) ≡ map (text_without_ids (names_of setting.players)) (came_among setting number n s (alone number script))
+  pub lines : (run_lines (line_step setting) n s script).items ≡ (run_lines (line_step setting) n s (alone number script)).items
+  pub refused : (run_lines (line_step setting) n s script).refused ≡ (run_lines (line_step setting) n s (alone number script)).refused

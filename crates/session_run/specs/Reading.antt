@@ -1,0 +1,72 @@
+-- What the bytes of a script alone say of a run of it, whatever its lines do; and what was written (this project's own).
+use Rattle.std.specs.Prelude.{◌≡◌, ℕ, ◌+◌, ◌≤◌, Bool, true, false, List, [], ◌++◌, length, Option, Some, None, Result, Ok, Err, OnOk}
+use Rattle.pam_base.specs.declared.fault.ScriptKind.{ScriptKind}
+use Rattle.pam_outside.specs.Streams.{SourceState, SinkState}
+use Rattle.script_lang.specs.declared.line.Line.{Line}
+use Rattle.script_lang.specs.Line.{parsed}
+use Rattle.item_stream.specs.declared.ending.Ending.TheVariants.{Done, ReadFault, Refused}
+use Rattle.item_stream.specs.declared.ending.Stop.{Stop}
+use Rattle.script_stream.specs.Run.{LineStep, run_of}
+use Rattle.script_stream.specs.Turns.{Ending, Runs, ServesTold, Turns}
+
+-- ---- what is read
+
+-- a line is refused, or it isn't
+abbrev pub read_as : Result Line ScriptKind → Result (Unit {0} × List ℕ) ScriptKind
+read_as (Ok line) = Ok (tt, [])
+read_as (Err kind) = Err kind
+
+unfoldable pub line_read : LineStep (Unit {0})
+line_read done line = read_as (parsed line)
+
+-- why a line among some bytes is refused, if one is; whether the input ends behind them
+abbrev pub refused_in : List ℕ → Bool → Option ScriptKind
+refused_in bytes ended = (run_of line_read 0 tt bytes ended).refused
+
+-- whatever it is
+abbrev pub Whatever : Unit {0} → List ℕ → Unit {0} → Type 0
+Whatever before line after = Unit {0}
+
+-- a sink to which nothing is written
+abbrev pub nowhere : SinkState
+nowhere = record { written = []; calls = 0 }
+
+-- one line, one turn and many, for a sink to which nothing is written
+abbrev pub ReadsLine : Result (Option ScriptKind) Stop → ℕ → List ℕ → Type 0
+ReadsLine result n line = ServesTold line_read Whatever result n line tt tt nowhere nowhere
+
+abbrev pub ReadsTurn : Result (Option Ending) Stop → ℕ → ℕ → List ℕ → List ℕ → SourceState → SourceState → Type 0
+ReadsTurn result n m before held x y = Turns line_read Whatever result n m tt tt before held x y nowhere nowhere
+
+abbrev pub ReadsAll : Result Ending Stop → ℕ → SourceState → SourceState → Type 0
+ReadsAll result m x y = Runs line_read Whatever result m tt tt x y nowhere nowhere
+
+-- how a run ends, by the bytes: at the end of a script of which no line is refused; at the first line that is; or behind lines that aren't
+abbrev pub EndsAtBytes : Result Ending Stop → List ℕ → List ℕ → List ℕ → Type 0
+EndsAtBytes (Ok Done) script taken left = (refused_in script true ≡ None) × (left ≡ [])
+EndsAtBytes (Ok (Refused kind)) script taken left = refused_in script true ≡ Some kind
+EndsAtBytes (Ok ReadFault) script taken left = refused_in taken false ≡ None
+EndsAtBytes (Err stop) script taken left = Unit {0}
+
+-- what was taken, with at most one read more than it has bytes
+pub record ReadsScript (result : Result Ending Stop) (x y : SourceState) : Type 0 where
+  pub taken : List ℕ
+  pub source : x.left ≡ taken ++ y.left
+  pub reads : y.calls ≤ x.calls + length taken + 1
+  pub ends : y.reads_at_end ≤ x.reads_at_end + 1
+  pub by : EndsAtBytes result x.left taken y.left
+
+-- ---- what is written
+
+-- some bytes were written, with at most one call more than they are; without that one where all went well
+pub record WritesSome {T : Type 0} (result : Result T Stop) (p q : SinkState) : Type 0 where
+  pub text : List ℕ
+  pub written : q.written ≡ p.written ++ text
+  pub calls : q.calls ≤ p.calls + length text + 1
+  pub calls_ok : OnOk result (q.calls ≤ p.calls + length text)
+
+-- the same of a whole run
+pub record WritesScript (p q : SinkState) : Type 0 where
+  pub text : List ℕ
+  pub written : q.written ≡ p.written ++ text
+  pub calls : q.calls ≤ p.calls + length text + 1
