@@ -1,5 +1,7 @@
 -- Where no transaction is open, each birth has its one receipt.
 use Rattle.std.proofs.Common.{◌≡◌, ℕ, zero, suc, ltb, if◌then◌else◌, Bool, true, false, List, [], ◌∷◌, ◌++◌, map, slice_get, refl, sym, ap, subst, arith}
+use Rattle.std.specs.Prelude.{nat_eq}
+use Rattle.std.specs.List.{IsDistinct}
 use Rattle.data_cleanup.specs.Datum.{PlainDatum}
 use Rattle.data_cleanup.specs.Cleanup.{Notes, times}
 use Rattle.data_cleanup.specs.Due.{Event, birth, ends}
@@ -63,6 +65,7 @@ stood tells script note ledger slots events are stand none = record {
   ends_are = are;
   births = stand.births;
   receipts = stand.receipts;
+  tidy = stand.tidy;
   once = λ id.
       let nothing = none_held 17 id (λ (h : ℕ). (lists_of slots h).live) (λ h. held_nowhere slots h none) in
       let total = stand.once id in
@@ -84,11 +87,20 @@ cleaned_up tells script note before now after slots left law stand same went non
 none_below : (id n : ℕ) → n ≡ 0 → n ≡ (if ltb id 0 then 1 else 0)
 none_below id n e = grind arith
 
+none_apart : IsDistinct nat_eq []
+unfolding IsDistinct
+none_apart = tt
+
 pub nothing_to_clean : (tells : Bool) (script : List ℕ) (note : Notes) (ledger : PlainLedger) → ledger.births ≡ [] → ledger.filed ≡ [] → IsCleanedUp tells script note ledger
 nothing_to_clean tells script note ledger births filed = record {
   events = [];
   ends_are = tt;
   births = births;
   receipts = ap receipts_in filed;
+  tidy = record {
+    numbered = rw births tt;
+    once = rw filed none_apart;
+    each = rw filed tt;
+  };
   once = λ id. rw (births, filed) (none_below id 0 refl);
 }

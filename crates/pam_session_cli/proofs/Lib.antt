@@ -1,3 +1,4 @@
+pub mod Alone
 pub mod Checking
 pub mod Cleaning
 pub mod Statuses

@@ -5,13 +5,15 @@ use Rattle.data_cleanup.specs.Cleanup.{Notes}
 use Rattle.data_cleanup.specs.Ledger.{PlainLedger}
 use Rattle.data_due.specs.Stands.{StandFor}
 use Rattle.pam_outside.specs.Streams.{SourceState, SinkState}
+use Rattle.pam_room.specs.Module.{notes_of}
 use Rattle.pam_room.specs.State.{PlainWorld}
-use Rattle.pam_library.specs.Slots.{PlainSlot, closed, lists_of}
+use Rattle.pam_library.specs.Slots.{PlainSlot, closed, lists_of, slot_at}
 use Rattle.pam_library.specs.Sound.{IsSound}
-use Rattle.script_stream.specs.declared.ending.Ending.{Ending}
-use Rattle.script_stream.specs.declared.ending.Ending.TheVariants.{Done, ReadFault, Refused}
-use Rattle.script_stream.specs.declared.ending.Stop.{Stop}
-use Rattle.script_stream.specs.declared.ending.Stop.TheVariants.{NoMemory, WriteFault}
+use Rattle.script_stream.specs.Turns.{Ending}
+use Rattle.item_stream.specs.declared.ending.Ending.TheVariants.{Done, ReadFault, Refused}
+use Rattle.item_stream.specs.declared.ending.Stop.{Stop}
+use Rattle.item_stream.specs.declared.ending.Stop.TheVariants.{NoMemory, WriteFault}
+use Rattle.session_run.specs.SideBySide.{ComesAlone, TellsSteps}
 use Rattle.session_run.specs.State.{Setting, RunState, state_of}
 use Rattle.session_run.specs.Whole.{RunsScript}
 use Rattle.pam_session_cli.specs.Command.{Request, runs}
@@ -59,38 +61,46 @@ stand_at_first note holds convs slots ledger law are births filed =
 
 module _ (setting : Setting) (slots ends : List PlainSlot) (root : List ℕ) (old now new : PlainWorld) (x y : SourceState) (p q : SinkState) where
   pub begun : (result : Result Ending Stop) (status : ℕ) → status ≡ status_of result → IsUnder root old now
+      → StandFor (notes_of setting.players) 17 old.process.ledger (lists_of slots) []
+      → ((start : RunState) (bytes : List ℕ) (ended : Bool) (number : ℕ) (slot : PlainSlot) → slot_at start.slots number ≡ Some slot → ComesAlone setting start bytes ended number slot)
+      → ((start : RunState) (bytes : List ℕ) (ended : Bool) → TellsSteps setting start bytes ended)
       → RunsScript setting result (state_of slots now) (state_of ends new) x y p q → IsBegun setting status (opening slots root old) new x y p q
-  begun result status is under ran = record {
+  begun result status is under none_yet alone steps ran = record {
     result = result;
     is = is;
     end = state_of ends new;
     world_is = refl;
     runs = subst (λ (w : PlainWorld). RunsScript setting result (state_of slots w) (state_of ends new) x y p q) under.world_is ran;
+    none_yet = none_yet;
+    side_by_side = λ bytes ended. record { alone = λ number slot is. alone (opening slots root old) bytes ended number slot is; steps = steps (opening slots root old) bytes ended };
   }
 
 -- ---- by the status
 
 module _ (setting : Setting) (start end : RunState) (x y : SourceState) (p q : SinkState) where
-  done_by : (result : Result Ending Stop) → RunsScript setting result start end x y p q → status_of result ≡ 0 → IsDone setting start end.world x y p q
-  done_by (Ok Done) ran is = done_whole setting start end x y p q ran
-  done_by (Ok ReadFault) ran is = absurd (omega (arith, is))
-  done_by (Ok (Refused kind)) ran is = absurd (omega (arith, is))
-  done_by (Err NoMemory) ran is = absurd (omega (arith, is))
-  done_by (Err WriteFault) ran is = absurd (omega (arith, is))
+  abbrev NoneYet : Type 0
+  NoneYet = StandFor (notes_of setting.players) 17 start.world.process.ledger (lists_of start.slots) []
 
-  refused_by : (result : Result Ending Stop) → RunsScript setting result start end x y p q → status_of result ≡ 7 → IsRefused setting start end.world x y p q
-  refused_by (Ok Done) ran is = absurd (omega (arith, is))
-  refused_by (Ok ReadFault) ran is = absurd (omega (arith, is))
-  refused_by (Ok (Refused kind)) ran is = refused_whole setting start end x y p q kind ran
-  refused_by (Err NoMemory) ran is = absurd (omega (arith, is))
-  refused_by (Err WriteFault) ran is = absurd (omega (arith, is))
+  done_by : (result : Result Ending Stop) → NoneYet → RunsScript setting result start end x y p q → status_of result ≡ 0 → IsDone setting start end.world x y p q
+  done_by (Ok Done) none_yet ran is = done_whole setting start end x y p q none_yet ran
+  done_by (Ok ReadFault) none_yet ran is = absurd (omega (arith, is))
+  done_by (Ok (Refused kind)) none_yet ran is = absurd (omega (arith, is))
+  done_by (Err NoMemory) none_yet ran is = absurd (omega (arith, is))
+  done_by (Err WriteFault) none_yet ran is = absurd (omega (arith, is))
 
-  unread_by : (result : Result Ending Stop) → RunsScript setting result start end x y p q → status_of result ≡ 5 → IsUnread setting start end.world x y p q
-  unread_by (Ok Done) ran is = absurd (omega (arith, is))
-  unread_by (Ok ReadFault) ran is = unread_whole setting start end x y p q ran
-  unread_by (Ok (Refused kind)) ran is = absurd (omega (arith, is))
-  unread_by (Err NoMemory) ran is = absurd (omega (arith, is))
-  unread_by (Err WriteFault) ran is = absurd (omega (arith, is))
+  refused_by : (result : Result Ending Stop) → NoneYet → RunsScript setting result start end x y p q → status_of result ≡ 7 → IsRefused setting start end.world x y p q
+  refused_by (Ok Done) none_yet ran is = absurd (omega (arith, is))
+  refused_by (Ok ReadFault) none_yet ran is = absurd (omega (arith, is))
+  refused_by (Ok (Refused kind)) none_yet ran is = refused_whole setting start end x y p q kind none_yet ran
+  refused_by (Err NoMemory) none_yet ran is = absurd (omega (arith, is))
+  refused_by (Err WriteFault) none_yet ran is = absurd (omega (arith, is))
+
+  unread_by : (result : Result Ending Stop) → NoneYet → RunsScript setting result start end x y p q → status_of result ≡ 5 → IsUnread setting start end.world x y p q
+  unread_by (Ok Done) none_yet ran is = absurd (omega (arith, is))
+  unread_by (Ok ReadFault) none_yet ran is = unread_whole setting start end x y p q none_yet ran
+  unread_by (Ok (Refused kind)) none_yet ran is = absurd (omega (arith, is))
+  unread_by (Err NoMemory) none_yet ran is = absurd (omega (arith, is))
+  unread_by (Err WriteFault) none_yet ran is = absurd (omega (arith, is))
 
   completes_by : (R W : Type 0) (result : Result Ending Stop) → RunsScript setting result start end x y p q → (status_of result ≡ 5 → R) → (status_of result ≡ 6 → W) → Completes (status_of result) R W setting start x
   completes_by R W (Ok Done) ran read write accepted no_read no_write = inl refl
@@ -106,15 +116,15 @@ module _ (setting : Setting) (status : ℕ) (slots : List PlainSlot) (root asked
   runs_asked ran = subst (λ (r : List ℕ). Runs setting status slots r old new x y p q) same ran
 
   done_of : Runs setting status slots asked old new x y p q → status ≡ 0 → IsDone setting (opening slots asked old) new x y p q
-  done_of (inl b) is = subst (λ (w : PlainWorld). IsDone setting (opening slots asked old) w x y p q) (sym b.world_is) (done_by setting (opening slots asked old) b.end x y p q b.result b.runs (sym b.is ∙ is))
+  done_of (inl b) is = subst (λ (w : PlainWorld). IsDone setting (opening slots asked old) w x y p q) (sym b.world_is) (done_by setting (opening slots asked old) b.end x y p q b.result b.none_yet b.runs (sym b.is ∙ is))
   done_of (inr n) is = absurd (omega (arith, n.0, is))
 
   refused_of : Runs setting status slots asked old new x y p q → status ≡ 7 → IsRefused setting (opening slots asked old) new x y p q
-  refused_of (inl b) is = subst (λ (w : PlainWorld). IsRefused setting (opening slots asked old) w x y p q) (sym b.world_is) (refused_by setting (opening slots asked old) b.end x y p q b.result b.runs (sym b.is ∙ is))
+  refused_of (inl b) is = subst (λ (w : PlainWorld). IsRefused setting (opening slots asked old) w x y p q) (sym b.world_is) (refused_by setting (opening slots asked old) b.end x y p q b.result b.none_yet b.runs (sym b.is ∙ is))
   refused_of (inr n) is = absurd (omega (arith, n.0, is))
 
   unread_of : Runs setting status slots asked old new x y p q → status ≡ 5 → IsUnread setting (opening slots asked old) new x y p q
-  unread_of (inl b) is = subst (λ (w : PlainWorld). IsUnread setting (opening slots asked old) w x y p q) (sym b.world_is) (unread_by setting (opening slots asked old) b.end x y p q b.result b.runs (sym b.is ∙ is))
+  unread_of (inl b) is = subst (λ (w : PlainWorld). IsUnread setting (opening slots asked old) w x y p q) (sym b.world_is) (unread_by setting (opening slots asked old) b.end x y p q b.result b.none_yet b.runs (sym b.is ∙ is))
   unread_of (inr n) is = absurd (omega (arith, n.0, is))
 
   completes_of : (R W : Type 0) → Runs setting status slots asked old new x y p q → (status ≡ 5 → R) → (status ≡ 6 → W) → Completes status R W setting (opening slots asked old) x

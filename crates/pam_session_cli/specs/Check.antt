@@ -13,8 +13,8 @@ use Rattle.service_load.specs.Tree.{tree}
 use Rattle.service_print.specs.declared.file.File.{File}
 use Rattle.service_print.specs.Printed.{printed}
 use Rattle.session_report.specs.Fault.{refused_text}
-use Rattle.script_stream.specs.declared.ending.Stop.{Stop as Stopped}
-use Rattle.script_stream.specs.declared.ending.Stop.TheVariants.{NoMemory}
+use Rattle.item_stream.specs.declared.ending.Stop.{Stop as Stopped}
+use Rattle.item_stream.specs.declared.ending.Stop.TheVariants.{NoMemory}
 use Rattle.pam_session_cli.specs.declared.check.Finding.{Finding}
 use Rattle.pam_session_cli.specs.declared.check.Found.{Found}
 use Rattle.pam_session_cli.specs.declared.check.Found.TheVariants.{Configured, Refused}

@@ -3,17 +3,22 @@ use Rattle.std.specs.Prelude.{◌≡◌, ◌⊎◌, ℕ, ◌≤◌, nat_lt, if�
 use Rattle.data_cleanup.specs.Cleanup.{Notes}
 use Rattle.data_cleanup.specs.Due.{Event, due}
 use Rattle.data_cleanup.specs.Ledger.{PlainLedger}
-use Rattle.data_due.specs.Stands.{births_of, receipts_in, times_filed}
+use Rattle.data_cleanup.specs.Tidy.{Tidy}
+use Rattle.data_due.specs.Stands.{StandFor, births_of, receipts_in, times_filed}
 use Rattle.pam_base.specs.declared.fault.ScriptKind.{ScriptKind}
 use Rattle.pam_outside.specs.Streams.{SourceState, SinkState}
+use Rattle.pam_room.specs.Module.{notes_of}
 use Rattle.pam_room.specs.State.{PlainWorld}
-use Rattle.pam_library.specs.Slots.{PlainSlot}
-use Rattle.script_stream.specs.declared.ending.Ending.{Ending}
-use Rattle.script_stream.specs.declared.ending.Ending.TheVariants.{Done, ReadFault, Refused}
-use Rattle.script_stream.specs.declared.ending.Stop.{Stop}
-use Rattle.script_stream.specs.declared.ending.Stop.TheVariants.{NoMemory, WriteFault}
+use Rattle.pam_library.specs.Slots.{PlainSlot, lists_of, slot_at}
+use Rattle.script_stream.specs.Turns.{Ending}
+use Rattle.item_stream.specs.declared.ending.Ending.TheVariants.{Done, ReadFault, Refused}
+use Rattle.item_stream.specs.declared.ending.Stop.{Stop}
+use Rattle.item_stream.specs.declared.ending.Stop.TheVariants.{NoMemory, WriteFault}
 use Rattle.script_stream.specs.Run.{Run, run_of}
 use Rattle.session_run.specs.Ends.{EndsAre, IsEndOfRun}
+use Rattle.session_run.specs.Events.{AreDue, run_events}
+use Rattle.session_run.specs.Reading.{ReadsScript, refused_in}
+use Rattle.session_run.specs.SideBySide.{ComesAlone, TellsSteps}
 use Rattle.session_run.specs.State.{Setting, RunState, state_of}
 use Rattle.session_run.specs.Step.{line_step}
 use Rattle.session_run.specs.Closings.{all_closed}
@@ -36,20 +41,26 @@ run_over setting start bytes ended = run_of (line_step setting) 0 start bytes en
 
 -- the report of a run that ends so: its lines', the closings, and the last line; and the world behind it
 abbrev pub report_of : Setting → Ending → Run RunState → List ℕ
-report_of setting ending r = r.text ++ last_words setting.players ending r.lines r.last
+report_of setting ending r = r.text ++ last_words setting.players ending r.items r.last
 
 abbrev pub world_behind : Setting → Ending → Run RunState → PlainWorld
 world_behind setting ending r = (all_closed setting.players (ending_status ending) r.last).world
 
--- the report of this run is written whole, and the world is the one behind it
-pub record IsReported (setting : Setting) (ending : Ending) (r : Run RunState) (world : PlainWorld) (p q : SinkState) : Type 0 where
+-- the births and ends of a run that ends so: those of the lines that were applied, and of the closings behind them
+abbrev pub events_in : Setting → Ending → RunState → List ℕ → Run RunState → List Event
+events_in setting ending start script r = run_events setting (ending_status ending) start script r.items r.last
+
+-- The report of this run is written whole, and the world is the one behind it. The receipts of data are those that the births and ends
+-- of the run make due.
+pub record IsReported (setting : Setting) (ending : Ending) (start : RunState) (script : List ℕ) (r : Run RunState) (world : PlainWorld) (p q : SinkState) : Type 0 where
   pub written : q.written ≡ p.written ++ report_of setting ending r
   pub world_is : world ≡ world_behind setting ending r
+  pub are_due : AreDue (notes_of setting.players) (events_in setting ending start script r) world.process.ledger
 
 -- status 0: no line of the whole script is refused, and it was read to its end
 pub record IsDone (setting : Setting) (start : RunState) (world : PlainWorld) (x y : SourceState) (p q : SinkState) : Type 0 where
   pub accepted : (run_over setting start x.left true).refused ≡ None
-  pub reported : IsReported setting Done (run_over setting start x.left true) world p q
+  pub reported : IsReported setting Done start x.left (run_over setting start x.left true) world p q
   pub read_out : y.left ≡ []
 
 -- Status 7: a line of the whole script is refused, for this. Of the bytes taken, all but at most the last 512 (those of the last
@@ -57,7 +68,7 @@ pub record IsDone (setting : Setting) (start : RunState) (world : PlainWorld) (x
 pub record IsRefused (setting : Setting) (start : RunState) (world : PlainWorld) (x y : SourceState) (p q : SinkState) : Type 0 where
   pub kind : ScriptKind
   pub refused : (run_over setting start x.left true).refused ≡ Some kind
-  pub reported : IsReported setting (Refused kind) (run_over setting start x.left true) world p q
+  pub reported : IsReported setting (Refused kind) start x.left (run_over setting start x.left true) world p q
   pub early : List ℕ
   pub late : List ℕ
   pub taken : x.left ≡ early ++ late ++ y.left
@@ -69,7 +80,7 @@ pub record IsUnread (setting : Setting) (start : RunState) (world : PlainWorld) 
   pub taken : List ℕ
   pub source : x.left ≡ taken ++ y.left
   pub accepted : (run_over setting start taken false).refused ≡ None
-  pub reported : IsReported setting ReadFault (run_over setting start taken false) world p q
+  pub reported : IsReported setting ReadFault start x.left (run_over setting start taken false) world p q
 
 -- ---- by any status
 
@@ -86,13 +97,22 @@ pub record IsNotBegun (old new : PlainWorld) (x y : SourceState) (p q : SinkStat
   pub source : y ≡ x
   pub sink : q ≡ p
 
--- a run was begun: what was taken and written, how often it was read and written, and the world behind it
+-- The lines among some bytes, number by number: the place of each behind them and the outcomes of its steps are those of its own steps
+-- alone, each in the world before it; and what is reported of the lines is what is told of these steps.
+pub record StandsSideBySide (setting : Setting) (start : RunState) (bytes : List ℕ) (ended : Bool) : Type 0 where
+  pub alone : (number : ℕ) (slot : PlainSlot) → slot_at start.slots number ≡ Some slot → ComesAlone setting start bytes ended number slot
+  pub steps : TellsSteps setting start bytes ended
+
+-- a run was begun: what was taken and written, how often it was read and written, and the world behind it; before it there was no
+-- birth and no end; and whatever lines it comes to stand side by side
 pub record IsBegun (setting : Setting) (status : ℕ) (start : RunState) (world : PlainWorld) (x y : SourceState) (p q : SinkState) : Type 0 where
   pub result : Result Ending Stop
   pub is : status ≡ status_of result
   pub end : RunState
   pub world_is : world ≡ end.world
   pub runs : RunsScript setting result start end x y p q
+  pub none_yet : StandFor (notes_of setting.players) 17 start.world.process.ledger (lists_of start.slots) []
+  pub side_by_side : (bytes : List ℕ) (ended : Bool) → StandsSideBySide setting start bytes ended
 
 -- a told run, by its status
 abbrev pub Runs : Setting → ℕ → List PlainSlot → List ℕ → PlainWorld → PlainWorld → SourceState → SourceState → SinkState → SinkState → Type 0
@@ -107,14 +127,31 @@ Completes status read_failed write_failed setting start x =
 abbrev pub IsStatus : ℕ → Type 0
 IsStatus n = (result : Result Ending Stop) × (n ≡ status_of result)
 
+-- ---- what source or sink tells alone
+
+-- How a run ends by the bytes of a told script, and how often that was read: a run that wasn't begun for want of memory took nothing.
+pub record ReadsBy (status : ℕ) (x y : SourceState) : Type 0 where
+  pub result : Result Ending Stop
+  pub is : status ≡ status_of result
+  pub reads : ReadsScript result x y
+
+-- status 0 says that no line of the whole script is refused, which was read to its end; status 7 that one is
+abbrev pub IsAccepted : List ℕ → List ℕ → Type 0
+IsAccepted script left = (refused_in script true ≡ None) × (left ≡ [])
+
+abbrev pub HasRefused : List ℕ → Type 0
+HasRefused script = (kind : ScriptKind) × (refused_in script true ≡ Some kind)
+
 -- ---- module data, in any world
 
 -- Each datum that was set was cleaned up exactly once: the receipts are those that births and ends of transactions make due, in their
--- order, each with its status, and every birth has one. Where the script's text is told, a transaction was ended with the status that one
+-- order, each with its status, and every birth has one. The ledger is in order: each receipt has its owner's note, and a datum that was
+-- replaced by one of its transaction and name has the status that says so. Where the script's text is told, a transaction was ended with the status that one
 -- of its lines asks for, for that number, or with one of those with which a run ends what is open.
 pub record IsCleanedUp (tells : Bool) (script : List ℕ) (note : Notes) (ledger : PlainLedger) : Type 0 where
   pub events : List Event
   pub ends_are : EndsAre (IsEndOfRun tells script) events
   pub births : ledger.births ≡ births_of events
   pub receipts : receipts_in ledger.filed ≡ due note events
+  pub tidy : Tidy note ledger
   pub once : (id : ℕ) → times_filed id (receipts_in ledger.filed) ≡ (if nat_lt id (length ledger.births) then 1 else 0)

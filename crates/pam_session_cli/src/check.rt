@@ -3,12 +3,12 @@ ghost use Rattle.std.specs.Str.{str_to_ascii_lowercase};
 ghost use Rattle.pam_outside.specs.Counts.{RisesIf};
 ghost use Rattle.service_load.specs.Loading.{OnlyCalls};
 ghost use Rattle.service_print.specs.Printed.{printed, stacks_in};
-ghost use Rattle.script_stream.specs.Turns.{has_write_fault};
+ghost use Rattle.item_stream.specs.Turns.{has_write_fault};
 ghost use Rattle.pam_session_cli.specs.Check.{Checks, IsCheck, check_of, file_text, files_text};
 
+use item_stream::Stop;
 use pam_base::{Failed, NoMemory, Refuse};
 use pam_outside::{Sink, Vault, write_all};
-use script_stream::Stop;
 use service_load::{Trees, load};
 use service_print::{File, print};
 use session_report::refused_report;

@@ -2,6 +2,7 @@ ghost use Rattle.std.specs.Prelude.{◌≡◌, ◌≢◌, ◌⊎◌, ◌≤◌, 
 ghost use Rattle.pam_base.specs.declared.code.Code.{Code};
 ghost use Rattle.fail_delay.specs.DelayFn.{GivesOneNumber, IsNumberGiven};
 ghost use Rattle.pam_outside.specs.Counts.{Rose};
+ghost use Rattle.session_run.specs.Reading.{WritesScript};
 ghost use Rattle.session_run.specs.State.{setting_of};
 ghost use Rattle.data_due.specs.Stands.{StandFor};
 ghost use Rattle.pam_room.specs.Module.{notes_of};
@@ -12,20 +13,20 @@ ghost use Rattle.pam_library.specs.Sound.{IsSoundFor};
 ghost use Rattle.service_load.specs.Loading.{OnlyCalls};
 ghost use Rattle.pam_session_cli.specs.Check.{check_of};
 ghost use Rattle.pam_session_cli.specs.Command.{request_of, runs, checks};
-ghost use Rattle.pam_session_cli.specs.Run.{Completes, IsBegun, IsCleanedUp, IsDone, IsRefused, IsStatus, IsUnder, IsUnread, Runs, opening, status_of};
+ghost use Rattle.pam_session_cli.specs.Run.{Completes, HasRefused, IsAccepted, IsBegun, IsCleanedUp, IsDone, IsRefused, IsStatus, IsUnder, IsUnread, ReadsBy, Runs, opening, status_of};
 ghost use Rattle.pam_session_cli.specs.Status.{ChecksBy, IsCheckStatus, WritesUsage, check_status};
 
 use crate::check::{Found, check};
 use crate::command::{Request, request_in};
 use crate::desk::{Desk, DeskTold};
 use fail_delay::{DelayFn, DelayRule, DelayTold};
-use pam_base::{Code, Failed, Text};
+use item_stream::{Ending, Stop};
+use pam_base::{Code, Failed, ScriptKind, Text};
 use pam_handle::{Gear, GearTold};
 use pam_library::{Library, LibraryTold, closed_places_stand_for_none};
 use pam_outside::{Sink, Source, set_moment, set_word, write_all};
 use pam_room::{World, WorldTold};
-use script_stream::{Ending, Stop};
-use session_run::{proceeding_stands, run_script};
+use session_run::{numbers_stand_side_by_side, proceeding_stands, run_script};
 use std::alloc::Global;
 
 const USAGE: &str = "usage: pamsess run ROOT | check ROOT SERVICE\n";
@@ -88,6 +89,17 @@ pub fn pamsess<S: Source, K: Sink>(
         IsTrue (S.source_tells script.old) → IsTrue (K.sink_tells out.old) → IsTrue (⟦<World as WorldTold>⟧.tells world.old && ⟦<Desk as DeskTold>⟧.tells desk) →
         Completes result (Rose (S.source_faults script.old) (S.source_faults script.new)) (Rose (K.sink_faults out.old) (K.sink_faults out.new))
         (setting_of (⟦<Desk as DeskTold>⟧.players desk) number) (opening (⟦<Desk as DeskTold>⟧.slots desk) root (⟦<World as WorldTold>⟧.plain world.old)) (S.source_holds script.old) }
+
+    // Where the source alone tells, by any world: at most as many reads as bytes taken, and one more; and what the status says of the
+    // script's bytes. Where the sink alone does: at most as many writes as bytes written, and one more.
+    ensures reads { (root : List ℕ) → request_of words.now ≡ Some (runs root) → IsTrue (S.source_tells script.old) →
+        ReadsBy result (S.source_holds script.old) (S.source_holds script.new) }
+    ensures accepted { (root : List ℕ) → request_of words.now ≡ Some (runs root) → IsTrue (S.source_tells script.old) → result ≡ 0 →
+        IsAccepted (S.source_holds script.old).left (S.source_holds script.new).left }
+    ensures has_refused { (root : List ℕ) → request_of words.now ≡ Some (runs root) → IsTrue (S.source_tells script.old) → result ≡ 7 →
+        HasRefused (S.source_holds script.old).left }
+    ensures writes { (root : List ℕ) → request_of words.now ≡ Some (runs root) → IsTrue (K.sink_tells out.old) →
+        WritesScript (K.sink_holds out.old) (K.sink_holds out.new) }
 
     // Where the words are check ROOT SERVICE, the configuration is written, or its first fault.
     ensures checked { (root service : List ℕ) → request_of words.now ≡ Some (checks root service) → IsTrue (K.sink_tells out.old) → IsTrue (vault_tells (in_box world.old.vault)) →
@@ -154,6 +166,8 @@ fn run<S: Source, K: Sink>(
         Runs (setting_of (⟦<Desk as DeskTold>⟧.players desk) number) result (⟦<Desk as DeskTold>⟧.slots desk) root.now (⟦<World as WorldTold>⟧.plain world.old) (⟦<World as WorldTold>⟧.plain world.new)
         (S.source_holds script.old) (S.source_holds script.new) (K.sink_holds out.old) (K.sink_holds out.new) }
     ensures statuses { IsStatus result }
+    ensures reads { IsTrue (S.source_tells script.old) → ReadsBy result (S.source_holds script.old) (S.source_holds script.new) }
+    ensures writes { IsTrue (K.sink_tells out.old) → WritesScript (K.sink_holds out.old) (K.sink_holds out.new) }
     ensures cleaned_up { IsCleanedUp (S.source_tells script.old) (S.source_holds script.old).left (notes_of (⟦<Desk as DeskTold>⟧.players desk)) world.new.process.ledger }
     ensures read_fault { result ≡ 5 → Rose (S.source_faults script.old) (S.source_faults script.new) }
     ensures no_read_fault { (result ≡ 0) ⊎ (result ≡ 7) → S.source_faults script.new ≡ S.source_faults script.old }
@@ -194,6 +208,8 @@ fn run_over<S: Source, K: Sink>(
         IsBegun (setting_of (⟦<Gear as GearTold>⟧.players (gear_in library)) number) result (opening (⟦<Library as LibraryTold>⟧.slots library) root (⟦<World as WorldTold>⟧.plain world.old)) (⟦<World as WorldTold>⟧.plain world.new)
         (S.source_holds script.old) (S.source_holds script.new) (K.sink_holds out.old) (K.sink_holds out.new) }
     ensures statuses { IsStatus result }
+    ensures reads { IsTrue (S.source_tells script.old) → ReadsBy result (S.source_holds script.old) (S.source_holds script.new) }
+    ensures writes { IsTrue (K.sink_tells out.old) → WritesScript (K.sink_holds out.old) (K.sink_holds out.new) }
     ensures cleaned_up { IsCleanedUp (S.source_tells script.old) (S.source_holds script.old).left (notes_of (⟦<Gear as GearTold>⟧.players (gear_in library))) world.new.process.ledger }
     ensures read_fault { result ≡ 5 → Rose (S.source_faults script.old) (S.source_faults script.new) }
     ensures no_read_fault { (result ≡ 0) ⊎ (result ≡ 7) → S.source_faults script.new ≡ S.source_faults script.old }
@@ -204,6 +220,7 @@ fn run_over<S: Source, K: Sink>(
     ensures world_tells { ⟦<World as WorldTold>⟧.tells world.new ≡ ⟦<World as WorldTold>⟧.tells world.old }
 {
     proceeding_stands();
+    numbers_stand_side_by_side();
     go_under(world, root);
     let mut library = library;
     let result = run_script(alloc, &mut library, script, out, world);
@@ -222,7 +239,7 @@ fn go_under(world: &mut World, root: Text)
     set_word(&mut *world.clock, 0);
 }
 
-fn status_of(run: Result<Ending, Stop>) -> u8
+fn status_of(run: Result<Ending<ScriptKind>, Stop>) -> u8
     ensures { result ≡ status_of run }
 {
     match run {

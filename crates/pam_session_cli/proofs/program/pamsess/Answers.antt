@@ -1,3 +1,4 @@
+use Rattle.pam_session_cli.proofs.Alone.{accepted, has_refused}
 use Rattle.pam_session_cli.proofs.Cleaning.{nothing_to_clean}
 use Rattle.pam_session_cli.proofs.Telling.{asked_root, runs_asked, done_asked, refused_asked, unread_asked, completes_asked}
 use Rattle.pam_session_cli.proofs.program.pamsess.Goals as goal
@@ -27,3 +28,15 @@ returns-in-None-clause-cleaned_up g c = nothing_to_clean _ _ _ _ c.requires.no_b
 
 pub returns-in-Some-Check-clause-cleaned_up : goal.returns-in-Some-Check-clause-cleaned_up
 returns-in-Some-Check-clause-cleaned_up g c = nothing_to_clean _ _ _ _ c.requires.no_births c.requires.no_receipts
+
+pub returns-in-Some-Run-clause-reads : goal.returns-in-Some-Run-clause-reads
+returns-in-Some-Run-clause-reads g c root asked source = c.run.ensures.reads source
+
+pub returns-in-Some-Run-clause-accepted : goal.returns-in-Some-Run-clause-accepted
+returns-in-Some-Run-clause-accepted g c root asked source is = accepted _ _ _ (c.run.ensures.reads source) is
+
+pub returns-in-Some-Run-clause-has_refused : goal.returns-in-Some-Run-clause-has_refused
+returns-in-Some-Run-clause-has_refused g c root asked source is = has_refused _ _ _ (c.run.ensures.reads source) is
+
+pub returns-in-Some-Run-clause-writes : goal.returns-in-Some-Run-clause-writes
+returns-in-Some-Run-clause-writes g c root asked sink = c.run.ensures.writes sink
