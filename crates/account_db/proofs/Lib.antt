@@ -1,0 +1,6 @@
+mod Cutting
+mod Taking
+mod Reading
+mod Trimming
+mod Rows
+mod Placing

@@ -1,0 +1,44 @@
+-- A new hash in the shadow file (shadow(5), passwd(1)).
+use Rattle.std.specs.Prelude.{◌≡◌, true, ◌++◌, ℕ, Bool, ◌&&◌, not, if◌then◌else◌, List, [], ◌∷◌, drop, Result, Ok, Err, decimal}
+use Rattle.std.specs.List.{join_with_byte}
+use Rattle.std.specs.Str.{bytes_eq}
+use Rattle.account_db.specs.declared.fault.DbFault.{DbFault}
+use Rattle.account_db.specs.declared.shadow.Shadow.{Shadow}
+use Rattle.account_db.specs.Parts.{field, fields_of, parts_of}
+use Rattle.account_db.specs.Entries.{is_passed_over}
+use Rattle.account_db.specs.Shadow.{shadows_of}
+
+-- a line with this hash and this day of the last change: its second and its third field
+unfoldable pub changed_line : List ℕ → ℕ → List ℕ → List ℕ
+changed_line hash day line = join_with_byte 58 (field 0 line ∷ hash ∷ decimal day ∷ drop 3 (fields_of line))
+
+-- whether a line is one of the user's
+abbrev pub is_line_of : List ℕ → List ℕ → Bool
+is_line_of user line = not (is_passed_over line) && bytes_eq (field 0 line) user
+
+-- the first line of the user is changed, and the others stay
+abbrev pub changed_lines : List ℕ → List ℕ → ℕ → List (List ℕ) → List (List ℕ)
+changed_lines user hash day [] = []
+changed_lines user hash day (line ∷ lines) =
+    if is_line_of user line then changed_line hash day line ∷ lines else line ∷ changed_lines user hash day lines
+
+-- the text with that line changed: what stands between its newlines
+unfoldable pub with_hash : List ℕ → List ℕ → ℕ → List ℕ → List ℕ
+with_hash user hash day text = join_with_byte 10 (changed_lines user hash day (parts_of 10 text))
+
+abbrev pub unless_faulty_file : Result (List Shadow) DbFault → List ℕ → Result (List ℕ) DbFault
+unless_faulty_file (Ok entries) text = Ok text
+unless_faulty_file (Err fault) text = Err fault
+
+-- the new text, or the first line at fault
+abbrev pub hash_replaced : List ℕ → List ℕ → ℕ → List ℕ → Result (List ℕ) DbFault
+hash_replaced user hash day text = unless_faulty_file (shadows_of text) (with_hash user hash day text)
+
+-- A line of the user was changed, and what stands before and behind it stayed.
+pub record Placed (user hash : List ℕ) (day : ℕ) (old new : List ℕ) : Type 0 where
+  pub front : List ℕ
+  pub line : List ℕ
+  pub back : List ℕ
+  pub is_users : is_line_of user line ≡ true
+  pub old_is : old ≡ front ++ line ++ back
+  pub new_is : new ≡ front ++ changed_line hash day line ++ back

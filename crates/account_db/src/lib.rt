@@ -1,0 +1,21 @@
+//! The account files of a system: the entries of `passwd(5)`, `group(5)` and `shadow(5)`, the
+//! shells of `shells(5)`, and a new hash in a shadow file.
+#![tactic(auto)]
+
+mod entry;
+mod fault;
+mod group;
+mod laws;
+mod parts;
+mod passwd;
+mod replace;
+mod shadow;
+mod shell_list;
+
+pub use fault::DbFault;
+pub use group::{Group, Groups, groups};
+pub use laws::hash_is_put_in_place;
+pub use passwd::{Passwd, Passwds, entry_of, passwds};
+pub use replace::replace_hash;
+pub use shadow::{Shadow, Shadows, copy_of, shadow_of, shadows};
+pub use shell_list::{shells, without_end};

@@ -1,0 +1,226 @@
+-- Steps of what a module does, put before what it does from there on.
+use Rattle.std.proofs.Common.{◌≡◌, ℕ, zero, suc, Bool, true, false, cond, List, [], Option, Some, None, codes, unwrap_or, Result, Ok, Err, IfOk, refl, sym, ap, ◌∙◌}
+use Rattle.std.proofs.lemmas.List.{append-nil}
+use Rattle.pam_base.specs.declared.code.Code.{Code}
+use Rattle.pam_base.specs.declared.code.Code.TheVariants.{ConvErr}
+use Rattle.pam_base.specs.declared.fault.NoMemory.{NoMemory}
+use Rattle.pam_base.specs.declared.style.Style.{Style}
+use Rattle.conv_port.specs.Conv.{ConvState}
+use Rattle.item_store.specs.Items.{ItemTexts}
+use Rattle.pam_outside.specs.Files.{File, VaultState, counted, file_put, is_failing}
+use Rattle.pam_outside.specs.Time.{ClockState}
+use Rattle.pam_room.specs.declared.transaction.Transaction.{Transaction}
+use Rattle.pam_room.specs.Plain.{plain_transaction}
+use Rattle.pam_room.specs.Call.{PlainCall}
+use Rattle.pam_room.specs.State.{PlainProcess, PlainRoom, Scene, room_of, scene_of}
+use Rattle.pam_room.specs.Module.{Played, PlaysIn, after_calls, failing_of, seen_of, sight_of, with_played}
+use Rattle.pam_room.specs.Say.{asked, user_asked}
+use Rattle.account_db.specs.declared.group.Group.{Group}
+use Rattle.account_db.specs.declared.passwd.Passwd.{Passwd}
+use Rattle.account_files.specs.declared.content.Content.{Content}
+use Rattle.account_files.specs.declared.content.Content.TheVariants.{Absent}
+use Rattle.account_files.specs.Paths.{path_of}
+use Rattle.account_files.specs.Content.{after_named, content_at, is_rooted, named_content}
+use Rattle.account_files.specs.Accounts.{Known, Looked, groups_looked, account_limit, known_groups, known_passwds, nothing_known, passwds_looked, shells_in}
+use Rattle.account_files.specs.Accounts.{groups_by as known_groups_by, passwds_by as known_by}
+use Rattle.account_files.specs.Act.{Act, Acts, answers, asks_user, called, content_seen, groups_by, later, passwds_by, plays_by, reads_file, reads_groups, reads_if, reads_passwds, reads_shells, replaced, replaces_file, sees_items, sees_moment, shown, shows, stage_of}
+use Rattle.account_files.specs.Speaks.{Speaks}
+
+-- ---- a step that leaves the vault, and one that calls it once
+
+carried : (act next : Act) (known after : Known) (s mid : Scene) (code : Code) (new : Scene) → act (stage_of known s) ≡ next (stage_of after mid)
+    → ((p : Played) → with_played p mid ≡ with_played p s) → Acts next after mid code new → Acts act known s code new
+carried act next known after s mid code new e same a = record {
+  code_is = a.code_is ∙ ap (λ (p : Played). p.code) (sym e);
+  scene_is = a.scene_is ∙ same (next (stage_of after mid)) ∙ ap (λ (p : Played). with_played p s) (sym e);
+}
+
+-- the scene after one call of the vault
+abbrev pub after_call : Scene → Scene
+after_call s = scene_of s.room (counted s.vault) s.clock s.process
+
+counted_once : (act next : Act) (known after : Known) (s : Scene) (code : Code) (new : Scene) → act (stage_of known s) ≡ called (next (stage_of after (after_call s)))
+    → Acts next after (after_call s) code new → Acts act known s code new
+counted_once act next known after s code new e a = record {
+  code_is = a.code_is ∙ ap (λ (p : Played). p.code) (sym e);
+  scene_is = a.scene_is ∙ ap (λ (p : Played). with_played p s) (sym e);
+}
+
+-- what the next call finds, and what is seen after it
+later_sight : (s : Scene) → later (sight_of s) ≡ sight_of (after_call s)
+unfolding failing_of
+later_sight s = refl
+
+content_is : (name : List ℕ) (limit : ℕ) (s : Scene) → content_seen name limit (sight_of s) ≡ content_at s.process.root name limit s.vault
+unfolding failing_of content_at
+content_is name limit s = refl
+
+-- ---- the end
+
+pub answering : (code : Code) (known : Known) (s : Scene) → Acts (answers code) known s code s
+unfolding answers
+answering code known s = record { code_is = refl; scene_is = rw append-nil refl }
+
+-- ---- the room
+
+pub seeing : (act : ItemTexts → Act) (known : Known) (s : Scene) (code : Code) (new : Scene) → Acts (act s.room.transaction.items) known s code new → Acts (sees_items act) known s code new
+unfolding sees_items
+seeing act known s code new a = carried (sees_items act) (act s.room.transaction.items) known known s s code new refl (λ p. refl) a
+
+pub timing : (act : ℕ → Act) (known : Known) (s : Scene) (code : Code) (new : Scene) → Acts (act s.clock.moment) known s code new → Acts (sees_moment act) known s code new
+unfolding sees_moment
+timing act known s code new a = carried (sees_moment act) (act s.clock.moment) known known s s code new refl (λ p. refl) a
+
+abbrev pub scene : Transaction → ConvState → VaultState → ClockState → PlainProcess → Scene
+scene t conv vault clock process = scene_of (room_of (plain_transaction t) conv) vault clock process
+
+module _ (known : Known) (t u : Transaction) (conv conv' : ConvState) (vault : VaultState) (clock : ClockState) (process : PlainProcess) (speaks : Speaks t u) where
+  datums : u.datums ≡ t.datums
+  datums = ap (λ (x : Transaction). x.datums) speaks.others
+
+  same_played : (p : Played) → with_played p (scene u conv' vault clock process) ≡ with_played p (scene t conv vault clock process)
+  same_played p =
+      let trail = ap (λ (x : Transaction). x.trail) speaks.others in
+      let handle = ap (λ (x : Transaction). x.handle) speaks.others in
+      let serving = ap (λ (x : Transaction). x.serving) speaks.others in
+      rw (datums, trail, handle, serving) refl
+
+  pub refused : (act : List ℕ → Act) → user_asked (seen_of (room_of (plain_transaction t) conv)) ≡ asked true (seen_of (room_of (plain_transaction u) conv'))
+      → Acts (asks_user act) known (scene t conv vault clock process) ConvErr (scene u conv' vault clock process)
+  unfolding asks_user answers
+  refused act e = carried (asks_user act) (answers ConvErr) known known _ _ ConvErr _ (rw e refl) same_played (answering ConvErr known _)
+
+  pub knowing : (act : List ℕ → Act) (code : Code) (new : Scene) → user_asked (seen_of (room_of (plain_transaction t) conv)) ≡ asked false (seen_of (room_of (plain_transaction u) conv'))
+      → Acts (act (unwrap_or u.items.user [])) known (scene u conv' vault clock process) code new → Acts (asks_user act) known (scene t conv vault clock process) code new
+  unfolding asks_user
+  knowing act code new e a = carried (asks_user act) (act (unwrap_or u.items.user [])) known known _ _ code new (rw (e, datums) refl) same_played a
+
+  pub showing : (style : Style) (text : List ℕ) (act : Act) (code : Code) (new : Scene) → seen_of (room_of (plain_transaction u) conv') ≡ shown style text (seen_of (room_of (plain_transaction t) conv))
+      → Acts act known (scene u conv' vault clock process) code new → Acts (shows style text act) known (scene t conv vault clock process) code new
+  unfolding shows
+  showing style text act code new e a = carried (shows style text act) act known known _ _ code new (rw (← e, datums) refl) same_played a
+
+-- ---- files
+
+module _ (room : PlainRoom) (vault : VaultState) (clock : ClockState) (process : PlainProcess) where
+  by_root : (rooted : Bool) (name : List ℕ) (limit : ℕ) (act : Content → Act) (known : Known) (content : Content) (after : VaultState) (code : Code) (new : Scene)
+      → content ≡ cond rooted (content_at process.root name limit vault) Absent → after ≡ cond rooted (counted vault) vault
+      → Acts (act content) known (scene_of room after clock process) code new → Acts (reads_if rooted name limit act) known (scene_of room vault clock process) code new
+  by_root true name limit act known content after code new is next a =
+      let s = scene_of room vault clock process in
+      let same : reads_if true name limit act (stage_of known s) ≡ called (act content (stage_of known (after_call s))) = rw (is, content_is name limit s, later_sight s) refl in
+      counted_once (reads_if true name limit act) (act content) known known s code new same (rw next at a)
+  by_root false name limit act known content after code new is next a =
+      carried (reads_if false name limit act) (act content) known known (scene_of room vault clock process) (scene_of room after clock process) code new (rw (is, next) refl) (λ p. rw next refl) a
+
+  pub reading : (name : List ℕ) (limit : ℕ) (act : Content → Act) (known : Known) (content : Content) (after : VaultState) (code : Code) (new : Scene)
+      → content ≡ named_content process.root name limit vault → after ≡ after_named name vault
+      → Acts (act content) known (scene_of room after clock process) code new → Acts (reads_file name limit act) known (scene_of room vault clock process) code new
+  unfolding reads_file
+  reading name limit act known content after code new is next a = by_root (is_rooted name) name limit act known content after code new is next a
+
+  pub reading_shells : (act : Option (List (List ℕ)) → Act) (known : Known) (found : Option (List (List ℕ))) (after : VaultState) (code : Code) (new : Scene)
+      → found ≡ shells_in (content_at process.root (codes "/etc/shells") account_limit vault) → after ≡ counted vault
+      → Acts (act found) known (scene_of room after clock process) code new → Acts (reads_shells act) known (scene_of room vault clock process) code new
+  unfolding reads_shells
+  reading_shells act known found after code new is next a =
+      reading (codes "/etc/shells") account_limit (λ content. act (shells_in content)) known (content_at process.root (codes "/etc/shells") account_limit vault) after code new refl next (rw (← is) a)
+
+  by_known : (before : Option (Option (List Passwd))) (act : Option (List Passwd) → Act) (known now : Known) (after : VaultState) (code : Code) (new : Scene)
+      → known.passwds ≡ before → known_by before process.root known vault ≡ record { known = now; vault = after }
+      → Acts (act (known_passwds now)) now (scene_of room after clock process) code new → Acts (passwds_by before act) known (scene_of room vault clock process) code new
+  by_known (Some found) act known now after code new e is a =
+      let same = ap (λ (l : Looked). l.known) is in
+      let next = ap (λ (l : Looked). l.vault) is in
+      carried (passwds_by (Some found) act) (act (known_passwds now)) known now (scene_of room vault clock process) (scene_of room after clock process) code new (rw (← same, ← next, e) refl) (λ p. rw (← next) refl) a
+  by_known None act known now after code new e is a =
+      let s = scene_of room vault clock process in
+      let more = ap (λ (l : Looked). l.known) is in
+      let next = ap (λ (l : Looked). l.vault) is in
+      let same : passwds_by None act (stage_of known s) ≡ called (act (known_passwds now) (stage_of now (after_call s))) = rw (← more, content_is _ _ s, later_sight s) refl in
+      counted_once (passwds_by None act) (act (known_passwds now)) known now s code new same (rw (← next) at a)
+
+  pub reading_passwds : (act : Option (List Passwd) → Act) (known now : Known) (after : VaultState) (code : Code) (new : Scene)
+      → passwds_looked process.root known vault ≡ record { known = now; vault = after }
+      → Acts (act (known_passwds now)) now (scene_of room after clock process) code new → Acts (reads_passwds act) known (scene_of room vault clock process) code new
+  unfolding passwds_looked reads_passwds
+  reading_passwds act known now after code new is a =
+      let s = scene_of room vault clock process in
+      carried (reads_passwds act) (passwds_by known.passwds act) known known s s code new refl (λ p. refl) (by_known known.passwds act known now after code new refl is a)
+
+  by_known_groups : (before : Option (Option (List Group))) (act : Option (List Group) → Act) (known now : Known) (after : VaultState) (code : Code) (new : Scene)
+      → known.groups ≡ before → known_groups_by before process.root known vault ≡ record { known = now; vault = after }
+      → Acts (act (known_groups now)) now (scene_of room after clock process) code new → Acts (groups_by before act) known (scene_of room vault clock process) code new
+  by_known_groups (Some found) act known now after code new e is a =
+      let same = ap (λ (l : Looked). l.known) is in
+      let next = ap (λ (l : Looked). l.vault) is in
+      carried (groups_by (Some found) act) (act (known_groups now)) known now (scene_of room vault clock process) (scene_of room after clock process) code new (rw (← same, ← next, e) refl) (λ p. rw (← next) refl) a
+  by_known_groups None act known now after code new e is a =
+      let s = scene_of room vault clock process in
+      let more = ap (λ (l : Looked). l.known) is in
+      let next = ap (λ (l : Looked). l.vault) is in
+      let same : groups_by None act (stage_of known s) ≡ called (act (known_groups now) (stage_of now (after_call s))) = rw (← more, content_is _ _ s, later_sight s) refl in
+      counted_once (groups_by None act) (act (known_groups now)) known now s code new same (rw (← next) at a)
+
+  pub reading_groups : (act : Option (List Group) → Act) (known now : Known) (after : VaultState) (code : Code) (new : Scene)
+      → groups_looked process.root known vault ≡ record { known = now; vault = after }
+      → Acts (act (known_groups now)) now (scene_of room after clock process) code new → Acts (reads_groups act) known (scene_of room vault clock process) code new
+  unfolding groups_looked reads_groups
+  reading_groups act known now after code new is a =
+      let s = scene_of room vault clock process in
+      carried (reads_groups act) (groups_by known.groups act) known known s s code new refl (λ p. refl) (by_known_groups known.groups act known now after code new refl is a)
+
+-- ---- a file that is set
+
+-- which calls fail, and how many were made, doesn't hang on the files
+calls_apart : (n : ℕ) (v : VaultState) (x f : List File) → record (after_calls n (record v { files = x })) { files = f } ≡ record (after_calls n v) { files = f }
+calls_apart zero v x f = refl
+calls_apart (suc n) v x f = calls_apart n (counted v) x f
+
+fails_apart : (n : ℕ) (v : VaultState) (x : List File) → is_failing (after_calls n (record v { files = x })) ≡ is_failing (after_calls n v)
+fails_apart n v x = ap is_failing (calls_apart n v x [])
+
+failing_apart : (v : VaultState) (x : List File) → failing_of (record v { files = x }) ≡ failing_of v
+unfolding failing_of
+failing_apart v x = λ i k. fails_apart k v x i
+
+module _ (room : PlainRoom) (vault : VaultState) (clock : ClockState) (process : PlainProcess) (name bytes : List ℕ) (act : Bool → Act) (known : Known) (code : Code) (new : Scene) where
+  abbrev set_whole : VaultState
+  set_whole = counted (record vault { files = file_put (path_of process.root name) bytes vault.files })
+
+  next_fails : (sight_of (scene_of room vault clock process)).failing 0 ≡ is_failing vault
+  unfolding failing_of
+  next_fails = refl
+
+  set_sight : replaced false (path_of process.root name) bytes (sight_of (scene_of room vault clock process)) ≡ sight_of (scene_of room set_whole clock process)
+  unfolding failing_of
+  set_sight =
+      ap (λ (f : ℕ → Bool). record (sight_of (scene_of room set_whole clock process)) { failing = f }) (sym (failing_apart (counted vault) (file_put (path_of process.root name) bytes vault.files)))
+
+  set_played : (p : Played) → with_played p (scene_of room set_whole clock process) ≡ with_played (called p) (scene_of room vault clock process)
+  set_played p = λ i. record (with_played (called p) (scene_of room vault clock process)) { vault = calls_apart p.calls (counted vault) (file_put (path_of process.root name) bytes vault.files) p.files i }
+
+  pub replacing : is_failing vault ≡ false → Acts (act true) known (scene_of room set_whole clock process) code new → Acts (replaces_file name bytes act) known (scene_of room vault clock process) code new
+  unfolding replaces_file
+  replacing e a =
+      let s = scene_of room vault clock process in
+      let t = scene_of room set_whole clock process in
+      let same : replaces_file name bytes act (stage_of known s) ≡ called (act true (stage_of known t)) = rw (next_fails, e, set_sight) refl in
+      record {
+        code_is = a.code_is ∙ ap (λ (p : Played). p.code) (sym same);
+        scene_is = a.scene_is ∙ set_played (act true (stage_of known t)) ∙ ap (λ (p : Played). with_played p s) (sym same);
+      }
+
+  pub not_replacing : is_failing vault ≡ true → Acts (act false) known (scene_of room (counted vault) clock process) code new → Acts (replaces_file name bytes act) known (scene_of room vault clock process) code new
+  unfolding replaces_file
+  not_replacing e a =
+      let s = scene_of room vault clock process in
+      let same : replaces_file name bytes act (stage_of known s) ≡ called (act false (stage_of known (after_call s))) = rw (next_fails, e, later_sight s) refl in
+      counted_once (replaces_file name bytes act) (act false) known known s code new same a
+
+-- ---- modules
+
+pub playing : (act : PlainCall → Act) (call : PlainCall) (old new : Scene) (result : Result Code NoMemory) → IfOk result (λ code. Acts (act call) nothing_known old code new)
+    → IfOk result (λ code. PlaysIn (plays_by act) call old code new)
+playing act call old new (Ok code) a = record { code_is = a.code_is; scene_is = a.scene_is }
+playing act call old new (Err none) a = a

@@ -1,0 +1,102 @@
+ghost use Rattle.std.specs.Prelude.{◌≡◌, ◌≤◌, IsTrue, IfOk, OnOk};
+ghost use Rattle.pam_outside.specs.Files.{counted};
+ghost use Rattle.account_files.specs.Act.{StepsTo, replaces_file};
+ghost use Rattle.account_files.specs.Content.{IsWithin, after_named, content_at, is_rooted, named_content};
+
+use crate::laws::act_steps;
+use crate::paths::path_of;
+use pam_base::{NoMemory, Text};
+use pam_outside::{ReplaceFault, Vault, VaultFault, read_file, replace_file};
+use pam_room::Process;
+use std::alloc::Global;
+
+/// What a module finds where it looks for a file.
+#[derive(Debug, Drop)]
+pub enum Content {
+    /// There is no such file.
+    Absent,
+    /// It is too long, or the outside failed.
+    Unreadable,
+    Holds(Text),
+}
+
+/// Reads the file with this name under a root, of which so many bytes may be read, by one call of the vault.
+pub fn read_content(
+    alloc: Global,
+    vault: &mut dyn Vault,
+    root: &[u8],
+    name: &[u8],
+    limit: u32,
+) -> Result<Content, NoMemory>
+    ensures bound { IfOk result (λ content. IsWithin content limit) }
+    ensures tells { vault_tells vault.new ≡ vault_tells vault.old }
+    ensures told { IsTrue (vault_tells vault.old) →
+        IfOk result (λ content. content ≡ content_at root.now name.now limit (vault_holds vault.old)) }
+    ensures calls { IsTrue (vault_tells vault.old) → OnOk result (vault_holds vault.new ≡ counted (vault_holds vault.old)) }
+    ensures faults { vault_faults vault.old ≤ vault_faults vault.new }
+{
+    let path = path_of(alloc, root, name)?;
+    match read_file(vault, alloc, path.bytes(), limit) {
+        Ok(text) => Ok(Content::Holds(text)),
+        Err(VaultFault::Absent) => Ok(Content::Absent),
+        Err(VaultFault::TooLong) => Ok(Content::Unreadable),
+        Err(VaultFault::Failed) => Ok(Content::Unreadable),
+        Err(VaultFault::NoMemory) => Err(NoMemory),
+    }
+}
+
+/// Reads the file that an argument names. Where the name isn't a path from the root, the file is absent, and no call
+/// is made.
+pub fn read_named(
+    alloc: Global,
+    vault: &mut dyn Vault,
+    root: &[u8],
+    name: &[u8],
+    limit: u32,
+) -> Result<Content, NoMemory>
+    ensures bound { IfOk result (λ content. IsWithin content limit) }
+    ensures tells { vault_tells vault.new ≡ vault_tells vault.old }
+    ensures told { IsTrue (vault_tells vault.old) →
+        IfOk result (λ content. content ≡ named_content root.now name.now limit (vault_holds vault.old)) }
+    ensures calls { IsTrue (vault_tells vault.old) → OnOk result (vault_holds vault.new ≡ after_named name.now (vault_holds vault.old)) }
+    ensures faults { vault_faults vault.old ≤ vault_faults vault.new }
+{
+    if is_rooted(name) {
+        read_content(alloc, vault, root, name, limit)
+    } else {
+        Ok(Content::Absent)
+    }
+}
+
+/// Sets the file with this name whole, by one call of the vault. False where the outside failed: the file is then as it
+/// was.
+pub fn replace_named(
+    alloc: Global,
+    vault: &mut dyn Vault,
+    process: &Process,
+    name: &[u8],
+    bytes: &[u8],
+) -> Result<bool, NoMemory>
+    ensures tells { vault_tells vault.new ≡ vault_tells vault.old }
+    ensures told { IsTrue (vault_tells vault.old) →
+        IfOk result (λ done. StepsTo (replaces_file name.now bytes.now) done process.now (vault_holds vault.old) (vault_holds vault.new)) }
+    ensures faults { vault_faults vault.old ≤ vault_faults vault.new }
+{
+    act_steps();
+    let path = path_of(alloc, process.root.bytes(), name)?;
+    match replace_file(vault, alloc, path.bytes(), bytes) {
+        Ok(()) => Ok(true),
+        Err(ReplaceFault::Failed) => Ok(false),
+        Err(ReplaceFault::NoMemory) => Err(NoMemory),
+    }
+}
+
+/// Whether a name that an argument gives is a path from the root.
+pub fn is_rooted(name: &[u8]) -> bool
+    ensures { result ≡ is_rooted name.now }
+{
+    match name {
+        [] => false,
+        [first, ..] => *first == b'/',
+    }
+}

@@ -1,0 +1,152 @@
+-- Steps of what a module does, put before what it does from there on.
+use Rattle.std.proofs.Common.{◌≡◌, ℕ, max, Bool, true, false, List, [], ◌∷◌, ◌++◌, length, Some, unwrap_or, Result, Ok, Err, IfOk, is_ok, refl, sym, ap, ◌∙◌}
+use Rattle.std.proofs.lemmas.List.{append-nil}
+use Rattle.pam_base.specs.declared.code.Code.{Code}
+use Rattle.pam_base.specs.declared.code.Code.TheVariants.{ConvErr}
+use Rattle.pam_base.specs.declared.fault.NoMemory.{NoMemory}
+use Rattle.pam_base.specs.declared.fault.Refuse.{Refuse}
+use Rattle.pam_base.specs.declared.fault.Refuse.TheVariants as refusals
+use Rattle.pam_base.specs.declared.fault.ConvErr.{ConvErr as NoReply}
+use Rattle.pam_base.specs.declared.item.ItemName.{ItemName}
+use Rattle.item_store.specs.Items.{ItemTexts, text_of, with_text}
+use Rattle.conv_port.specs.Conv.{ConvState}
+use Rattle.conv_port.specs.declared.conv.ConvFault.{ConvFault}
+use Rattle.conv_port.specs.declared.message.Message.{Message}
+use Rattle.conv_port.specs.declared.message.Reply.{Reply}
+use Rattle.data_cleanup.specs.DataList.{PlainDataList, hold_all}
+use Rattle.data_cleanup.specs.Ledger.{PlainLedger}
+use Rattle.fail_delay.specs.Delay.{counted_request}
+use Rattle.pam_outside.specs.Files.{VaultState}
+use Rattle.pam_outside.specs.Time.{ClockState}
+use Rattle.pam_room.specs.declared.transaction.Transaction.{Transaction}
+use Rattle.pam_room.specs.Plain.{plain_transaction}
+use Rattle.pam_room.specs.Call.{PlainCall}
+use Rattle.pam_room.specs.State.{PlainProcess, PlainTransaction, Scene, room_of, scene_of}
+use Rattle.pam_room.specs.Module.{HasSet, NamedData, Played, PlaysIn, SeenRoom, births_of, named_data, seen_of, with_played}
+use Rattle.pam_room.specs.Say.{Asked, Asks, Says, asked, speak, token_asked, token_of, user_asked}
+use Rattle.account_files.specs.Accounts.{nothing_known}
+use Rattle.account_files.specs.Act.{Act, answers, asks_user, Stage, in_room, plays_by, sees_items, stage_of}
+use Rattle.module_acts.specs.Comes.{Comes, ComesTo, Goes, Leads, lent}
+use Rattle.module_acts.specs.Steps.{answers_keeping, asks_token, exchanges, requests_delay, sees_caller, sees_clock, sees_data, sets_item, with_replies}
+
+carried : (act next : Act) (s mid : Scene) (code : Code) (new : Scene) → act (stage_of nothing_known s) ≡ next (stage_of nothing_known mid)
+    → ((p : Played) → with_played p mid ≡ with_played p s) → Goes next mid code new → Goes act s code new
+carried act next s mid code new e same a = record {
+  code_is = a.code_is ∙ ap (λ (p : Played). p.code) (sym e);
+  scene_is = a.scene_is ∙ same (next (stage_of nothing_known mid)) ∙ ap (λ (p : Played). with_played p s) (sym e);
+}
+
+pub answering : (code : Code) (s : Scene) → Goes (answers code) s code s
+unfolding answers
+answering code s = record { code_is = refl; scene_is = rw append-nil refl }
+
+pub playing : (act : PlainCall → Act) (call : PlainCall) (old new : Scene) (result : Result Code NoMemory) → IfOk result (λ code. Goes (act call) old code new)
+    → IfOk result (λ code. PlaysIn (plays_by act) call old code new)
+playing act call old new (Ok code) a = record { code_is = a.code_is; scene_is = a.scene_is }
+playing act call old new (Err none) a = a
+
+-- ---- seeing
+
+module _ (s : Scene) (code : Code) (new : Scene) where
+  pub seeing_items : (act : ItemTexts → Act) → Goes (act s.room.transaction.items) s code new → Goes (sees_items act) s code new
+  unfolding sees_items
+  seeing_items act a = carried (sees_items act) (act s.room.transaction.items) s s code new refl (λ p. refl) a
+
+  pub seeing_data : (act : List NamedData → Act) → Goes (act (named_data s.room.transaction.datums.live)) s code new → Goes (sees_data act) s code new
+  unfolding sees_data
+  seeing_data act a = carried (sees_data act) (act (named_data s.room.transaction.datums.live)) s s code new refl (λ p. refl) a
+
+  pub seeing_clock : (act : ClockState → Act) → Goes (act s.clock) s code new → Goes (sees_clock act) s code new
+  unfolding sees_clock
+  seeing_clock act a = carried (sees_clock act) (act s.clock) s s code new refl (λ p. refl) a
+
+  pub seeing_caller : (act : ℕ → Act) → Goes (act s.process.caller) s code new → Goes (sees_caller act) s code new
+  unfolding sees_caller
+  seeing_caller act a = carried (sees_caller act) (act s.process.caller) s s code new refl (λ p. refl) a
+
+-- ---- the room
+
+-- what was asked for, by its parts
+asked_is : (a : Asked) (refused : Bool) (room : SeenRoom) → (a.refused ≡ refused) × (room ≡ a.room) → a ≡ asked refused room
+asked_is a refused room h = ap (λ (b : Bool). asked b a.room) h.0 ∙ ap (asked refused) (sym h.1)
+
+module _ (t u : Transaction) (conv conv' : ConvState) (vault : VaultState) (clock : ClockState) (process : PlainProcess) (others : u ≡ record t { items = u.items; said = u.said; put_off = u.put_off }) where
+  datums : u.datums ≡ t.datums
+  datums = ap (λ (x : Transaction). x.datums) others
+
+  same_played : (p : Played) → with_played p (lent u conv' vault clock process) ≡ with_played p (lent t conv vault clock process)
+  same_played p =
+      let trail = ap (λ (x : Transaction). x.trail) others in
+      let handle = ap (λ (x : Transaction). x.handle) others in
+      let serving = ap (λ (x : Transaction). x.serving) others in
+      rw (datums, trail, handle, serving) refl
+
+  pub asking_user : {T : Type 0} (r : Result T (Refuse NoReply)) → Asks r (user_asked (seen_of (room_of (plain_transaction t) conv))) (seen_of (room_of (plain_transaction u) conv'))
+      → ComesTo r (unwrap_or u.items.user []) asks_user (lent t conv vault clock process) (lent u conv' vault clock process)
+  unfolding asks_user answers
+  asking_user (Ok done) h = λ act code end rest.
+      carried (asks_user act) (act (unwrap_or u.items.user [])) _ _ code end (rw (asked_is (user_asked (seen_of (room_of (plain_transaction t) conv))) false _ h, datums) refl) same_played rest
+  asking_user (Err (refusals.Named e)) h = λ act.
+      carried (asks_user act) (answers ConvErr) _ _ ConvErr _ (rw (asked_is (user_asked (seen_of (room_of (plain_transaction t) conv))) true _ h) refl) same_played (answering ConvErr _)
+  asking_user (Err refusals.NoMemory) h = tt
+
+  pub asking_token : {T : Type 0} (r : Result T (Refuse NoReply)) (old : Bool) (prompt : List ℕ) → Asks r (token_asked old prompt (seen_of (room_of (plain_transaction t) conv))) (seen_of (room_of (plain_transaction u) conv'))
+      → ComesTo r (unwrap_or (text_of u.items (token_of old)) []) (asks_token old prompt) (lent t conv vault clock process) (lent u conv' vault clock process)
+  unfolding asks_token answers
+  asking_token (Ok done) old prompt h = λ act code end rest.
+      carried (asks_token old prompt act) (act (unwrap_or (text_of u.items (token_of old)) [])) _ _ code end (rw (asked_is (token_asked old prompt (seen_of (room_of (plain_transaction t) conv))) false _ h, datums) refl) same_played rest
+  asking_token (Err (refusals.Named e)) old prompt h = λ act.
+      carried (asks_token old prompt act) (answers ConvErr) _ _ ConvErr _ (rw (asked_is (token_asked old prompt (seen_of (room_of (plain_transaction t) conv))) true _ h) refl) same_played (answering ConvErr _)
+  asking_token (Err refusals.NoMemory) old prompt h = tt
+
+  replied : (answer : Result (List Reply) ConvFault) (room : SeenRoom) (act : List Reply → Act) (replies : List Reply) (stage : Stage) → answer ≡ Ok replies → with_replies answer room act stage ≡ act replies (in_room room stage)
+  replied answer room act replies stage e = rw e refl
+
+  none_replied : (answer : Result (List Reply) ConvFault) (room : SeenRoom) (act : List Reply → Act) (stage : Stage) → is_ok answer ≡ false → with_replies answer room act stage ≡ answers ConvErr (in_room room stage)
+  unfolding answers
+  none_replied (Ok replies) room act stage e = absurd cc
+  none_replied (Err fault) room act stage e = refl
+
+  in_this : (room : SeenRoom) (act : Act) → seen_of (room_of (plain_transaction u) conv') ≡ room → act (in_room room (stage_of nothing_known (lent t conv vault clock process))) ≡ act (stage_of nothing_known (lent u conv' vault clock process))
+  in_this room act e = rw (← e, datums) refl
+
+  pub exchanging : (r : Result (List Reply) (Refuse NoReply)) (messages : List Message) → Says r (speak messages (seen_of (room_of (plain_transaction t) conv))) (seen_of (room_of (plain_transaction u) conv'))
+      → Comes r (exchanges messages) (lent t conv vault clock process) (lent u conv' vault clock process)
+  unfolding exchanges
+  exchanging (Ok replies) messages h = λ act code end rest.
+      let spoken = speak messages (seen_of (room_of (plain_transaction t) conv)) in
+      carried (exchanges messages act) (act replies) _ _ code end
+      (replied spoken.answer spoken.room act replies (stage_of nothing_known (lent t conv vault clock process)) h.0 ∙ in_this spoken.room (act replies) h.1) same_played rest
+  exchanging (Err (refusals.Named e)) messages h = λ act.
+      let spoken = speak messages (seen_of (room_of (plain_transaction t) conv)) in
+      carried (exchanges messages act) (answers ConvErr) _ _ ConvErr _
+      (none_replied spoken.answer spoken.room act (stage_of nothing_known (lent t conv vault clock process)) h.0 ∙ in_this spoken.room (answers ConvErr) h.1) same_played (answering ConvErr _)
+  exchanging (Err refusals.NoMemory) messages h = tt
+
+pub with_items : (t u : Transaction) → u ≡ record t { said = u.said; put_off = u.put_off } → u ≡ record t { items = u.items; said = u.said; put_off = u.put_off }
+with_items t u e = e ∙ ap (λ (i : ItemTexts). record t { items = i; said = u.said; put_off = u.put_off }) (sym (ap (λ (x : Transaction). x.items) e))
+
+module _ (t u : Transaction) (conv : ConvState) (vault : VaultState) (clock : ClockState) (process : PlainProcess) where
+  pub delaying : (micros delay : ℕ) → delay ≡ max (counted_request micros) t.delay → u ≡ record t { delay = delay } → Leads (requests_delay micros) (lent t conv vault clock process) (lent u conv vault clock process)
+  unfolding requests_delay
+  delaying micros delay e n = λ act code end rest.
+      carried (requests_delay micros act) act _ _ code end (rw (n, e) refl) (λ p. rw n refl) rest
+
+  pub setting : (item : ItemName) (text : List ℕ) → u ≡ record t { items = with_text t.items item (Some text) } → Leads (sets_item item text) (lent t conv vault clock process) (lent u conv vault clock process)
+  unfolding sets_item
+  setting item text n = λ act code end rest.
+      carried (sets_item item text act) act _ _ code end (rw n refl) (λ p. rw n refl) rest
+
+  pub keeping : (q : PlainProcess) (datum : NamedData) (code : Code) → t.datums.handle ≡ t.handle → u ≡ record t { datums = u.datums } → q ≡ record process { ledger = q.ledger }
+      → HasSet t.serving (datum ∷ []) t.datums process.ledger u.datums q.ledger → Goes (answers_keeping datum code) (lent t conv vault clock process) code (lent u conv vault clock q)
+  unfolding answers_keeping
+  keeping q datum code same others own set =
+      let births = births_of (length process.ledger.births) t.handle t.serving (datum ∷ []) in
+      let list : u.datums ≡ hold_all t.datums births = set.list ∙ ap (λ n. hold_all t.datums (births_of (length process.ledger.births) n t.serving (datum ∷ []))) same in
+      let ledger : q.ledger ≡ record process.ledger { births = process.ledger.births ++ births } = set.ledger ∙ ap (λ n. record process.ledger { births = process.ledger.births ++ births_of (length process.ledger.births) n t.serving (datum ∷ []) }) same in
+      let after : plain_transaction u ≡ record (plain_transaction t) { datums = hold_all t.datums births } = ap plain_transaction others ∙ ap (λ (l : PlainDataList). record (plain_transaction t) { datums = l }) list in
+      let later : q ≡ record process { ledger = record process.ledger { births = process.ledger.births ++ births } } = own ∙ ap (λ (l : PlainLedger). record process { ledger = l }) ledger in
+      record {
+        code_is = refl;
+        scene_is = ap (λ (x : PlainTransaction). scene_of (room_of x conv) vault clock q) after ∙ ap (λ (x : PlainProcess). scene_of (room_of (record (plain_transaction t) { datums = hold_all t.datums births }) conv) vault clock x) later;
+      }

@@ -1,0 +1,45 @@
+-- A module that talks.
+use Rattle.std.proofs.Common.{◌≡◌, List, [], ◌++◌, refl, sym, ap, ◌∙◌, append_assoc, arith}
+use Rattle.std.proofs.lemmas.List.{append-nil}
+use Rattle.conv_port.specs.declared.message.Message.{Message}
+use Rattle.data_cleanup.specs.Ledger.{PlainLedger}
+use Rattle.data_cleanup.specs.Sets.{Sets}
+use Rattle.pam_room.specs.declared.transaction.Transaction.{Transaction}
+use Rattle.pam_room.specs.Plain.{plain_transaction}
+use Rattle.pam_room.specs.State.{PlainProcess}
+use Rattle.pam_room.specs.Stays.{Stays}
+use Rattle.module_acts.specs.Talks.{Talks}
+
+pub talks_nothing : (t : Transaction) → Talks t t
+talks_nothing t = record { service = refl; delay = omega arith; said = ([], sym (append-nil t.said)); others = refl }
+
+pub talks_more : (t u v : Transaction) → Talks t u → Talks u v → Talks t v
+talks_more t u v s r = record {
+  service = r.service ∙ s.service;
+  delay = omega (arith, s.delay, r.delay);
+  said = (s.said.0 ++ r.said.0, r.said.1 ∙ ap (λ (m : List Message). m ++ r.said.0) s.said.1 ∙ append_assoc t.said _ _);
+  others = r.others ∙ ap (λ (x : Transaction). record x { items = v.items; delay = v.delay; said = v.said; put_off = v.put_off }) s.others;
+}
+
+pub talking_stays : (t u : Transaction) (process : PlainProcess) → Talks t u → Stays (plain_transaction t) (plain_transaction u) process process
+talking_stays t u process s = record {
+  handle = ap (λ (x : Transaction). x.handle) s.others;
+  data_handle = ap (λ (x : Transaction). x.datums.handle) s.others;
+  service = s.service;
+  delay = s.delay;
+  said = s.said;
+  root = refl;
+  caller = refl;
+}
+
+pub talking_others : (t u : Transaction) → Talks t u → (u.serving ≡ t.serving) × (u.trail ≡ t.trail) × (u.handle ≡ t.handle) × (u.datums ≡ t.datums)
+talking_others t u s = (ap (λ (x : Transaction). x.serving) s.others, ap (λ (x : Transaction). x.trail) s.others, ap (λ (x : Transaction). x.handle) s.others, ap (λ (x : Transaction). x.datums) s.others)
+
+pub talking_sets : (t u : Transaction) (ledger : PlainLedger) → Talks t u → Sets t.serving t.datums ledger u.datums ledger
+talking_sets t u ledger s = record {
+  added = [];
+  births = sym (append-nil ledger.births);
+  each = tt;
+  list = ap (λ (x : Transaction). x.datums) s.others;
+  filed = refl;
+}

@@ -1,0 +1,12 @@
+-- What a module that talks with the user does to a transaction, in any world (this project's own).
+use Rattle.std.specs.Prelude.{◌≡◌, ◌≤◌, List, ◌++◌}
+use Rattle.conv_port.specs.declared.message.Message.{Message}
+use Rattle.pam_room.specs.declared.transaction.Transaction.{Transaction}
+
+-- SERVICE stays, the longest request for a delay doesn't shrink, what was said is only added to, it may be put off; of the
+-- rest the items alone may change
+pub record Talks (old new : Transaction) : Type 0 where
+  pub service : new.items.service ≡ old.items.service
+  pub delay : old.delay ≤ new.delay
+  pub said : (more : List Message) × (new.said ≡ old.said ++ more)
+  pub others : new ≡ record old { items = new.items; delay = new.delay; said = new.said; put_off = new.put_off }

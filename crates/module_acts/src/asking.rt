@@ -1,0 +1,69 @@
+ghost use Rattle.std.specs.Prelude.{◌≡◌, ◌≢◌, ◌≤◌, None, IsTrue, IfOk, OnOk, length, unwrap_or, []};
+ghost use Rattle.item_store.specs.Items.{text_of};
+ghost use Rattle.conv_port.specs.Message.{AreReplies, IsExchange};
+ghost use Rattle.pam_outside.specs.Files.{VaultState};
+ghost use Rattle.pam_outside.specs.Time.{ClockState};
+ghost use Rattle.pam_room.specs.State.{PlainProcess};
+ghost use Rattle.pam_room.specs.Say.{token_of};
+ghost use Rattle.account_files.specs.Act.{asks_user};
+ghost use Rattle.module_acts.specs.Comes.{Comes, ComesTo, lent};
+ghost use Rattle.module_acts.specs.Steps.{asks_token, exchanges};
+ghost use Rattle.module_acts.specs.Talks.{Talks};
+
+use conv_port::{Conv, Messages, Replies};
+use pam_base::{ConvErr, Refuse};
+use pam_room::{Transaction, ask_token, get_user, say};
+use std::alloc::Global;
+
+/// Sees to it that USER is set, as `get_user` does.
+pub fn require_user(
+    alloc: Global,
+    transaction: &mut Transaction,
+    conv: &mut dyn Conv,
+) -> Result<(), Refuse<ConvErr>>
+    ensures tells { conv_tells conv.new ≡ conv_tells conv.old }
+    ensures told { IsTrue (conv_tells conv.old) → (vault : VaultState) (clock : ClockState) (process : PlainProcess) →
+        ComesTo result (unwrap_or transaction.new.items.user []) asks_user
+        (lent transaction.old (conv_holds conv.old) vault clock process) (lent transaction.new (conv_holds conv.new) vault clock process) }
+    ensures set { OnOk result (transaction.new.items.user ≢ None) }
+    ensures talks { Talks transaction.old transaction.new }
+{
+    get_user(alloc, transaction, conv)
+}
+
+/// Asks for a token, as `ask_token` does.
+pub fn require_token(
+    alloc: Global,
+    transaction: &mut Transaction,
+    conv: &mut dyn Conv,
+    old: bool,
+    prompt: &[u8],
+) -> Result<(), Refuse<ConvErr>>
+    requires { length prompt.now ≤ 512 }
+    ensures tells { conv_tells conv.new ≡ conv_tells conv.old }
+    ensures told { IsTrue (conv_tells conv.old) → (vault : VaultState) (clock : ClockState) (process : PlainProcess) →
+        ComesTo result (unwrap_or (text_of transaction.new.items (token_of old)) []) (asks_token old prompt.now)
+        (lent transaction.old (conv_holds conv.old) vault clock process) (lent transaction.new (conv_holds conv.new) vault clock process) }
+    ensures set { OnOk result (text_of transaction.new.items (token_of old) ≢ None) }
+    ensures talks { Talks transaction.old transaction.new }
+{
+    ask_token(alloc, transaction, conv, old, prompt)
+}
+
+/// Hands messages to the user at once, as `say` does.
+pub fn exchange(
+    alloc: Global,
+    transaction: &mut Transaction,
+    conv: &mut dyn Conv,
+    messages: &Messages,
+) -> Result<Replies, Refuse<ConvErr>>
+    requires { IsExchange messages.now }
+    ensures tells { conv_tells conv.new ≡ conv_tells conv.old }
+    ensures told { IsTrue (conv_tells conv.old) → (vault : VaultState) (clock : ClockState) (process : PlainProcess) →
+        Comes result (exchanges messages.now)
+        (lent transaction.old (conv_holds conv.old) vault clock process) (lent transaction.new (conv_holds conv.new) vault clock process) }
+    ensures replies { IfOk result (λ replies. AreReplies messages.now replies) }
+    ensures talks { Talks transaction.old transaction.new }
+{
+    say(alloc, transaction, conv, messages)
+}
