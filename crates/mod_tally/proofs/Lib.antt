@@ -1,0 +1,9 @@
+mod Going
+mod Counting
+mod Doing
+mod Following
+mod Spelling
+mod Rereading
+mod Unspelling
+mod Wellformed
+mod Rows

@@ -1,0 +1,150 @@
+-- pam_faillock(8): the failures of a user are counted, and a user who failed too often is locked.
+use Rattle.std.specs.Prelude.{ℕ, Bool, true, false, not, ◌==◌, ◌&&◌, ◌||◌, nat_le, if◌then◌else◌, List, [], ◌∷◌, ◌++◌, length, take, codes, unwrap_or, Option, Some, None, Result, Ok, Err}
+use Rattle.std.specs.List.{list_any}
+use Rattle.std.specs.Str.{bytes_eq}
+use Rattle.pam_base.specs.declared.code.Code.{Code}
+use Rattle.pam_base.specs.declared.code.Code.TheVariants as returns
+use Rattle.pam_base.specs.declared.call.Func.{Func}
+use Rattle.pam_base.specs.declared.call.Func.TheVariants.{Authenticate, SetCred, AcctMgmt, OpenSession, CloseSession, ChAuthTok}
+use Rattle.item_store.specs.Items.{ItemTexts}
+use Rattle.pam_room.specs.Call.{PlainCall}
+use Rattle.pam_room.specs.Module.{Plays}
+use Rattle.account_files.specs.declared.content.Content.{Content}
+use Rattle.account_files.specs.declared.content.Content.TheVariants.{Absent, Unreadable, Holds}
+use Rattle.account_files.specs.Content.{is_rooted}
+use Rattle.account_files.specs.Accounts.{Account, found, missing, unreadable}
+use Rattle.account_files.specs.Act.{Act, answers, asks_user, finds_account, plays_by, reads_file, replaces_file, sees_items, sees_moment}
+use Rattle.mod_tally.specs.declared.tally.Failure.{Failure}
+use Rattle.mod_tally.specs.declared.settings.Task.{Task}
+use Rattle.mod_tally.specs.declared.settings.Task.TheVariants.{Preauth, AuthFail, AuthSucc, Clear}
+use Rattle.mod_tally.specs.Settings.{PlainSettings, settings_of, task_among}
+use Rattle.mod_tally.specs.Tally.{counting, failures_of, is_locked, tally_text}
+
+-- ---- the file of a user
+
+-- a user's name that can't be the name of a file
+abbrev pub is_no_file : List ℕ → Bool
+is_no_file user = length user == 0 || (bytes_eq user (codes ".") || bytes_eq user (codes "..")) || list_any (λ b. b == 47) user
+
+-- the file lies in the folder; where that isn't a path from the root, nor is this
+abbrev pub tally_name : List ℕ → List ℕ → List ℕ
+tally_name folder user = if is_rooted folder then folder ++ (47 ∷ user) else []
+
+-- the most bytes of the file
+abbrev pub tally_limit : ℕ
+tally_limit = 65536
+
+-- the failures in it, unless it can't be read; where there is no file there are none
+abbrev pub failures_in : Content → Option (List Failure)
+failures_in Absent = Some []
+failures_in Unreadable = None
+failures_in (Holds text) = failures_of text
+
+abbrev pub reads_tally : List ℕ → (Option (List Failure) → Act) → Act
+reads_tally name act = reads_file name tally_limit (λ content. act (failures_in content))
+
+-- where it can't be set, the answer is SERVICE_ERR
+abbrev pub by_done : Code → Bool → Act
+by_done code done = answers (if done then code else returns.ServiceErr)
+
+abbrev pub sets_if : Bool → List ℕ → List ℕ → Code → Act
+sets_if true name text code = replaces_file name text (by_done code)
+sets_if false name text code = answers returns.ServiceErr
+
+-- the file is replaced by one with this text, where that isn't too long
+abbrev pub sets_text : List ℕ → List ℕ → Code → Act
+sets_text name text code = sets_if (is_rooted name && nat_le (length text) tally_limit) name text code
+
+-- the file is replaced by one with these failures
+abbrev pub writes_tally : List ℕ → List Failure → Code → Act
+writes_tally name failures code = sets_text name (tally_text failures) code
+
+-- ---- what is done
+
+abbrev pub from : ℕ → ℕ → List ℕ → Failure
+from kind moment source = record { moment = moment; kind = kind; source = take 64 source }
+
+abbrev pub from_terminal : ℕ → List ℕ → List ℕ → Failure
+from_terminal moment [] service = from 83 moment service
+from_terminal moment (b ∷ bs) service = from 84 moment (b ∷ bs)
+
+-- where a failure comes from: the remote host, else the terminal, else the service (R, T, S)
+abbrev pub from_host : ℕ → List ℕ → List ℕ → List ℕ → Failure
+from_host moment [] tty service = from_terminal moment tty service
+from_host moment (b ∷ bs) tty service = from 82 moment (b ∷ bs)
+
+abbrev pub new_failure : ℕ → ItemTexts → Failure
+new_failure moment items = from_host moment (unwrap_or items.rhost []) (unwrap_or items.tty []) (unwrap_or items.service [])
+
+-- a failure is recorded behind those that stand, and those that don't count any more are dropped
+abbrev pub records : PlainSettings → List ℕ → List Failure → Act
+records s name failures =
+    sees_moment (λ now. sees_items (λ items. writes_tally name (counting s.interval (failures ++ new_failure now items ∷ [])) returns.Ignore))
+
+-- failures are cleared where some stand
+abbrev pub clears : List ℕ → List Failure → Act
+clears name [] = answers returns.Success
+clears name (f ∷ fs) = writes_tally name [] returns.Success
+
+abbrev pub by_lock : Bool → Act → Act
+by_lock true act = answers returns.AuthErr
+by_lock false act = act
+
+abbrev pub unless_locked : PlainSettings → List Failure → Act → Act
+unless_locked s failures act = sees_moment (λ now. by_lock (is_locked s.deny s.interval s.unlock now failures) act)
+
+abbrev pub by_task : Task → PlainSettings → List ℕ → List Failure → Act
+by_task Preauth s name failures = unless_locked s failures (answers returns.Success)
+by_task AuthFail s name failures = unless_locked s failures (records s name failures)
+by_task AuthSucc s name failures = unless_locked s failures (clears name failures)
+by_task Clear s name failures = clears name failures
+
+-- ---- the module
+
+abbrev pub by_tally : Task → PlainSettings → List ℕ → Option (List Failure) → Act
+by_tally task s name None = answers returns.ServiceErr
+by_tally task s name (Some failures) = by_task task s name failures
+
+-- the answer for root, who isn't locked without `even_deny_root`
+abbrev pub spared_answer : Task → Code
+spared_answer AuthFail = returns.Ignore
+spared_answer other = returns.Success
+
+abbrev pub by_spared : Bool → Task → PlainSettings → List ℕ → Act
+by_spared true task s user = answers (spared_answer task)
+by_spared false task s user = reads_tally (tally_name s.folder user) (by_tally task s (tally_name s.folder user))
+
+abbrev pub by_account : Task → PlainSettings → List ℕ → Account → Act
+by_account task s user unreadable = answers returns.ServiceErr
+by_account task s user missing = answers returns.Ignore
+by_account task s user (found entry) = by_spared (entry.uid == 0 && not s.locks_root) task s user
+
+abbrev pub by_name : Bool → Task → PlainSettings → List ℕ → Act
+by_name true task s user = answers returns.UserUnknown
+by_name false task s user = finds_account user (by_account task s user)
+
+abbrev pub checks_tally : Task → PlainSettings → Act
+checks_tally task s = asks_user (λ user. by_name (is_no_file user) task s user)
+
+-- an authentication without a mode is SERVICE_ERR; acct_mgmt clears, whatever the mode
+abbrev pub given_mode : Option Task → Result Task Code
+given_mode None = Err returns.ServiceErr
+given_mode (Some task) = Ok task
+
+abbrev pub task_of : Func → Option Task → Result Task Code
+task_of Authenticate mode = given_mode mode
+task_of SetCred mode = Err returns.Success
+task_of AcctMgmt mode = Ok Clear
+task_of OpenSession mode = Err returns.ModuleUnknown
+task_of CloseSession mode = Err returns.ModuleUnknown
+task_of ChAuthTok mode = Err returns.ModuleUnknown
+
+abbrev pub by_call : Result Task Code → PlainSettings → Act
+by_call (Err code) s = answers code
+by_call (Ok task) s = checks_tally task s
+
+abbrev pub faillock_act : PlainCall → Act
+faillock_act call = by_call (task_of call.func (task_among call.args)) (settings_of call.args)
+
+abbrev pub faillock_plays : Plays
+faillock_plays = plays_by faillock_act

@@ -1,0 +1,124 @@
+-- What stands in a user's file after a list of calls of pam_faillock(8), which may be of many transactions (this project's
+-- own): the failures that were recorded since they were last cleared, but for those that don't count any more.
+use Rattle.std.specs.Prelude.{◌≡◌, ◌⊎◌, ℕ, Bool, true, false, if◌then◌else◌, List, [], ◌∷◌, ◌++◌, map, Option, Some, None, Ok}
+use Rattle.pam_base.specs.declared.code.Code.{Code}
+use Rattle.pam_base.specs.declared.code.Code.TheVariants.{Success, Ignore}
+use Rattle.item_store.specs.Items.{ItemTexts}
+use Rattle.pam_outside.specs.Files.{File, file_at}
+use Rattle.pam_room.specs.Call.{PlainCall}
+use Rattle.pam_room.specs.Module.{NamedData, Played, SeenRoom, Sight}
+use Rattle.mod_tally.specs.declared.tally.Failure.{Failure}
+use Rattle.mod_tally.specs.declared.settings.Task.TheVariants.{AuthFail, AuthSucc, Clear}
+use Rattle.mod_tally.specs.Settings.{PlainSettings, settings_of, task_among}
+use Rattle.mod_tally.specs.Faillock.{faillock_plays, new_failure, task_of}
+use Rattle.mod_tally.specs.Tally.{IsFailure, counting, failures_of, is_locked, tally_text}
+
+-- the failures that stand in a file; None where it is damaged
+abbrev pub standing_in : Option (List ℕ) → Option (List Failure)
+standing_in None = Some []
+standing_in (Some text) = failures_of text
+
+-- ---- what one call does
+
+-- It leaves a file; it records a failure, with this `fail_interval`; or it clears the failures.
+pub data Deed : Type 0 where
+  left : Deed
+  recorded : ℕ → Failure → Deed
+  cleared : Deed
+
+-- no lock stands
+abbrev pub IsOpen : PlainSettings → ℕ → List Failure → Type 0
+IsOpen s now failures = is_locked s.deny s.interval s.unlock now failures ≡ false
+
+-- An authfail answered IGNORE: no lock stood, and behind the failures that stood there is a new one of this moment, with
+-- which only those are left that count.
+pub record Records (path : List ℕ) (call : PlainCall) (now : ℕ) (items : ItemTexts) (before : List File) (code : Code) (after : List File) (interval : ℕ) (failure : Failure) : Type 0 where
+  pub task : task_of call.func (task_among call.args) ≡ Ok AuthFail
+  pub code_is : code ≡ Ignore
+  pub interval_is : interval ≡ (settings_of call.args).interval
+  pub failure_is : failure ≡ new_failure now items
+  pub standing : List Failure
+  pub stood : standing_in (file_at path before) ≡ Some standing
+  pub unlocked : IsOpen (settings_of call.args) now standing
+  pub stands : file_at path after ≡ Some (tally_text (counting interval (standing ++ failure ∷ [])))
+
+-- An authsucc, where no lock stood, or an acct_mgmt answered SUCCESS, and no failures are left of those that stood.
+pub record Clears (path : List ℕ) (call : PlainCall) (now : ℕ) (before : List File) (code : Code) (after : List File) : Type 0 where
+  pub code_is : code ≡ Success
+  pub standing : List Failure
+  pub stood : standing_in (file_at path before) ≡ Some standing
+  pub allowed : (task_of call.func (task_among call.args) ≡ Ok Clear) ⊎ ((task_of call.func (task_among call.args) ≡ Ok AuthSucc) × IsOpen (settings_of call.args) now standing)
+  pub stands : file_at path after ≡ Some (tally_text [])
+
+abbrev pub DoesTo : List ℕ → PlainCall → ℕ → ItemTexts → List File → Code → List File → Deed → Type 0
+DoesTo path call now items before code after left = file_at path after ≡ file_at path before
+DoesTo path call now items before code after (recorded interval failure) = Records path call now items before code after interval failure
+DoesTo path call now items before code after cleared = Clears path call now before code after
+
+-- what a call did to the file with this path, by what it saw and what it played
+abbrev pub Does : List ℕ → PlainCall → Sight → Played → Deed → Type 0
+Does path call sight p deed = DoesTo path call sight.clock.moment p.room.items sight.files p.code p.files deed
+
+-- ---- a list of calls
+
+-- a call of the module, what it saw, and what it did
+pub record Served : Type 0 where
+  pub call : PlainCall
+  pub room : SeenRoom
+  pub held : List NamedData
+  pub sight : Sight
+  pub deed : Deed
+
+abbrev pub played : Served → Played
+played s = faillock_plays s.call s.room s.held s.sight
+
+abbrev pub deeds_of : List Served → List Deed
+deeds_of calls = map (λ (s : Served). s.deed) calls
+
+-- Nothing but these calls changed the file with this path: each finds it as the one before left it.
+abbrev pub Follow : List ℕ → Option (List ℕ) → List Served → Option (List ℕ) → Type 0
+Follow path before [] after = after ≡ before
+Follow path before (s ∷ ss) after = (file_at path s.sight.files ≡ before) × Does path s.call s.sight (played s) s.deed × Follow path (file_at path (played s).files) ss after
+
+-- what stands after it
+abbrev pub left_by : Deed → List Failure → List Failure
+left_by left standing = standing
+left_by (recorded interval failure) standing = counting interval (standing ++ failure ∷ [])
+left_by cleared standing = []
+
+-- the failures that stood at the start, and those that were recorded since they were last cleared
+abbrev pub recorded_by : List Deed → List Failure → List Failure
+recorded_by [] failures = failures
+recorded_by (left ∷ ds) failures = recorded_by ds failures
+recorded_by (recorded interval failure ∷ ds) failures = recorded_by ds (failures ++ failure ∷ [])
+recorded_by (cleared ∷ ds) failures = recorded_by ds []
+
+-- whether the file was written
+abbrev pub is_written : List Deed → Bool
+is_written [] = false
+is_written (left ∷ ds) = is_written ds
+is_written (recorded interval failure ∷ ds) = true
+is_written (cleared ∷ ds) = true
+
+-- one `fail_interval` is used, and what is recorded are failures of bytes, with moments of at most 13 digits
+abbrev pub IsWith : ℕ → Deed → Type 0
+IsWith interval left = Unit {0}
+IsWith interval (recorded i failure) = (i ≡ interval) × IsFailure failure
+IsWith interval cleared = Unit {0}
+
+-- what stands by the deeds: the failures that stood while nothing was written; else those that count of the recorded
+abbrev pub stands_by : ℕ → List Deed → List Failure → List Failure
+stands_by interval deeds failures = if is_written deeds then counting interval (recorded_by deeds failures) else failures
+
+-- ---- no failure is lost otherwise
+
+-- whether the failures were cleared
+abbrev pub is_cleared : List Deed → Bool
+is_cleared [] = false
+is_cleared (left ∷ ds) = is_cleared ds
+is_cleared (recorded interval failure ∷ ds) = is_cleared ds
+is_cleared (cleared ∷ ds) = true
+
+abbrev pub IsAmong : Failure → List Failure → Type 0
+IsAmong f [] = ⊥
+IsAmong f (g ∷ gs) = (g ≡ f) ⊎ IsAmong f gs

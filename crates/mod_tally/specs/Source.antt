@@ -1,0 +1,54 @@
+-- How a tally file spells where a failure came from (this project's own): printable ASCII stands for itself, a backslash
+-- is doubled, and any other byte, the space too, is written as \x and two lower-case hexadecimal digits. No byte is
+-- spelled otherwise.
+use Rattle.std.specs.Prelude.{ℕ, ◌+◌, ◌-◌, ◌*◌, ◌/◌, ◌%◌, Bool, ◌==◌, ◌&&◌, nat_le, if◌then◌else◌, List, [], ◌∷◌, ◌++◌, codes, Option, Some, None}
+use Rattle.std.specs.List.{flat_map}
+use Rattle.pam_base.specs.Quote.{hex_digit}
+
+abbrev pub is_printed : ℕ → Bool
+is_printed b = nat_le 33 b && nat_le b 126
+
+abbrev pub spelled_byte : ℕ → List ℕ
+spelled_byte b =
+    if b == 92 then codes "\\\\"
+    else if is_printed b then b ∷ []
+    else codes "\\x" ++ (hex_digit (b / 16) ∷ hex_digit (b % 16) ∷ [])
+
+-- the spelling of a source
+abbrev pub spelled : List ℕ → List ℕ
+spelled source = flat_map spelled_byte source
+
+-- ---- what a spelling stands for
+
+-- one more in front, where both are there
+abbrev pub in_front : {A : Type 0} → Option A → Option (List A) → Option (List A)
+in_front None xs = None
+in_front (Some x) None = None
+in_front (Some x) (Some xs) = Some (x ∷ xs)
+
+abbrev pub printed : ℕ → Option ℕ
+printed b = if is_printed b then Some b else None
+
+abbrev pub hex_value : ℕ → Option ℕ
+hex_value b = if nat_le 48 b && nat_le b 57 then Some (b - 48) else if nat_le 97 b && nat_le b 102 then Some (b - 87) else None
+
+-- a byte that stands for itself isn't spelled by its digits
+abbrev pub by_digits : Option ℕ → Option ℕ → Option ℕ
+by_digits (Some high) (Some low) = if is_printed (16 * high + low) then None else Some (16 * high + low)
+by_digits (Some high) None = None
+by_digits None low = None
+
+unfoldable mutual
+  -- the source that this spells, if it spells one
+  pub unspelled : List ℕ → Option (List ℕ)
+  unspelled [] = Some []
+  unspelled (b ∷ bs) = if b == 92 then behind_backslash bs else in_front (printed b) (unspelled bs)
+
+  pub behind_backslash : List ℕ → Option (List ℕ)
+  behind_backslash [] = None
+  behind_backslash (b ∷ bs) = if b == 92 then in_front (Some 92) (unspelled bs) else if b == 120 then behind_x bs else None
+
+  pub behind_x : List ℕ → Option (List ℕ)
+  behind_x [] = None
+  behind_x (high ∷ []) = None
+  behind_x (high ∷ low ∷ bs) = in_front (by_digits (hex_value high) (hex_value low)) (unspelled bs)

@@ -1,0 +1,33 @@
+ghost use Rattle.std.specs.Prelude.{◌≡◌, ◌<◌, ℕ, true, false, List, Option, Some};
+ghost use Rattle.std.specs.List.{AllByRecursion};
+ghost use Rattle.pam_room.specs.Call.{PlainCall};
+ghost use Rattle.pam_room.specs.Module.{NamedData, SeenRoom, Sight};
+ghost use Rattle.mod_tally.specs.declared.tally.Failure.{Failure};
+ghost use Rattle.mod_tally.specs.Source.{spelled, unspelled};
+ghost use Rattle.mod_tally.specs.Tally.{IsFailure, counts, failures_of, latest, tally_text};
+ghost use Rattle.mod_tally.specs.Faillock.{faillock_plays};
+ghost use Rattle.mod_tally.specs.Recorded.{Deed, Does, Follow, IsAmong, IsWith, Served, deeds_of, is_cleared, recorded_by, standing_in, stands_by};
+
+/// Does nothing: its contract is that failures and sources that are written are read as themselves, that what is read can
+/// be written, and that no source is spelled otherwise.
+pub fn written_tallies_are_read()
+    ensures tally { (failures : List Failure) → AllByRecursion IsFailure failures → failures_of (tally_text failures) ≡ Some failures }
+    ensures read { (text : List ℕ) (failures : List Failure) → failures_of text ≡ Some failures → AllByRecursion IsFailure failures }
+    ensures spelling { (word source : List ℕ) → unspelled word ≡ Some source → (spelled source ≡ word) × AllByRecursion (λ b. b < 256) source }
+    ensures source { (source : List ℕ) → AllByRecursion (λ b. b < 256) source → unspelled (spelled source) ≡ Some source }
+{}
+
+/// Does nothing: its contract is what calls of pam_faillock(8) do to a user's file. Each leaves it, records a failure, or
+/// clears the failures. After a list of calls, which may be of many transactions, where nothing else changed the file,
+/// those that count of the recorded ones stand there: a failure that stood stands on, unless the failures were cleared, or
+/// it doesn't count against the latest that was recorded.
+pub fn recorded_failures_stand()
+    ensures one { (path : List ℕ) (call : PlainCall) (room : SeenRoom) (held : List NamedData) (sight : Sight) →
+        (deed : Deed) × Does path call sight (faillock_plays call room held sight) deed }
+    ensures all { (path : List ℕ) (interval : ℕ) (calls : List Served) (before after : Option (List ℕ)) (failures : List Failure) →
+        Follow path before calls after → AllByRecursion (IsWith interval) (deeds_of calls) →
+        standing_in before ≡ Some failures → standing_in after ≡ Some (stands_by interval (deeds_of calls) failures) }
+    ensures kept { (interval : ℕ) (deeds : List Deed) (failure : Failure) (failures : List Failure) →
+        IsAmong failure failures → is_cleared deeds ≡ false → counts interval (latest (recorded_by deeds failures)) failure ≡ true →
+        IsAmong failure (stands_by interval deeds failures) }
+{}

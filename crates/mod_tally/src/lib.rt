@@ -1,0 +1,14 @@
+//! `pam_faillock(8)`: the failures of each user are counted in a file, and a user who failed too often is locked.
+#![tactic(auto)]
+
+mod counted;
+mod faillock;
+mod laws;
+mod settings;
+mod source;
+mod tally;
+mod tally_file;
+
+pub use faillock::Faillock;
+pub use laws::{recorded_failures_stand, written_tallies_are_read};
+pub use tally::{Damaged, Failure, Failures, failures};

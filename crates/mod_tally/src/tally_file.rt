@@ -1,0 +1,119 @@
+ghost use Rattle.std.specs.Prelude.{◌≡◌, ◌==◌, ◌&&◌, ◌||◌, codes, nat_le, length, if◌then◌else◌, IsTrue, IfOk};
+ghost use Rattle.std.specs.List.{list_any};
+ghost use Rattle.std.specs.Str.{bytes_eq};
+ghost use Rattle.pam_outside.specs.Time.{ClockState};
+ghost use Rattle.pam_room.specs.Plain.{plain_process};
+ghost use Rattle.pam_room.specs.State.{PlainRoom, scene_of};
+ghost use Rattle.account_files.specs.Accounts.{Known};
+ghost use Rattle.account_files.specs.Content.{is_rooted};
+ghost use Rattle.account_files.specs.Act.{Acts, StepsTo};
+ghost use Rattle.mod_tally.specs.Faillock.{failures_in, is_no_file, reads_tally, sets_text, tally_limit, tally_name};
+
+use crate::tally::{Failures, failures};
+use account_files::{Content, act_steps, is_rooted, read_named, replace_named};
+use pam_base::{Code, NoMemory, Refuse, Text};
+use pam_outside::Vault;
+use pam_room::Process;
+use std::alloc::Global;
+
+/// The most bytes of a tally file.
+const TALLY_LIMIT: u32 = 65536;
+
+/// Whether a user's name can't be the name of a file.
+pub(crate) fn is_no_file(user: &[u8]) -> bool
+    ensures { result ≡ is_no_file user.now }
+{
+    user.is_empty() || are_dots(user) || has_slash(user)
+}
+
+fn are_dots(user: &[u8]) -> bool
+    ensures { result ≡ (bytes_eq user.now (codes ".") || bytes_eq user.now (codes "..")) }
+{
+    user == b".".as_slice() || user == b"..".as_slice()
+}
+
+fn has_slash(user: &[u8]) -> bool
+    ensures { result ≡ list_any (λ b. b == 47) user.now }
+{
+    user.iter().any(|byte| *byte == b'/')
+}
+
+/// The name of a user's file: it lies in the folder. It is empty where the folder isn't a path from the root.
+pub(crate) fn tally_name(alloc: Global, folder: &[u8], user: &[u8]) -> Result<Text, NoMemory>
+    ensures { IfOk result (λ name. name ≡ tally_name folder.now user.now) }
+{
+    let mut name = Vec::new(alloc);
+    if is_rooted(folder) {
+        name.extend_from_slice(folder)?;
+        name.push(b'/')?;
+        name.extend_from_slice(user)?;
+    }
+    Ok(Text::from_vec(name))
+}
+
+/// Reads the failures in the file with this name; None where it can't be read.
+pub(crate) fn read_tally(
+    alloc: Global,
+    process: &Process,
+    vault: &mut dyn Vault,
+    name: &[u8],
+) -> Result<Option<Failures>, NoMemory>
+    ensures tells { vault_tells vault.new ≡ vault_tells vault.old }
+    ensures told { IsTrue (vault_tells vault.old) →
+        IfOk result (λ found. StepsTo (reads_tally name.now) found process.now (vault_holds vault.old) (vault_holds vault.new)) }
+{
+    act_steps();
+    let content = read_named(alloc, vault, process.root.bytes(), name, TALLY_LIMIT)?;
+    let found = failures_in(alloc, content)?;
+    Ok(found)
+}
+
+fn failures_in(alloc: Global, content: Content) -> Result<Option<Failures>, NoMemory>
+    ensures { IfOk result (λ found. found ≡ failures_in content) }
+{
+    match content {
+        Content::Absent => Ok(Some(Failures::new(alloc))),
+        Content::Unreadable => Ok(None),
+        Content::Holds(text) => match failures(alloc, text.bytes()) {
+            Ok(found) => Ok(Some(found)),
+            Err(Refuse::NoMemory) => Err(NoMemory),
+            Err(Refuse::Named(_)) => Ok(None),
+        },
+    }
+}
+
+/// Replaces the file with this name, and answers this code, or SERVICE_ERR where the text is too long, or the file
+/// can't be set.
+pub(crate) fn set_text(
+    alloc: Global,
+    process: &Process,
+    vault: &mut dyn Vault,
+    name: &[u8],
+    text: &[u8],
+    code: Code,
+) -> Result<Code, NoMemory>
+    ensures tells { vault_tells vault.new ≡ vault_tells vault.old }
+    ensures told { IsTrue (vault_tells vault.old) → (room : PlainRoom) (clock : ClockState) (known : Known) →
+        IfOk result (λ answer. Acts (sets_text name.now text.now code) known
+        (scene_of room (vault_holds vault.old) clock (plain_process process.now)) answer
+        (scene_of room (vault_holds vault.new) clock (plain_process process.now))) }
+{
+    act_steps();
+    if !can_be_set(name, text) {
+        return Ok(Code::ServiceErr);
+    }
+    let done = replace_named(alloc, vault, process, name, text)?;
+    Ok(by_done(code, done))
+}
+
+fn can_be_set(name: &[u8], text: &[u8]) -> bool
+    ensures { result ≡ (is_rooted name.now && nat_le (length text.now) tally_limit) }
+{
+    is_rooted(name) && text.len() <= 65536
+}
+
+fn by_done(code: Code, done: bool) -> Code
+    ensures { result ≡ (if done then code else Code.ServiceErr) }
+{
+    if done { code } else { Code::ServiceErr }
+}

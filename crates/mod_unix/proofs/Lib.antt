@@ -1,0 +1,10 @@
+mod Verifying
+mod Passing
+mod Looking_up
+mod Judging
+mod Keeping
+mod Settling
+mod Serving
+mod Salting
+mod Changing
+mod Storing

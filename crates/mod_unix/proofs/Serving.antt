@@ -1,0 +1,47 @@
+-- What the module does for each function.
+use Rattle.std.proofs.Common.{◌≡◌, Bool, true, false, ◌&&◌, IsTrue, Result, IfOk, refl, sym, subst}
+use Rattle.pam_base.specs.declared.call.Func.{Func}
+use Rattle.pam_base.specs.declared.call.Func.TheVariants.{SetCred}
+use Rattle.pam_base.specs.declared.code.Code.{Code}
+use Rattle.pam_base.specs.declared.fault.NoMemory.{NoMemory}
+use Rattle.std.specs.Prelude.{List}
+use Rattle.pam_room.specs.Call.{PlainCall}
+use Rattle.pam_room.specs.Module.{NamedData, named_data}
+use Rattle.pam_outside.specs.Files.{VaultState}
+use Rattle.pam_outside.specs.Time.{ClockState}
+use Rattle.pam_room.specs.State.{PlainProcess, PlainRoom, Scene, scene_of}
+use Rattle.account_files.specs.Act.{Act, answers}
+use Rattle.module_acts.specs.Comes.{Goes}
+use Rattle.module_acts.specs.Steps.{sees_data}
+use Rattle.mod_unix.specs.Unix.{by_func, kept_code}
+
+pub by_this : (f func : Func) (call : PlainCall) (r : Result Code NoMemory) (old new : Scene) → f ≡ func → IfOk r (λ code. Goes (by_func func call) old code new) → IfOk r (λ code. Goes (by_func f call) old code new)
+by_this f func call r old new e h = subst (λ x. IfOk r (λ code. Goes (by_func x call) old code new)) (sym e) h
+
+pub set_cred : ((code : Code) (s : Scene) → Goes (answers code) s code s)
+    → ((act : List NamedData → Act) (s : Scene) (code : Code) (new : Scene) → Goes (act (named_data s.room.transaction.datums.live)) s code new → Goes (sees_data act) s code new)
+    → (call : PlainCall) (s : Scene) (code : Code) → code ≡ kept_code (named_data s.room.transaction.datums.live) → Goes (by_func SetCred call) s code s
+set_cred answering seeing call s code e = seeing (λ held. answers (kept_code held)) s code s (subst (λ x. Goes (answers x) s code s) e (answering code s))
+
+-- where all that a module is lent tells, each of it does
+pub first : (a b c : Bool) → IsTrue (a && (b && c)) → IsTrue a
+first true b c h = refl
+first false b c h = h
+
+pub second : (a b c : Bool) → IsTrue (a && (b && c)) → IsTrue b
+second true true c h = refl
+second true false c h = h
+second false true c h = refl
+second false false c h = h
+
+pub third : (a b c : Bool) → IsTrue (a && (b && c)) → IsTrue c
+third true true c h = h
+third true false true h = refl
+third true false false h = h
+third false b true h = refl
+third false b false h = h
+
+-- a clock stays as it was while words are taken from it
+pub at_clock : (act : Act) (old : Scene) (room : PlainRoom) (vault : VaultState) (process : PlainProcess) (before after : ClockState) (r : Result Code NoMemory) → after ≡ before
+    → IfOk r (λ code. Goes act old code (scene_of room vault before process)) → IfOk r (λ code. Goes act old code (scene_of room vault after process))
+at_clock act old room vault process before after r e h = subst (λ k. IfOk r (λ code. Goes act old code (scene_of room vault k process))) (sym e) h

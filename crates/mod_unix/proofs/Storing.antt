@@ -1,0 +1,132 @@
+-- The second pass of a change.
+use Rattle.std.proofs.Common.{◌≡◌, ℕ, Bool, true, false, List, Option, Some, None, codes, Result, Ok, Err, sym, ap, ◌∙◌, subst}
+use Rattle.pam_base.specs.declared.code.Code.{Code}
+use Rattle.pam_base.specs.declared.code.Code.TheVariants as returns
+use Rattle.pam_base.specs.declared.fault.ConvErr.{ConvErr}
+use Rattle.pam_base.specs.declared.fault.Refuse.{Refuse}
+use Rattle.pam_base.specs.declared.fault.Refuse.TheVariants.{NoMemory, Named}
+use Rattle.pam_base.specs.declared.item.ItemName.TheVariants.{AuthTok}
+use Rattle.conv_port.specs.declared.message.Reply.{Reply}
+use Rattle.item_store.specs.Items.{ItemTexts}
+use Rattle.pam_outside.specs.Time.{ClockState}
+use Rattle.pam_room.specs.Call.{PlainCall, has_flag, prelim_check}
+use Rattle.pam_room.specs.State.{Scene}
+use Rattle.account_db.specs.declared.shadow.Shadow.{Shadow}
+use Rattle.account_files.specs.declared.content.Content.{Content}
+use Rattle.account_files.specs.Accounts.{account_limit}
+use Rattle.account_files.specs.Act.{Act, reads_file, sees_items, replaces_file}
+use Rattle.module_acts.specs.Comes.{Came, Comes, Ends, Goes, Leads, early, then}
+use Rattle.module_acts.specs.Steps.{exchanges, sees_clock, sets_item}
+use Rattle.sha_crypt.specs.declared.setting.SettingFault.{SettingFault}
+use Rattle.sha_crypt.specs.Hash.{crypted}
+use Rattle.mod_unix.specs.declared.look.Look.{Look}
+use Rattle.mod_unix.specs.declared.look.Look.TheVariants.{Unknown, Unavailable, Plain, Shadowed}
+use Rattle.mod_unix.specs.Aging.{day_of}
+use Rattle.mod_unix.specs.Arguments.{has_argument}
+use Rattle.mod_unix.specs.NewHash.{new_setting}
+use Rattle.mod_unix.specs.Change.{change_by, by_authtok, by_done, by_hash, by_kept, by_pass, by_text, changed_shadow, changes_entry, changes_shadow, is_kept, new_prompts, same_reply, sets_new, stores_token, takes_token, tries_change, usable}
+
+-- ---- the new token
+
+module _ (call : PlainCall) (s new : Scene) where
+  by_use : (r : Result (Option (List ℕ)) (Refuse ConvErr)) (b : Bool) → b ≡ has_argument (codes "use_authtok") call.args → Comes r (by_authtok b) s new → Comes r (takes_token call) s new
+  unfolding takes_token
+  by_use r b e h = subst (λ (x : Bool). Comes r (by_authtok x) s new) e h
+
+  pub there : ((act : ItemTexts → Act) (s : Scene) (code : Code) (new : Scene) → Goes (act s.room.transaction.items) s code new → Goes (sees_items act) s code new)
+      → (token found : Option (List ℕ)) → true ≡ has_argument (codes "use_authtok") call.args → token ≡ usable found → found ≡ s.room.transaction.items.auth_tok → new ≡ s → Comes (Ok token) (takes_token call) s new
+  there seeing token found e f g same =
+      let is : token ≡ usable s.room.transaction.items.auth_tok = f ∙ ap usable g in
+      by_use (Ok token) true e (rw same (λ act code end rest. seeing (λ items. act (usable items.auth_tok)) s code end (subst (λ (x : Option (List ℕ)). Goes (act x) s code end) is rest)))
+
+  pub not_replied : (e : Refuse ConvErr) → false ≡ has_argument (codes "use_authtok") call.args → Ends e (exchanges new_prompts) s new → Comes (Err e) (takes_token call) s new
+  not_replied e u h = by_use (Err e) false u (early (exchanges new_prompts) (λ replies (act : Option (List ℕ) → Act). sets_new (same_reply replies) act) e s new h)
+
+  pub not_same : (replies : List Reply) → false ≡ has_argument (codes "use_authtok") call.args → Came replies (exchanges new_prompts) s new → None ≡ same_reply replies → Comes (Ok None) (takes_token call) s new
+  not_same replies u h e = by_use (Ok None) false u (λ act code end rest.
+      h (λ r. sets_new (same_reply r) act) code end (subst (λ (x : Option (List ℕ)). Goes (sets_new x act) new code end) e rest))
+
+  pub same : (replies : List Reply) (token : List ℕ) (mid : Scene) → false ≡ has_argument (codes "use_authtok") call.args → Came replies (exchanges new_prompts) s mid → Some token ≡ same_reply replies → Leads (sets_item AuthTok token) mid new
+      → Comes (Ok (Some token)) (takes_token call) s new
+  same replies token mid u h e d = by_use (Ok (Some token)) false u (λ act code end rest.
+      h (λ r. sets_new (same_reply r) act) code end (subst (λ (x : Option (List ℕ)). Goes (sets_new x act) mid code end) e (d (act (Some token)) code end rest)))
+
+-- ---- the new hash
+
+module _ (user hash : List ℕ) (today : ℕ) (content : Content) (s mid : Scene) (read : Came content (reads_file (codes "/etc/shadow") account_limit) s mid) where
+  pub not_changed : None ≡ changed_shadow user hash today content → Came returns.AuthtokErr (changes_shadow user hash today) s mid
+  unfolding changes_shadow
+  not_changed e = λ act code end rest. read (λ c. by_text (changed_shadow user hash today c) act) code end (subst (λ (x : Option (List ℕ)). Goes (by_text x act) mid code end) e rest)
+
+  pub changed : (new : Scene) (text : List ℕ) (done : Bool) → Some text ≡ changed_shadow user hash today content → Came done (replaces_file (codes "/etc/shadow") text) mid new → Came (by_done done) (changes_shadow user hash today) s new
+  unfolding changes_shadow
+  changed new text done e d = λ act code end rest. read (λ c. by_text (changed_shadow user hash today c) act) code end
+      (subst (λ (x : Option (List ℕ)). Goes (by_text x act) mid code end) e (d (λ b. act (by_done b)) code end rest))
+
+module _ (seeing : (act : ClockState → Act) (s : Scene) (code : Code) (new : Scene) → Goes (act s.clock) s code new → Goes (sees_clock act) s code new) (call : PlainCall) (user : List ℕ) (s new : Scene) where
+  pub no_token : new ≡ s → (token : Option (List ℕ)) → token ≡ None → Came returns.AuthtokErr (stores_token call user token) s new
+  unfolding stores_token
+  no_token same token e = rw (e, same) (λ act code end rest. rest)
+
+  pub with_token : (found : Option (List ℕ)) (token : List ℕ) (code : Code) → found ≡ Some token → Came code (stores_token call user (Some token)) s new → Came code (stores_token call user found) s new
+  with_token found token code e h = subst (λ (x : Option (List ℕ)). Came code (stores_token call user x) s new) (sym e) h
+
+  module _ (token : List ℕ) (today word : ℕ) (day : today ≡ day_of s.clock.moment) (random : word ≡ s.clock.word) where
+    by_made : (code : Code) (made : Result (List ℕ) SettingFault) → crypted (new_setting call.args word) token ≡ made → Came code (by_hash user today made) s new → Came code (stores_token call user (Some token)) s new
+    unfolding stores_token
+    by_made code made e h = λ act c end rest.
+        let is : made ≡ crypted (new_setting call.args s.clock.word) token = sym e ∙ ap (λ w. crypted (new_setting call.args w) token) random in
+        seeing (λ clock. by_hash user (day_of clock.moment) (crypted (new_setting call.args clock.word) token) act) s c end
+        (subst (λ (m : Result (List ℕ) SettingFault). Goes (by_hash user (day_of s.clock.moment) m act) s c end) is (subst (λ t. Goes (by_hash user t made act) s c end) day (h act c end rest)))
+
+    pub not_made : (fault : SettingFault) → crypted (new_setting call.args word) token ≡ Err fault → new ≡ s → Came returns.AuthtokErr (stores_token call user (Some token)) s new
+    not_made fault e same = by_made returns.AuthtokErr (Err fault) e (rw same (λ act c end rest. rest))
+
+    pub made : (hash : List ℕ) (code : Code) → crypted (new_setting call.args word) token ≡ Ok hash → Came code (changes_shadow user hash today) s new → Came code (stores_token call user (Some token)) s new
+    made hash code e h = by_made code (Ok hash) e h
+
+  -- ---- both passes
+
+  module _ (entry : Shadow) (today : ℕ) (day : today ≡ day_of s.clock.moment) where
+    by_day : (r : Result Code (Refuse ConvErr)) (b : Bool) → b ≡ is_kept call today entry → Comes r (by_kept b call user today entry) s new → Comes r (changes_entry call user entry) s new
+    unfolding changes_entry
+    by_day (Ok v) b e h = λ act c end rest. seeing (λ clock. by_kept (is_kept call (day_of clock.moment) entry) call user (day_of clock.moment) entry act) s c end
+        (subst (λ t. Goes (by_kept (is_kept call t entry) call user t entry act) s c end) day (subst (λ (x : Bool). Goes (by_kept x call user today entry act) s c end) e (h act c end rest)))
+    by_day (Err (Named n)) b e h = λ act. seeing (λ clock. by_kept (is_kept call (day_of clock.moment) entry) call user (day_of clock.moment) entry act) s returns.ConvErr new
+        (subst (λ t. Goes (by_kept (is_kept call t entry) call user t entry act) s returns.ConvErr new) day (subst (λ (x : Bool). Goes (by_kept x call user today entry act) s returns.ConvErr new) e (h act)))
+    by_day (Err NoMemory) b e h = tt
+
+    pub kept : true ≡ is_kept call today entry → new ≡ s → Comes (Ok returns.Success) (changes_entry call user entry) s new
+    kept e same = by_day (Ok returns.Success) true e (rw same (λ act c end rest. rest))
+
+    by_flag : (r : Result Code (Refuse ConvErr)) (b : Bool) → b ≡ has_flag call.flags prelim_check → Comes r (by_pass b call user today entry) s new → Comes r (by_kept false call user today entry) s new
+    by_flag r b e h = subst (λ (x : Bool). Comes r (by_pass x call user today entry) s new) e h
+
+    pub first_pass : (r : Result Code (Refuse ConvErr)) → false ≡ is_kept call today entry → true ≡ has_flag call.flags prelim_check → Comes r (tries_change today entry) s new → Comes r (changes_entry call user entry) s new
+    first_pass r e f h = by_day r false e (by_flag r true f h)
+
+    pub not_taken : (e : Refuse ConvErr) → false ≡ is_kept call today entry → false ≡ has_flag call.flags prelim_check → Comes {A = Option (List ℕ)} (Err e) (takes_token call) s new → Comes (Err e) (changes_entry call user entry) s new
+    not_taken e k f h = by_day (Err e) false k (by_flag (Err e) false f (early (takes_token call) (λ token (act : Code → Act). stores_token call user token act) e s new h))
+
+    pub stored : (token : Option (List ℕ)) (code : Code) (mid : Scene) → false ≡ is_kept call today entry → false ≡ has_flag call.flags prelim_check → Comes (Ok token) (takes_token call) s mid → Came code (stores_token call user token) mid new
+        → Comes (Ok code) (changes_entry call user entry) s new
+    stored token code mid k f h d = by_day (Ok code) false k (by_flag (Ok code) false f (then (takes_token call) (λ t (act : Code → Act). stores_token call user t act) (Ok code) token s mid new h d))
+
+-- ---- by what is known of the user
+
+module _ (call : PlainCall) (user : List ℕ) (look : Look) (s : Scene) where
+  pub by_unknown : look ≡ Unknown → Comes (Ok returns.UserUnknown) (change_by call user look) s s
+  unfolding change_by
+  by_unknown e = subst (λ (l : Look). Comes (Ok returns.UserUnknown) (change_by call user l) s s) (sym e) (λ act c end rest. rest)
+
+  pub by_unavailable : look ≡ Unavailable → Comes (Ok returns.AuthinfoUnavail) (change_by call user look) s s
+  unfolding change_by
+  by_unavailable e = subst (λ (l : Look). Comes (Ok returns.AuthinfoUnavail) (change_by call user l) s s) (sym e) (λ act c end rest. rest)
+
+  pub by_plain : (hash : List ℕ) → look ≡ Plain hash → Comes (Ok returns.AuthtokErr) (change_by call user look) s s
+  unfolding change_by
+  by_plain hash e = subst (λ (l : Look). Comes (Ok returns.AuthtokErr) (change_by call user l) s s) (sym e) (λ act c end rest. rest)
+
+  pub by_shadow : (entry : Shadow) (new : Scene) (r : Result Code (Refuse ConvErr)) → look ≡ Shadowed entry → Comes r (changes_entry call user entry) s new → Comes r (change_by call user look) s new
+  unfolding change_by
+  by_shadow entry new r e h = subst (λ (l : Look). Comes r (change_by call user l) s new) (sym e) h

@@ -1,0 +1,83 @@
+-- pam_unix(8), authenticate.
+use Rattle.std.specs.Prelude.{ℕ, Bool, true, false, ◌==◌, ◌&&◌, not, List, [], ◌∷◌, Option, Some, None, codes}
+use Rattle.pam_base.specs.Code.{number_of}
+use Rattle.pam_base.specs.declared.code.Code.{Code}
+use Rattle.pam_base.specs.declared.code.Code.TheVariants as returns
+use Rattle.pam_room.specs.Call.{PlainCall, has_flag}
+use Rattle.account_files.specs.Act.{Act, answers, asks_user, sees_items}
+use Rattle.module_acts.specs.Steps.{answers_keeping, asks_token, requests_delay}
+use Rattle.mod_unix.specs.declared.authenticate.Answer.{Answer}
+use Rattle.mod_unix.specs.declared.authenticate.Answer.TheVariants.{Kept, Unkept}
+use Rattle.mod_unix.specs.declared.look.Look.{Look}
+use Rattle.mod_unix.specs.declared.look.Look.TheVariants.{Unknown, Unavailable, Plain, Shadowed}
+use Rattle.mod_unix.specs.Arguments.{disallow_null_authtok, has_argument}
+use Rattle.mod_unix.specs.Look.{looks}
+use Rattle.mod_unix.specs.Verify.{verified}
+
+-- whether the user has a hash, and it is empty
+abbrev pub is_empty : List ℕ → Bool
+is_empty [] = true
+is_empty (b ∷ bs) = false
+
+abbrev pub has_empty_hash : Look → Bool
+has_empty_hash (Plain hash) = is_empty hash
+has_empty_hash (Shadowed entry) = is_empty entry.hash
+has_empty_hash Unknown = false
+has_empty_hash Unavailable = false
+
+-- with `nullok` a user without a password is let in, unless the application disallows it
+abbrev pub is_open : PlainCall → Look → Bool
+is_open call look = has_empty_hash look && has_argument (codes "nullok") call.args && not (has_flag call.flags disallow_null_authtok)
+
+abbrev pub is_success : Code → Bool
+is_success code = number_of code == 0
+
+-- a token is asked for, and verified
+unfoldable pub asks_password : Look → (Answer → Act) → Act
+asks_password look act = asks_token false (codes "Password: ") (λ token. act (Kept (verified look token)))
+
+-- `use_first_pass`: the token that an earlier module asked for, and no other
+abbrev pub with_first : Look → Option (List ℕ) → (Answer → Act) → Act
+with_first look (Some token) act = act (Kept (verified look token))
+with_first look None act = act (Unkept returns.AuthErr)
+
+-- `try_first_pass`: that token first, where it is set
+abbrev pub unless_success : Bool → Look → (Answer → Act) → Act
+unless_success true look act = act (Kept returns.Success)
+unless_success false look act = asks_password look act
+
+abbrev pub try_first : Look → Option (List ℕ) → (Answer → Act) → Act
+try_first look (Some token) act = unless_success (is_success (verified look token)) look act
+try_first look None act = asks_password look act
+
+abbrev pub by_pass : Bool → Bool → Look → (Answer → Act) → Act
+by_pass true try look act = sees_items (λ items. with_first look items.auth_tok act)
+by_pass false true look act = sees_items (λ items. try_first look items.auth_tok act)
+by_pass false false look act = asks_password look act
+
+unfoldable pub verifies_token : PlainCall → Look → (Answer → Act) → Act
+verifies_token call look act = by_pass (has_argument (codes "use_first_pass") call.args) (has_argument (codes "try_first_pass") call.args) look act
+
+-- unless `nodelay` is given, a delay of two seconds is requested
+abbrev pub delays : Bool → Act → Act
+delays true act = act
+delays false act = requests_delay 2000000 act
+
+abbrev pub by_open : Bool → PlainCall → Look → (Answer → Act) → Act
+by_open true call look act = act (Kept returns.Success)
+by_open false call look act = delays (has_argument (codes "nodelay") call.args) (verifies_token call look act)
+
+unfoldable pub by_look : PlainCall → Look → (Answer → Act) → Act
+by_look call look act = by_open (is_open call look) call look act
+
+unfoldable pub authenticates : PlainCall → (Answer → Act) → Act
+authenticates call act = asks_user (λ user. looks user (λ look. by_look call look act))
+
+-- the name of the datum that setcred answers
+abbrev pub setcred_return : List ℕ
+setcred_return = codes "unix_setcred_return"
+
+-- the answer is kept for setcred, but that of `use_first_pass` without a token
+unfoldable pub settles : Answer → Act
+settles (Kept code) = answers_keeping (record { name = setcred_return; payload = number_of code ∷ [] }) code
+settles (Unkept code) = answers code

@@ -1,0 +1,149 @@
+-- pam_unix(8), chauthtok.
+use Rattle.std.specs.Prelude.{ℕ, ◌+◌, ◌==◌, ◌&&◌, ◌||◌, not, nat_lt, Bool, true, false, if◌then◌else◌, List, [], ◌∷◌, length, Option, Some, None, Result, Ok, Err, codes}
+use Rattle.std.specs.Str.{bytes_eq}
+use Rattle.pam_base.specs.Code.{number_of}
+use Rattle.pam_base.specs.declared.code.Code.{Code}
+use Rattle.pam_base.specs.declared.code.Code.TheVariants as returns
+use Rattle.pam_base.specs.declared.item.ItemName.TheVariants.{AuthTok}
+use Rattle.pam_base.specs.declared.style.Style.TheVariants.{EchoOff}
+use Rattle.conv_port.specs.declared.message.Message.{Message}
+use Rattle.conv_port.specs.declared.message.Reply.{Reply}
+use Rattle.pam_room.specs.Call.{PlainCall, has_flag, prelim_check}
+use Rattle.account_db.specs.declared.fault.DbFault.{DbFault}
+use Rattle.account_db.specs.declared.shadow.Shadow.{Shadow}
+use Rattle.account_db.specs.Replace.{hash_replaced}
+use Rattle.account_files.specs.declared.content.Content.{Content}
+use Rattle.account_files.specs.declared.content.Content.TheVariants as content
+use Rattle.account_files.specs.Accounts.{account_limit}
+use Rattle.account_files.specs.Act.{Act, asks_user, reads_file, sees_items, replaces_file}
+use Rattle.module_acts.specs.Steps.{asks_token, exchanges, sees_caller, sees_clock, sets_item}
+use Rattle.sha_crypt.specs.declared.setting.SettingFault.{SettingFault}
+use Rattle.sha_crypt.specs.Hash.{crypted}
+use Rattle.mod_unix.specs.declared.look.Look.{Look}
+use Rattle.mod_unix.specs.declared.look.Look.TheVariants.{Unknown, Unavailable, Plain, Shadowed}
+use Rattle.mod_unix.specs.Aging.{aged, day_of}
+use Rattle.mod_unix.specs.Arguments.{change_expired_authtok, has_argument}
+use Rattle.mod_unix.specs.Authenticate.{is_empty}
+use Rattle.mod_unix.specs.Look.{looks, shadow_in}
+use Rattle.mod_unix.specs.NewHash.{new_setting}
+use Rattle.mod_unix.specs.Verify.{hash_verified}
+
+-- ---- the first pass: whether the token may be changed
+
+abbrev pub is_too_early : ℕ → Option ℕ → Option ℕ → Bool
+is_too_early today None min = false
+is_too_early today (Some last) None = false
+is_too_early today (Some last) (Some min) = nat_lt today (last + min)
+
+unfoldable pub asks_old : Shadow → (Code → Act) → Act
+asks_old entry act = asks_token true (codes "Password: ") (λ token. act (hash_verified entry.hash token))
+
+-- a user without a password need not give the old one
+abbrev pub by_empty : Bool → Shadow → (Code → Act) → Act
+by_empty true entry act = act returns.Success
+by_empty false entry act = asks_old entry act
+
+abbrev pub by_early : Bool → Shadow → (Code → Act) → Act
+by_early true entry act = act returns.AuthtokErr
+by_early false entry act = by_empty (is_empty entry.hash) entry act
+
+-- root may always
+abbrev pub by_root : Bool → ℕ → Shadow → (Code → Act) → Act
+by_root true today entry act = act returns.Success
+by_root false today entry act = by_early (is_too_early today entry.last_change entry.min) entry act
+
+unfoldable pub tries_change : ℕ → Shadow → (Code → Act) → Act
+tries_change today entry act = sees_caller (λ caller. by_root (caller == 0) today entry act)
+
+-- ---- the second pass: the new token
+
+-- a token that is empty, or has more than 512 bytes, isn't taken
+abbrev pub usable : Option (List ℕ) → Option (List ℕ)
+usable None = None
+usable (Some token) = if length token == 0 || nat_lt 512 (length token) then None else Some token
+
+abbrev pub new_prompts : List Message
+new_prompts = record { style = EchoOff; text = codes "New password: " } ∷ record { style = EchoOff; text = codes "Retype new password: " } ∷ []
+
+-- two replies that differ aren't taken either
+abbrev pub same_reply : List Reply → Option (List ℕ)
+same_reply [] = None
+same_reply (a ∷ []) = None
+same_reply (a ∷ b ∷ []) = if bytes_eq a.text b.text then usable (Some a.text) else None
+same_reply (a ∷ b ∷ c ∷ cs) = None
+
+abbrev pub sets_new : Option (List ℕ) → (Option (List ℕ) → Act) → Act
+sets_new (Some token) act = sets_item AuthTok token (act (Some token))
+sets_new None act = act None
+
+-- with `use_authtok` the token of an earlier module, else one that is asked for twice
+abbrev pub by_authtok : Bool → (Option (List ℕ) → Act) → Act
+by_authtok true act = sees_items (λ items. act (usable items.auth_tok))
+by_authtok false act = exchanges new_prompts (λ replies. sets_new (same_reply replies) act)
+
+unfoldable pub takes_token : PlainCall → (Option (List ℕ) → Act) → Act
+takes_token call act = by_authtok (has_argument (codes "use_authtok") call.args) act
+
+-- ---- the second pass: the new hash
+
+-- the text of shadow with the new hash, where the user has an entry
+abbrev pub changed_by : Look → Result (List ℕ) DbFault → Option (List ℕ)
+changed_by (Shadowed entry) (Ok text) = Some text
+changed_by (Shadowed entry) (Err fault) = None
+changed_by Unknown text = None
+changed_by Unavailable text = None
+changed_by (Plain hash) text = None
+
+unfoldable pub changed_shadow : List ℕ → List ℕ → ℕ → Content → Option (List ℕ)
+changed_shadow user hash today content.Absent = None
+changed_shadow user hash today content.Unreadable = None
+changed_shadow user hash today (content.Holds text) = changed_by (shadow_in user (content.Holds text)) (hash_replaced user hash today text)
+
+abbrev pub by_done : Bool → Code
+by_done true = returns.Success
+by_done false = returns.AuthtokErr
+
+abbrev pub by_text : Option (List ℕ) → (Code → Act) → Act
+by_text (Some text) act = replaces_file (codes "/etc/shadow") text (λ done. act (by_done done))
+by_text None act = act returns.AuthtokErr
+
+-- shadow is read again, and replaced
+unfoldable pub changes_shadow : List ℕ → List ℕ → ℕ → (Code → Act) → Act
+changes_shadow user hash today act = reads_file (codes "/etc/shadow") account_limit (λ c. by_text (changed_shadow user hash today c) act)
+
+abbrev pub by_hash : List ℕ → ℕ → Result (List ℕ) SettingFault → (Code → Act) → Act
+by_hash user today (Ok hash) act = changes_shadow user hash today act
+by_hash user today (Err fault) act = act returns.AuthtokErr
+
+abbrev pub by_token : PlainCall → List ℕ → Option (List ℕ) → (Code → Act) → Act
+by_token call user (Some token) act = sees_clock (λ clock. by_hash user (day_of clock.moment) (crypted (new_setting call.args clock.word) token) act)
+by_token call user None act = act returns.AuthtokErr
+
+unfoldable pub stores_token : PlainCall → List ℕ → Option (List ℕ) → (Code → Act) → Act
+stores_token call user token act = by_token call user token act
+
+-- ---- both passes
+
+-- with CHANGE_EXPIRED_AUTHTOK a token that need not be changed stays
+abbrev pub is_kept : PlainCall → ℕ → Shadow → Bool
+is_kept call today entry = has_flag call.flags change_expired_authtok && not (number_of (aged today entry) == number_of returns.NewAuthtokReqd)
+
+abbrev pub by_pass : Bool → PlainCall → List ℕ → ℕ → Shadow → (Code → Act) → Act
+by_pass true call user today entry act = tries_change today entry act
+by_pass false call user today entry act = takes_token call (λ token. stores_token call user token act)
+
+abbrev pub by_kept : Bool → PlainCall → List ℕ → ℕ → Shadow → (Code → Act) → Act
+by_kept true call user today entry act = act returns.Success
+by_kept false call user today entry act = by_pass (has_flag call.flags prelim_check) call user today entry act
+
+unfoldable pub changes_entry : PlainCall → List ℕ → Shadow → (Code → Act) → Act
+changes_entry call user entry act = sees_clock (λ clock. by_kept (is_kept call (day_of clock.moment) entry) call user (day_of clock.moment) entry act)
+
+unfoldable pub change_by : PlainCall → List ℕ → Look → (Code → Act) → Act
+change_by call user Unknown act = act returns.UserUnknown
+change_by call user Unavailable act = act returns.AuthinfoUnavail
+change_by call user (Plain hash) act = act returns.AuthtokErr
+change_by call user (Shadowed entry) act = changes_entry call user entry act
+
+unfoldable pub changes_token : PlainCall → (Code → Act) → Act
+changes_token call act = asks_user (λ user. looks user (λ look. change_by call user look act))

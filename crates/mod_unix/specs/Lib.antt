@@ -1,0 +1,9 @@
+pub mod Arguments
+pub mod Look
+pub mod Verify
+pub mod Aging
+pub mod Authenticate
+pub mod Account
+pub mod NewHash
+pub mod Change
+pub mod Unix

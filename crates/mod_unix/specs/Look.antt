@@ -1,0 +1,61 @@
+-- What is known of a user's password (passwd(5), shadow(5)).
+use Rattle.std.specs.Prelude.{ℕ, Bool, true, false, List, Option, Some, None, Result, Ok, Err, codes}
+use Rattle.std.specs.Str.{bytes_eq}
+use Rattle.account_db.specs.declared.fault.DbFault.{DbFault}
+use Rattle.account_db.specs.declared.passwd.Passwd.{Passwd}
+use Rattle.account_db.specs.declared.shadow.Shadow.{Shadow}
+use Rattle.account_db.specs.Passwd.{entry_of, passwds_of}
+use Rattle.account_db.specs.Shadow.{shadow_of, shadows_of}
+use Rattle.account_files.specs.declared.content.Content.{Content}
+use Rattle.account_files.specs.declared.content.Content.TheVariants as content
+use Rattle.account_files.specs.Accounts.{account_limit}
+use Rattle.account_files.specs.Act.{Act, reads_file}
+use Rattle.mod_unix.specs.declared.look.Field.{Field}
+use Rattle.mod_unix.specs.declared.look.Field.TheVariants as field
+use Rattle.mod_unix.specs.declared.look.Look.{Look}
+use Rattle.mod_unix.specs.declared.look.Look.TheVariants.{Unknown, Unavailable, Plain, Shadowed}
+
+-- the password field of the user's entry in passwd
+abbrev pub field_or_missing : Option Passwd → Field
+field_or_missing (Some entry) = field.Holds entry.password
+field_or_missing None = field.Missing
+
+abbrev pub field_among : List ℕ → Result (List Passwd) DbFault → Field
+field_among user (Ok entries) = field_or_missing (entry_of user entries)
+field_among user (Err fault) = field.Unreadable
+
+abbrev pub field_in : List ℕ → Content → Field
+field_in user (content.Holds text) = field_among user (passwds_of text)
+field_in user content.Absent = field.Unreadable
+field_in user content.Unreadable = field.Unreadable
+
+-- the user's entry in shadow
+abbrev pub shadowed : Option Shadow → Look
+shadowed (Some entry) = Shadowed entry
+shadowed None = Unavailable
+
+abbrev pub shadow_among : List ℕ → Result (List Shadow) DbFault → Look
+shadow_among user (Ok entries) = shadowed (shadow_of user entries)
+shadow_among user (Err fault) = Unavailable
+
+abbrev pub shadow_in : List ℕ → Content → Look
+shadow_in user (content.Holds text) = shadow_among user (shadows_of text)
+shadow_in user content.Absent = Unavailable
+shadow_in user content.Unreadable = Unavailable
+
+-- a password field `x` stands for the entry in shadow, any other is the hash
+abbrev pub by_x : Bool → List ℕ → List ℕ → (Look → Act) → Act
+by_x true user hash act = reads_file (codes "/etc/shadow") account_limit (λ c. act (shadow_in user c))
+by_x false user hash act = act (Plain hash)
+
+abbrev pub is_x : List ℕ → Bool
+is_x hash = bytes_eq hash (codes "x")
+
+abbrev pub by_field : List ℕ → Field → (Look → Act) → Act
+by_field user field.Unreadable act = act Unavailable
+by_field user field.Missing act = act Unknown
+by_field user (field.Holds hash) act = by_x (is_x hash) user hash act
+
+-- what is known of a user's password is looked up
+unfoldable pub looks : List ℕ → (Look → Act) → Act
+looks user act = reads_file (codes "/etc/passwd") account_limit (λ c. by_field user (field_in user c) act)

@@ -1,0 +1,26 @@
+-- The setting under which a new token is hashed (pam_unix(8), crypt(5)).
+use Rattle.std.specs.Prelude.{ℕ, max, min, nat_le, if◌then◌else◌, List, [], ◌++◌, length, Option, Some, None, codes, decimal}
+use Rattle.pam_base.specs.Number.{number_of_word}
+use Rattle.pam_room.specs.Call.{value_among}
+use Rattle.sha_crypt.specs.Characters.{characters}
+use Rattle.mod_unix.specs.Arguments.{has_argument}
+
+-- SHA-256 with `sha256`, else SHA-512
+abbrev pub method_text : List (List ℕ) → List ℕ
+method_text args = if has_argument (codes "sha256") args then codes "$5$" else codes "$6$"
+
+-- a number of one to nine digits
+abbrev pub short_number : List ℕ → Option ℕ
+short_number word = if nat_le (length word) 9 then number_of_word word else None
+
+abbrev pub rounds_of : Option ℕ → List ℕ
+rounds_of (Some rounds) = codes "rounds=" ++ decimal (max 1000 (min rounds 1000000)) ++ codes "$"
+rounds_of None = []
+
+abbrev pub rounds_in : Option (List ℕ) → List ℕ
+rounds_in (Some word) = rounds_of (short_number word)
+rounds_in None = []
+
+-- the salt is eight characters of a random word
+unfoldable pub new_setting : List (List ℕ) → ℕ → List ℕ
+new_setting args word = method_text args ++ rounds_in (value_among (codes "rounds=") args) ++ characters 8 word

@@ -1,0 +1,50 @@
+-- pam_unix(8).
+use Rattle.std.specs.Prelude.{ℕ, ◌==◌, if◌then◌else◌, List, [], ◌∷◌, Option, Some, None}
+use Rattle.std.specs.List.{find}
+use Rattle.std.specs.Option.{unwrap_or}
+use Rattle.std.specs.Str.{bytes_eq}
+use Rattle.pam_base.specs.Code.{all_codes, number_of}
+use Rattle.pam_base.specs.declared.code.Code.{Code}
+use Rattle.pam_base.specs.declared.code.Code.TheVariants as returns
+use Rattle.pam_base.specs.declared.call.Func.{Func}
+use Rattle.pam_base.specs.declared.call.Func.TheVariants.{Authenticate, SetCred, AcctMgmt, OpenSession, CloseSession, ChAuthTok}
+use Rattle.pam_room.specs.Call.{PlainCall}
+use Rattle.pam_room.specs.Module.{NamedData, Plays}
+use Rattle.account_files.specs.Act.{Act, answers, plays_by}
+use Rattle.module_acts.specs.Steps.{sees_data}
+use Rattle.mod_unix.specs.Account.{checks_account}
+use Rattle.mod_unix.specs.Change.{changes_token}
+use Rattle.mod_unix.specs.Authenticate.{authenticates, setcred_return, settles}
+
+-- the code with a number
+abbrev pub code_numbered : ℕ → Option Code
+code_numbered number = find (λ code. number_of code == number) all_codes
+
+-- the payload of the datum with a name
+abbrev pub payload_named : List ℕ → List NamedData → Option (List ℕ)
+payload_named name [] = None
+payload_named name (d ∷ ds) = if bytes_eq d.name name then Some d.payload else payload_named name ds
+
+-- what authenticate answered and kept, where that is one byte and the number of a code, else SUCCESS
+abbrev pub code_in : Option (List ℕ) → Code
+code_in None = returns.Success
+code_in (Some []) = returns.Success
+code_in (Some (b ∷ [])) = unwrap_or (code_numbered b) returns.Success
+code_in (Some (b ∷ c ∷ cs)) = returns.Success
+
+abbrev pub kept_code : List NamedData → Code
+kept_code held = code_in (payload_named setcred_return held)
+
+abbrev pub by_func : Func → PlainCall → Act
+by_func Authenticate call = authenticates call settles
+by_func SetCred call = sees_data (λ held. answers (kept_code held))
+by_func AcctMgmt call = checks_account answers
+by_func ChAuthTok call = changes_token call answers
+by_func OpenSession call = answers returns.Success
+by_func CloseSession call = answers returns.Success
+
+abbrev pub unix_act : PlainCall → Act
+unix_act call = by_func call.func call
+
+abbrev pub unix_plays : Plays
+unix_plays = plays_by unix_act

@@ -1,0 +1,28 @@
+-- Whether a token is the user's (crypt(3), shadow(5)).
+use Rattle.std.specs.Prelude.{ℕ, Bool, true, ◌==◌, ◌||◌, nat_lt, if◌then◌else◌, List, [], ◌∷◌, length, Result, Ok, Err}
+use Rattle.std.specs.Str.{bytes_eq}
+use Rattle.pam_base.specs.declared.code.Code.{Code}
+use Rattle.pam_base.specs.declared.code.Code.TheVariants as returns
+use Rattle.sha_crypt.specs.declared.setting.SettingFault.{SettingFault}
+use Rattle.sha_crypt.specs.Hash.{crypted}
+use Rattle.mod_unix.specs.declared.look.Look.{Look}
+use Rattle.mod_unix.specs.declared.look.Look.TheVariants.{Unknown, Unavailable, Plain, Shadowed}
+
+-- a hash that is empty or begins with ! or * lets nobody in
+abbrev pub is_locked : List ℕ → Bool
+is_locked [] = true
+is_locked (b ∷ bs) = b == 33 || b == 42
+
+abbrev pub by_hash : List ℕ → Result (List ℕ) SettingFault → Code
+by_hash hash (Ok made) = if bytes_eq made hash then returns.Success else returns.AuthErr
+by_hash hash (Err fault) = returns.AuthinfoUnavail
+
+-- a token is the user's where its hash, under the user's as the setting, is the user's; of more than 512 bytes it isn't
+unfoldable pub hash_verified : List ℕ → List ℕ → Code
+hash_verified hash token = if is_locked hash || nat_lt 512 (length token) then returns.AuthErr else by_hash hash (crypted hash token)
+
+abbrev pub verified : Look → List ℕ → Code
+verified Unknown token = returns.UserUnknown
+verified Unavailable token = returns.AuthinfoUnavail
+verified (Plain hash) token = hash_verified hash token
+verified (Shadowed entry) token = hash_verified entry.hash token

@@ -1,0 +1,54 @@
+ghost use Rattle.std.specs.Prelude.{◌≡◌, IsTrue};
+ghost use Rattle.pam_outside.specs.Files.{VaultState};
+ghost use Rattle.pam_room.specs.Plain.{plain_process};
+ghost use Rattle.pam_room.specs.State.{PlainProcess, PlainRoom, scene_of};
+ghost use Rattle.module_acts.specs.Comes.{Came, Comes, lent};
+ghost use Rattle.module_acts.specs.Talks.{Talks};
+ghost use Rattle.mod_unix.specs.Account.{account_by, checks_account};
+
+use crate::aging::{aged, day_of};
+use crate::look::{Look, look_up};
+use account_files::user_of;
+use conv_port::Conv;
+use module_acts::{acting, require_user};
+use pam_base::{Code, ConvErr, Refuse};
+use pam_outside::{Clock, Vault, current_moment};
+use pam_room::{Process, Transaction};
+use std::alloc::Global;
+
+/// Checks whether the account and its password may be used still.
+pub(crate) fn check_account(
+    alloc: Global,
+    transaction: &mut Transaction,
+    process: &Process,
+    conv: &mut dyn Conv,
+    vault: &mut dyn Vault,
+    clock: &dyn Clock,
+) -> Result<Code, Refuse<ConvErr>>
+    ensures conv_tells { conv_tells conv.new ≡ conv_tells conv.old }
+    ensures vault_tells { vault_tells vault.new ≡ vault_tells vault.old }
+    ensures told { IsTrue (conv_tells conv.old) → IsTrue (vault_tells vault.old) → IsTrue (clock_tells clock.now) →
+        Comes result checks_account
+        (lent transaction.old (conv_holds conv.old) (vault_holds vault.old) (clock_holds clock.now) (plain_process process.now))
+        (lent transaction.new (conv_holds conv.new) (vault_holds vault.new) (clock_holds clock.now) (plain_process process.now)) }
+    ensures talks { Talks transaction.old transaction.new }
+{
+    require_user(alloc, transaction, conv)?;
+    let look = look_up(alloc, vault, process, user_of(transaction))?;
+    let code = account_by(&look, clock);
+    Ok(code)
+}
+
+// By what is known of the user's password.
+fn account_by(look: &Look, clock: &dyn Clock) -> Code
+    ensures told { IsTrue (clock_tells clock.now) → (room : PlainRoom) (vault : VaultState) (process : PlainProcess) →
+        Came result (account_by look.now) (scene_of room vault (clock_holds clock.now) process) (scene_of room vault (clock_holds clock.now) process) }
+{
+    acting();
+    match look {
+        Look::Unknown => Code::UserUnknown,
+        Look::Unavailable => Code::AuthinfoUnavail,
+        Look::Plain(_) => Code::Success,
+        Look::Shadowed(entry) => aged(day_of(current_moment(clock)), entry),
+    }
+}

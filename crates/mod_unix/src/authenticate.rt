@@ -1,0 +1,155 @@
+ghost use Rattle.std.specs.Prelude.{◌≡◌, IsTrue};
+ghost use Rattle.pam_outside.specs.Files.{VaultState};
+ghost use Rattle.pam_outside.specs.Time.{ClockState};
+ghost use Rattle.pam_room.specs.Plain.{plain_call, plain_process};
+ghost use Rattle.pam_room.specs.State.{PlainProcess};
+ghost use Rattle.module_acts.specs.Comes.{Comes, lent};
+ghost use Rattle.module_acts.specs.Talks.{Talks};
+ghost use Rattle.mod_unix.specs.Authenticate.{asks_password, authenticates, by_look, has_empty_hash, is_open, is_success, verifies_token};
+
+use crate::arguments::{DISALLOW_NULL_AUTHTOK, has_argument};
+use crate::look::{Look, look_up};
+use crate::verify::verify;
+use account_files::user_of;
+use conv_port::Conv;
+use module_acts::{acting, request_delay, require_token, require_user, talking};
+use pam_base::{Code, ConvErr, ItemName, Refuse};
+use pam_outside::Vault;
+use pam_room::{Call, Process, Transaction, get_item};
+use std::alloc::Global;
+
+/// What authenticate answers.
+#[derive(Clone, Copy)]
+pub(crate) enum Answer {
+    /// And keeps for setcred.
+    Kept(Code),
+    Unkept(Code),
+}
+
+/// Authenticates the user.
+pub(crate) fn authenticate(
+    alloc: Global,
+    call: &Call,
+    transaction: &mut Transaction,
+    process: &Process,
+    conv: &mut dyn Conv,
+    vault: &mut dyn Vault,
+) -> Result<Answer, Refuse<ConvErr>>
+    ensures conv_tells { conv_tells conv.new ≡ conv_tells conv.old }
+    ensures vault_tells { vault_tells vault.new ≡ vault_tells vault.old }
+    ensures told { IsTrue (conv_tells conv.old) → IsTrue (vault_tells vault.old) → (clock : ClockState) →
+        Comes result (authenticates (plain_call call.now))
+        (lent transaction.old (conv_holds conv.old) (vault_holds vault.old) clock (plain_process process.now))
+        (lent transaction.new (conv_holds conv.new) (vault_holds vault.new) clock (plain_process process.now)) }
+    ensures talks { Talks transaction.old transaction.new }
+{
+    talking();
+    require_user(alloc, transaction, conv)?;
+    let look = look_up(alloc, vault, process, user_of(transaction))?;
+    by_look(alloc, call, &look, transaction, conv)
+}
+
+// Answers by what is known of the user's password.
+fn by_look(
+    alloc: Global,
+    call: &Call,
+    look: &Look,
+    transaction: &mut Transaction,
+    conv: &mut dyn Conv,
+) -> Result<Answer, Refuse<ConvErr>>
+    ensures tells { conv_tells conv.new ≡ conv_tells conv.old }
+    ensures told { IsTrue (conv_tells conv.old) → (vault : VaultState) (clock : ClockState) (process : PlainProcess) →
+        Comes result (by_look (plain_call call.now) look.now)
+        (lent transaction.old (conv_holds conv.old) vault clock process) (lent transaction.new (conv_holds conv.new) vault clock process) }
+    ensures talks { Talks transaction.old transaction.new }
+{
+    talking();
+    if is_open(call, look) {
+        return Ok(Answer::Kept(Code::Success));
+    }
+    if has_argument(b"nodelay", call.args) {
+        return verify_token(alloc, call, look, transaction, conv);
+    }
+    request_delay(transaction, 2_000_000);
+    verify_token(alloc, call, look, transaction, conv)
+}
+
+// Whether a user without a password is let in.
+fn is_open(call: &Call, look: &Look) -> bool
+    ensures { result ≡ is_open (plain_call call.now) look.now }
+{
+    has_empty_hash(look)
+        && has_argument(b"nullok", call.args)
+        && !call.has_flag(DISALLOW_NULL_AUTHTOK)
+}
+
+fn has_empty_hash(look: &Look) -> bool
+    ensures { result ≡ has_empty_hash look.now }
+{
+    match look {
+        Look::Plain(hash) => hash.is_empty(),
+        Look::Shadowed(entry) => entry.hash.is_empty(),
+        Look::Unknown | Look::Unavailable => false,
+    }
+}
+
+// Verifies the token that is there, or one that is asked for.
+fn verify_token(
+    alloc: Global,
+    call: &Call,
+    look: &Look,
+    transaction: &mut Transaction,
+    conv: &mut dyn Conv,
+) -> Result<Answer, Refuse<ConvErr>>
+    ensures tells { conv_tells conv.new ≡ conv_tells conv.old }
+    ensures told { IsTrue (conv_tells conv.old) → (vault : VaultState) (clock : ClockState) (process : PlainProcess) →
+        Comes result (verifies_token (plain_call call.now) look.now)
+        (lent transaction.old (conv_holds conv.old) vault clock process) (lent transaction.new (conv_holds conv.new) vault clock process) }
+    ensures talks { Talks transaction.old transaction.new }
+{
+    acting();
+    talking();
+    if has_argument(b"use_first_pass", call.args) {
+        return match get_item(&transaction.items, ItemName::AuthTok) {
+            Some(token) => Ok(Answer::Kept(verify(alloc, look, token)?)),
+            None => Ok(Answer::Unkept(Code::AuthErr)),
+        };
+    }
+    if !has_argument(b"try_first_pass", call.args) {
+        return ask_password(alloc, look, transaction, conv);
+    }
+    let code = match get_item(&transaction.items, ItemName::AuthTok) {
+        Some(token) => verify(alloc, look, token)?,
+        None => return ask_password(alloc, look, transaction, conv),
+    };
+    if is_success(code) {
+        return Ok(Answer::Kept(Code::Success));
+    }
+    ask_password(alloc, look, transaction, conv)
+}
+
+fn is_success(code: Code) -> bool
+    ensures { result ≡ is_success code }
+{
+    code as u32 == 0
+}
+
+// Asks for a token, and verifies it.
+fn ask_password(
+    alloc: Global,
+    look: &Look,
+    transaction: &mut Transaction,
+    conv: &mut dyn Conv,
+) -> Result<Answer, Refuse<ConvErr>>
+    ensures tells { conv_tells conv.new ≡ conv_tells conv.old }
+    ensures told { IsTrue (conv_tells conv.old) → (vault : VaultState) (clock : ClockState) (process : PlainProcess) →
+        Comes result (asks_password look.now)
+        (lent transaction.old (conv_holds conv.old) vault clock process) (lent transaction.new (conv_holds conv.new) vault clock process) }
+    ensures talks { Talks transaction.old transaction.new }
+{
+    require_token(alloc, transaction, conv, false, b"Password: ")?;
+    match get_item(&transaction.items, ItemName::AuthTok) {
+        Some(token) => Ok(Answer::Kept(verify(alloc, look, token)?)),
+        None => unreachable!(),
+    }
+}

@@ -1,0 +1,207 @@
+ghost use Rattle.std.specs.Prelude.{◌≡◌, ◌≤◌, ℕ, IsTrue, IfOk, IfSome, length};
+ghost use Rattle.std.specs.Option.{option_copied};
+ghost use Rattle.pam_outside.specs.Files.{VaultState};
+ghost use Rattle.pam_outside.specs.Time.{ClockState};
+ghost use Rattle.pam_room.specs.Plain.{plain_call, plain_process};
+ghost use Rattle.pam_room.specs.State.{PlainProcess, PlainRoom, scene_of};
+ghost use Rattle.module_acts.specs.Comes.{Came, Comes, lent};
+ghost use Rattle.module_acts.specs.Talks.{Talks};
+ghost use Rattle.mod_unix.specs.Aging.{day_of};
+ghost use Rattle.mod_unix.specs.Change.{asks_old, change_by, changes_entry, changes_token, is_kept, is_too_early, takes_token, tries_change};
+
+use crate::aging::aged;
+use crate::arguments::{CHANGE_EXPIRED_AUTHTOK, has_argument};
+use crate::look::{Look, look_up};
+use crate::new_token::take_token;
+use crate::store::store_token;
+use crate::verify::verify_hash;
+use account_db::Shadow;
+use account_files::user_of;
+use conv_port::Conv;
+use module_acts::{acting, require_token, require_user, talking};
+use pam_base::{Code, ConvErr, ItemName, Refuse, Text};
+use pam_outside::Vault;
+use pam_room::{Call, PRELIM_CHECK, Process, Transaction, get_item};
+use std::alloc::Global;
+
+/// Changes the user's token, or looks in the first pass whether it may be. The day and the random word are those of
+/// the clock.
+pub(crate) fn change_token(
+    alloc: Global,
+    call: &Call,
+    today: u64,
+    word: u64,
+    transaction: &mut Transaction,
+    process: &Process,
+    conv: &mut dyn Conv,
+    vault: &mut dyn Vault,
+) -> Result<Code, Refuse<ConvErr>>
+    ensures conv_tells { conv_tells conv.new ≡ conv_tells conv.old }
+    ensures vault_tells { vault_tells vault.new ≡ vault_tells vault.old }
+    ensures told { IsTrue (conv_tells conv.old) → IsTrue (vault_tells vault.old) → (clock : ClockState) → today ≡ day_of clock.moment → word ≡ clock.word →
+        Comes result (changes_token (plain_call call.now))
+        (lent transaction.old (conv_holds conv.old) (vault_holds vault.old) clock (plain_process process.now))
+        (lent transaction.new (conv_holds conv.new) (vault_holds vault.new) clock (plain_process process.now)) }
+    ensures talks { Talks transaction.old transaction.new }
+{
+    talking();
+    require_user(alloc, transaction, conv)?;
+    let user = Text::from_bytes(alloc, user_of(transaction))?;
+    let look = look_up(alloc, vault, process, user.bytes())?;
+    change_by(
+        alloc,
+        call,
+        today,
+        word,
+        user.bytes(),
+        &look,
+        transaction,
+        process,
+        conv,
+        vault,
+    )
+}
+
+// By what is known of the user's password.
+fn change_by(
+    alloc: Global,
+    call: &Call,
+    today: u64,
+    word: u64,
+    user: &[u8],
+    look: &Look,
+    transaction: &mut Transaction,
+    process: &Process,
+    conv: &mut dyn Conv,
+    vault: &mut dyn Vault,
+) -> Result<Code, Refuse<ConvErr>>
+    ensures conv_tells { conv_tells conv.new ≡ conv_tells conv.old }
+    ensures vault_tells { vault_tells vault.new ≡ vault_tells vault.old }
+    ensures told { IsTrue (conv_tells conv.old) → IsTrue (vault_tells vault.old) → (clock : ClockState) → today ≡ day_of clock.moment → word ≡ clock.word →
+        Comes result (change_by (plain_call call.now) user.now look.now)
+        (lent transaction.old (conv_holds conv.old) (vault_holds vault.old) clock (plain_process process.now))
+        (lent transaction.new (conv_holds conv.new) (vault_holds vault.new) clock (plain_process process.now)) }
+    ensures talks { Talks transaction.old transaction.new }
+{
+    talking();
+    match look {
+        Look::Unknown => Ok(Code::UserUnknown),
+        Look::Unavailable => Ok(Code::AuthinfoUnavail),
+        Look::Plain(_) => Ok(Code::AuthtokErr),
+        Look::Shadowed(entry) => change_entry(
+            alloc,
+            call,
+            today,
+            word,
+            user,
+            entry,
+            transaction,
+            process,
+            conv,
+            vault,
+        ),
+    }
+}
+
+// By the user's entry in shadow.
+fn change_entry(
+    alloc: Global,
+    call: &Call,
+    today: u64,
+    word: u64,
+    user: &[u8],
+    entry: &Shadow,
+    transaction: &mut Transaction,
+    process: &Process,
+    conv: &mut dyn Conv,
+    vault: &mut dyn Vault,
+) -> Result<Code, Refuse<ConvErr>>
+    ensures conv_tells { conv_tells conv.new ≡ conv_tells conv.old }
+    ensures vault_tells { vault_tells vault.new ≡ vault_tells vault.old }
+    ensures told { IsTrue (conv_tells conv.old) → IsTrue (vault_tells vault.old) → (clock : ClockState) → today ≡ day_of clock.moment → word ≡ clock.word →
+        Comes result (changes_entry (plain_call call.now) user.now entry.now)
+        (lent transaction.old (conv_holds conv.old) (vault_holds vault.old) clock (plain_process process.now))
+        (lent transaction.new (conv_holds conv.new) (vault_holds vault.new) clock (plain_process process.now)) }
+    ensures talks { Talks transaction.old transaction.new }
+{
+    acting();
+    talking();
+    if is_kept(call, today, entry) {
+        return Ok(Code::Success);
+    }
+    if call.has_flag(PRELIM_CHECK) {
+        return try_change(alloc, today, entry, transaction, process, conv);
+    }
+    let token = take_token(alloc, call, transaction, conv)?;
+    let code = store_token(alloc, call, today, word, user, token, process, vault)?;
+    Ok(code)
+}
+
+// Whether a token that need not be changed stays.
+fn is_kept(call: &Call, today: u64, entry: &Shadow) -> bool
+    ensures { result ≡ is_kept (plain_call call.now) today entry.now }
+{
+    call.has_flag(CHANGE_EXPIRED_AUTHTOK)
+        && !(aged(today, entry) as u32 == Code::NewAuthtokReqd as u32)
+}
+
+// Whether the token may be changed.
+fn try_change(
+    alloc: Global,
+    today: u64,
+    entry: &Shadow,
+    transaction: &mut Transaction,
+    process: &Process,
+    conv: &mut dyn Conv,
+) -> Result<Code, Refuse<ConvErr>>
+    ensures tells { conv_tells conv.new ≡ conv_tells conv.old }
+    ensures told { IsTrue (conv_tells conv.old) → (vault : VaultState) (clock : ClockState) →
+        Comes result (tries_change today entry.now)
+        (lent transaction.old (conv_holds conv.old) vault clock (plain_process process.now)) (lent transaction.new (conv_holds conv.new) vault clock (plain_process process.now)) }
+    ensures talks { Talks transaction.old transaction.new }
+{
+    acting();
+    talking();
+    if process.caller == 0 {
+        return Ok(Code::Success);
+    }
+    if is_too_early(today, entry.last_change, entry.min) {
+        return Ok(Code::AuthtokErr);
+    }
+    if entry.hash.is_empty() {
+        return Ok(Code::Success);
+    }
+    ask_old(alloc, entry, transaction, conv)
+}
+
+fn is_too_early(today: u64, last: Option<u32>, min: Option<u32>) -> bool
+    ensures { result ≡ is_too_early today last min }
+{
+    match last {
+        Some(last) => match min {
+            Some(min) => today < u64::from(last) + u64::from(min),
+            None => false,
+        },
+        None => false,
+    }
+}
+
+// Asks for the old token, and verifies it.
+fn ask_old(
+    alloc: Global,
+    entry: &Shadow,
+    transaction: &mut Transaction,
+    conv: &mut dyn Conv,
+) -> Result<Code, Refuse<ConvErr>>
+    ensures tells { conv_tells conv.new ≡ conv_tells conv.old }
+    ensures told { IsTrue (conv_tells conv.old) → (vault : VaultState) (clock : ClockState) (process : PlainProcess) →
+        Comes result (asks_old entry.now)
+        (lent transaction.old (conv_holds conv.old) vault clock process) (lent transaction.new (conv_holds conv.new) vault clock process) }
+    ensures talks { Talks transaction.old transaction.new }
+{
+    require_token(alloc, transaction, conv, true, b"Password: ")?;
+    match get_item(&transaction.items, ItemName::OldAuthTok) {
+        Some(token) => Ok(verify_hash(alloc, entry.hash.bytes(), token)?),
+        None => unreachable!(),
+    }
+}

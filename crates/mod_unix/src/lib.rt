@@ -1,0 +1,16 @@
+//! `pam_unix(8)`: passwords of `passwd(5)` and `shadow(5)`.
+#![tactic(auto)]
+
+mod account;
+mod aging;
+mod arguments;
+mod authenticate;
+mod change;
+mod look;
+mod new_hash;
+mod new_token;
+mod store;
+mod unix;
+mod verify;
+
+pub use unix::Unix;

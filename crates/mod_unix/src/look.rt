@@ -1,0 +1,110 @@
+ghost use Rattle.std.specs.Prelude.{◌≡◌, ◌≤◌, IsTrue, IfOk, length};
+ghost use Rattle.pam_outside.specs.Time.{ClockState};
+ghost use Rattle.pam_room.specs.Plain.{plain_process};
+ghost use Rattle.pam_room.specs.State.{PlainRoom, scene_of};
+ghost use Rattle.account_files.specs.Accounts.{account_limit};
+ghost use Rattle.account_files.specs.Content.{IsWithin};
+ghost use Rattle.module_acts.specs.Comes.{Came};
+ghost use Rattle.mod_unix.specs.Look.{field_in, is_x, looks, shadow_in};
+
+use account_db::{Shadow, copy_of, entry_of, passwds, shadow_of, shadows};
+use account_files::Content;
+use module_acts::read_whole;
+use pam_base::{NoMemory, Refuse, Text};
+use pam_outside::Vault;
+use pam_room::Process;
+use std::alloc::Global;
+
+/// The most bytes of an account file.
+pub(crate) const ACCOUNT_LIMIT: u32 = 1_048_576;
+
+/// What is known of a user's password.
+#[derive(Drop)]
+pub(crate) enum Look {
+    /// There is no such user.
+    Unknown,
+    /// The account files can't be read, or lack the user's entry in `shadow`.
+    Unavailable,
+    /// The hash in `passwd`.
+    Plain(Text),
+    /// The entry in `shadow`.
+    Shadowed(Shadow),
+}
+
+// The password field of a user's entry in `passwd`.
+#[derive(Drop)]
+enum Field {
+    Unreadable,
+    Missing,
+    Holds(Text),
+}
+
+/// Looks up what is known of a user's password: in `passwd`, and where the field there is `x`, in `shadow`.
+pub(crate) fn look_up(
+    alloc: Global,
+    vault: &mut dyn Vault,
+    process: &Process,
+    user: &[u8],
+) -> Result<Look, NoMemory>
+    ensures tells { vault_tells vault.new ≡ vault_tells vault.old }
+    ensures told { IsTrue (vault_tells vault.old) → (room : PlainRoom) (clock : ClockState) →
+        IfOk result (λ look. Came look (looks user.now)
+        (scene_of room (vault_holds vault.old) clock (plain_process process.now)) (scene_of room (vault_holds vault.new) clock (plain_process process.now))) }
+{
+    let content = read_whole(alloc, vault, process, b"/etc/passwd", ACCOUNT_LIMIT)?;
+    let hash = match field_in(alloc, user, content)? {
+        Field::Unreadable => return Ok(Look::Unavailable),
+        Field::Missing => return Ok(Look::Unknown),
+        Field::Holds(hash) => hash,
+    };
+    if !is_x(hash.bytes()) {
+        return Ok(Look::Plain(hash));
+    }
+    let content = read_whole(alloc, vault, process, b"/etc/shadow", ACCOUNT_LIMIT)?;
+    let look = shadow_in(alloc, user, content)?;
+    Ok(look)
+}
+
+fn is_x(hash: &[u8]) -> bool
+    ensures { result ≡ is_x hash.now }
+{
+    hash == b"x".as_slice()
+}
+
+fn field_in(alloc: Global, user: &[u8], content: Content) -> Result<Field, NoMemory>
+    requires { IsWithin content account_limit }
+    ensures { IfOk result (λ field. field ≡ field_in user.now content) }
+{
+    let text = match content {
+        Content::Absent => return Ok(Field::Unreadable),
+        Content::Unreadable => return Ok(Field::Unreadable),
+        Content::Holds(text) => text,
+    };
+    match passwds(alloc, text.bytes()) {
+        Ok(entries) => match entry_of(user, &entries) {
+            Some(entry) => Ok(Field::Holds(Text::from_bytes(alloc, entry.password.bytes())?)),
+            None => Ok(Field::Missing),
+        },
+        Err(Refuse::NoMemory) => Err(NoMemory),
+        Err(Refuse::Named(_)) => Ok(Field::Unreadable),
+    }
+}
+
+fn shadow_in(alloc: Global, user: &[u8], content: Content) -> Result<Look, NoMemory>
+    requires { IsWithin content account_limit }
+    ensures { IfOk result (λ look. look ≡ shadow_in user.now content) }
+{
+    let text = match content {
+        Content::Absent => return Ok(Look::Unavailable),
+        Content::Unreadable => return Ok(Look::Unavailable),
+        Content::Holds(text) => text,
+    };
+    match shadows(alloc, text.bytes()) {
+        Ok(entries) => match shadow_of(user, &entries) {
+            Some(entry) => Ok(Look::Shadowed(copy_of(alloc, entry)?)),
+            None => Ok(Look::Unavailable),
+        },
+        Err(Refuse::NoMemory) => Err(NoMemory),
+        Err(Refuse::Named(_)) => Ok(Look::Unavailable),
+    }
+}

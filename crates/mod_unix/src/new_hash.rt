@@ -1,0 +1,63 @@
+ghost use Rattle.std.specs.Prelude.{◌≡◌, ◌≤◌, ◌++◌, IfOk, OnOk};
+ghost use Rattle.std.specs.Option.{option_copied};
+ghost use Rattle.sha_crypt.specs.Characters.{characters};
+ghost use Rattle.mod_unix.specs.NewHash.{method_text, new_setting, rounds_in, rounds_of, short_number};
+
+use crate::arguments::has_argument;
+use pam_base::{NoMemory, Text, number_in};
+use pam_room::Call;
+use std::alloc::Global;
+
+const ALPHABET: [u8; 64] = *b"./0123456789ABCDEFGHIJKLMNOPQRSTUVWXYZabcdefghijklmnopqrstuvwxyz";
+
+/// The setting for a new hash, with a random word.
+#[tactic(auto, unfolding(crate::specs::NewHash::new_setting))]
+pub(crate) fn new_setting(alloc: Global, call: &Call, word: u64) -> Result<Text, NoMemory>
+    ensures { IfOk result (λ text. text ≡ new_setting call.now.args.now word) }
+{
+    let mut text = Vec::new(alloc);
+    if has_argument(b"sha256", call.args) {
+        text.extend_from_slice(b"$5$")?;
+    } else {
+        text.extend_from_slice(b"$6$")?;
+    }
+    put_rounds(&mut text, alloc, call.value(b"rounds="))?;
+    put_salt(&mut text, word)?;
+    Ok(Text::from_vec(text))
+}
+
+fn put_rounds(text: &mut Vec<u8>, alloc: Global, word: Option<&[u8]>) -> Result<(), NoMemory>
+    ensures { OnOk result (text.new.items ≡ text.old.items ++ rounds_in (option_copied word.entry)) }
+{
+    let Some(word) = word else {
+        return Ok(());
+    };
+    if let Some(rounds) = short_number(word) {
+        let rounds = rounds.min(1_000_000).max(1_000);
+        let named = format!(in alloc; "rounds={rounds}$")?;
+        text.extend_from_slice(named.as_bytes())?;
+    }
+    Ok(())
+}
+
+fn short_number(word: &[u8]) -> Option<u32>
+    ensures { result ≡ short_number word.now }
+{
+    if word.len() <= 9 {
+        number_in(word)
+    } else {
+        None
+    }
+}
+
+// Adds eight characters of a word.
+fn put_salt(text: &mut Vec<u8>, word: u64) -> Result<(), NoMemory>
+    ensures { OnOk result (text.new.items ≡ text.old.items ++ characters 8 word) }
+{
+    let mut left = word;
+    for i in 0..8usize {
+        text.push(ALPHABET[(left % 64) as usize])?;
+        left /= 64;
+    }
+    Ok(())
+}

@@ -1,0 +1,124 @@
+ghost use Rattle.std.specs.Prelude.{◌≡◌, ◌≤◌, IsTrue, IfOk, IfSome, length};
+ghost use Rattle.pam_outside.specs.Time.{ClockState};
+ghost use Rattle.pam_room.specs.Plain.{plain_call, plain_process};
+ghost use Rattle.pam_room.specs.State.{PlainRoom, scene_of};
+ghost use Rattle.account_files.specs.Accounts.{account_limit};
+ghost use Rattle.account_files.specs.Content.{IsWithin};
+ghost use Rattle.module_acts.specs.Comes.{Came};
+ghost use Rattle.mod_unix.specs.Aging.{day_of};
+ghost use Rattle.mod_unix.specs.Change.{by_done, changed_shadow, changes_shadow, stores_token};
+
+use crate::look::ACCOUNT_LIMIT;
+use crate::new_hash::new_setting;
+use account_db::{replace_hash, shadow_of, shadows};
+use account_files::Content;
+use module_acts::{acting, read_whole, replace_whole};
+use pam_base::{Code, NoMemory, Refuse, Text};
+use pam_outside::Vault;
+use pam_room::{Call, Process};
+use sha_crypt::crypt;
+use std::alloc::Global;
+
+/// Hashes the new token, if there is one, and puts the hash into shadow.
+pub(crate) fn store_token(
+    alloc: Global,
+    call: &Call,
+    today: u64,
+    word: u64,
+    user: &[u8],
+    token: Option<Text>,
+    process: &Process,
+    vault: &mut dyn Vault,
+) -> Result<Code, NoMemory>
+    requires { IfSome token (λ t. length t ≤ 512) }
+    ensures tells { vault_tells vault.new ≡ vault_tells vault.old }
+    ensures told { IsTrue (vault_tells vault.old) → (room : PlainRoom) (clock : ClockState) → today ≡ day_of clock.moment → word ≡ clock.word →
+        IfOk result (λ code. Came code (stores_token (plain_call call.now) user.now token)
+        (scene_of room (vault_holds vault.old) clock (plain_process process.now)) (scene_of room (vault_holds vault.new) clock (plain_process process.now))) }
+{
+    acting();
+    let token = match token {
+        Some(token) => token,
+        None => return Ok(Code::AuthtokErr),
+    };
+    let setting = new_setting(alloc, call, word)?;
+    let hash = match crypt(alloc, setting.bytes(), token.bytes()) {
+        Ok(hash) => hash,
+        Err(refused) => match refused {
+            Refuse::NoMemory => return Err(NoMemory),
+            Refuse::Named(_) => return Ok(Code::AuthtokErr),
+        },
+    };
+    let code = change_shadow(alloc, today, user, hash.bytes(), process, vault)?;
+    Ok(code)
+}
+
+// Reads shadow again, and replaces it with the user's new hash in it.
+fn change_shadow(
+    alloc: Global,
+    today: u64,
+    user: &[u8],
+    hash: &[u8],
+    process: &Process,
+    vault: &mut dyn Vault,
+) -> Result<Code, NoMemory>
+    ensures tells { vault_tells vault.new ≡ vault_tells vault.old }
+    ensures told { IsTrue (vault_tells vault.old) → (room : PlainRoom) (clock : ClockState) →
+        IfOk result (λ code. Came code (changes_shadow user.now hash.now today)
+        (scene_of room (vault_holds vault.old) clock (plain_process process.now)) (scene_of room (vault_holds vault.new) clock (plain_process process.now))) }
+{
+    let content = read_whole(alloc, vault, process, b"/etc/shadow", ACCOUNT_LIMIT)?;
+    let text = match changed_shadow(alloc, today, user, hash, content)? {
+        Some(text) => text,
+        None => return Ok(Code::AuthtokErr),
+    };
+    let done = replace_whole(alloc, vault, process, b"/etc/shadow", text.bytes())?;
+    Ok(by_done(done))
+}
+
+fn by_done(done: bool) -> Code
+    ensures { result ≡ by_done done }
+{
+    if done {
+        Code::Success
+    } else {
+        Code::AuthtokErr
+    }
+}
+
+// The text of shadow with the new hash, where the user has an entry.
+#[tactic(auto, unfolding(crate::specs::Change::changed_shadow))]
+fn changed_shadow(
+    alloc: Global,
+    today: u64,
+    user: &[u8],
+    hash: &[u8],
+    content: Content,
+) -> Result<Option<Text>, NoMemory>
+    requires { IsWithin content account_limit }
+    ensures { IfOk result (λ text. text ≡ changed_shadow user.now hash.now today content) }
+{
+    let text = match content {
+        Content::Absent => return Ok(None),
+        Content::Unreadable => return Ok(None),
+        Content::Holds(text) => text,
+    };
+    match shadows(alloc, text.bytes()) {
+        Ok(entries) => {
+            if shadow_of(user, &entries).is_none() {
+                return Ok(None);
+            }
+        }
+        Err(refused) => match refused {
+            Refuse::NoMemory => return Err(NoMemory),
+            Refuse::Named(_) => return Ok(None),
+        },
+    }
+    match replace_hash(alloc, text.bytes(), user, hash, today) {
+        Ok(changed) => Ok(Some(changed)),
+        Err(refused) => match refused {
+            Refuse::NoMemory => Err(NoMemory),
+            Refuse::Named(_) => Ok(None),
+        },
+    }
+}

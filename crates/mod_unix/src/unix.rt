@@ -1,0 +1,163 @@
+ghost use Rattle.std.specs.Prelude.{◌≡◌, IfOk, Some, codes};
+ghost use Rattle.conv_port.specs.Conv.{ConvState};
+ghost use Rattle.data_cleanup.specs.Sets.{Sets};
+ghost use Rattle.pam_outside.specs.Files.{VaultState};
+ghost use Rattle.pam_outside.specs.Time.{ClockState};
+ghost use Rattle.pam_room.specs.Module.{length_note, named_data};
+ghost use Rattle.pam_room.specs.Plain.{plain_process};
+ghost use Rattle.pam_room.specs.State.{Scene};
+ghost use Rattle.account_files.specs.Act.{Act, answers};
+ghost use Rattle.module_acts.specs.Comes.{Comes, Goes, lent};
+ghost use Rattle.mod_unix.specs.declared.authenticate.Answer.{Answer};
+ghost use Rattle.mod_unix.specs.Authenticate.{settles};
+ghost use Rattle.mod_unix.specs.Unix.{code_in, kept_code, payload_named, unix_plays};
+
+use crate::account::check_account;
+use crate::aging::day_of;
+use crate::authenticate::{Answer, authenticate};
+use crate::change::change_token;
+use conv_port::Conv;
+use data_cleanup::{DataList, Datum, Receipt};
+use module_acts::{acting, answer_and_keep, talking};
+use pam_base::{Code, ConvErr, Func, NoMemory, Refuse, code_number, code_of};
+use pam_outside::{Clock, Vault, current_moment, random_word};
+use pam_room::{Call, Module, Process, Transaction, spend_by_length};
+use std::alloc::Global;
+
+/// The name of the datum in which the answer of authenticate is kept for setcred.
+const SETCRED_RETURN: &[u8] = b"unix_setcred_return";
+
+/// `pam_unix(8)`: the user's password in `passwd` and `shadow`.
+#[derive(Drop)]
+pub struct Unix;
+
+impl Unix {
+    /// The module; it keeps nothing.
+    pub fn new() -> Self {
+        Unix
+    }
+}
+
+impl Module for Unix {
+    ghost label = { λ _. codes "pam_unix" };
+
+    ghost plays = { λ _. unix_plays };
+
+    ghost note = { λ _. length_note };
+
+    fn name(&self) -> &[u8] {
+        b"pam_unix"
+    }
+
+    fn serve(
+        &self,
+        alloc: Global,
+        call: &Call,
+        transaction: &mut Transaction,
+        process: &mut Process,
+        conv: &mut dyn Conv,
+        vault: &mut dyn Vault,
+        clock: &mut dyn Clock,
+    ) -> Result<Code, NoMemory> {
+        acting();
+        talking();
+        match call.func {
+            Func::Authenticate => {
+                let answer = authenticate(alloc, call, transaction, process, conv, vault);
+                settle(alloc, transaction, process, answer)
+            }
+            Func::SetCred => Ok(kept_code(&transaction.datums)),
+            Func::AcctMgmt => {
+                let answer = check_account(alloc, transaction, process, conv, vault, clock);
+                ended(answer)
+            }
+            Func::ChAuthTok => {
+                let word = random_word(clock);
+                let today = day_of(current_moment(clock));
+                let answer = change_token(
+                    alloc,
+                    call,
+                    today,
+                    word,
+                    transaction,
+                    process,
+                    conv,
+                    vault,
+                );
+                ended(answer)
+            }
+            Func::OpenSession => Ok(Code::Success),
+            Func::CloseSession => Ok(Code::Success),
+        }
+    }
+
+    fn tidy(&self, datum: Datum, status: u32) -> Receipt {
+        spend_by_length(datum, status)
+    }
+}
+
+// Answers, and keeps the answer for setcred.
+fn settle(
+    alloc: Global,
+    transaction: &mut Transaction,
+    process: &mut Process,
+    answer: Result<Answer, Refuse<ConvErr>>,
+) -> Result<Code, NoMemory>
+    requires { transaction.old.datums.handle ≡ transaction.old.handle }
+    ensures told { (step : (Answer → Act) → Act) (s : Scene) (conv : ConvState) (vault : VaultState) (clock : ClockState) →
+        Comes answer step s (lent transaction.old conv vault clock (plain_process process.old)) →
+        IfOk result (λ code. Goes (step settles) s code (lent transaction.new conv vault clock (plain_process process.new))) }
+    ensures sets { Sets transaction.old.serving transaction.old.datums process.old.ledger transaction.new.datums process.new.ledger }
+    ensures data_handle { transaction.new.datums.handle ≡ transaction.old.datums.handle }
+    ensures others { transaction.new ≡ record transaction.old { datums = transaction.new.datums } }
+    ensures process { process.new ≡ record process.old { ledger = process.new.ledger } }
+{
+    acting();
+    talking();
+    match answer {
+        Ok(answer) => match answer {
+            Answer::Kept(code) => {
+                let number = [code_number(code) as u8];
+                answer_and_keep(alloc, transaction, process, SETCRED_RETURN, &number, code)
+            }
+            Answer::Unkept(code) => Ok(code),
+        },
+        Err(refused) => match refused {
+            Refuse::NoMemory => Err(NoMemory),
+            Refuse::Named(_) => Ok(Code::ConvErr),
+        },
+    }
+}
+
+// The answer, which is CONV_ERR where the conversation gave no reply.
+fn ended(answer: Result<Code, Refuse<ConvErr>>) -> Result<Code, NoMemory>
+    ensures told { (step : (Code → Act) → Act) (old new : Scene) → Comes answer step old new → IfOk result (λ code. Goes (step answers) old code new) }
+{
+    acting();
+    match answer {
+        Ok(code) => Ok(code),
+        Err(refused) => match refused {
+            Refuse::NoMemory => Err(NoMemory),
+            Refuse::Named(_) => Ok(Code::ConvErr),
+        },
+    }
+}
+
+// The answer that was kept for setcred.
+fn kept_code(datums: &DataList) -> Code
+    ensures { result ≡ kept_code (named_data datums.now.live) }
+{
+    match datums.get(SETCRED_RETURN) {
+        Ok(payload) => code_in(payload),
+        Err(_) => Code::Success,
+    }
+}
+
+fn code_in(payload: &[u8]) -> Code
+    ensures { result ≡ code_in (Some payload.now) }
+{
+    match payload {
+        [number] => code_of(u32::from(*number)).unwrap_or(Code::Success),
+        _ => Code::Success,
+    }
+}

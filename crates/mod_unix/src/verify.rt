@@ -1,0 +1,44 @@
+ghost use Rattle.std.specs.Prelude.{◌≡◌, IfOk};
+ghost use Rattle.mod_unix.specs.Verify.{hash_verified, is_locked, verified};
+
+use crate::look::Look;
+use pam_base::{Code, NoMemory, Refuse};
+use sha_crypt::crypt;
+use std::alloc::Global;
+
+/// Whether a token is the user's: SUCCESS or AUTH_ERR, and by what is known of the user USER_UNKNOWN or
+/// AUTHINFO_UNAVAIL.
+pub(crate) fn verify(alloc: Global, look: &Look, token: &[u8]) -> Result<Code, NoMemory>
+    ensures { IfOk result (λ code. code ≡ verified look.now token.now) }
+{
+    match look {
+        Look::Unknown => Ok(Code::UserUnknown),
+        Look::Unavailable => Ok(Code::AuthinfoUnavail),
+        Look::Plain(hash) => verify_hash(alloc, hash.bytes(), token),
+        Look::Shadowed(entry) => verify_hash(alloc, entry.hash.bytes(), token),
+    }
+}
+
+#[tactic(auto, unfolding(crate::specs::Verify::hash_verified))]
+pub(crate) fn verify_hash(alloc: Global, hash: &[u8], token: &[u8]) -> Result<Code, NoMemory>
+    ensures { IfOk result (λ code. code ≡ hash_verified hash.now token.now) }
+{
+    if is_locked(hash) || token.len() > 512 {
+        return Ok(Code::AuthErr);
+    }
+    match crypt(alloc, hash, token) {
+        Ok(made) if made.bytes() == hash => Ok(Code::Success),
+        Ok(_) => Ok(Code::AuthErr),
+        Err(Refuse::NoMemory) => Err(NoMemory),
+        Err(Refuse::Named(_)) => Ok(Code::AuthinfoUnavail),
+    }
+}
+
+fn is_locked(hash: &[u8]) -> bool
+    ensures { result ≡ is_locked hash.now }
+{
+    match hash {
+        [] => true,
+        [first, ..] => *first == b'!' || *first == b'*',
+    }
+}
