@@ -1,0 +1,5 @@
+use Rattle.frame_stream.proofs.Seeing.{steps_looked}
+use Rattle.frame_stream.proofs.laws.steps_are_looked_at.Goals as goal
+
+pub returns : goal.returns
+returns c = steps_looked c.front_settles.ensures c.frame_is_read.ensures

@@ -1,0 +1,3 @@
+pub mod Looked
+pub mod Run
+pub mod Laws

@@ -1,0 +1,28 @@
+-- Which frames of a stream are looked at, of the bytes that were taken so far.
+use Rattle.std.specs.Prelude.{◌≡◌, ◌⊎◌, ℕ, zero, suc, ◌+◌, ◌≤◌, Bool, List, [], ◌∷◌, length, take, drop, Option, None, nat_le, if◌then◌else◌}
+use Rattle.pam_wire.specs.declared.front.Front.{Front}
+use Rattle.pam_wire.specs.declared.front.Front.TheVariants.{Open, OutOfRange, Whole}
+use Rattle.pam_wire.specs.Read.{front_of, step_of}
+
+-- A frame that is whole is looked at, and then what stands behind it. A length that no frame has is looked at with all
+-- that stands behind it, and the beginning of a frame where the input has ended.
+abbrev pub looked_by : Front → List ℕ → Bool → (ℕ → List (List ℕ)) → List (List ℕ)
+looked_by Open bytes ended behind = if ended then bytes ∷ [] else []
+looked_by OutOfRange bytes ended behind = bytes ∷ []
+looked_by (Whole size) bytes ended behind = take size bytes ∷ behind size
+
+-- the frames among some bytes, where n stand before them; at most `most` of them
+unfoldable pub looked_most : ℕ → ℕ → List ℕ → Bool → List (List ℕ)
+looked_most most n [] ended = []
+looked_most zero n (b ∷ bs) ended = []
+looked_most (suc most) n (b ∷ bs) ended =
+    if nat_le 65536 n then (b ∷ bs) ∷ []
+    else looked_by (front_of (b ∷ bs)) (b ∷ bs) ended (λ size. looked_most most (n + 1) (drop size (b ∷ bs)) ended)
+
+-- a frame has a byte at least, so there are at most as many as bytes
+unfoldable pub looked : ℕ → List ℕ → Bool → List (List ℕ)
+looked n bytes ended = looked_most (length bytes) n bytes ended
+
+-- a frame that is one too many, or no call
+abbrev pub refuses : ℕ → List ℕ → Type 0
+refuses n frame = (65536 ≤ n) ⊎ (step_of frame ≡ None)

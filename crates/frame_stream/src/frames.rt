@@ -1,0 +1,59 @@
+ghost use Rattle.std.specs.Prelude.{List, ℕ};
+ghost use Rattle.pam_base.specs.declared.call.Step.{Step};
+
+use crate::front::front_of_frames;
+use item_stream::{Front, Stepping};
+use pam_wire::front_settles;
+use std::marker::PhantomData;
+
+/// What the calls of a front end do, for those who state what a run over them comes to. It has ghost members alone.
+pub trait CallStepping {
+    /// What stays the same in a run.
+    ghost Setting: { Type 0 };
+
+    /// What a call changes.
+    ghost State: { Type 0 };
+
+    /// The state after a call, and the answer that is written for it.
+    ghost answers: { Setting → State → Step → State × List ℕ };
+
+    /// The states that a frame may leave whose call found no memory.
+    ghost fails: { Setting → State → List ℕ → State → Type 0 };
+}
+
+/// The stream of the frames of such calls.
+pub struct FramesOf<R: CallStepping> {
+    of: PhantomData<R>,
+}
+
+impl<R: CallStepping> Stepping for FramesOf<R> {
+    ghost use Rattle.frame_stream.specs.declared.fault.FrameFault.{FrameFault};
+    ghost use Rattle.frame_stream.specs.Looked.{looked, refuses};
+    ghost use Rattle.frame_stream.specs.Run.{step_at};
+
+    ghost Kind = { FrameFault };
+
+    ghost Setting = { R.Setting };
+
+    ghost State = { R.State };
+
+    ghost looked = { looked };
+
+    ghost step = { λ setting. step_at (R.answers setting) };
+
+    ghost refuses = { refuses };
+
+    ghost fails = { R.fails };
+
+    fn front(before: u32, held: &[u8]) -> Front {
+        front_of_frames(before, held)
+    }
+
+    fn cuts() {
+        front_settles();
+    }
+
+    fn keeps() {
+        front_settles();
+    }
+}

@@ -1,0 +1,25 @@
+ghost use Rattle.item_stream.specs.Front.{IsFront};
+ghost use Rattle.frame_stream.specs.Looked.{looked, refuses};
+
+use crate::limit::MAX_FRAMES;
+use item_stream::Front;
+use pam_wire::{Front as FrameFront, front_of, front_settles};
+
+/// What stands at the front of bytes behind so many frames: a frame, which may be no call; nothing yet; or a length that
+/// no frame has, or the first byte of one frame too many.
+pub fn front_of_frames(before: u32, held: &[u8]) -> Front
+    ensures { IsFront looked refuses result before held.now }
+{
+    front_settles();
+    if held.is_empty() {
+        return Front::Wait;
+    }
+    if before >= MAX_FRAMES {
+        return Front::Last;
+    }
+    match front_of(held) {
+        FrameFront::Open => Front::Wait,
+        FrameFront::OutOfRange => Front::Last,
+        FrameFront::Whole(size) => Front::Item { length: size, size },
+    }
+}

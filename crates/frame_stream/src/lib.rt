@@ -1,0 +1,15 @@
+//! A stream of frames: how they are cut from its bytes, and what a run over them comes to, whatever a call does. It
+//! knows nothing of transactions.
+#![tactic(auto)]
+
+mod fault;
+mod frames;
+mod front;
+mod laws;
+mod limit;
+
+pub use fault::FrameFault;
+pub use frames::{CallStepping, FramesOf};
+pub use front::front_of_frames;
+pub use laws::steps_are_looked_at;
+pub use limit::MAX_FRAMES;

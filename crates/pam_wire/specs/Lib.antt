@@ -1,0 +1,5 @@
+pub mod Kind
+pub mod Frame
+pub mod Read
+pub mod Stream
+pub mod Laws

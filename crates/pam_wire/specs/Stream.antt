@@ -1,0 +1,76 @@
+-- Frames, taken from bytes that are fed piece by piece (this project's own).
+use Rattle.std.specs.Prelude.{◌≡◌, ℕ, ◌+◌, ◌-◌, ◌<◌, ◌≤◌, List, [], ◌∷◌, ◌++◌, length, take, drop, Option, Some, None, Result, Ok, Err, IsTrue}
+use Rattle.std.specs.List.{AllByRecursion}
+use Rattle.pam_base.specs.declared.call.Step.{Step}
+use Rattle.pam_base.specs.declared.fault.Refuse.{Refuse}
+use Rattle.pam_base.specs.declared.fault.Refuse.TheVariants.{NoMemory, Named}
+use Rattle.pam_wire.specs.declared.front.Front.{Front}
+use Rattle.pam_wire.specs.declared.front.Front.TheVariants.{Open, OutOfRange, Whole}
+use Rattle.pam_wire.specs.declared.frames.BadFrame.{BadFrame}
+use Rattle.pam_wire.specs.declared.next.Next.{Next}
+use Rattle.pam_wire.specs.declared.next.Next.TheVariants as next
+use Rattle.pam_wire.specs.Frame.{has_frame, sized, frames_of}
+use Rattle.pam_wire.specs.Read.{front_of, step_in}
+
+-- how many bytes stand before the next frame, and the bytes from there on
+pub record FramesState : Type 0 where
+  pub place : ℕ
+  pub rest : List ℕ
+
+-- ---- what stands in front
+
+-- the step of a whole frame, if it has one
+abbrev pub next_in : Option Step → ℕ → Next
+next_in None size = next.Bad
+next_in (Some step) size = next.Frame step size
+
+abbrev pub next_by : Front → List ℕ → Next
+next_by Open rest = next.Open
+next_by OutOfRange rest = next.Bad
+next_by (Whole size) rest = next_in (step_in (take (size - 2) (drop 2 rest))) size
+
+abbrev pub next_of : List ℕ → Next
+next_of rest = next_by (front_of rest) rest
+
+-- the next step is taken, or there is none yet, or there is no frame; without memory all is as before
+abbrev pub Nexts : Result (Option Step) (Refuse BadFrame) → FramesState → FramesState → Type 0
+Nexts (Ok (Some step)) old new = (size : ℕ) × (next_of old.rest ≡ next.Frame step size) × (new ≡ record { place = old.place + size; rest = drop size old.rest })
+Nexts (Ok None) old new = (next_of old.rest ≡ next.Open) × (new ≡ old)
+Nexts (Err (Named fault)) old new = (next_of old.rest ≡ next.Bad) × (fault.place ≡ old.place) × (new ≡ old)
+Nexts (Err NoMemory) old new = new ≡ old
+
+-- ---- the same by the table of frames alone
+
+-- from 2 to 580 bytes follow a length
+abbrev pub IsBody : List ℕ → Type 0
+IsBody body = (2 ≤ length body) × (length body ≤ 580)
+
+-- nothing, or a front of a frame whose length is in range, and not all of it
+pub record IsOpen (rest : List ℕ) : Type 0 where
+  pub body : List ℕ
+  pub more : List ℕ
+  pub body_is : IsBody body
+  pub some : 0 < length more
+  pub parts : sized body ≡ rest ++ more
+
+-- the bytes are the frames of these steps, and a rest behind them
+pub record AreFramesOf (bytes : List ℕ) (steps : List Step) (rest : List ℕ) : Type 0 where
+  pub framed : AllByRecursion (λ (step : Step). IsTrue (has_frame step)) steps
+  pub parts : bytes ≡ frames_of steps ++ rest
+
+-- no step's frame stands in front of it
+abbrev pub HasNoFrame : List ℕ → Type 0
+HasNoFrame rest = (step : Step) (more : List ℕ) → IsTrue (has_frame step) → AreFramesOf rest (step ∷ []) more → ⊥
+
+-- what was fed, and the steps that were given of it
+pub record Gave (fed : List ℕ) (steps : List Step) (now : FramesState) : Type 0 where
+  pub frames : AreFramesOf fed steps now.rest
+  pub place : now.place ≡ length (frames_of steps)
+
+-- The steps given are those at the front of the bytes fed, and a step is given where one more is there; none is
+-- exactly where what is behind them is open, and a fault names the first byte behind them.
+abbrev pub GivesNext : Result (Option Step) (Refuse BadFrame) → List ℕ → List Step → FramesState → Type 0
+GivesNext (Ok (Some step)) fed steps new = Gave fed (steps ++ step ∷ []) new
+GivesNext (Ok None) fed steps new = Gave fed steps new × IsOpen new.rest
+GivesNext (Err (Named fault)) fed steps new = Gave fed steps new × HasNoFrame new.rest × (IsOpen new.rest → ⊥) × (fault.place ≡ length (frames_of steps))
+GivesNext (Err NoMemory) fed steps new = Gave fed steps new

@@ -1,0 +1,52 @@
+ghost use Rattle.std.specs.Prelude.{◌≡◌, length};
+ghost use Rattle.pam_wire.specs.Read.{front_by, front_of};
+
+/// The least and the most bytes behind a length.
+const MIN_BODY: usize = 2;
+
+const MAX_BODY: usize = 580;
+
+/// The bytes of a length.
+pub(crate) const LENGTH: usize = 2;
+
+/// What stands at the front of some bytes.
+#[derive(Clone, Copy, Debug, PartialEq, Eq)]
+pub enum Front {
+    /// Nothing, or the beginning of a frame.
+    Open,
+    /// A length that no frame has.
+    OutOfRange,
+    /// A frame of so many bytes, its length among them. It may be no call.
+    Whole(usize),
+}
+
+/// What stands at the front of some bytes, by the length that they begin with alone.
+pub fn front_of(bytes: &[u8]) -> Front
+    ensures { result ≡ front_of bytes.now }
+{
+    match bytes {
+        [] => Front::Open,
+        [high] => {
+            if *high > 2 {
+                Front::OutOfRange
+            } else {
+                Front::Open
+            }
+        }
+        [high, low, more @ ..] => {
+            front_by(usize::from(u16::from_be_bytes([*high, *low])), more.len())
+        }
+    }
+}
+
+fn front_by(said: usize, follow: usize) -> Front
+    ensures { result ≡ front_by said follow }
+{
+    if said < MIN_BODY || MAX_BODY < said {
+        Front::OutOfRange
+    } else if said <= follow {
+        Front::Whole(said + LENGTH)
+    } else {
+        Front::Open
+    }
+}

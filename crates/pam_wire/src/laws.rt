@@ -1,0 +1,30 @@
+ghost use Rattle.pam_wire.specs.Laws.{ReadsTable, HasOneFrame, IsOneStep, BeginsNoOther, HasOneReading, FrontSettles};
+
+// Each of these does nothing: its contract is a law about the definitions, for those who call it in a proof.
+
+/// Bytes are read as a step exactly where they are its frame by the table.
+pub fn frame_is_read()
+    ensures { ReadsTable }
+{}
+
+/// No step has two frames, and no bytes are the frames of two steps.
+pub fn frame_of_a_step_is_one()
+    ensures one_frame { HasOneFrame }
+    ensures one_step { IsOneStep }
+{}
+
+/// No frame is the beginning of another.
+pub fn no_frame_begins_another()
+    ensures { BeginsNoOther }
+{}
+
+/// The steps that are read of some bytes, and what is left behind them, depend on the bytes alone, and not on how they
+/// were cut into pieces.
+pub fn steps_are_those_of_the_bytes()
+    ensures { HasOneReading }
+{}
+
+/// What stands in front of some bytes stays so, whatever follows them.
+pub fn front_settles()
+    ensures { FrontSettles }
+{}

@@ -1,0 +1,31 @@
+ghost use Rattle.std.specs.Prelude.{◌≡◌, IfOk};
+ghost use Rattle.pam_wire.specs.Stream.{next_of};
+
+use crate::front::{Front, LENGTH, front_of};
+use crate::step::step_in;
+use pam_base::{NoMemory, Step};
+use std::alloc::Global;
+
+/// What stands at the front of some bytes.
+#[derive(Debug, Drop)]
+pub enum Next {
+    /// Nothing, or the beginning of a frame.
+    Open,
+    /// No frame, or one that is no call.
+    Bad,
+    /// The frame of a step, of so many bytes.
+    Frame(Step, usize),
+}
+
+pub(crate) fn next_of(alloc: Global, bytes: &[u8]) -> Result<Next, NoMemory>
+    ensures { IfOk result (λ next. next ≡ next_of bytes.now) }
+{
+    match front_of(bytes) {
+        Front::Open => Ok(Next::Open),
+        Front::OutOfRange => Ok(Next::Bad),
+        Front::Whole(size) => match step_in(alloc, &bytes[LENGTH..size])? {
+            Some(step) => Ok(Next::Frame(step, size)),
+            None => Ok(Next::Bad),
+        },
+    }
+}

@@ -1,0 +1,185 @@
+ghost use Rattle.std.specs.Prelude.{◌≡◌, IfOk, IfSome, IsTrue};
+ghost use Rattle.pam_base.specs.Call.{is_fit};
+ghost use Rattle.pam_wire.specs.Read.{number_in, text_in, name_in, value_in, switch_in, item_in, item_of_number, setting_in, start_in, list_in, call_in, step_in, step_of};
+
+use crate::front::{Front, LENGTH, front_of};
+use crate::kind::Kind;
+use pam_base::{ALL_ITEMS, AppCall, ItemName, NoMemory, Step, Text, is_service_name};
+use std::alloc::Global;
+
+/// The most bytes of a text.
+const MAX_TEXT: usize = 512;
+
+/// The step that these bytes are the frame of. None exactly where they are no frame, or one that is no call.
+pub fn step_of(alloc: Global, frame: &[u8]) -> Result<Option<Step>, NoMemory>
+    ensures step { IfOk result (λ step. step ≡ step_of frame.now) }
+
+    // A start names a service, and a reply has at most 512 bytes.
+    ensures fit { IfOk result (λ found. IfSome found (λ step. IsTrue (is_fit step.call))) }
+{
+    match front_of(frame) {
+        Front::Whole(size) => {
+            if size == frame.len() {
+                step_in(alloc, &frame[LENGTH..])
+            } else {
+                Ok(None)
+            }
+        }
+        Front::Open | Front::OutOfRange => Ok(None),
+    }
+}
+
+/// The step of what stands behind a length. None exactly where it is no call.
+pub(crate) fn step_in(alloc: Global, body: &[u8]) -> Result<Option<Step>, NoMemory>
+    ensures step { IfOk result (λ step. step ≡ step_in body.now) }
+    ensures fit { IfOk result (λ found. IfSome found (λ step. IsTrue (is_fit step.call))) }
+{
+    let [number, kind, rest @ ..] = body else {
+        return Ok(None);
+    };
+    let Some(kind) = Kind::numbered(*kind) else {
+        return Ok(None);
+    };
+    let number = u32::from(*number);
+    match call_in(alloc, kind, rest)? {
+        Some(call) => Ok(Some(Step { number, call })),
+        None => Ok(None),
+    }
+}
+
+fn call_in(alloc: Global, kind: Kind, rest: &[u8]) -> Result<Option<AppCall>, NoMemory>
+    ensures { IfOk result (λ call. call ≡ call_in kind rest.now) }
+{
+    let number = number_in(rest);
+    Ok(match kind {
+        Kind::Start => start_in(alloc, rest)?,
+        Kind::End => number.map(|status| AppCall::End { status }),
+        Kind::Authenticate => number.map(|flags| AppCall::Authenticate { flags }),
+        Kind::SetCred => number.map(|flags| AppCall::SetCred { flags }),
+        Kind::AcctMgmt => number.map(|flags| AppCall::AcctMgmt { flags }),
+        Kind::OpenSession => number.map(|flags| AppCall::OpenSession { flags }),
+        Kind::CloseSession => number.map(|flags| AppCall::CloseSession { flags }),
+        Kind::ChAuthTok => number.map(|flags| AppCall::ChAuthTok { flags }),
+        Kind::SetItem => setting_in(alloc, rest)?,
+        Kind::GetItem => item_in(rest).map(|item| AppCall::GetItem { item }),
+        Kind::PutEnv => text_in(alloc, rest)?.map(|text| AppCall::PutEnv { text }),
+        Kind::GetEnv => name_in(alloc, rest)?.map(|name| AppCall::GetEnv { name }),
+        Kind::EnvList => list_in(rest),
+        Kind::FailDelay => number.map(|micros| AppCall::FailDelay { micros }),
+        Kind::DelayFn => switch_in(rest).map(|on| AppCall::DelayFn { on }),
+        Kind::Reply => text_in(alloc, rest)?.map(|text| AppCall::Reply { text }),
+    })
+}
+
+// ---- what stands behind a kind
+
+fn number_in(rest: &[u8]) -> Option<u32>
+    ensures { result ≡ number_in rest.now }
+{
+    match rest {
+        [a, b, c, d] => Some(u32::from_be_bytes([*a, *b, *c, *d])),
+        _ => None,
+    }
+}
+
+fn text_in(alloc: Global, rest: &[u8]) -> Result<Option<Text>, NoMemory>
+    ensures { IfOk result (λ text. text ≡ text_in rest.now) }
+{
+    if rest.len() <= MAX_TEXT {
+        Ok(Some(Text::from_bytes(alloc, rest)?))
+    } else {
+        Ok(None)
+    }
+}
+
+fn name_in(alloc: Global, rest: &[u8]) -> Result<Option<Text>, NoMemory>
+    ensures { IfOk result (λ name. name ≡ name_in rest.now) }
+{
+    if rest.is_empty() {
+        Ok(None)
+    } else {
+        text_in(alloc, rest)
+    }
+}
+
+// 0 for none; or 1 and the text.
+fn value_in(alloc: Global, rest: &[u8]) -> Result<Option<Option<Text>>, NoMemory>
+    ensures { IfOk result (λ value. value ≡ value_in rest.now) }
+{
+    match rest {
+        [0] => Ok(Some(None)),
+        [1, text @ ..] => Ok(text_in(alloc, text)?.map(Some)),
+        _ => Ok(None),
+    }
+}
+
+fn switch_in(rest: &[u8]) -> Option<bool>
+    ensures { result ≡ switch_in rest.now }
+{
+    match rest {
+        [0] => Some(false),
+        [1] => Some(true),
+        _ => None,
+    }
+}
+
+fn item_in(rest: &[u8]) -> Option<ItemName>
+    ensures { result ≡ item_in rest.now }
+{
+    match rest {
+        [number] => item_of_number(*number),
+        _ => None,
+    }
+}
+
+fn item_of_number(number: u8) -> Option<ItemName>
+    ensures { result ≡ item_of_number number }
+{
+    ALL_ITEMS
+        .iter()
+        .copied()
+        .find(|item| item.number() == u32::from(number))
+}
+
+fn setting_in(alloc: Global, rest: &[u8]) -> Result<Option<AppCall>, NoMemory>
+    ensures { IfOk result (λ call. call ≡ setting_in rest.now) }
+{
+    let [number, value @ ..] = rest else {
+        return Ok(None);
+    };
+    let Some(item) = item_of_number(*number) else {
+        return Ok(None);
+    };
+    match value_in(alloc, value)? {
+        Some(value) => Ok(Some(AppCall::SetItem { item, value })),
+        None => Ok(None),
+    }
+}
+
+// One byte that says how long the service's name is, then the name, and perhaps a user.
+fn start_in(alloc: Global, rest: &[u8]) -> Result<Option<AppCall>, NoMemory>
+    ensures { IfOk result (λ call. call ≡ start_in rest.now) }
+{
+    let [size, more @ ..] = rest else {
+        return Ok(None);
+    };
+    let size = usize::from(*size);
+    if size > more.len() || !is_service_name(&more[..size]) {
+        return Ok(None);
+    }
+    let Some(user) = value_in(alloc, &more[size..])? else {
+        return Ok(None);
+    };
+    let service = Text::from_bytes(alloc, &more[..size])?;
+    Ok(Some(AppCall::Start { service, user }))
+}
+
+fn list_in(rest: &[u8]) -> Option<AppCall>
+    ensures { result ≡ list_in rest.now }
+{
+    if rest.is_empty() {
+        Some(AppCall::EnvList)
+    } else {
+        None
+    }
+}

@@ -1,0 +1,5 @@
+pub mod Serving
+pub mod Spending
+pub mod Telling
+pub mod Answering
+pub mod Wholly

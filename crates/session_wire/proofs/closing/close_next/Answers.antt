@@ -1,0 +1,22 @@
+use Rattle.std.proofs.Common.{ap, length, refl}
+use Rattle.session_wire.proofs.Answering.{one_written, one_cut, one_unwritten, none_left}
+use Rattle.session_wire.proofs.closing.close_next.Goals as goal
+
+pub returns-in_default-clause-told : goal.returns-in_default-clause-told
+returns-in_default-clause-told g c = λ sink. none_left _ _ _ _ _ c.in_default.ensures.none c.in_default.ensures.stays
+
+pub returns-in-Err-clause-told : goal.returns-in-Err-clause-told
+returns-in-Err-clause-told g c = λ sink. one_unwritten _ _ _ _ _ _ c.in-Some.ensures.some
+
+pub returns-in-Err-answer_of-clause-told : goal.returns-in-Err-answer_of-clause-told
+returns-in-Err-answer_of-clause-told g c = λ sink. one_unwritten _ _ _ _ _ _ c.in-Some.ensures.some
+
+pub returns-in-Ok-write_all-clause-told : goal.returns-in-Ok-write_all-clause-told
+returns-in-Ok-write_all-clause-told g c = λ sink.
+    one_written _ _ c.in-Some.number _ _ _ _ _ _ _ _ c.in-Some.ensures.some c.in-Ok.ensures (rw c.end_next.ensures.gear refl) (ap length c.filed.ensures) (rw c.as_bytes.ensures.value at c.in-Ok-answer_of.ensures)
+    c.in-Ok-write_all.field-0 (rw c.bytes.ensures at (c.in-Ok-write_all.ensures.told sink))
+
+pub returns-clause-told : goal.returns-clause-told
+returns-clause-told g c = λ sink.
+    one_cut _ _ c.in-Some.number _ _ _ _ _ _ _ _ c.in-Some.ensures.some c.in-Ok.ensures (rw c.end_next.ensures.gear refl) (ap length c.filed.ensures) (rw c.as_bytes.ensures.value at c.in-Ok-answer_of.ensures)
+    c.in-Err-write_all.field-0 (rw c.bytes.ensures at (c.in-Err-write_all.ensures.told sink))

@@ -1,0 +1,100 @@
+ghost use Rattle.std.specs.Prelude.{◌≡◌, ◌<◌, true, false, Ok, IsTrue, OnOk};
+ghost use Rattle.pam_outside.specs.Counts.{RisesIf};
+ghost use Rattle.pam_library.specs.Plain.{gear_in};
+ghost use Rattle.pam_library.specs.Slots.{NoneIsOpen};
+ghost use Rattle.pam_library.specs.Sound.{IsSoundFor};
+ghost use Rattle.item_stream.specs.Turns.{has_write_fault};
+ghost use Rattle.session_run.specs.State.{state_of};
+ghost use Rattle.session_run.specs.Closings.{open_count};
+ghost use Rattle.session_wire.specs.Answered.{Closes, ClosesNext};
+
+use item_stream::Stop;
+use pam_base::{Code, Failed, NoMemory};
+use pam_handle::{Gear, GearTold};
+use pam_library::{Library, LibraryTold};
+use pam_outside::{Sink, write_all};
+use pam_room::{World, WorldTold};
+use pam_wire::answer_of;
+use session_report::closing_report;
+use session_run::end_next;
+use std::alloc::Global;
+
+/// Ends every open transaction with this status, the lowest number first, and writes the answer of each before the next
+/// is ended. Where that stops, the one that was ended last isn't answered whole, and those behind it are open.
+pub(crate) fn close_answered<K: Sink>(
+    alloc: Global,
+    library: &mut Library,
+    status: Code,
+    sink: &mut K,
+    world: &mut World,
+) -> Result<(), Stop>
+    requires { IsSoundFor (⟦<Gear as GearTold>⟧.players (gear_in library.old)) (⟦<Library as LibraryTold>⟧.slots library.old) world.old.process.ledger }
+    ensures gear { gear_in library.new ≡ gear_in library.old }
+    ensures tells { ⟦<Library as LibraryTold>⟧.tells library.new ≡ ⟦<Library as LibraryTold>⟧.tells library.old }
+    ensures world_tells { ⟦<World as WorldTold>⟧.tells world.new ≡ ⟦<World as WorldTold>⟧.tells world.old }
+    ensures sink_tells { K.sink_tells sink.new ≡ K.sink_tells sink.old }
+    ensures told { IsTrue (K.sink_tells sink.old) →
+        Closes (⟦<Gear as GearTold>⟧.players (gear_in library.old)) status result
+        (state_of (⟦<Library as LibraryTold>⟧.slots library.old) (⟦<World as WorldTold>⟧.plain world.old))
+        (state_of (⟦<Library as LibraryTold>⟧.slots library.new) (⟦<World as WorldTold>⟧.plain world.new))
+        (K.sink_holds sink.old) (K.sink_holds sink.new) }
+    ensures none_open { OnOk result (NoneIsOpen (⟦<Library as LibraryTold>⟧.slots library.new)) }
+    ensures sound { IsSoundFor (⟦<Gear as GearTold>⟧.players (gear_in library.new)) (⟦<Library as LibraryTold>⟧.slots library.new) world.new.process.ledger }
+    ensures faults { RisesIf (has_write_fault result) (K.sink_faults sink.old) (K.sink_faults sink.new) }
+{
+    loop {
+        match close_next(alloc, library, status, sink, world) {
+            Ok(true) => {}
+            Ok(false) => return Ok(()),
+            Err(stop) => return Err(stop),
+        }
+    }
+}
+
+// Ends the open transaction with the lowest number and writes its answer. Answers whether one was open.
+fn close_next<K: Sink>(
+    alloc: Global,
+    library: &mut Library,
+    status: Code,
+    sink: &mut K,
+    world: &mut World,
+) -> Result<bool, Stop>
+    requires { IsSoundFor (⟦<Gear as GearTold>⟧.players (gear_in library.old)) (⟦<Library as LibraryTold>⟧.slots library.old) world.old.process.ledger }
+    ensures gear { gear_in library.new ≡ gear_in library.old }
+    ensures tells { ⟦<Library as LibraryTold>⟧.tells library.new ≡ ⟦<Library as LibraryTold>⟧.tells library.old }
+    ensures world_tells { ⟦<World as WorldTold>⟧.tells world.new ≡ ⟦<World as WorldTold>⟧.tells world.old }
+    ensures sink_tells { K.sink_tells sink.new ≡ K.sink_tells sink.old }
+    ensures told { IsTrue (K.sink_tells sink.old) →
+        ClosesNext (⟦<Gear as GearTold>⟧.players (gear_in library.old)) status result
+        (state_of (⟦<Library as LibraryTold>⟧.slots library.old) (⟦<World as WorldTold>⟧.plain world.old))
+        (state_of (⟦<Library as LibraryTold>⟧.slots library.new) (⟦<World as WorldTold>⟧.plain world.new))
+        (K.sink_holds sink.old) (K.sink_holds sink.new) }
+    ensures fewer { result ≡ Ok true → open_count (⟦<Library as LibraryTold>⟧.slots library.new) < open_count (⟦<Library as LibraryTold>⟧.slots library.old) }
+    ensures none_open { result ≡ Ok false → NoneIsOpen (⟦<Library as LibraryTold>⟧.slots library.new) }
+    ensures sound { IsSoundFor (⟦<Gear as GearTold>⟧.players (gear_in library.new)) (⟦<Library as LibraryTold>⟧.slots library.new) world.new.process.ledger }
+    ensures faults { RisesIf (has_write_fault result) (K.sink_faults sink.old) (K.sink_faults sink.new) }
+{
+    let before = world.process.ledger.filed().len() as u64;
+    let Some(number) = end_next(library, status, world) else {
+        return Ok(false);
+    };
+    let text = match closing_report(
+        alloc,
+        library,
+        &world.process.ledger,
+        number,
+        before,
+        status,
+    ) {
+        Ok(text) => text,
+        Err(NoMemory) => return Err(Stop::NoMemory),
+    };
+    let answer = match answer_of(alloc, text.as_bytes()) {
+        Ok(answer) => answer,
+        Err(NoMemory) => return Err(Stop::NoMemory),
+    };
+    match write_all(sink, answer.bytes()) {
+        Ok(()) => Ok(true),
+        Err(Failed) => Err(Stop::WriteFault),
+    }
+}

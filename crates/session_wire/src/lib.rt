@@ -1,0 +1,11 @@
+//! A run of a front end's calls over sixteen transactions: each frame is applied and its answer written before the next is
+//! looked at, and behind the last one every open transaction is ended.
+#![tactic(auto)]
+
+mod closing;
+mod frames;
+mod meaning;
+mod run;
+mod serve;
+
+pub use run::run_frames;

@@ -1,0 +1,108 @@
+ghost use Rattle.std.specs.Prelude.{◌≡◌, ◌&&◌, ◌<◌, ℕ, List, IsTrue, None, Some, Ok};
+ghost use Rattle.pam_base.specs.declared.code.Code.{Code};
+ghost use Rattle.pam_base.specs.Call.{is_fit};
+ghost use Rattle.pam_outside.specs.Counts.{RisesIf};
+ghost use Rattle.pam_library.specs.Plain.{gear_in};
+ghost use Rattle.pam_library.specs.Sound.{IsSoundFor};
+ghost use Rattle.pam_wire.specs.Read.{step_of};
+ghost use Rattle.item_stream.specs.Turns.{ServesTold, has_write_fault};
+ghost use Rattle.frame_stream.specs.Run.{step_at};
+ghost use Rattle.session_run.specs.State.{setting_of, state_of};
+ghost use Rattle.session_wire.specs.Step.{answers, served, Fails};
+
+use crate::meaning::Meaning;
+use fail_delay::{DelayFn, DelayTold};
+use frame_stream::{FrameFault, FramesOf, MAX_FRAMES};
+use item_stream::{Stop, item_is_served};
+use pam_base::{Failed, NoMemory, Step};
+use pam_handle::{Gear, GearTold};
+use pam_library::{Library, LibraryTold};
+use pam_outside::{Sink, write_all};
+use pam_room::{World, WorldTold};
+use pam_wire::{answer_of, step_of};
+use session_report::step_report;
+use std::alloc::Global;
+
+/// Serves one frame that has so many before it: its call is applied, and then its answer is written. Answers why it was
+/// refused, if it was; then nothing happened.
+pub(crate) fn serve_frame<K: Sink>(
+    alloc: Global,
+    library: &mut Library,
+    frames: u32,
+    frame: &[u8],
+    sink: &mut K,
+    world: &mut World,
+) -> Result<Option<FrameFault>, Stop>
+    requires { IsSoundFor (⟦<Gear as GearTold>⟧.players (gear_in library.old)) (⟦<Library as LibraryTold>⟧.slots library.old) world.old.process.ledger }
+    ensures gear { gear_in library.new ≡ gear_in library.old }
+    ensures tells { ⟦<Library as LibraryTold>⟧.tells library.new ≡ ⟦<Library as LibraryTold>⟧.tells library.old }
+    ensures world_tells { ⟦<World as WorldTold>⟧.tells world.new ≡ ⟦<World as WorldTold>⟧.tells world.old }
+    ensures sink_tells { K.sink_tells sink.new ≡ K.sink_tells sink.old }
+    ensures told { (delay : Code → ℕ → ℕ) → ⟦<DelayFn as DelayTold>⟧.delay_is (gear_in library.old).delay delay →
+        IsTrue (⟦<Library as LibraryTold>⟧.tells library.old && ⟦<World as WorldTold>⟧.tells world.old) → IsTrue (K.sink_tells sink.old) →
+        (let setting = setting_of (⟦<Gear as GearTold>⟧.players (gear_in library.old)) delay in
+        ServesTold (step_at (answers setting)) (Fails setting) result frames frame.now
+        (state_of (⟦<Library as LibraryTold>⟧.slots library.old) (⟦<World as WorldTold>⟧.plain world.old))
+        (state_of (⟦<Library as LibraryTold>⟧.slots library.new) (⟦<World as WorldTold>⟧.plain world.new))
+        (K.sink_holds sink.old) (K.sink_holds sink.new)) }
+    ensures sound { IsSoundFor (⟦<Gear as GearTold>⟧.players (gear_in library.new)) (⟦<Library as LibraryTold>⟧.slots library.new) world.new.process.ledger }
+    ensures few { result ≡ Ok None → frames < 65536 }
+    ensures faults { RisesIf (has_write_fault result) (K.sink_faults sink.old) (K.sink_faults sink.new) }
+{
+    item_is_served::<FramesOf<Meaning>>();
+    if frames >= MAX_FRAMES {
+        return Ok(Some(FrameFault::TooManyFrames));
+    }
+    match step_of(alloc, frame) {
+        Err(NoMemory) => Err(Stop::NoMemory),
+        Ok(None) => Ok(Some(FrameFault::BadFrame)),
+        Ok(Some(step)) => match serve_call(alloc, library, &step, sink, world) {
+            Ok(()) => Ok(None),
+            Err(stop) => Err(stop),
+        },
+    }
+}
+
+// Applies a call and writes its answer.
+fn serve_call<K: Sink>(
+    alloc: Global,
+    library: &mut Library,
+    step: &Step,
+    sink: &mut K,
+    world: &mut World,
+) -> Result<(), Stop>
+    requires fit { IsTrue (is_fit step.now.call) }
+    requires sound { IsSoundFor (⟦<Gear as GearTold>⟧.players (gear_in library.old)) (⟦<Library as LibraryTold>⟧.slots library.old) world.old.process.ledger }
+    ensures gear { gear_in library.new ≡ gear_in library.old }
+    ensures tells { ⟦<Library as LibraryTold>⟧.tells library.new ≡ ⟦<Library as LibraryTold>⟧.tells library.old }
+    ensures world_tells { ⟦<World as WorldTold>⟧.tells world.new ≡ ⟦<World as WorldTold>⟧.tells world.old }
+    ensures sink_tells { K.sink_tells sink.new ≡ K.sink_tells sink.old }
+    ensures told { (delay : Code → ℕ → ℕ) → ⟦<DelayFn as DelayTold>⟧.delay_is (gear_in library.old).delay delay →
+        IsTrue (⟦<Library as LibraryTold>⟧.tells library.old && ⟦<World as WorldTold>⟧.tells world.old) → IsTrue (K.sink_tells sink.old) →
+        (frames : ℕ) (frame : List ℕ) → frames < 65536 → step_of frame ≡ Some step.now →
+        (let setting = setting_of (⟦<Gear as GearTold>⟧.players (gear_in library.old)) delay in
+        ServesTold (step_at (answers setting)) (Fails setting) (served result) frames frame
+        (state_of (⟦<Library as LibraryTold>⟧.slots library.old) (⟦<World as WorldTold>⟧.plain world.old))
+        (state_of (⟦<Library as LibraryTold>⟧.slots library.new) (⟦<World as WorldTold>⟧.plain world.new))
+        (K.sink_holds sink.old) (K.sink_holds sink.new)) }
+    ensures sound { IsSoundFor (⟦<Gear as GearTold>⟧.players (gear_in library.new)) (⟦<Library as LibraryTold>⟧.slots library.new) world.new.process.ledger }
+    ensures faults { RisesIf (has_write_fault result) (K.sink_faults sink.old) (K.sink_faults sink.new) }
+{
+    item_is_served::<FramesOf<Meaning>>();
+    let outcome = match library.apply(alloc, world, step) {
+        Ok(outcome) => outcome,
+        Err(NoMemory) => return Err(Stop::NoMemory),
+    };
+    let report = match step_report(alloc, library, &world.process.ledger, step, &outcome) {
+        Ok(report) => report,
+        Err(NoMemory) => return Err(Stop::NoMemory),
+    };
+    let answer = match answer_of(alloc, report.as_bytes()) {
+        Ok(answer) => answer,
+        Err(NoMemory) => return Err(Stop::NoMemory),
+    };
+    match write_all(sink, answer.bytes()) {
+        Ok(()) => Ok(()),
+        Err(Failed) => Err(Stop::WriteFault),
+    }
+}
