@@ -13,6 +13,9 @@ use conv_port::{Conv, QueueConv};
 use data_cleanup::Ledger;
 pub use desk::Desk;
 use mod_basic::{Debug, Deny, Permit, Probe, Rootok};
+use mod_lists::{Listfile, Nologin, Shells};
+use mod_tally::Faillock;
+use mod_unix::Unix;
 use pam_base::{Code, Text};
 use pam_outside::{FixedClock, FolderVault, NapSum, ReaderSource, Sink, Source, WriterSink};
 use pam_room::{Module, Process, World};
@@ -79,6 +82,11 @@ fn serve<S: Source, K: Sink>(
     mods.push(Box::new(alloc, Debug::new())?)?;
     mods.push(Box::new(alloc, Rootok::new())?)?;
     mods.push(Box::new(alloc, Probe::new())?)?;
+    mods.push(Box::new(alloc, Nologin::new())?)?;
+    mods.push(Box::new(alloc, Listfile::new())?)?;
+    mods.push(Box::new(alloc, Shells::new())?)?;
+    mods.push(Box::new(alloc, Unix::new())?)?;
+    mods.push(Box::new(alloc, Faillock::new())?)?;
     let mut convs: Vec<Box<dyn Conv>> = Vec::new(alloc);
     for _ in 0..TRANSACTIONS {
         convs.push(Box::new(alloc, QueueConv::new(alloc))?)?;
