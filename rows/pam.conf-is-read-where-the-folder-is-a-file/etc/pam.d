@@ -1,0 +1,1 @@
+auth required m
