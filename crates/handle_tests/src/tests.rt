@@ -1,4 +1,3 @@
 mod calls;
 mod fakes;
 mod scene;
-mod small;

@@ -1,4 +1,4 @@
-//! Tests of what modules are lent and of the smallest modules, by their public calls. It has no functions of its own.
+//! A test of `pam_room` with a module that finds no memory. It has no functions of its own.
 #![tactic(auto)]
 
 #[cfg(test)]

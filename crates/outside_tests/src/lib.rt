@@ -1,4 +1,5 @@
-//! Tests of the public calls of `pam_outside`: the objects in memory, and the real ones.
+//! Tests of the adapters of `pam_outside` over readers, writers, the clock and the files of the system. It has no functions of
+//! its own.
 #![tactic(auto)]
 
 #[cfg(test)]

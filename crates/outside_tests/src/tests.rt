@@ -1,4 +1,3 @@
-mod memory;
 mod real;
 
 use pam_base::{Failed, Text};

@@ -1,4 +1,5 @@
-//! Tests of the public calls of the crates that a transaction is made of. It has no functions of its own.
+//! Tests of a conversation over a terminal, where reader or writer fails, and over pipes of the system. It has no functions of
+//! its own.
 #![tactic(auto)]
 
 #[cfg(test)]

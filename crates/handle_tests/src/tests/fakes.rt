@@ -1,90 +1,16 @@
 ghost use Rattle.std.specs.Prelude.{codes};
-ghost use Rattle.handle_tests.specs.Fakes.{asker_plays, establisher_plays, looker_plays};
+ghost use Rattle.handle_tests.specs.Fakes.{establisher_plays};
 ghost use Rattle.pam_room.specs.Module.{answered, length_note};
 
 use conv_port::Conv;
 use data_cleanup::{Datum, Receipt};
-use pam_base::{Code, ConvErr, ItemName, NoMemory, Refuse};
+use pam_base::{Code, NoMemory};
 use pam_outside::{Clock, Vault};
 use pam_room::{
-    Call, Module, Process, Transaction, ask_token, get_item, nothing_is_set, parts_are_played,
-    set_data_are_sets, spend_by_length,
+    Call, Module, Process, Transaction, nothing_is_set, set_data_are_sets, spend_by_length,
 };
 use std::alloc::Global;
 use std::test::Fail;
-
-// Asks for the token, in every call.
-#[derive(Drop)]
-struct Asker;
-
-impl Module for Asker {
-    ghost label = { λ _. codes "asker" };
-
-    ghost plays = { λ _. asker_plays };
-
-    ghost note = { λ _. length_note };
-
-    fn name(&self) -> &[u8] {
-        b"asker"
-    }
-
-    fn serve(
-        &self,
-        alloc: Global,
-        _call: &Call,
-        transaction: &mut Transaction,
-        _process: &mut Process,
-        conv: &mut dyn Conv,
-        _vault: &mut dyn Vault,
-        _clock: &mut dyn Clock,
-    ) -> Result<Code, NoMemory> {
-        match ask_token(alloc, transaction, conv, false, b"Token: ") {
-            Ok(()) => Ok(Code::Success),
-            Err(Refuse::NoMemory) => Err(NoMemory),
-            Err(Refuse::Named(ConvErr)) => Ok(Code::ConvErr),
-        }
-    }
-
-    fn tidy(&self, datum: Datum, status: u32) -> Receipt {
-        spend_by_length(datum, status)
-    }
-}
-
-// Answers whether the token is set.
-#[derive(Drop)]
-struct Looker;
-
-impl Module for Looker {
-    ghost label = { λ _. codes "looker" };
-
-    ghost plays = { λ _. looker_plays };
-
-    ghost note = { λ _. length_note };
-
-    fn name(&self) -> &[u8] {
-        b"looker"
-    }
-
-    fn serve(
-        &self,
-        _alloc: Global,
-        _call: &Call,
-        transaction: &mut Transaction,
-        _process: &mut Process,
-        _conv: &mut dyn Conv,
-        _vault: &mut dyn Vault,
-        _clock: &mut dyn Clock,
-    ) -> Result<Code, NoMemory> {
-        match get_item(&transaction.items, ItemName::AuthTok) {
-            Some(_) => Ok(Code::Success),
-            None => Ok(Code::AuthErr),
-        }
-    }
-
-    fn tidy(&self, datum: Datum, status: u32) -> Receipt {
-        spend_by_length(datum, status)
-    }
-}
 
 // Answers whether it is called with PAM_ESTABLISH_CRED.
 #[derive(Drop)]
@@ -163,8 +89,6 @@ impl Module for Forgetful {
 
 pub fn fakes(alloc: Global) -> Result<Vec<Box<dyn Module>>, Fail> {
     let mut mods: Vec<Box<dyn Module>> = Vec::new(alloc);
-    mods.push(Box::new(alloc, Asker)?)?;
-    mods.push(Box::new(alloc, Looker)?)?;
     mods.push(Box::new(alloc, Establisher)?)?;
     mods.push(Box::new(alloc, Forgetful)?)?;
     Ok(mods)

@@ -3,20 +3,19 @@ ghost use Rattle.dispatch_core.specs.Lines.{names_of};
 ghost use Rattle.pam_room.specs.Stays.{IsReady};
 ghost use Rattle.pam_handle.specs.Plain.{plain_handle};
 
-use conv_port::{Conv, QueueConv};
+use conv_port::QueueConv;
 use data_cleanup::Ledger;
 use pam_base::{Code, Func, NoMemory, Numbers, Text};
 use pam_handle::{Gear, GearTold, Handle, Told};
 use pam_outside::{FixedClock, MemVault, NapSum};
-use pam_room::{Process, Room, RoomTold, World, WorldTold, first_bytes};
+use pam_room::{Process, Room, RoomTold, World, WorldTold};
 use std::alloc::Global;
 use std::test::Fail;
 
-/// A transaction of the service `t`, with the file of its rules and what is offered to its conversation.
+/// A transaction of the service `t`, with the file of its rules.
 #[derive(Clone, Copy)]
 pub struct Scene {
     pub file: &'static [u8],
-    pub offers: &'static [&'static [u8]],
     /// Stack calls with their flags, in order.
     pub calls: &'static [(Func, u32)],
 }
@@ -24,17 +23,15 @@ pub struct Scene {
 /// What came of it.
 #[derive(Drop)]
 pub struct Outcome {
-    /// What each call answered, and what was pending behind it.
-    pub answers: Vec<(Result<Code, NoMemory>, Option<Func>)>,
+    /// What each call answered.
+    pub answers: Vec<Result<Code, NoMemory>>,
     /// What the lines that were visited answered.
     pub visits: Vec<Code>,
-    /// How many messages were said.
-    pub said: usize,
     /// Id and status of each receipt, behind an end with the status 9.
     pub receipts: Vec<(u64, u32)>,
 }
 
-pub fn world(alloc: Global, file: &[u8]) -> Result<World, Fail> {
+fn world(alloc: Global, file: &[u8]) -> Result<World, Fail> {
     let mut vault = MemVault::new(alloc, Numbers::new(alloc));
     vault.put(alloc, b"/etc/pam.d/t", file)?;
     Ok(World {
@@ -49,21 +46,13 @@ pub fn world(alloc: Global, file: &[u8]) -> Result<World, Fail> {
     })
 }
 
-pub fn queue(alloc: Global, offers: &[&[u8]]) -> Result<QueueConv, Fail> {
-    let mut queue = QueueConv::new(alloc);
-    for offer in offers {
-        queue.offer(alloc, first_bytes(offer, 512))?;
-    }
-    Ok(queue)
-}
-
 /// Plays a scene in a new transaction, which is ended with the status 9.
 pub fn play(alloc: Global, gear: &Gear, scene: &Scene) -> Result<Outcome, Fail> {
     if gear.mods.len() > 9 {
         return Err("too many modules")?;
     }
     let mut world = world(alloc, scene.file)?;
-    let conv = Box::new(alloc, queue(alloc, scene.offers)?)?;
+    let conv = Box::new(alloc, QueueConv::new(alloc))?;
     let Ok(mut handle) = Handle::start(alloc, gear, &mut world, 1, b"t", Some(b"joe"), conv) else {
         return Err("refused")?;
     };
@@ -75,7 +64,7 @@ pub fn play(alloc: Global, gear: &Gear, scene: &Scene) -> Result<Outcome, Fail> 
 
 fn outcome_of(
     alloc: Global,
-    answers: Vec<(Result<Code, NoMemory>, Option<Func>)>,
+    answers: Vec<Result<Code, NoMemory>>,
     told: &Told,
     ledger: &Ledger,
 ) -> Result<Outcome, Fail> {
@@ -90,7 +79,6 @@ fn outcome_of(
     Ok(Outcome {
         answers,
         visits,
-        said: told.said.len(),
         receipts,
     })
 }
@@ -101,7 +89,7 @@ fn call_all(
     world: &mut World,
     handle: &mut Handle,
     calls: &[(Func, u32)],
-) -> Result<Vec<(Result<Code, NoMemory>, Option<Func>)>, NoMemory>
+) -> Result<Vec<Result<Code, NoMemory>>, NoMemory>
     requires names { (plain_handle ⟦<Room as RoomTold>⟧.plain handle.old).names ≡ names_of (⟦<Gear as GearTold>⟧.players gear.now) }
     requires few { length (⟦<Gear as GearTold>⟧.players gear.now) < 2 ^ 32 }
     requires ready { IsReady (length (⟦<Gear as GearTold>⟧.players gear.now)) (plain_handle ⟦<Room as RoomTold>⟧.plain handle.old).room.transaction (⟦<World as WorldTold>⟧.plain world.old).process }
@@ -110,14 +98,13 @@ fn call_all(
 {
     let mut answers = Vec::new(alloc);
     for (func, flags) in calls {
-        let answer = call(alloc, gear, world, handle, *func, *flags);
-        answers.push((answer, handle.pending()))?;
+        answers.push(call(alloc, gear, world, handle, *func, *flags))?;
     }
     Ok(answers)
 }
 
-/// The stack call of a function.
-pub fn call(
+// The stack call of a function.
+fn call(
     alloc: Global,
     gear: &Gear,
     world: &mut World,

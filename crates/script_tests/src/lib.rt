@@ -1,5 +1,0 @@
-//! Tests of the script's language.
-#![tactic(auto)]
-
-#[cfg(test)]
-mod tests;

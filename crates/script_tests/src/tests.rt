@@ -1,5 +1,0 @@
-mod commands;
-mod lines;
-mod numbers;
-mod shown;
-mod words;
