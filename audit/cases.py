@@ -1,0 +1,279 @@
+"""What the audits run: trees, scripts, and what must come of them; and how a run, a tree and a shim are handled."""
+import os
+import re
+import shutil
+import stat
+import subprocess
+import sys
+import tempfile
+
+TOP = os.path.dirname(os.path.dirname(os.path.abspath(__file__)))
+PROGRAM = os.path.abspath(os.environ.get("PAMSESS") or f"{TOP}/crates/pam_session_cli/out/pam_session_cli")
+
+# What a stored row or example has beside its tree.
+PARTS = ("README.md", "after", "cases", "checked", "input", "output", "script", "status", "words")
+
+# The modules whose rows are run beside the cases below.
+MODULES = (b"pam_unix", b"pam_faillock", b"set=")
+
+PASSWD = "joe:x:1000:1000:Joe:/home/joe:/bin/sh\n"
+HASH = "$5$saltstring$5B8vYYiY.CVt1RlTTf8KbXBH3hsxY/GNooZaBBGWEc5"  # of `Hello world!`
+HASH_OF_N = "$5$........$4zTYzAsACN1wal/SbhzqpI05l/imxkHiy5WI8MV9yx2"  # of `n`, as openssl passwd -5 has it
+
+
+def shadow(password, change=19000):
+    return f"joe:{password}:{change}:0:99999:7:::\n"
+
+
+class Case:
+    """A run: its name, the files and folders of its tree, the words, the script, and what must come of it."""
+
+    def __init__(self, name, files, script, output, status=0, after=(), words=("run", "ROOT")):
+        self.name = name
+        self.files = {path: bytes_of(text) for path, text in files.items()}
+        self.script, self.output, self.status = bytes_of(script), bytes_of(output), status
+        self.after = {**self.files, **{path: bytes_of(text) for path, text in dict(after).items()}}
+        self.words = words
+
+    def lay(self, root):
+        """Writes the tree, and the folder of the tallies."""
+        os.makedirs(f"{root}/var/run/faillock", exist_ok=True)
+        for path, text in self.files.items():
+            os.makedirs(os.path.dirname(f"{root}/{path}"), exist_ok=True)
+            with open(f"{root}/{path}", "wb") as file:
+                file.write(text)
+            if path == "etc/shadow":
+                os.chmod(f"{root}/{path}", 0o640)
+
+    def words_for(self, root):
+        return [root if word == "ROOT" else word for word in self.words]
+
+    def is_whole(self, path, text):
+        """Whether a file is one that was written whole, old or new."""
+        if path.startswith("var/run/faillock/"):
+            return re.fullmatch(rb"faillock [12]\n(\d{1,13}( U| [RTS] [!-~]+)?\n)*", text) is not None
+        return text in (self.files.get(path), self.after.get(path))
+
+
+def bytes_of(text):
+    return text if isinstance(text, bytes) else text.encode()
+
+
+COMMON_AUTH = """auth [success=1 default=ignore] pam_unix.so nullok
+auth requisite pam_deny.so
+auth required pam_permit.so
+"""
+DEBIAN = {"etc/pam.d/t": "@include common-auth\n", "etc/pam.d/common-auth": COMMON_AUTH, "etc/passwd": PASSWD, "etc/shadow": shadow(HASH)}
+LOCKING = """auth required pam_faillock.so preauth deny=3
+auth sufficient pam_unix.so nodelay
+auth [default=die] pam_faillock.so authfail deny=3
+"""
+TALLY = "var/run/faillock/joe"
+FAILED = """{0} say 1 Password: 
+{0} line 1 pam_faillock SUCCESS 0
+{0} line 2 pam_unix AUTH_ERR 7
+{0} line 3 pam_faillock IGNORE 25
+{1}{0} authenticate PERM_DENIED 6
+"""
+LOCKED = """{0} say 1 Password: 
+{0} line 1 pam_faillock AUTH_ERR 7
+{0} line 2 pam_unix SUCCESS 0
+{0} line 3 pam_faillock AUTH_ERR 7
+{1}{0} authenticate AUTH_ERR 7
+"""
+CLEAN = "{} clean {} {} 1 pam_unix unix_setcred_return\n"
+
+
+def own_cases():
+    yield Case(
+        "data that replace one another",
+        {"etc/pam.d/t": "auth required pam_probe.so set=a:x set=a:yy set=a:zzz\n"},
+        "start 1 t joe\nauthenticate 1\nend 1 0x40000007\n",
+        "1 start SUCCESS 0\n1 line 1 pam_probe SUCCESS 0\n1 clean 0 20000000 256 pam_probe a\n"
+        "1 clean 1 20000000 512 pam_probe a\n1 authenticate SUCCESS 0\n1 clean 2 40000007 775 pam_probe a\n1 end SUCCESS 0\n",
+    )
+    yield Case(
+        "pam_unix, the password",
+        DEBIAN,
+        "start 1 t joe\nreply 1 Hello world!\nauthenticate 1\nend 1 0\n",
+        "1 start SUCCESS 0\n1 say 1 Password: \n1 line 1 pam_unix SUCCESS 0\n1 line 3 pam_permit SUCCESS 0\n1 authenticate SUCCESS 0\n"
+        + CLEAN.format(1, 0, "00000000")
+        + "1 end SUCCESS 0\n",
+    )
+    yield Case(
+        "pam_unix, another password",
+        DEBIAN,
+        "start 1 t joe\nreply 1 hello\nauthenticate 1\nend 1 0\n",
+        "1 start SUCCESS 0\n1 say 1 Password: \n1 line 1 pam_unix AUTH_ERR 7\n1 line 2 pam_deny AUTH_ERR 7\n"
+        "1 wait AUTH_ERR 7 2000000 2000000\n1 authenticate AUTH_ERR 7\n" + CLEAN.format(1, 0, "00000000") + "1 end SUCCESS 0\n",
+    )
+    replaced = [CLEAN.format(number, datum, "20000000") for number, datum in ((1, 0), (2, 1), (1, 2), (1, 4))]
+    yield Case(
+        "pam_faillock, three failures and after",
+        {"etc/pam.d/t": LOCKING, "etc/passwd": PASSWD, "etc/shadow": shadow(HASH)},
+        "start 1 t joe\nstart 2 t joe\nreply 1 a\nat 100\nauthenticate 1\nreply 2 b\nat 110\nauthenticate 2\nreply 1 c\nat 120\nauthenticate 1\n"
+        "at 121\nreply 2 Hello world!\nauthenticate 2\nat 719\nreply 1 Hello world!\nauthenticate 1\n"
+        "at 720\nreply 1 Hello world!\nauthenticate 1\nend 1 0\nend 2 0\n",
+        "1 start SUCCESS 0\n2 start SUCCESS 0\n"
+        + FAILED.format(1, "")
+        + FAILED.format(2, "")
+        + FAILED.format(1, replaced[0])
+        + LOCKED.format(2, replaced[1])
+        + LOCKED.format(1, replaced[2])
+        + "1 say 1 Password: \n1 line 1 pam_faillock SUCCESS 0\n1 line 2 pam_unix SUCCESS 0\n"
+        + replaced[3]
+        + "1 authenticate SUCCESS 0\n"
+        + CLEAN.format(1, 5, "00000000")
+        + "1 end SUCCESS 0\n"
+        + CLEAN.format(2, 3, "00000000")
+        + "2 end SUCCESS 0\n",
+        after={TALLY: "faillock 2\n100 S t\n110 S t\n120 S t\n"},
+    )
+    yield Case(
+        "pam_unix, a change of password",
+        {
+            "etc/pam.d/t": "password required pam_unix.so sha256\nauth required pam_unix.so nodelay\n",
+            "etc/passwd": PASSWD,
+            "etc/shadow": shadow(HASH),
+        },
+        "start 1 t joe\ncaller 0\nreply 1 n\nreply 1 n\nreply 1 n\nchauthtok 1\nauthenticate 1\nend 1 0\n",
+        "1 start SUCCESS 0\n1 say 1 New password: \n1 say 1 Retype new password: \n1 line 1 pam_unix SUCCESS 0\n1 line 1 pam_unix SUCCESS 0\n"
+        "1 chauthtok SUCCESS 0\n1 say 1 Password: \n1 line 1 pam_unix SUCCESS 0\n1 authenticate SUCCESS 0\n"
+        + CLEAN.format(1, 0, "00000000")
+        + "1 end SUCCESS 0\n",
+        after={"etc/shadow": shadow(HASH_OF_N, 0)},
+    )
+
+
+def read(path, missing=b""):
+    if not os.path.isfile(path):
+        return missing
+    with open(path, "rb") as file:
+        return file.read()
+
+
+def files_below(folder, left_out=()):
+    found = {}
+    for at, folders, names in os.walk(folder):
+        inner = os.path.relpath(at, folder)
+        if inner == ".":
+            folders[:] = [name for name in folders if name not in left_out]
+            names = [name for name in names if name not in left_out]
+        for name in names:
+            found[os.path.normpath(f"{inner}/{name}")] = read(f"{at}/{name}")
+    return found
+
+
+def stored_case(name, folder, tree):
+    """The case that the files of a folder tell."""
+    words = read(f"{folder}/words", b"run\nROOT\n").decode().splitlines()
+    files = files_below(tree, PARTS)
+    after = files_below(f"{folder}/after")
+    script = read(f"{folder}/script", read(f"{folder}/input"))
+    return Case(name, files, script, read(f"{folder}/output"), int(read(f"{folder}/status", b"0")), after, words)
+
+
+def stored_cases(top):
+    """The rows or examples of a folder, where it is there."""
+    for name in sorted(os.listdir(top)) if os.path.isdir(top) else []:
+        folder = f"{top}/{name}"
+        if any(os.path.isfile(f"{folder}/{part}") for part in ("script", "words")):
+            yield stored_case(f"{os.path.basename(top)}/{name}", folder, folder)
+        for inner in sorted(os.listdir(f"{folder}/cases")) if os.path.isdir(f"{folder}/cases") else []:
+            yield stored_case(f"{os.path.basename(top)}/{name}/{inner}", f"{folder}/cases/{inner}", folder)
+        for service in sorted(os.listdir(f"{folder}/checked")) if os.path.isdir(f"{folder}/checked") else []:
+            output = read(f"{folder}/checked/{service}")
+            words = ("check", "ROOT", service)
+            status = 3 if output.startswith(b"refused ") else 0
+            yield Case(f"{os.path.basename(top)}/{name}, service {service}", files_below(folder, PARTS), "", output, status, (), words)
+
+
+def has_modules(case):
+    texts = [text for path, text in case.files.items() if "/pam.d/" in f"/{path}"]
+    return any(module in text for module in MODULES for text in texts)
+
+
+def all_cases(names):
+    """The cases of this file, the examples, and the rows whose services name the modules above; or those of a name."""
+    found = [*own_cases(), *stored_cases(f"{TOP}/examples"), *filter(has_modules, stored_cases(f"{TOP}/rows"))]
+    return [case for case in found if not names or any(name in case.name for name in names)]
+
+
+class Ran:
+    def __init__(self, status, output, said, tree):
+        self.status, self.output, self.said, self.tree = status, output, said, tree
+
+
+def tree_of(root):
+    """What stands below a folder: kind, mode, owner and group of each, and a file's bytes or a link's text."""
+    found = {}
+    for at, folders, names in os.walk(root):
+        for name in folders + names:
+            path = f"{at}/{name}"
+            told = os.lstat(path)
+            text = None
+            if stat.S_ISREG(told.st_mode):
+                text = read(path)
+            elif stat.S_ISLNK(told.st_mode):
+                text = os.readlink(path).encode()
+            found[os.path.relpath(path, root)] = (told.st_mode, told.st_uid, told.st_gid, text)
+    return found
+
+
+def run(case, room, **environment):
+    """Runs a case in a fresh copy of its tree, below a folder that is there."""
+    root = tempfile.mkdtemp(dir=room)
+    try:
+        case.lay(root)
+        ran = subprocess.run(
+            [PROGRAM, *case.words_for(root)],
+            input=case.script,
+            capture_output=True,
+            cwd=room,
+            env=environment,
+            timeout=60,
+            check=False,
+        )
+        return Ran(ran.returncode, ran.stdout, ran.stderr, tree_of(root))
+    finally:
+        shutil.rmtree(root)
+
+
+def wrong_plainly(case, room):
+    """How a plain run differs from what is stored, or nothing."""
+    ran = run(case, room)
+    if (ran.status, ran.output, ran.said) != (case.status, case.output, b""):
+        return f"status {ran.status}, output {ran.output!r} {ran.said!r}"
+    given = {path: text for path, (mode, _, _, text) in ran.tree.items() if stat.S_ISREG(mode)}
+    if given != case.after:
+        return f"the files {sorted(path for path in given.keys() | case.after.keys() if given.get(path) != case.after.get(path))}"
+    return None
+
+
+def wrong_tree(case, tree):
+    """A file of a tree that is neither as before nor one that the case's run writes, whole; or nothing."""
+    given = {path: text for path, (mode, _, _, text) in tree.items() if stat.S_ISREG(mode)}
+    for path in sorted(given.keys() | case.files.keys()):
+        if given.get(path) == case.files.get(path):
+            continue
+        if case.after.get(path) == case.files.get(path):
+            return f"/{path} is changed, which the run doesn't change"
+        if path not in given:
+            return f"/{path} is gone"
+        if not case.is_whole(path, given[path]):
+            return f"/{path} is half: {given[path]!r}"
+    return None
+
+
+def build_shim(name, room):
+    """Builds a shim of this folder, which the program is run with."""
+    made = f"{room}/{name}.so"
+    if not shutil.which("gcc"):
+        sys.exit(f"{sys.argv[0]}: there is no gcc")
+    subprocess.run(["gcc", "-O2", "-shared", "-fPIC", "-o", made, f"{TOP}/audit/{name}.c", "-ldl"], check=True)
+    return made
+
+
+def need_program():
+    if not os.access(PROGRAM, os.X_OK):
+        sys.exit(f"{sys.argv[0]}: no program is built: ./build builds it, or PAMSESS names one")
