@@ -1,6 +1,9 @@
 //! One transaction of an application (the Application Developers' Guide): its start, the six calls that run a stack, its
 //! items, environment, delays and conversation, and its end. A stack call may be put off, and goes on when it is called
 //! again.
+//!
+//! Begin at `handle.rt` and `authenticate.rt`; `pass.rt` hands a pass over to the stack, and `put_off.rt` is what stays of a
+//! call that is to go on.
 #![tactic(auto)]
 
 mod acct_mgmt;

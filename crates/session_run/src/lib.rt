@@ -1,5 +1,7 @@
 //! A run of a script over sixteen transactions: each line is applied and its report written before the next is looked
 //! at, and behind the last one every open transaction is ended.
+//!
+//! Begin at `run.rt`; `lines.rt` finds the lines one by one, `serve.rt` answers one, and `closing.rt` ends what is open.
 #![tactic(auto)]
 
 mod closing;
