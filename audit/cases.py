@@ -13,6 +13,9 @@ PROGRAM = os.path.abspath(os.environ.get("PAMSESS") or f"{TOP}/crates/pam_sessio
 # What a stored row or example has beside its tree.
 PARTS = ("README.md", "after", "cases", "checked", "input", "output", "script", "status", "words")
 
+# Files that are larger are compared by their size alone.
+LARGE = 16 << 20
+
 # The modules whose rows are run beside the cases below.
 MODULES = (b"pam_unix", b"pam_faillock", b"set=")
 
@@ -213,7 +216,7 @@ def tree_of(root):
             told = os.lstat(path)
             text = None
             if stat.S_ISREG(told.st_mode):
-                text = read(path)
+                text = read(path) if told.st_size <= LARGE else b"%d bytes" % told.st_size
             elif stat.S_ISLNK(told.st_mode):
                 text = os.readlink(path).encode()
             found[os.path.relpath(path, root)] = (told.st_mode, told.st_uid, told.st_gid, text)
