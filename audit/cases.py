@@ -49,7 +49,7 @@ class Case:
                 os.chmod(f"{root}/{path}", 0o640)
 
     def words_for(self, root):
-        return [root if word == "ROOT" else word for word in self.words]
+        return [root + word[4:] if word == "ROOT" or word.startswith("ROOT/") else word for word in self.words]
 
     def is_whole(self, path, text):
         """Whether a file is one that was written whole, old or new."""
@@ -167,28 +167,34 @@ def files_below(folder, left_out=()):
     return found
 
 
-def stored_case(name, folder, tree):
-    """The case that the files of a folder tell."""
-    words = read(f"{folder}/words", b"run\nROOT\n").decode().splitlines()
-    files = files_below(tree, PARTS)
-    after = files_below(f"{folder}/after")
-    script = read(f"{folder}/script", read(f"{folder}/input"))
-    return Case(name, files, script, read(f"{folder}/output"), int(read(f"{folder}/status", b"0")), after, words)
+def stored_case(name, folders):
+    """The case that the files of these folders tell, the last one first, and their trees over one another."""
+
+    def part(*names, missing=b""):
+        return next((read(f"{it}/{one}") for it in folders[::-1] for one in names if os.path.isfile(f"{it}/{one}")), missing)
+
+    files = {}
+    for folder in folders:
+        files.update(files_below(folder, PARTS))
+    after = next((files_below(f"{it}/after") for it in folders[::-1] if os.path.isdir(f"{it}/after")), {})
+    words = part("words", missing=b"run\nROOT\n").decode("utf-8", "surrogateescape").splitlines()
+    return Case(name, files, part("script", "input"), part("output"), int(part("status", missing=b"0")), after, words)
 
 
 def stored_cases(top):
-    """The rows or examples of a folder, where it is there."""
-    for name in sorted(os.listdir(top)) if os.path.isdir(top) else []:
-        folder = f"{top}/{name}"
-        if any(os.path.isfile(f"{folder}/{part}") for part in ("script", "words")):
-            yield stored_case(f"{os.path.basename(top)}/{name}", folder, folder)
-        for inner in sorted(os.listdir(f"{folder}/cases")) if os.path.isdir(f"{folder}/cases") else []:
-            yield stored_case(f"{os.path.basename(top)}/{name}/{inner}", f"{folder}/cases/{inner}", folder)
+    """The rows or examples of a folder, where it is there; of a row with cases the first two."""
+    for row in sorted(os.listdir(top)) if os.path.isdir(top) else []:
+        folder, name = f"{top}/{row}", f"{os.path.basename(top)}/{row}"
+        cases = sorted(os.listdir(f"{folder}/cases")) if os.path.isdir(f"{folder}/cases") else []
+        for inner in cases[:2]:
+            yield stored_case(f"{name}, {inner}", [folder, f"{folder}/cases/{inner}"])
+        if not cases and any(os.path.isfile(f"{folder}/{part}") for part in ("script", "words")):
+            yield stored_case(name, [folder])
         for service in sorted(os.listdir(f"{folder}/checked")) if os.path.isdir(f"{folder}/checked") else []:
             output = read(f"{folder}/checked/{service}")
             words = ("check", "ROOT", service)
             status = 3 if output.startswith(b"refused ") else 0
-            yield Case(f"{os.path.basename(top)}/{name}, service {service}", files_below(folder, PARTS), "", output, status, (), words)
+            yield Case(f"{name}, service {service}", files_below(folder, PARTS), "", output, status, (), words)
 
 
 def has_modules(case):
