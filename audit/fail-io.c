@@ -1,7 +1,7 @@
 /*
  * Lets calls of the system fail, in a program that is run with LD_PRELOAD: the call of number FAIL_AT, from 1, and each from number
- * FAIL_FROM on, with the error FAIL_ERROR; a write with FAIL_ERROR=0 answers 0 instead. With FAIL_SHORT=1 each read and write of several
- * bytes moves one. What is counted are calls that the program makes on files and folders and on its input and output, not those of the
+ * FAIL_FROM on, with the error FAIL_ERROR; a write with FAIL_ERROR=0 answers 0 instead. With FAIL_KILL=1 the process is killed where the
+ * call would fail. With FAIL_SHORT=1 each read and write of several bytes moves one. What is counted are calls that the program makes on files and folders and on its input and output, not those of the
  * C library itself, and a close, which is made and then answers the error. The file FAIL_PAGE, of 4,096 bytes, gets how many there were,
  * how many failed, and of the first that failed its name and the path, or `-` and the descriptor.
  */
@@ -9,6 +9,7 @@
 #include <dlfcn.h>
 #include <errno.h>
 #include <fcntl.h>
+#include <signal.h>
 #include <stdarg.h>
 #include <stdint.h>
 #include <stdio.h>
@@ -21,7 +22,7 @@
 
 static struct { uint64_t made, failed; char first[4080]; } *page;
 static uint64_t at, from;
-static int error, is_short;
+static int error, is_short, kills;
 static char paths[64][2048];
 
 static uint64_t number(const char *name)
@@ -50,6 +51,7 @@ __attribute__((constructor)) static void begin(void)
     from = number("FAIL_FROM");
     error = number("FAIL_ERROR");
     is_short = number("FAIL_SHORT");
+    kills = number("FAIL_KILL");
     if (file >= 0)
         closes(file);
     if (found == MAP_FAILED)
@@ -70,6 +72,8 @@ static int fails(const char *name, int file, const char *path)
         else
             snprintf(page->first, sizeof page->first, "%s - %d", name, file);
     }
+    if (kills)
+        kill(getpid(), SIGKILL);
     errno = error;
     return 1;
 }
