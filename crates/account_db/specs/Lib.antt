@@ -5,3 +5,4 @@ pub mod Group
 pub mod Shells
 pub mod Shadow
 pub mod Replace
+pub mod Members

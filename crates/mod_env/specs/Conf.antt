@@ -1,0 +1,120 @@
+-- The file of pam_env.conf(5): a variable a line, with a value by default and one that overrides it.
+use Rattle.std.specs.Prelude.{ℕ, zero, suc, ◌+◌, Bool, true, false, ◌==◌, ◌||◌, if◌then◌else◌, List, [], ◌∷◌, length, take, drop, Option, Some, None, position, codes}
+use Rattle.std.specs.List.{after_first, before_first, position_or_len}
+use Rattle.pam_base.specs.Bytes.{has_byte}
+use Rattle.pam_base.specs.Lines.{lines_of}
+use Rattle.pam_base.specs.White.{is_white}
+use Rattle.mod_env.specs.declared.marks.Mark.{Mark}
+use Rattle.mod_env.specs.declared.value.Piece.{Piece}
+use Rattle.mod_env.specs.declared.conf.Key.{Key}
+use Rattle.mod_env.specs.declared.conf.Key.TheVariants.{Default, Override}
+use Rattle.mod_env.specs.declared.conf.Values.{Values}
+use Rattle.mod_env.specs.declared.conf.Entry.{Entry}
+use Rattle.mod_env.specs.declared.conf.Setting.{Setting as LentSetting}
+use Rattle.mod_env.specs.declared.conf.Setting.TheVariants as lent
+use Rattle.mod_env.specs.Marks.{begins_with, behind_white, is_byte, is_white_mark, marks_of}
+use Rattle.mod_env.specs.Value.{pieces_of}
+
+-- ---- the settings of a line
+
+-- what stands at the front of the settings of a line: their end, a setting with what stands behind it, or what has no form
+pub data Setting : Type 0 where
+  ended : Setting
+  broken : Setting
+  one : Key → List Mark → List Mark → Setting
+
+-- a value within quotes ends its word
+abbrev pub ends_word : List Mark → Bool
+ends_word [] = true
+ends_word (m ∷ ms) = is_white_mark m
+
+-- a value within quotes may hold white space; it goes to the next quote
+abbrev pub quoted : Key → List Mark → Option ℕ → Setting
+quoted key marks None = broken
+quoted key marks (Some n) = if ends_word (drop (n + 1) marks) then one key (take n marks) (drop (n + 1) marks) else broken
+
+-- any other value goes to the next white space
+abbrev pub unquoted : Key → List Mark → ℕ → Setting
+unquoted key marks n = one key (take n marks) (drop n marks)
+
+abbrev pub at_value : Key → List Mark → Setting
+at_value key marks =
+    if begins_with (34 ∷ []) marks then quoted key (drop 1 marks) (position (is_byte 34) (drop 1 marks))
+    else unquoted key marks (position_or_len is_white_mark marks)
+
+-- a setting is DEFAULT= or OVERRIDE= with a value
+abbrev pub at_key : List Mark → Setting
+at_key marks =
+    if length marks == 0 then ended
+    else if begins_with (codes "DEFAULT=") marks then at_value Default (drop 8 marks)
+    else if begins_with (codes "OVERRIDE=") marks then at_value Override (drop 9 marks)
+    else broken
+
+abbrev pub next_setting : List Mark → Setting
+next_setting marks = at_key (behind_white marks)
+
+-- no value is given
+abbrev pub no_values : Values
+no_values = record { default = None; overriding = None }
+
+abbrev pub with_value : Key → List Piece → Values → Values
+with_value Default pieces values = record values { default = Some pieces }
+with_value Override pieces values = record values { overriding = Some pieces }
+
+-- the values of a line, with those that stand before; the last of each holds
+abbrev pub values_within : ℕ → Values → List Mark → Option Values
+abbrev pub by_setting : ℕ → Values → Setting → Option Values
+abbrev pub by_pieces : ℕ → Values → Key → List Mark → Option (List Piece) → Option Values
+values_within zero values marks = if length (behind_white marks) == 0 then Some values else None
+values_within (suc n) values marks = by_setting n values (next_setting marks)
+by_setting n values ended = Some values
+by_setting n values broken = None
+by_setting n values (one key value rest) = by_pieces n values key rest (pieces_of value)
+by_pieces n values key rest (Some pieces) = values_within n (with_value key pieces values) rest
+by_pieces n values key rest None = None
+
+-- the values of what stands behind a name, if it has their form; there are at most as many settings as bytes
+unfoldable pub values_of : List Mark → Option Values
+values_of marks = values_within (length marks) no_values marks
+
+-- ---- lines
+
+-- a line without the white space in front
+abbrev pub without_front : List ℕ → List ℕ
+without_front [] = []
+without_front (b ∷ bs) = if is_white b then without_front bs else b ∷ bs
+
+-- a line counts unless it is all white space, or a comment
+abbrev pub counts : List ℕ → Bool
+counts [] = false
+counts (b ∷ bs) = if b == 35 then false else true
+
+abbrev pub with_values : List ℕ → Option Values → Option Entry
+with_values name (Some values) = Some (record { name = name; values = values })
+with_values name None = None
+
+-- a name goes to the first white space, and has no `=`
+abbrev pub entry_at : List ℕ → Option Entry
+entry_at text =
+    if has_byte 61 (before_first is_white text) then None
+    else with_values (before_first is_white text) (values_of (marks_of (after_first is_white text)))
+
+abbrev pub in_front : Option Entry → Option (List Entry) → Option (List Entry)
+in_front (Some entry) (Some entries) = Some (entry ∷ entries)
+in_front (Some entry) None = None
+in_front None entries = None
+
+-- the variables of lines, if each line that counts has the form of one
+abbrev pub entries_of : List (List ℕ) → Option (List Entry)
+entries_of [] = Some []
+entries_of (line ∷ lines) = if counts (without_front line) then in_front (entry_at (without_front line)) (entries_of lines) else entries_of lines
+
+-- the variables of a text
+abbrev pub conf_of : List ℕ → Option (List Entry)
+conf_of text = entries_of (lines_of text)
+
+-- as the code has it
+abbrev pub plain_setting : LentSetting → Setting
+plain_setting lent.Ended = ended
+plain_setting lent.Broken = broken
+plain_setting (lent.One key value rest) = one key value.now rest.now

@@ -1,0 +1,47 @@
+-- The bytes of a line of pam_env.conf(5), and which of them a backslash made plain.
+use Rattle.std.specs.Prelude.{ℕ, Bool, true, false, ◌==◌, ◌&&◌, if◌then◌else◌, List, [], ◌∷◌, Option, Some, None}
+use Rattle.std.specs.List.{filter_map}
+use Rattle.pam_base.specs.White.{is_white}
+use Rattle.mod_env.specs.declared.marks.Mark.{Mark}
+use Rattle.mod_env.specs.declared.marks.Mark.TheVariants.{Byte, Plain, Stray}
+
+-- a backslash makes the next byte plain; one without a next byte is stray
+abbrev pub marks_from : Bool → List ℕ → List Mark
+marks_from true [] = Stray ∷ []
+marks_from true (b ∷ bs) = Plain b ∷ marks_from false bs
+marks_from false [] = []
+marks_from false (b ∷ bs) = if b == 92 then marks_from true bs else Byte b ∷ marks_from false bs
+
+unfoldable pub marks_of : List ℕ → List Mark
+marks_of text = marks_from false text
+
+-- a byte that isn't plain, as one that means more than itself
+abbrev pub is_byte : ℕ → Mark → Bool
+is_byte wanted (Byte b) = b == wanted
+is_byte wanted (Plain b) = false
+is_byte wanted Stray = false
+
+abbrev pub is_white_mark : Mark → Bool
+is_white_mark (Byte b) = is_white b
+is_white_mark (Plain b) = false
+is_white_mark Stray = false
+
+-- whether these bytes stand in front
+abbrev pub begins_with : List ℕ → List Mark → Bool
+begins_with [] marks = true
+begins_with (c ∷ cs) [] = false
+begins_with (c ∷ cs) (m ∷ ms) = is_byte c m && begins_with cs ms
+
+-- what stands behind the white space in front
+abbrev pub behind_white : List Mark → List Mark
+behind_white [] = []
+behind_white (m ∷ ms) = if is_white_mark m then behind_white ms else m ∷ ms
+
+-- the bytes themselves
+abbrev pub byte_of : Mark → Option ℕ
+byte_of (Byte b) = Some b
+byte_of (Plain b) = Some b
+byte_of Stray = None
+
+abbrev pub text_of : List Mark → List ℕ
+text_of marks = filter_map byte_of marks

@@ -1,0 +1,62 @@
+-- A value of pam_env.conf(5): plain bytes, `${X}` for a variable, and `@{X}` for an item.
+use Rattle.std.specs.Prelude.{ℕ, zero, suc, ◌+◌, Bool, true, false, ◌==◌, ◌&&◌, ◌||◌, if◌then◌else◌, List, [], ◌∷◌, length, take, drop, Option, Some, None, position}
+use Rattle.mod_env.specs.declared.marks.Mark.{Mark}
+use Rattle.mod_env.specs.declared.marks.Mark.TheVariants as marks
+use Rattle.mod_env.specs.declared.value.Piece.{Piece}
+use Rattle.mod_env.specs.declared.value.Piece.TheVariants.{Byte, Variable, Item}
+use Rattle.mod_env.specs.declared.value.Next.{Next as LentNext}
+use Rattle.mod_env.specs.declared.value.Next.TheVariants as lent
+use Rattle.mod_env.specs.Marks.{begins_with, is_byte, text_of}
+
+-- what stands at the front of a value: its end, a piece with what stands behind it, or what has no form
+pub data Next : Type 0 where
+  ended : Next
+  broken : Next
+  one : Piece → List Mark → Next
+
+-- `$` stands for a variable, `@` for an item
+abbrev pub place : ℕ → List ℕ → Piece
+place sigil name = if sigil == 36 then Variable name else Item name
+
+-- a place goes to the first `}`; one that isn't closed has no form
+abbrev pub closed : ℕ → List Mark → Option ℕ → Next
+closed sigil marks (Some n) = one (place sigil (text_of (take n marks))) (drop (n + 1) marks)
+closed sigil marks None = broken
+
+abbrev pub is_sigil : ℕ → Bool
+is_sigil b = b == 36 || b == 64
+
+abbrev pub at_byte : ℕ → List Mark → Next
+at_byte b rest =
+    if is_sigil b && begins_with (123 ∷ []) rest then closed b (drop 1 rest) (position (is_byte 125) (drop 1 rest))
+    else one (Byte b) rest
+
+abbrev pub next_piece : List Mark → Next
+next_piece [] = ended
+next_piece (marks.Plain b ∷ rest) = one (Byte b) rest
+next_piece (marks.Stray ∷ rest) = broken
+next_piece (marks.Byte b ∷ rest) = at_byte b rest
+
+-- a piece in front of those that follow it
+abbrev pub in_front : Piece → Option (List Piece) → Option (List Piece)
+in_front piece (Some more) = Some (piece ∷ more)
+in_front piece None = None
+
+-- the pieces of a value, at most so many
+abbrev pub pieces_within : ℕ → List Mark → Option (List Piece)
+abbrev pub by_next : ℕ → Next → Option (List Piece)
+pieces_within zero value = if length value == 0 then Some [] else None
+pieces_within (suc n) value = by_next n (next_piece value)
+by_next n ended = Some []
+by_next n broken = None
+by_next n (one piece rest) = in_front piece (pieces_within n rest)
+
+-- the pieces of a value, if it has the form of one; there are at most as many as bytes
+unfoldable pub pieces_of : List Mark → Option (List Piece)
+pieces_of value = pieces_within (length value) value
+
+-- as the code has it
+abbrev pub plain_next : LentNext → Next
+plain_next lent.Ended = ended
+plain_next lent.Broken = broken
+plain_next (lent.One piece rest) = one piece rest.now

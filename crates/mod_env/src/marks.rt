@@ -1,0 +1,109 @@
+ghost use Rattle.std.specs.Prelude.{◌≡◌, IfOk};
+ghost use Rattle.mod_env.specs.Marks.{begins_with, behind_white, is_byte, is_white_mark, marks_of, text_of};
+
+use pam_base::{NoMemory, Text, is_white};
+use std::alloc::Global;
+
+/// A byte of a line, and whether a backslash made it plain.
+#[derive(Clone, Copy, Debug, PartialEq, Eq)]
+pub enum Mark {
+    Byte(u8),
+    /// A backslash stood before it.
+    Plain(u8),
+    /// A backslash without a byte behind it.
+    Stray,
+}
+
+/// The bytes of a text, of which a backslash makes the next one plain.
+pub fn marks_of(alloc: Global, text: &[u8]) -> Result<Vec<Mark>, NoMemory>
+    ensures { IfOk result (λ marks. marks.items ≡ marks_of text.now) }
+{
+    let mut marks = Vec::new(alloc);
+    let mut escaped = false;
+    let mut rest = text;
+    while let [byte, after @ ..] = rest {
+        if escaped {
+            marks.push(Mark::Plain(*byte))?;
+            escaped = false;
+        } else if *byte == b'\\' {
+            escaped = true;
+        } else {
+            marks.push(Mark::Byte(*byte))?;
+        }
+        rest = after;
+    }
+    if escaped {
+        marks.push(Mark::Stray)?;
+    }
+    Ok(marks)
+}
+
+/// Whether the mark is this byte, and not a plain one.
+pub fn is_byte(wanted: u8, mark: Mark) -> bool
+    ensures { result ≡ is_byte wanted mark }
+{
+    match mark {
+        Mark::Byte(byte) => byte == wanted,
+        Mark::Plain(_) => false,
+        Mark::Stray => false,
+    }
+}
+
+pub fn is_white_mark(mark: Mark) -> bool
+    ensures { result ≡ is_white_mark mark }
+{
+    match mark {
+        Mark::Byte(byte) => is_white(byte),
+        Mark::Plain(_) => false,
+        Mark::Stray => false,
+    }
+}
+
+/// Whether these bytes stand in front.
+pub fn begins_with(word: &[u8], marks: &[Mark]) -> bool
+    ensures { result ≡ begins_with word.now marks.now }
+{
+    let mut word = word;
+    let mut rest = marks;
+    while let [byte, bytes @ ..] = word {
+        match rest {
+            [mark, after @ ..] if is_byte(*byte, *mark) => {
+                word = bytes;
+                rest = after;
+            }
+            _ => return false,
+        }
+    }
+    true
+}
+
+/// What stands behind the white space in front.
+pub fn behind_white(marks: &[Mark]) -> &[Mark]
+    ensures { result.now ≡ behind_white marks.now }
+{
+    let mut rest = marks;
+    while let [mark, after @ ..] = rest {
+        if !is_white_mark(*mark) {
+            return rest;
+        }
+        rest = after;
+    }
+    rest
+}
+
+/// The bytes themselves.
+pub fn text_of(alloc: Global, marks: &[Mark]) -> Result<Text, NoMemory>
+    ensures { IfOk result (λ text. text ≡ text_of marks.now) }
+{
+    let mut text = Text::new(alloc);
+    let mut rest = marks;
+    while let [mark, after @ ..] = rest {
+        match mark {
+            Mark::Byte(byte) => text.push(*byte)?,
+            Mark::Plain(byte) => text.push(*byte)?,
+            Mark::Stray => {}
+        }
+        rest = after;
+    }
+    Ok(text)
+}

@@ -1,0 +1,125 @@
+-- pam_succeed_if(8): whether all conditions on the user's account, and on items of the transaction, are met.
+use Rattle.std.specs.Prelude.{ℕ, Bool, true, false, not, if◌then◌else◌, List, [], ◌∷◌, filter, Option, Some, None, unwrap_or, codes}
+use Rattle.std.specs.List.{list_any}
+use Rattle.std.specs.Str.{bytes_eq}
+use Rattle.pam_base.specs.declared.code.Code.{Code}
+use Rattle.pam_base.specs.declared.code.Code.TheVariants as returns
+use Rattle.pam_base.specs.declared.call.Func.{Func}
+use Rattle.pam_base.specs.declared.call.Func.TheVariants.{SetCred}
+use Rattle.item_store.specs.Items.{ItemTexts}
+use Rattle.pam_room.specs.Call.{PlainCall}
+use Rattle.pam_room.specs.Module.{Plays}
+use Rattle.account_db.specs.declared.passwd.Passwd.{Passwd}
+use Rattle.account_db.specs.declared.group.Group.{Group}
+use Rattle.account_db.specs.Members.{is_in_group}
+use Rattle.account_db.specs.Passwd.{entry_of}
+use Rattle.account_files.specs.Accounts.{Account, found, missing, unreadable}
+use Rattle.account_files.specs.Act.{Act, answers, asks_user, finds_account, plays_by, reads_groups, reads_passwds, sees_items, unless_answered}
+use Rattle.mod_lists.specs.declared.condition.AccountField.{AccountField}
+use Rattle.mod_lists.specs.declared.condition.AccountField.TheVariants.{Uid, Gid, Shell, Home}
+use Rattle.mod_lists.specs.declared.condition.ItemField.{ItemField}
+use Rattle.mod_lists.specs.declared.condition.ItemField.TheVariants as item_fields
+use Rattle.mod_lists.specs.declared.condition.Field.{Field}
+use Rattle.mod_lists.specs.declared.condition.Field.TheVariants as fields
+use Rattle.mod_lists.specs.declared.condition.Truth.{Truth}
+use Rattle.mod_lists.specs.declared.condition.Truth.TheVariants.{Holds, Fails, NoUser, Faulty}
+use Rattle.mod_lists.specs.Condition.{PlainCondition, on, grouped, PlainTest, condition_of, in_sense, on_number, on_text}
+
+-- ---- one condition
+
+-- a field of the user's entry
+abbrev pub on_entry : PlainTest → AccountField → Passwd → Truth
+on_entry test Uid entry = on_number test entry.uid
+on_entry test Gid entry = on_number test entry.gid
+on_entry test Shell entry = on_text test entry.shell
+on_entry test Home entry = on_text test entry.home
+
+abbrev pub on_account : PlainTest → AccountField → Account → Truth
+on_account test field (found entry) = on_entry test field entry
+on_account test field missing = NoUser
+on_account test field unreadable = Faulty
+
+-- the user is in one of the groups with these names
+abbrev pub is_in_any : List (List ℕ) → List ℕ → Option Passwd → List Group → Bool
+is_in_any names user entry groups = list_any (λ name. is_in_group name user entry groups) names
+
+abbrev pub by_entry : Bool → List (List ℕ) → List ℕ → Option Passwd → List Group → Truth
+by_entry sense names user (Some entry) groups = in_sense sense (is_in_any names user (Some entry) groups)
+by_entry sense names user None groups = NoUser
+
+abbrev pub by_groups : Bool → List (List ℕ) → List ℕ → Option Passwd → Option (List Group) → Truth
+by_groups sense names user entry (Some groups) = by_entry sense names user entry groups
+by_groups sense names user entry None = Faulty
+
+-- the group file is read although the user has no entry, and not where passwd can't be read
+abbrev pub by_passwds : Bool → List (List ℕ) → List ℕ → (Truth → Act) → Option (List Passwd) → Act
+by_passwds sense names user act None = act Faulty
+by_passwds sense names user act (Some entries) = reads_groups (λ groups. act (by_groups sense names user (entry_of user entries) groups))
+
+-- an item that is unset reads as the empty text
+abbrev pub item_text : ItemField → ItemTexts → List ℕ
+item_text item_fields.User items = unwrap_or items.user []
+item_text item_fields.Tty items = unwrap_or items.tty []
+item_text item_fields.Rhost items = unwrap_or items.rhost []
+item_text item_fields.Ruser items = unwrap_or items.ruser []
+item_text item_fields.Service items = unwrap_or items.service []
+
+abbrev pub tests_field : Field → PlainTest → List ℕ → (Truth → Act) → Act
+tests_field (fields.Item item) test user act = sees_items (λ items. act (on_text test (item_text item items)))
+tests_field (fields.Account field) test user act = finds_account user (λ account. act (on_account test field account))
+
+abbrev pub tries : PlainCondition → List ℕ → (Truth → Act) → Act
+tries (on field test) user act = tests_field field test user act
+tries (grouped sense names) user act = reads_passwds (by_passwds sense names user act)
+
+-- three words that are no condition are at fault, and nothing is read for them
+abbrev pub tries_words : Option PlainCondition → List ℕ → (Truth → Act) → Act
+tries_words (Some condition) user act = tries condition user act
+tries_words None user act = act Faulty
+
+-- ---- all conditions
+
+-- the first condition that doesn't hold decides
+abbrev pub by_truth : Act → Truth → Act
+by_truth rest Holds = rest
+by_truth rest Fails = answers returns.AuthErr
+by_truth rest NoUser = answers returns.UserUnknown
+by_truth rest Faulty = answers returns.ServiceErr
+
+-- conditions are taken in order, three words each; where there is none the answer is SUCCESS
+abbrev pub meets_all : List (List ℕ) → List ℕ → Act
+meets_all [] user = answers returns.Success
+meets_all (field ∷ []) user = answers returns.ServiceErr
+meets_all (field ∷ word ∷ []) user = answers returns.ServiceErr
+meets_all (field ∷ word ∷ value ∷ rest) user = tries_words (condition_of field word value) user (by_truth (meets_all rest user))
+
+-- ---- the module
+
+-- the arguments that are about messages in the system's log, where nothing is written
+abbrev pub is_about_log : List ℕ → Bool
+is_about_log arg = list_any (λ w. bytes_eq w arg) (codes "debug" ∷ codes "audit" ∷ codes "quiet" ∷ codes "quiet_fail" ∷ codes "quiet_success" ∷ [])
+
+abbrev pub conditions_in : List (List ℕ) → List (List ℕ)
+conditions_in args = filter (λ arg. not (is_about_log arg)) args
+
+-- `use_uid` isn't offered
+abbrev pub uses_uid : List (List ℕ) → Bool
+uses_uid args = list_any (λ arg. bytes_eq arg (codes "use_uid")) args
+
+abbrev pub by_use : Bool → List (List ℕ) → Act
+by_use true args = answers returns.ServiceErr
+by_use false args = asks_user (meets_all (conditions_in args))
+
+abbrev pub checks_conditions : List (List ℕ) → Act
+checks_conditions args = by_use (uses_uid args) args
+
+-- it offers all six functions, of which setcred is IGNORE at once
+abbrev pub at_once : Func → Option Code
+at_once SetCred = Some returns.Ignore
+at_once other = None
+
+abbrev pub succeed_if_act : PlainCall → Act
+succeed_if_act call = unless_answered (at_once call.func) (checks_conditions call.args)
+
+abbrev pub succeed_if_plays : Plays
+succeed_if_plays = plays_by succeed_if_act

@@ -1,0 +1,299 @@
+ghost use Rattle.std.specs.Prelude.{◌≡◌, ◌||◌, ℕ, List, IfOk, decimal, option_map, true};
+ghost use Rattle.std.specs.List.{list_any};
+ghost use Rattle.std.specs.Str.{bytes_eq};
+ghost use Rattle.pam_base.specs.Number.{value_of_digits};
+ghost use Rattle.mod_lists.specs.Condition.{condition_of, count_of, field_of, group_sense, holds_if, in_sense, is_count, is_so, items_of, on_number, on_text, order_of, plain_condition, plain_test, test_of, text_test, compared};
+
+use account_db::Parts;
+use pam_base::{NoMemory, are_digits};
+use std::alloc::Global;
+
+/// An item of the transaction.
+#[derive(Clone, Copy, Debug, PartialEq, Eq)]
+pub enum ItemField {
+    User,
+    Tty,
+    Rhost,
+    Ruser,
+    Service,
+}
+
+/// A field of the user's account (`passwd(5)`).
+#[derive(Clone, Copy, Debug, PartialEq, Eq)]
+pub enum AccountField {
+    Uid,
+    Gid,
+    Shell,
+    Home,
+}
+
+/// What a condition tests: an item of the transaction, or a field of the user's account.
+#[derive(Clone, Copy, Debug, PartialEq, Eq)]
+pub enum Field {
+    Item(ItemField),
+    Account(AccountField),
+}
+
+/// How two numbers are compared.
+#[derive(Clone, Copy, Debug, PartialEq, Eq)]
+pub enum Order {
+    Less,
+    AtMost,
+    Equal,
+    Unequal,
+    AtLeast,
+    Greater,
+}
+
+/// A test of a field; its flag is whether it has to hold, or its opposite.
+#[derive(Clone, Copy, Debug)]
+pub enum Test<'a> {
+    /// As a number, with this one.
+    Compares(Order, u64),
+    /// As a text, with this one.
+    Equals(bool, &'a [u8]),
+    /// As a text, with those of a list, which colons separate.
+    IsAmong(bool, &'a [u8]),
+}
+
+/// A condition.
+#[derive(Clone, Copy, Debug)]
+pub enum Condition<'a> {
+    On(Field, Test<'a>),
+    /// Whether the user is in one of these groups, whose names colons separate; with `false`, in none of them.
+    Grouped(bool, &'a [u8]),
+}
+
+/// Whether a condition holds.
+#[derive(Clone, Copy, Debug, PartialEq, Eq)]
+pub enum Truth {
+    Holds,
+    Fails,
+    /// It asks for the account of a user who has none.
+    NoUser,
+    /// It hasn't the form of a condition, or what it asks for isn't a number or can't be read.
+    Faulty,
+}
+
+/// The condition of three words, if it is one.
+pub fn condition_of<'a>(field: &[u8], word: &[u8], value: &'a [u8]) -> Option<Condition<'a>>
+    ensures { option_map plain_condition result ≡ condition_of field.now word.now value.now }
+{
+    match group_sense(word) {
+        Some(sense) => {
+            if field == b"user" {
+                Some(Condition::Grouped(sense, value))
+            } else {
+                None
+            }
+        }
+        None => match (field_of(field), test_of(word, value)) {
+            (Some(field), Some(test)) => Some(Condition::On(field, test)),
+            _ => None,
+        },
+    }
+}
+
+fn group_sense(word: &[u8]) -> Option<bool>
+    ensures { result ≡ group_sense word.now }
+{
+    if word == b"ingroup".as_slice() {
+        Some(true)
+    } else if word == b"notingroup".as_slice() {
+        Some(false)
+    } else {
+        None
+    }
+}
+
+fn field_of(word: &[u8]) -> Option<Field>
+    ensures { result ≡ field_of word.now }
+{
+    if word == b"user".as_slice() {
+        Some(Field::Item(ItemField::User))
+    } else if word == b"tty".as_slice() {
+        Some(Field::Item(ItemField::Tty))
+    } else if word == b"rhost".as_slice() {
+        Some(Field::Item(ItemField::Rhost))
+    } else if word == b"ruser".as_slice() {
+        Some(Field::Item(ItemField::Ruser))
+    } else if word == b"service".as_slice() {
+        Some(Field::Item(ItemField::Service))
+    } else if word == b"uid".as_slice() {
+        Some(Field::Account(AccountField::Uid))
+    } else if word == b"gid".as_slice() {
+        Some(Field::Account(AccountField::Gid))
+    } else if word == b"shell".as_slice() {
+        Some(Field::Account(AccountField::Shell))
+    } else if word == b"home".as_slice() {
+        Some(Field::Account(AccountField::Home))
+    } else {
+        None
+    }
+}
+
+fn test_of<'a>(word: &[u8], value: &'a [u8]) -> Option<Test<'a>>
+    ensures { option_map plain_test result ≡ test_of word.now value.now }
+{
+    match order_of(word) {
+        Some(order) => match count_of(value) {
+            Some(number) => Some(Test::Compares(order, number)),
+            None => None,
+        },
+        None => text_test(word, value),
+    }
+}
+
+fn order_of(word: &[u8]) -> Option<Order>
+    ensures { result ≡ order_of word.now }
+{
+    if is_either(word, b"lt", b"<") {
+        Some(Order::Less)
+    } else if is_either(word, b"le", b"<=") {
+        Some(Order::AtMost)
+    } else if word == b"eq".as_slice() {
+        Some(Order::Equal)
+    } else if word == b"ne".as_slice() {
+        Some(Order::Unequal)
+    } else if is_either(word, b"ge", b">=") {
+        Some(Order::AtLeast)
+    } else if is_either(word, b"gt", b">") {
+        Some(Order::Greater)
+    } else {
+        None
+    }
+}
+
+fn is_either(word: &[u8], one: &[u8], other: &[u8]) -> bool
+    ensures { result ≡ (bytes_eq word.now one.now || bytes_eq word.now other.now) }
+{
+    word == one || word == other
+}
+
+fn text_test<'a>(word: &[u8], value: &'a [u8]) -> Option<Test<'a>>
+    ensures { option_map plain_test result ≡ text_test word.now value.now }
+{
+    if word == b"=".as_slice() {
+        Some(Test::Equals(true, value))
+    } else if word == b"!=".as_slice() {
+        Some(Test::Equals(false, value))
+    } else if word == b"in".as_slice() {
+        Some(Test::IsAmong(true, value))
+    } else if word == b"notin".as_slice() {
+        Some(Test::IsAmong(false, value))
+    } else {
+        None
+    }
+}
+
+// The number of 1 to 18 decimal digits that a word is.
+fn count_of(word: &[u8]) -> Option<u64>
+    ensures { result ≡ count_of word.now }
+{
+    if is_count(word) {
+        Some(value_of_digits(word))
+    } else {
+        None
+    }
+}
+
+fn is_count(word: &[u8]) -> bool
+    ensures { result ≡ is_count word.now }
+{
+    !word.is_empty() && word.len() <= 18 && are_digits(word)
+}
+
+fn value_of_digits(digits: &[u8]) -> u64
+    requires { is_count digits.now ≡ true }
+    ensures { result ≡ value_of_digits digits.now }
+{
+    let mut value: u64 = 0;
+    for digit in digits {
+        value = 10 * value + u64::from(*digit - b'0');
+    }
+    value
+}
+
+impl Test<'_> {
+    /// Whether it holds of a text.
+    pub fn on_text(&self, text: &[u8]) -> Truth
+        ensures { result ≡ on_text (plain_test self.now) text.now }
+    {
+        match self {
+            Test::Compares(order, number) => compared(*order, *number, count_of(text)),
+            Test::Equals(sense, wanted) => in_sense(*sense, is_same(wanted, text)),
+            Test::IsAmong(sense, list) => in_sense(*sense, has_item(list, text)),
+        }
+    }
+
+    /// Whether it holds of a number; as a text that is its decimal digits.
+    pub fn on_number(&self, alloc: Global, number: u32) -> Result<Truth, NoMemory>
+        ensures { IfOk result (λ truth. truth ≡ on_number (plain_test self.now) number) }
+    {
+        match self {
+            Test::Compares(order, other) => Ok(holds_if(is_so(*order, u64::from(number), *other))),
+            Test::Equals(_, _) => {
+                let digits = format!(in alloc; "{number}")?;
+                Ok(self.on_text(digits.as_bytes()))
+            }
+            Test::IsAmong(_, _) => {
+                let digits = format!(in alloc; "{number}")?;
+                Ok(self.on_text(digits.as_bytes()))
+            }
+        }
+    }
+}
+
+fn is_same(one: &[u8], other: &[u8]) -> bool
+    ensures { result ≡ bytes_eq one.now other.now }
+{
+    one == other
+}
+
+// Whether an item of a list is this text.
+fn has_item(list: &[u8], text: &[u8]) -> bool
+    ensures { result ≡ list_any (λ (item : List ℕ). bytes_eq item text.now) (items_of list.now) }
+{
+    let mut items = Parts::new(b':', list);
+    while let Some(item) = items.next_part() {
+        if item == text {
+            return true;
+        }
+    }
+    false
+}
+
+fn compared(order: Order, number: u64, found: Option<u64>) -> Truth
+    ensures { result ≡ compared order number found }
+{
+    match found {
+        Some(found) => holds_if(is_so(order, found, number)),
+        None => Truth::Faulty,
+    }
+}
+
+fn is_so(order: Order, one: u64, other: u64) -> bool
+    ensures { result ≡ is_so order one other }
+{
+    match order {
+        Order::Less => one < other,
+        Order::AtMost => one <= other,
+        Order::Equal => one == other,
+        Order::Unequal => one != other,
+        Order::AtLeast => one >= other,
+        Order::Greater => one > other,
+    }
+}
+
+/// A test's outcome, or that of its opposite.
+pub fn in_sense(sense: bool, holds: bool) -> Truth
+    ensures { result ≡ in_sense sense holds }
+{
+    if sense { holds_if(holds) } else { holds_if(!holds) }
+}
+
+fn holds_if(holds: bool) -> Truth
+    ensures { result ≡ holds_if holds }
+{
+    if holds { Truth::Holds } else { Truth::Fails }
+}
