@@ -63,15 +63,18 @@ pub fn is_white_mark(mark: Mark) -> bool
 pub fn begins_with(word: &[u8], marks: &[Mark]) -> bool
     ensures { result ≡ begins_with word.now marks.now }
 {
-    let mut word = word;
+    let mut left = word;
     let mut rest = marks;
-    while let [byte, bytes @ ..] = word {
+    while let [byte, bytes @ ..] = left {
         match rest {
-            [mark, after @ ..] if is_byte(*byte, *mark) => {
-                word = bytes;
+            [mark, after @ ..] => {
+                if !is_byte(*byte, *mark) {
+                    return false;
+                }
+                left = bytes;
                 rest = after;
             }
-            _ => return false,
+            [] => return false,
         }
     }
     true

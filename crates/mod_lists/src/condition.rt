@@ -81,7 +81,7 @@ pub fn condition_of<'a>(field: &[u8], word: &[u8], value: &'a [u8]) -> Option<Co
 {
     match group_sense(word) {
         Some(sense) => {
-            if field == b"user" {
+            if field == b"user".as_slice() {
                 Some(Condition::Grouped(sense, value))
             } else {
                 None

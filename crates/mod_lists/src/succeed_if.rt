@@ -115,7 +115,7 @@ fn check_conditions(
 fn uses_uid(args: &Texts) -> bool
     ensures { result ≡ uses_uid args.now }
 {
-    args.items().iter().any(|arg| arg.bytes() == b"use_uid")
+    args.items().iter().any(|arg| arg.bytes() == b"use_uid".as_slice())
 }
 
 // The arguments but those about the system's log.

@@ -1,0 +1,84 @@
+-- Steps at the environment, and a module that changes it alone.
+use Rattle.std.proofs.Common.{◌≡◌, ℕ, List, [], refl, sym, ap, ◌∙◌, arith}
+use Rattle.std.proofs.lemmas.List.{append-nil}
+use Rattle.pam_base.specs.declared.code.Code.{Code}
+use Rattle.conv_port.specs.Conv.{ConvState}
+use Rattle.data_cleanup.specs.Ledger.{PlainLedger}
+use Rattle.data_cleanup.specs.Sets.{Sets}
+use Rattle.env_list.specs.Environment.{Variable}
+use Rattle.pam_outside.specs.Files.{VaultState}
+use Rattle.pam_outside.specs.Time.{ClockState}
+use Rattle.pam_room.specs.declared.process.Process.{Process}
+use Rattle.pam_room.specs.declared.transaction.Transaction.{Transaction}
+use Rattle.pam_room.specs.Plain.{plain_transaction}
+use Rattle.pam_room.specs.State.{PlainProcess, Scene}
+use Rattle.pam_room.specs.Stays.{Stays}
+use Rattle.pam_room.specs.Module.{Played, with_played}
+use Rattle.account_files.specs.Accounts.{Known}
+use Rattle.account_files.specs.Act.{Act, Acts, stage_of, standing}
+use Rattle.mod_env.specs.Env.{put_in, puts_env, sees_env}
+use Rattle.mod_env.specs.Puts.{Puts}
+
+carried : (act next : Act) (known : Known) (s mid : Scene) (code : Code) (new : Scene) → act (stage_of known s) ≡ next (stage_of known mid)
+    → ((p : Played) → with_played p mid ≡ with_played p s) → Acts next known mid code new → Acts act known s code new
+carried act next known s mid code new e same a = record {
+  code_is = a.code_is ∙ ap (λ (p : Played). p.code) (sym e);
+  scene_is = a.scene_is ∙ same (next (stage_of known mid)) ∙ ap (λ (p : Played). with_played p s) (sym e);
+}
+
+pub seeing_env : (act : List Variable → Act) (known : Known) (s : Scene) (code : Code) (new : Scene) → Acts (act s.room.transaction.env) known s code new → Acts (sees_env act) known s code new
+unfolding sees_env
+seeing_env act known s code new a = carried (sees_env act) (act s.room.transaction.env) known s s code new refl (λ p. refl) a
+
+module _ (text : List ℕ) (act : Act) (known : Known) (t u : Transaction) (conv : ConvState) (vault : VaultState) (clock : ClockState) (process : Process) (code : Code) (new : Scene) (puts : Puts t u) where
+  same_played : (p : Played) → with_played p (standing u conv vault clock process) ≡ with_played p (standing t conv vault clock process)
+  same_played p =
+      let datums = ap (λ (x : Transaction). x.datums) puts.others in
+      let trail = ap (λ (x : Transaction). x.trail) puts.others in
+      let handle = ap (λ (x : Transaction). x.handle) puts.others in
+      let serving = ap (λ (x : Transaction). x.serving) puts.others in
+      rw (datums, trail, handle, serving) refl
+
+  same_stage : u.env ≡ put_in text t.env → puts_env text act (stage_of known (standing t conv vault clock process)) ≡ act (stage_of known (standing u conv vault clock process))
+  unfolding puts_env
+  same_stage e =
+      let items = ap (λ (x : Transaction). x.items) puts.others in
+      let datums = ap (λ (x : Transaction). x.datums) puts.others in
+      let delay = ap (λ (x : Transaction). x.delay) puts.others in
+      let said = ap (λ (x : Transaction). x.said) puts.others in
+      let put_off = ap (λ (x : Transaction). x.put_off) puts.others in
+      let handle = ap (λ (x : Transaction). x.handle) puts.others in
+      let serving = ap (λ (x : Transaction). x.serving) puts.others in
+      rw (items, datums, delay, said, put_off, handle, serving, e) refl
+
+  pub putting_env : u.env ≡ put_in text t.env → Acts act known (standing u conv vault clock process) code new → Acts (puts_env text act) known (standing t conv vault clock process) code new
+  putting_env e a = carried (puts_env text act) act known _ _ code new (same_stage e) same_played a
+
+pub puts_nothing : (t : Transaction) → Puts t t
+puts_nothing t = record { others = refl }
+
+pub puts_more : (t u v : Transaction) → Puts t u → Puts u v → Puts t v
+puts_more t u v s r = record { others = r.others ∙ ap (λ (x : Transaction). record x { env = v.env }) s.others }
+
+pub putting_stays : (t u : Transaction) (process : PlainProcess) → Puts t u → Stays (plain_transaction t) (plain_transaction u) process process
+putting_stays t u process s = record {
+  handle = ap (λ (x : Transaction). x.handle) s.others;
+  data_handle = ap (λ (x : Transaction). x.datums.handle) s.others;
+  service = ap (λ (x : Transaction). x.items.service) s.others;
+  delay = let same : u.delay ≡ t.delay = ap (λ (x : Transaction). x.delay) s.others in omega arith;
+  said = ([], ap (λ (x : Transaction). x.said) s.others ∙ sym (append-nil t.said));
+  root = refl;
+  caller = refl;
+}
+
+pub putting_others : (t u : Transaction) → Puts t u → (u.serving ≡ t.serving) × (u.trail ≡ t.trail)
+putting_others t u s = (ap (λ (x : Transaction). x.serving) s.others, ap (λ (x : Transaction). x.trail) s.others)
+
+pub putting_sets : (t u : Transaction) (ledger : PlainLedger) → Puts t u → Sets t.serving t.datums ledger u.datums ledger
+putting_sets t u ledger s = record {
+  added = [];
+  births = sym (append-nil ledger.births);
+  each = tt;
+  list = ap (λ (x : Transaction). x.datums) s.others;
+  filed = refl;
+}

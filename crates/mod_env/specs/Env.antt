@@ -1,0 +1,148 @@
+-- pam_env(8): variables are set by two files, pam_env.conf(5) and environment(5).
+use Rattle.std.specs.Prelude.{ℕ, Bool, true, false, not, if◌then◌else◌, List, [], ◌∷◌, Option, Some, None, unwrap_or, codes}
+use Rattle.std.specs.Str.{bytes_eq}
+use Rattle.pam_base.specs.declared.code.Code.{Code}
+use Rattle.pam_base.specs.declared.code.Code.TheVariants as returns
+use Rattle.pam_base.specs.declared.call.Func.{Func}
+use Rattle.pam_base.specs.declared.call.Func.TheVariants.{Authenticate, SetCred, AcctMgmt, OpenSession, CloseSession, ChAuthTok}
+use Rattle.env_list.specs.Environment.{Variable, after_put, is_refused}
+use Rattle.item_store.specs.Items.{ItemTexts}
+use Rattle.pam_room.specs.Call.{PlainCall, value_among}
+use Rattle.pam_room.specs.Module.{Plays}
+use Rattle.pam_room.specs.State.{Scene}
+use Rattle.account_db.specs.declared.passwd.Passwd.{Passwd}
+use Rattle.account_files.specs.declared.content.Content.{Content}
+use Rattle.account_files.specs.declared.content.Content.TheVariants.{Absent, Unreadable, Holds}
+use Rattle.account_files.specs.Accounts.{Account, Known, account_in, found, known_passwds, missing, unreadable}
+use Rattle.account_files.specs.Act.{Act, Acts, answers, finds_account, in_room, plays_by, reads_file, sees_items, unless_answered}
+use Rattle.mod_env.specs.declared.conf.Entry.{Entry}
+use Rattle.mod_env.specs.declared.expand.Outcome.{Outcome}
+use Rattle.mod_env.specs.declared.expand.Outcome.TheVariants.{TooLong, Puts}
+use Rattle.mod_env.specs.Conf.{conf_of}
+use Rattle.mod_env.specs.EnvFile.{assignments_of}
+use Rattle.mod_env.specs.Expand.{Sources, asks_account, outcome}
+
+-- ---- the environment
+
+-- the environment of the transaction is seen
+unfoldable pub sees_env : (List Variable → Act) → Act
+sees_env act stage = act stage.room.env stage
+
+-- the environment after a text is put (pam_putenv(3)); it stays where the text is refused
+unfoldable pub put_in : List ℕ → List Variable → List Variable
+put_in text env = if is_refused text env then env else after_put text env
+
+unfoldable pub puts_env : List ℕ → Act → Act
+puts_env text act stage = act (in_room (record stage.room { env = put_in text stage.room.env }) stage)
+
+-- ---- one variable of pam_env.conf
+
+abbrev pub entry_in : Account → Option Passwd
+entry_in (found entry) = Some entry
+entry_in missing = None
+entry_in unreadable = None
+
+-- the user's entry is looked up where USER is set
+abbrev pub by_user : Option (List ℕ) → (Option Passwd → Act) → Act
+by_user (Some user) act = finds_account user (λ account. act (entry_in account))
+by_user None act = act None
+
+-- what is known of it then
+abbrev pub entry_known : Option (List ℕ) → Known → Option Passwd
+entry_known (Some user) known = entry_in (account_in user (known_passwds known))
+entry_known None known = None
+
+abbrev pub entry_seen : Bool → Option (List ℕ) → Known → Option Passwd
+entry_seen true user known = entry_known user known
+entry_seen false user known = None
+
+-- it is looked up where a value asks for it
+abbrev pub looks_if : Bool → (Option Passwd → Act) → Act
+looks_if true act = sees_items (λ items. by_user items.user act)
+looks_if false act = act None
+
+-- a value that is too long is BUF_ERR at once
+abbrev pub by_outcome : Outcome → Act → Act
+by_outcome (Puts text) act = puts_env text act
+by_outcome TooLong act = answers returns.BufErr
+
+abbrev pub sees_sources : Option Passwd → (Sources → Act) → Act
+sees_sources entry act = sees_items (λ items. sees_env (λ env. act (record { items = items; env = env; entry = entry })))
+
+unfoldable pub sets_by : Entry → Option Passwd → Act → Act
+sets_by entry account act = sees_sources account (λ from. by_outcome (outcome entry from) act)
+
+unfoldable pub sets_variable : Entry → Act → Act
+sets_variable entry act = looks_if (asks_account entry) (λ account. sets_by entry account act)
+
+-- ---- both files
+
+-- the variables in order, and then this
+abbrev pub sets_all : List Entry → Act → Act
+sets_all [] act = act
+sets_all (entry ∷ entries) act = sets_variable entry (sets_all entries act)
+
+abbrev pub puts_all : List (List ℕ) → Act → Act
+puts_all [] act = act
+puts_all (text ∷ texts) act = puts_env text (puts_all texts act)
+
+-- the text of a file; one that isn't there counts as empty
+abbrev pub text_in : Content → Option (List ℕ)
+text_in Absent = Some []
+text_in Unreadable = None
+text_in (Holds text) = Some text
+
+-- a line of pam_env.conf that has no form is SERVICE_ERR, and nothing is set
+abbrev pub by_entries : Option (List Entry) → List (List ℕ) → Act
+by_entries (Some entries) assignments = sets_all entries (puts_all assignments (answers returns.Success))
+by_entries None assignments = answers returns.ServiceErr
+
+abbrev pub by_texts : List ℕ → Option (List ℕ) → Act
+by_texts conf (Some env) = by_entries (conf_of conf) (assignments_of env)
+by_texts conf None = answers returns.ServiceErr
+
+-- the most bytes of either file
+abbrev pub env_limit : ℕ
+env_limit = 65536
+
+abbrev pub is_zero : Option (List ℕ) → Bool
+is_zero (Some word) = bytes_eq word (codes "0")
+is_zero None = false
+
+-- with `readenv=0` the second file isn't read
+abbrev pub reads_second : Bool → List (List ℕ) → List ℕ → Act
+reads_second true args conf = by_texts conf (Some [])
+reads_second false args conf =
+    reads_file (unwrap_or (value_among (codes "envfile=") args) (codes "/etc/environment")) env_limit (λ content. by_texts conf (text_in content))
+
+abbrev pub by_first : List (List ℕ) → Option (List ℕ) → Act
+by_first args (Some conf) = reads_second (is_zero (value_among (codes "readenv=") args)) args conf
+by_first args None = answers returns.ServiceErr
+
+abbrev pub reads_first : List (List ℕ) → Act
+reads_first args = reads_file (unwrap_or (value_among (codes "conffile=") args) (codes "/etc/security/pam_env.conf")) env_limit (λ content. by_first args (text_in content))
+
+-- ---- the module
+
+-- setcred and open_session work
+abbrev pub at_once : Func → Option Code
+at_once Authenticate = Some returns.Ignore
+at_once SetCred = None
+at_once AcctMgmt = Some returns.ServiceErr
+at_once OpenSession = None
+at_once CloseSession = Some returns.Success
+at_once ChAuthTok = Some returns.ServiceErr
+
+abbrev pub env_act : PlainCall → Act
+env_act call = unless_answered (at_once call.func) (reads_first call.args)
+
+abbrev pub env_plays : Plays
+env_plays = plays_by env_act
+
+-- ---- as the code tells it
+
+-- Steps without a value were done, and what is done from here on is what the whole does from there; or a value was too
+-- long, and BUF_ERR is the whole's answer.
+abbrev pub GoesOn : Bool → (Act → Act) → Known → Scene → Known → Scene → Type 0
+GoesOn true step known old now new = (act : Act) (code : Code) (end : Scene) → Acts act now new code end → Acts (step act) known old code end
+GoesOn false step known old now new = (act : Act) → Acts (step act) known old returns.BufErr new

@@ -1,0 +1,103 @@
+-- What a value of pam_env.conf(5) comes to.
+use Rattle.std.specs.Prelude.{ℕ, Bool, false, ◌||◌, nat_lt, if◌then◌else◌, List, [], ◌∷◌, ◌++◌, length, Option, Some, None, unwrap_or, codes}
+use Rattle.std.specs.List.{flat_map, list_any}
+use Rattle.std.specs.Option.{option_copied}
+use Rattle.std.specs.Str.{bytes_eq}
+use Rattle.env_list.specs.Environment.{Variable, value_of}
+use Rattle.item_store.specs.Items.{ItemTexts}
+use Rattle.account_db.specs.declared.passwd.Passwd.{Passwd}
+use Rattle.mod_env.specs.declared.value.Piece.{Piece}
+use Rattle.mod_env.specs.declared.value.Piece.TheVariants as pieces
+use Rattle.mod_env.specs.declared.conf.Entry.{Entry}
+use Rattle.mod_env.specs.declared.expand.Sources.{Sources as LentSources}
+use Rattle.mod_env.specs.declared.expand.Outcome.{Outcome}
+use Rattle.mod_env.specs.declared.expand.Outcome.TheVariants.{TooLong, Puts}
+
+-- what a value may name: items, variables, and the user's entry in passwd where it is there
+pub record Sources : Type 0 where
+  pub items : ItemTexts
+  pub env : List Variable
+  pub entry : Option Passwd
+
+abbrev pub home_of : Option Passwd → List ℕ
+home_of (Some entry) = entry.home
+home_of None = []
+
+abbrev pub shell_of : Option Passwd → List ℕ
+shell_of (Some entry) = entry.shell
+shell_of None = []
+
+-- `@{X}`: an item that is unset, and any other name, is empty
+abbrev pub item_value : List ℕ → Sources → List ℕ
+item_value name from =
+    if bytes_eq name (codes "PAM_USER") then unwrap_or from.items.user []
+    else if bytes_eq name (codes "PAM_TTY") then unwrap_or from.items.tty []
+    else if bytes_eq name (codes "PAM_RHOST") then unwrap_or from.items.rhost []
+    else if bytes_eq name (codes "PAM_RUSER") then unwrap_or from.items.ruser []
+    else if bytes_eq name (codes "PAM_USER_PROMPT") then unwrap_or from.items.user_prompt []
+    else if bytes_eq name (codes "HOME") then home_of from.entry
+    else if bytes_eq name (codes "SHELL") then shell_of from.entry
+    else []
+
+-- `${X}`: a variable that is unset is empty
+abbrev pub piece_text : Sources → Piece → List ℕ
+piece_text from (pieces.Byte b) = b ∷ []
+piece_text from (pieces.Variable name) = unwrap_or (value_of name from.env) []
+piece_text from (pieces.Item name) = item_value name from
+
+abbrev pub expanded : Sources → List Piece → List ℕ
+expanded from value = flat_map (piece_text from) value
+
+-- a value has at most 1,024 bytes
+abbrev pub fitting : List ℕ → Option (List ℕ)
+fitting text = if nat_lt 1024 (length text) then None else Some text
+
+-- ---- a variable
+
+-- a value that overrides is taken where it isn't empty, else the one by default, else the variable is deleted; as
+-- pam_putenv(3) is told it
+abbrev pub put_default : List ℕ → Option (List ℕ) → List ℕ
+put_default name (Some text) = name ++ 61 ∷ text
+put_default name None = name
+
+abbrev pub put_text : List ℕ → Option (List ℕ) → Option (List ℕ) → List ℕ
+put_text name default None = put_default name default
+put_text name default (Some []) = put_default name default
+put_text name default (Some (b ∷ bs)) = name ++ 61 ∷ b ∷ bs
+
+-- the text of a value that is given, or that it is too long
+abbrev pub value_text : Sources → Option (List Piece) → Option (Option (List ℕ))
+abbrev pub fitted : Option (List ℕ) → Option (Option (List ℕ))
+fitted (Some text) = Some (Some text)
+fitted None = None
+value_text from (Some value) = fitted (fitting (expanded from value))
+value_text from None = Some None
+
+abbrev pub by_texts : List ℕ → Option (Option (List ℕ)) → Option (Option (List ℕ)) → Outcome
+by_texts name (Some default) (Some over) = Puts (put_text name default over)
+by_texts name (Some default) None = TooLong
+by_texts name None over = TooLong
+
+-- what becomes of a variable; a value that is too long counts although it isn't taken
+unfoldable pub outcome : Entry → Sources → Outcome
+outcome entry from = by_texts entry.name (value_text from entry.values.default) (value_text from entry.values.overriding)
+
+-- ---- the account
+
+-- whether a piece asks for the user's account
+abbrev pub names_account : Piece → Bool
+names_account (pieces.Byte b) = false
+names_account (pieces.Variable name) = false
+names_account (pieces.Item name) = bytes_eq name (codes "HOME") || bytes_eq name (codes "SHELL")
+
+abbrev pub value_names_account : Option (List Piece) → Bool
+value_names_account (Some value) = list_any names_account value
+value_names_account None = false
+
+-- one of the values does, used or not
+abbrev pub asks_account : Entry → Bool
+asks_account entry = value_names_account entry.values.default || value_names_account entry.values.overriding
+
+-- as the code has them
+abbrev pub plain_sources : LentSources → Sources
+plain_sources s = record { items = s.items.now; env = s.env.now; entry = option_copied s.entry }

@@ -1,0 +1,7 @@
+pub mod Marks
+pub mod Value
+pub mod Conf
+pub mod Expand
+pub mod EnvFile
+pub mod Env
+pub mod Puts

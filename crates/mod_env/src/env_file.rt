@@ -1,0 +1,99 @@
+ghost use Rattle.std.specs.Prelude.{◌≡◌, ◌++◌, ◌∷◌, IfOk};
+ghost use Rattle.env_list.specs.Environment.{name_in, value_in};
+ghost use Rattle.mod_env.specs.EnvFile.{assignment_at, assignment_in, assignments_of, is_name, is_name_byte, unquoted, without_export, without_last, without_quotes};
+
+use crate::conf::without_front;
+use crate::expand::assignment;
+use pam_base::{Lines, NoMemory, Text, Texts, first_place};
+use std::alloc::Global;
+
+/// What the lines of a file of `environment(5)` set, in order, each as `pam_putenv(3)` is told it. Lines that aren't of
+/// the form `NAME=VALUE` are passed over.
+pub fn assignments_of(alloc: Global, text: &[u8]) -> Result<Texts, NoMemory>
+    ensures { IfOk result (λ texts. texts ≡ assignments_of text.now) }
+{
+    let mut texts = Texts::new(alloc);
+    let mut lines = Lines::new(text);
+    while let Some(line) = lines.next_line() {
+        if let Some(text) = assignment_in(alloc, line)? {
+            texts.push(text)?;
+        }
+    }
+    Ok(texts)
+}
+
+fn assignment_in(alloc: Global, line: &[u8]) -> Result<Option<Text>, NoMemory>
+    ensures { IfOk result (λ text. text ≡ assignment_in line.now) }
+{
+    assignment_at(alloc, without_export(without_front(line)))
+}
+
+fn without_export(text: &[u8]) -> &[u8]
+    ensures { result.now ≡ without_export text.now }
+{
+    if text.starts_with(b"export ") {
+        &text[7..]
+    } else {
+        text
+    }
+}
+
+fn assignment_at(alloc: Global, text: &[u8]) -> Result<Option<Text>, NoMemory>
+    ensures { IfOk result (λ text'. text' ≡ assignment_at text.now) }
+{
+    match first_place(b'=', text) {
+        Some(n) => {
+            if is_name(&text[..n]) {
+                let text = assignment(alloc, &text[..n], unquoted(&text[n + 1..]))?;
+                Ok(Some(text))
+            } else {
+                Ok(None)
+            }
+        }
+        None => Ok(None),
+    }
+}
+
+// Letters, digits and underscores, one or more.
+fn is_name(text: &[u8]) -> bool
+    ensures { result ≡ is_name text.now }
+{
+    !text.is_empty() && text.iter().all(|byte| is_name_byte(*byte))
+}
+
+fn is_name_byte(byte: u8) -> bool
+    ensures { result ≡ is_name_byte byte }
+{
+    byte.is_ascii_alphanumeric() || byte == b'_'
+}
+
+// A value without the pair of quotes round it, if one is.
+fn unquoted(text: &[u8]) -> &[u8]
+    ensures { result.now ≡ unquoted text.now }
+{
+    if text.starts_with(b"\"") {
+        without_quotes(b'"', text)
+    } else {
+        without_quotes(b'\'', text)
+    }
+}
+
+fn without_quotes(quote: u8, text: &[u8]) -> &[u8]
+    ensures { result.now ≡ without_quotes quote text.now }
+{
+    if text.starts_with(&[quote]) {
+        without_last(quote, &text[1..], text)
+    } else {
+        text
+    }
+}
+
+fn without_last<'a>(quote: u8, inner: &'a [u8], whole: &'a [u8]) -> &'a [u8]
+    ensures { result.now ≡ without_last quote inner.now whole.now }
+{
+    if inner.ends_with(&[quote]) {
+        &inner[..inner.len() - 1]
+    } else {
+        whole
+    }
+}

@@ -1,0 +1,34 @@
+ghost use Rattle.std.specs.Prelude.{◌≡◌, ℕ, List};
+ghost use Rattle.pam_base.specs.declared.code.Code.{Code};
+ghost use Rattle.conv_port.specs.Conv.{ConvState};
+ghost use Rattle.data_cleanup.specs.Ledger.{PlainLedger};
+ghost use Rattle.data_cleanup.specs.Sets.{Sets};
+ghost use Rattle.env_list.specs.Environment.{Variable};
+ghost use Rattle.pam_outside.specs.Files.{VaultState};
+ghost use Rattle.pam_outside.specs.Time.{ClockState};
+ghost use Rattle.pam_room.specs.declared.process.Process.{Process};
+ghost use Rattle.pam_room.specs.declared.transaction.Transaction.{Transaction};
+ghost use Rattle.pam_room.specs.Plain.{plain_transaction};
+ghost use Rattle.pam_room.specs.State.{PlainProcess, Scene};
+ghost use Rattle.pam_room.specs.Stays.{Stays};
+ghost use Rattle.account_files.specs.Accounts.{Known};
+ghost use Rattle.account_files.specs.Act.{Act, Acts, standing};
+ghost use Rattle.mod_env.specs.Env.{put_in, puts_env, sees_env};
+ghost use Rattle.mod_env.specs.Puts.{Puts};
+
+/// Does nothing: its contract is the laws of the steps at the environment.
+pub(crate) fn env_steps()
+    ensures seeing { (act : List Variable → Act) (known : Known) (s : Scene) (code : Code) (new : Scene) →
+        Acts (act s.room.transaction.env) known s code new → Acts (sees_env act) known s code new }
+    ensures putting { (text : List ℕ) (act : Act) (known : Known) (t u : Transaction) (conv : ConvState) (vault : VaultState) (clock : ClockState) (process : Process) (code : Code) (new : Scene) →
+        Puts t u → u.env ≡ put_in text t.env → Acts act known (standing u conv vault clock process) code new → Acts (puts_env text act) known (standing t conv vault clock process) code new }
+{}
+
+/// Does nothing: its contract is what holds of a module that changes the environment alone, in any world.
+pub(crate) fn puts_alone()
+    ensures none { (t : Transaction) → Puts t t }
+    ensures again { (t u v : Transaction) → Puts t u → Puts u v → Puts t v }
+    ensures stays { (t u : Transaction) (process : PlainProcess) → Puts t u → Stays (plain_transaction t) (plain_transaction u) process process }
+    ensures others { (t u : Transaction) → Puts t u → (u.serving ≡ t.serving) × (u.trail ≡ t.trail) }
+    ensures sets { (t u : Transaction) (ledger : PlainLedger) → Puts t u → Sets t.serving t.datums ledger u.datums ledger }
+{}

@@ -1,0 +1,16 @@
+//! pam_env: variables of a session, set by the two files of `pam_env.conf(5)` and `environment(5)`.
+#![tactic(auto)]
+
+mod conf;
+mod env_file;
+mod env_module;
+mod expand;
+mod laws;
+mod marks;
+mod setting;
+mod value;
+
+pub use conf::{Entries, Entry, Key, Values, conf_of};
+pub use env_file::assignments_of;
+pub use env_module::Env;
+pub use value::{Piece, Pieces};

@@ -1,0 +1,186 @@
+ghost use Rattle.std.specs.Prelude.{◌≡◌, ◌≢◌, ℕ, List, Some, None, true, IsTrue, IfOk, OnOk, Option};
+ghost use Rattle.std.specs.Option.{option_copied};
+ghost use Rattle.conv_port.specs.Conv.{ConvState};
+ghost use Rattle.env_list.specs.Environment.{Variable};
+ghost use Rattle.pam_base.specs.declared.code.Code.{Code};
+ghost use Rattle.pam_outside.specs.Files.{VaultState};
+ghost use Rattle.pam_outside.specs.Time.{ClockState};
+ghost use Rattle.pam_room.specs.declared.process.Process.{Process};
+ghost use Rattle.pam_room.specs.State.{Scene};
+ghost use Rattle.account_db.specs.declared.passwd.Passwd.{Passwd};
+ghost use Rattle.account_files.specs.Accounts.{Known, nothing_known};
+ghost use Rattle.account_files.specs.Act.{Act, Acts, standing};
+ghost use Rattle.mod_env.specs.Env.{GoesOn, entry_seen, looks_if, put_in, puts_all, sets_all, sets_by, sets_variable};
+ghost use Rattle.mod_env.specs.Puts.{Puts};
+
+use crate::conf::{Entries, Entry};
+use crate::expand::{Outcome, Sources, asks_account, outcome};
+use crate::laws::{env_steps, puts_alone};
+use account_db::Passwd;
+use account_files::{Account, Accounts, act_steps};
+use env_list::EnvList;
+use item_store::Items;
+use pam_base::{ItemName, NoMemory, Refuse, Texts};
+use pam_outside::Vault;
+use pam_room::{Process, Transaction, get_item};
+use std::alloc::Global;
+
+/// Sets the variables in order; false where a value is too long: those before it are set.
+pub(crate) fn set_all(
+    alloc: Global,
+    entries: &Entries,
+    transaction: &mut Transaction,
+    process: &Process,
+    vault: &mut dyn Vault,
+) -> Result<bool, NoMemory>
+    ensures tells { vault_tells vault.new ≡ vault_tells vault.old }
+    ensures told { IsTrue (vault_tells vault.old) → (conv : ConvState) (clock : ClockState) →
+        IfOk result (λ fits. (now : Known) × GoesOn fits (sets_all entries.now) nothing_known
+        (standing transaction.old conv (vault_holds vault.old) clock process.now) now
+        (standing transaction.new conv (vault_holds vault.new) clock process.now)) }
+    ensures puts { Puts transaction.old transaction.new }
+{
+    puts_alone();
+    let mut accounts = Accounts::new();
+    let mut rest = entries.items();
+    while let [entry, after @ ..] = rest {
+        if !set_variable(alloc, entry, transaction, &mut accounts, process, vault)? {
+            return Ok(false);
+        }
+        rest = after;
+    }
+    Ok(true)
+}
+
+// Sets a variable; false where a value is too long.
+fn set_variable(
+    alloc: Global,
+    entry: &Entry,
+    transaction: &mut Transaction,
+    accounts: &mut Accounts,
+    process: &Process,
+    vault: &mut dyn Vault,
+) -> Result<bool, NoMemory>
+    ensures tells { vault_tells vault.new ≡ vault_tells vault.old }
+    ensures told { IsTrue (vault_tells vault.old) → (conv : ConvState) (clock : ClockState) →
+        IfOk result (λ fits. GoesOn fits (sets_variable entry.now) accounts.old
+        (standing transaction.old conv (vault_holds vault.old) clock process.now) accounts.new
+        (standing transaction.new conv (vault_holds vault.new) clock process.now)) }
+    ensures puts { Puts transaction.old transaction.new }
+{
+    puts_alone();
+    let asks = asks_account(entry);
+    look(alloc, asks, transaction, accounts, process, vault)?;
+    let account = found_entry(asks, &transaction.items, accounts);
+    let fits = set_by(alloc, entry, account, transaction)?;
+    Ok(fits)
+}
+
+// Looks the user's account up, where it is asked for and USER is set.
+fn look(
+    alloc: Global,
+    asks: bool,
+    transaction: &Transaction,
+    accounts: &mut Accounts,
+    process: &Process,
+    vault: &mut dyn Vault,
+) -> Result<(), NoMemory>
+    ensures tells { vault_tells vault.new ≡ vault_tells vault.old }
+    ensures told { IsTrue (vault_tells vault.old) → (conv : ConvState) (clock : ClockState) (act : Option Passwd → Act) (code : Code) (end : Scene) →
+        OnOk result (Acts (act (entry_seen asks transaction.now.items.user accounts.new)) accounts.new (standing transaction.now conv (vault_holds vault.new) clock process.now) code end →
+        Acts (looks_if asks act) accounts.old (standing transaction.now conv (vault_holds vault.old) clock process.now) code end) }
+    ensures read { OnOk result (asks ≡ true → transaction.now.items.user ≢ None → accounts.new.passwds ≢ None) }
+{
+    act_steps();
+    if !asks {
+        return Ok(());
+    }
+    match get_item(&transaction.items, ItemName::User) {
+        Some(_) => accounts.read_passwds(alloc, vault, process.root.bytes())?,
+        None => {}
+    }
+    Ok(())
+}
+
+// The user's entry, where it was looked up and is there.
+fn found_entry<'a>(asks: bool, items: &Items, accounts: &'a Accounts) -> Option<&'a Passwd>
+    requires { asks ≡ true → items.now.user ≢ None → accounts.now.passwds ≢ None }
+    ensures { option_copied result ≡ entry_seen asks items.now.user accounts.now }
+{
+    if !asks {
+        return None;
+    }
+    match get_item(items, ItemName::User) {
+        Some(user) => match accounts.account(user) {
+            Account::Found(entry) => Some(entry),
+            Account::Missing => None,
+            Account::Unreadable => None,
+        },
+        None => None,
+    }
+}
+
+// Sets a variable by the user's entry; false where a value is too long.
+fn set_by(
+    alloc: Global,
+    entry: &Entry,
+    account: Option<&Passwd>,
+    transaction: &mut Transaction,
+) -> Result<bool, NoMemory>
+    ensures told { (conv : ConvState) (vault : VaultState) (clock : ClockState) (process : Process) (known : Known) →
+        IfOk result (λ fits. GoesOn fits (sets_by entry.now (option_copied account.entry)) known
+        (standing transaction.old conv vault clock process) known
+        (standing transaction.new conv vault clock process)) }
+    ensures puts { Puts transaction.old transaction.new }
+{
+    act_steps();
+    env_steps();
+    puts_alone();
+    let from = Sources {
+        items: &transaction.items,
+        env: &transaction.env,
+        entry: account,
+    };
+    match outcome(alloc, entry, from)? {
+        Outcome::TooLong => Ok(false),
+        Outcome::Puts(text) => {
+            put(text.bytes(), transaction)?;
+            Ok(true)
+        }
+    }
+}
+
+/// Puts the texts in order (`pam_putenv(3)`).
+pub(crate) fn put_all(texts: &Texts, transaction: &mut Transaction) -> Result<(), NoMemory>
+    ensures told { (conv : ConvState) (vault : VaultState) (clock : ClockState) (process : Process) (known : Known) (act : Act) (code : Code) (end : Scene) →
+        OnOk result (Acts act known (standing transaction.new conv vault clock process) code end →
+        Acts (puts_all texts.now act) known (standing transaction.old conv vault clock process) code end) }
+    ensures puts { Puts transaction.old transaction.new }
+{
+    env_steps();
+    puts_alone();
+    let mut rest = texts.items();
+    while let [text, after @ ..] = rest {
+        put(text.bytes(), transaction)?;
+        rest = after;
+    }
+    Ok(())
+}
+
+// Puts a text; one that is refused changes nothing.
+fn put(text: &[u8], transaction: &mut Transaction) -> Result<(), NoMemory>
+    ensures put { OnOk result (transaction.new.env ≡ put_in text.now transaction.old.env) }
+    ensures puts { Puts transaction.old transaction.new }
+{
+    put_in(text, &mut transaction.env)
+}
+
+fn put_in(text: &[u8], env: &mut EnvList) -> Result<(), NoMemory>
+    ensures { OnOk result (env.new ≡ put_in text.now env.old) }
+{
+    match env.put(text) {
+        Ok(()) => Ok(()),
+        Err(Refuse::NoMemory) => Err(NoMemory),
+        Err(Refuse::Named(_)) => Ok(()),
+    }
+}
