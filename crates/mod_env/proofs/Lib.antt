@@ -1,2 +1,4 @@
 mod Putting
 mod Collecting
+mod Settling
+mod Rows

@@ -63,7 +63,9 @@ with_value Override pieces values = record values { overriding = Some pieces }
 
 -- the values of a line, with those that stand before; the last of each holds
 abbrev pub values_within : ℕ → Values → List Mark → Option Values
+
 abbrev pub by_setting : ℕ → Values → Setting → Option Values
+
 abbrev pub by_pieces : ℕ → Values → Key → List Mark → Option (List Piece) → Option Values
 values_within zero values marks = if length (behind_white marks) == 0 then Some values else None
 values_within (suc n) values marks = by_setting n values (next_setting marks)

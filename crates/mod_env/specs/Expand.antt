@@ -67,6 +67,7 @@ put_text name default (Some (b ∷ bs)) = name ++ 61 ∷ b ∷ bs
 
 -- the text of a value that is given, or that it is too long
 abbrev pub value_text : Sources → Option (List Piece) → Option (Option (List ℕ))
+
 abbrev pub fitted : Option (List ℕ) → Option (Option (List ℕ))
 fitted (Some text) = Some (Some text)
 fitted None = None

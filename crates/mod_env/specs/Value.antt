@@ -44,6 +44,7 @@ in_front piece None = None
 
 -- the pieces of a value, at most so many
 abbrev pub pieces_within : ℕ → List Mark → Option (List Piece)
+
 abbrev pub by_next : ℕ → Next → Option (List Piece)
 pieces_within zero value = if length value == 0 then Some [] else None
 pieces_within (suc n) value = by_next n (next_piece value)

@@ -16,9 +16,11 @@ use Rattle.account_db.specs.Shells.{shells_of, without_end}
 use Rattle.account_files.specs.Paths.{path_of}
 use Rattle.account_files.specs.Content.{content_of}
 use Rattle.account_files.specs.Act.{answers, asks_user, reads_file, reads_groups, reads_passwds, reads_shells, sees_items, shows}
+use Rattle.mod_lists.specs.Condition.{condition_of}
 use Rattle.mod_lists.specs.Listfile.{is_listed, listfile_plays}
 use Rattle.mod_lists.specs.Nologin.{nologin_plays}
 use Rattle.mod_lists.specs.Shells.{shells_plays}
+use Rattle.mod_lists.specs.SucceedIf.{succeed_if_plays}
 
 abbrev call_of : Func → List (List ℕ) → PlainCall
 call_of func args = record { func = func; flags = 0; args = args }
@@ -86,3 +88,87 @@ listfile_calls : (play listfile_plays (call_of Authenticate (codes "item=shell" 
     (passwd ∷ record { path = codes "/r/etc/group"; bytes = codes "wheel:x:10:root,joe\n" } ∷ record { path = codes "/r/etc/sh"; bytes = codes "/bin/sh\n" } ∷ []) []).calls ≡ 3
 unfolding answers asks_user reads_file reads_groups reads_passwds sees_items content_of path_of failing_of entries_of parts_of is_listed without_end lines_of cut
 listfile_calls = refl
+
+-- pam_succeed_if, with joe in wheel: the code, and how many calls of the vault are made
+abbrev wheel : File
+wheel = record { path = codes "/r/etc/group"; bytes = codes "wheel:x:10:root,joe\n" }
+
+abbrev condition : List (List ℕ) → List ℕ → Played
+condition args fails = play succeed_if_plays (call_of AcctMgmt args) (passwd ∷ wheel ∷ []) fails
+
+abbrev is_a_user : List (List ℕ)
+is_a_user = codes "uid" ∷ codes ">=" ∷ codes "1000" ∷ []
+
+abbrev is_in_wheel : List (List ℕ)
+is_in_wheel = codes "uid" ∷ codes ">=" ∷ codes "1000" ∷ codes "user" ∷ codes "ingroup" ∷ codes "wheel" ∷ []
+
+succeed_if_holds : (condition is_in_wheel []).code ≡ returns.Success
+unfolding answers asks_user reads_groups reads_passwds sees_items content_of path_of failing_of entries_of parts_of lines_of cut condition_of
+succeed_if_holds = refl
+
+-- passwd is read once, though two conditions need it
+succeed_if_calls : (condition is_in_wheel []).calls ≡ 2
+unfolding answers asks_user reads_groups reads_passwds sees_items content_of path_of failing_of entries_of parts_of lines_of cut condition_of
+succeed_if_calls = refl
+
+succeed_if_fails : (condition (codes "uid" ∷ codes "<" ∷ codes "1000" ∷ []) []).code ≡ returns.AuthErr
+unfolding answers asks_user reads_groups reads_passwds sees_items content_of path_of failing_of entries_of parts_of lines_of cut condition_of
+succeed_if_fails = refl
+
+succeed_if_none : (condition [] []).code ≡ returns.Success
+unfolding answers asks_user
+succeed_if_none = refl
+
+succeed_if_lacks_a_word : (condition (codes "uid" ∷ codes "ge" ∷ []) []).code ≡ returns.ServiceErr
+unfolding answers asks_user
+succeed_if_lacks_a_word = refl
+
+-- the first call fails, and the second
+succeed_if_first_call : (condition is_in_wheel (1 ∷ [])).code ≡ returns.ServiceErr
+unfolding answers asks_user reads_groups reads_passwds sees_items content_of path_of failing_of entries_of parts_of lines_of cut condition_of
+succeed_if_first_call = refl
+
+succeed_if_second_call : (condition is_in_wheel (2 ∷ [])).code ≡ returns.ServiceErr
+unfolding answers asks_user reads_groups reads_passwds sees_items content_of path_of failing_of entries_of parts_of lines_of cut condition_of
+succeed_if_second_call = refl
+
+-- no call is made for the second where one condition is enough
+succeed_if_third_call : (condition is_a_user (2 ∷ [])).code ≡ returns.Success
+unfolding answers asks_user reads_groups reads_passwds sees_items content_of path_of failing_of entries_of parts_of lines_of cut condition_of
+succeed_if_third_call = refl
+
+-- each call of the others fails in turn
+nologin_first_call : (play nologin_plays (call_of AcctMgmt []) (passwd ∷ notice ∷ []) (1 ∷ [])).code ≡ returns.ServiceErr
+unfolding answers asks_user reads_file reads_passwds shows content_of path_of failing_of entries_of parts_of lines_of cut
+nologin_first_call = refl
+
+nologin_second_call : (play nologin_plays (call_of AcctMgmt []) (passwd ∷ notice ∷ []) (2 ∷ [])).code ≡ returns.ServiceErr
+unfolding answers asks_user reads_file reads_passwds shows content_of path_of failing_of entries_of parts_of lines_of cut
+nologin_second_call = refl
+
+abbrev listed : List ℕ → Played
+listed fails = play shells_plays (call_of Authenticate []) (passwd ∷ record { path = codes "/r/etc/shells"; bytes = codes "/bin/sh\n" } ∷ []) fails
+
+shells_first_call : (listed (1 ∷ [])).code ≡ returns.AuthErr
+unfolding answers asks_user reads_file reads_passwds reads_shells content_of path_of failing_of entries_of parts_of shells_of without_end lines_of cut
+shells_first_call = refl
+
+shells_second_call : (listed (2 ∷ [])).code ≡ returns.AuthErr
+unfolding answers asks_user reads_file reads_passwds reads_shells content_of path_of failing_of entries_of parts_of shells_of without_end lines_of cut
+shells_second_call = refl
+
+abbrev applied : List ℕ → Played
+applied fails = play listfile_plays (call_of Authenticate (codes "item=shell" ∷ codes "sense=allow" ∷ codes "file=/etc/sh" ∷ codes "apply=@wheel" ∷ []))
+    (passwd ∷ wheel ∷ record { path = codes "/r/etc/sh"; bytes = codes "/bin/sh\n" } ∷ []) fails
+
+listfile_first_call : (applied (1 ∷ [])).code ≡ returns.ServiceErr
+unfolding answers asks_user reads_file reads_groups reads_passwds sees_items content_of path_of failing_of entries_of parts_of is_listed without_end lines_of cut
+listfile_first_call = refl
+
+listfile_second_call : (applied (2 ∷ [])).code ≡ returns.ServiceErr
+unfolding answers asks_user reads_file reads_groups reads_passwds sees_items content_of path_of failing_of entries_of parts_of is_listed without_end lines_of cut
+listfile_second_call = refl
+
+listfile_third_call : (applied (3 ∷ [])).code ≡ returns.ServiceErr
+unfolding answers asks_user reads_file reads_groups reads_passwds sees_items content_of path_of failing_of entries_of parts_of is_listed without_end lines_of cut
+listfile_third_call = refl

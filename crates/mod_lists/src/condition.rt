@@ -76,6 +76,7 @@ pub enum Truth {
 }
 
 /// The condition of three words, if it is one.
+#[tactic(auto, unfolding(crate::specs::Condition::condition_of))]
 pub fn condition_of<'a>(field: &[u8], word: &[u8], value: &'a [u8]) -> Option<Condition<'a>>
     ensures { option_map plain_condition result ≡ condition_of field.now word.now value.now }
 {
@@ -87,9 +88,12 @@ pub fn condition_of<'a>(field: &[u8], word: &[u8], value: &'a [u8]) -> Option<Co
                 None
             }
         }
-        None => match (field_of(field), test_of(word, value)) {
-            (Some(field), Some(test)) => Some(Condition::On(field, test)),
-            _ => None,
+        None => match field_of(field) {
+            Some(field) => match test_of(word, value) {
+                Some(test) => Some(Condition::On(field, test)),
+                None => None,
+            },
+            None => None,
         },
     }
 }
@@ -289,7 +293,11 @@ fn is_so(order: Order, one: u64, other: u64) -> bool
 pub fn in_sense(sense: bool, holds: bool) -> Truth
     ensures { result ≡ in_sense sense holds }
 {
-    if sense { holds_if(holds) } else { holds_if(!holds) }
+    if sense {
+        holds_if(holds)
+    } else {
+        holds_if(!holds)
+    }
 }
 
 fn holds_if(holds: bool) -> Truth

@@ -16,7 +16,9 @@ ghost use Rattle.mod_lists.specs.Condition.{items_of, plain_condition, plain_tes
 ghost use Rattle.mod_lists.specs.Listfile.{entry_known};
 ghost use Rattle.mod_lists.specs.SucceedIf.{at_once, by_groups, by_passwds, by_truth, checks_conditions, conditions_in, is_about_log, is_in_any, item_text, meets_all, on_account, on_entry, succeed_if_plays, tests_field, tries, tries_words, uses_uid};
 
-use crate::condition::{AccountField, Condition, Field, ItemField, Test, Truth, condition_of, in_sense};
+use crate::condition::{
+    AccountField, Condition, Field, ItemField, Test, Truth, condition_of, in_sense,
+};
 use account_db::{Groups, Parts, Passwd, is_in_group};
 use account_files::{Account, Accounts, act_steps, has_user, speaking, user_of};
 use conv_port::Conv;
@@ -115,7 +117,9 @@ fn check_conditions(
 fn uses_uid(args: &Texts) -> bool
     ensures { result ≡ uses_uid args.now }
 {
-    args.items().iter().any(|arg| arg.bytes() == b"use_uid".as_slice())
+    args.items()
+        .iter()
+        .any(|arg| arg.bytes() == b"use_uid".as_slice())
 }
 
 // The arguments but those about the system's log.

@@ -15,4 +15,4 @@ returns-in_ok-truth-in-Account-clause-told g c = λ tells conv clock act code en
 
 pub returns-in_ok-truth-in-Grouped-clause-told : goal.returns-in_ok-truth-in-Grouped-clause-told
 returns-in_ok-truth-in-Grouped-clause-told g c = λ tells conv clock act code end rest.
-    rw (c.in-Some.is, c.in-Grouped.is) ((rw c.user_of-user.ensures at (c.in_ok-truth-in-Grouped.ensures.told tells)) (room_of (plain_transaction c.args.transaction.now) conv) clock act code end rest)
+    rw (c.in-Some.is, c.in-Grouped.is) ((rw c.user_of-user-in-Grouped.ensures at (c.in_ok-truth-in-Grouped.ensures.told tells)) (room_of (plain_transaction c.args.transaction.now) conv) clock act code end rest)

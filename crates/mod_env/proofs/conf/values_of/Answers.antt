@@ -1,0 +1,16 @@
+use Rattle.std.proofs.Common.{sym, ap, ◌∙◌, arith}
+use Rattle.mod_env.specs.Conf.{plain_setting, values_of}
+use Rattle.mod_env.proofs.Collecting.{setting_taken, settings_break, settings_end, value_breaks}
+use Rattle.mod_env.proofs.conf.values_of.Goals as goal
+
+pub loop-left-preserved : goal.loop-left-preserved
+loop-left-preserved c =
+    rw c.with_value.ensures (setting_taken _ _ _ _ _ _ _ _ _ c.loop-left-test.true (omega arith) (sym c.next_setting.ensures ∙ ap plain_setting c.in-One.is) (sym c.in_ok-pieces_of-in-One.ensures) c.loop-left.invariant)
+
+pub returns-in-Ended : goal.returns-in-Ended
+unfolding values_of
+returns-in-Ended c = settings_end _ _ _ _ c.loop-left-test.true (sym c.next_setting.ensures ∙ ap plain_setting c.in-Ended.is) c.loop-left.invariant
+
+pub returns-in-Broken : goal.returns-in-Broken
+unfolding values_of
+returns-in-Broken c = settings_break _ _ _ _ c.loop-left-test.true (sym c.next_setting.ensures ∙ ap plain_setting c.in-Broken.is) c.loop-left.invariant

@@ -1,0 +1,19 @@
+use Rattle.std.proofs.Common.{sym, ap, ◌∙◌, arith}
+use Rattle.mod_env.specs.Value.{pieces_of, plain_next}
+use Rattle.mod_env.proofs.Collecting.{no_pieces, piece_taken, pieces_break, pieces_end, pieces_out}
+use Rattle.mod_env.proofs.value.pieces_of.Goals as goal
+
+pub loop-left-init : goal.loop-left-init
+loop-left-init c = no_pieces _
+
+pub loop-left-preserved : goal.loop-left-preserved
+loop-left-preserved c =
+    piece_taken _ _ _ c.in-One.piece _ _ _ c.loop-left-test.true (omega arith) (sym c.in_ok-next_piece.ensures ∙ ap plain_next c.in-One.is) c.loop-left.invariant
+
+pub returns-in-Ended : goal.returns-in-Ended
+unfolding pieces_of
+returns-in-Ended c = pieces_end _ _ _ _ c.loop-left-test.true (sym c.in_ok-next_piece.ensures ∙ ap plain_next c.in-Ended.is) c.loop-left.invariant
+
+pub returns-in-Broken : goal.returns-in-Broken
+unfolding pieces_of
+returns-in-Broken c = pieces_break _ _ _ _ c.loop-left-test.true (sym c.in_ok-next_piece.ensures ∙ ap plain_next c.in-Broken.is) c.loop-left.invariant
