@@ -8,3 +8,4 @@ mod Serving
 mod Salting
 mod Changing
 mod Storing
+mod Faultless

@@ -17,14 +17,12 @@ use Rattle.account_files.specs.Accounts.{account_limit}
 use Rattle.account_files.specs.Act.{Act, reads_file, sees_items, replaces_file}
 use Rattle.module_acts.specs.Comes.{Came, Comes, Ends, Goes, Leads, early, then}
 use Rattle.module_acts.specs.Steps.{exchanges, sees_clock, sets_item}
-use Rattle.sha_crypt.specs.declared.setting.SettingFault.{SettingFault}
-use Rattle.sha_crypt.specs.Hash.{crypted}
 use Rattle.mod_unix.specs.declared.look.Look.{Look}
 use Rattle.mod_unix.specs.declared.look.Look.TheVariants.{Unknown, Unavailable, Plain, Shadowed}
 use Rattle.mod_unix.specs.Aging.{day_of}
 use Rattle.mod_unix.specs.Arguments.{has_argument}
-use Rattle.mod_unix.specs.NewHash.{new_setting}
-use Rattle.mod_unix.specs.Change.{change_by, by_authtok, by_done, by_hash, by_kept, by_pass, by_text, changed_shadow, changes_entry, changes_shadow, is_kept, new_prompts, same_reply, sets_new, stores_token, takes_token, tries_change, usable}
+use Rattle.mod_unix.specs.NewHash.{hashed_token}
+use Rattle.mod_unix.specs.Change.{change_by, by_authtok, by_done, by_kept, by_pass, by_text, changed_shadow, changes_entry, changes_shadow, is_kept, new_prompts, same_reply, sets_new, stores_token, takes_token, tries_change, usable}
 
 -- ---- the new token
 
@@ -72,18 +70,12 @@ module _ (seeing : (act : ClockState → Act) (s : Scene) (code : Code) (new : S
   with_token found token code e h = subst (λ (x : Option (List ℕ)). Came code (stores_token call user x) s new) (sym e) h
 
   module _ (token : List ℕ) (today word : ℕ) (day : today ≡ day_of s.clock.moment) (random : word ≡ s.clock.word) where
-    by_made : (code : Code) (made : Result (List ℕ) SettingFault) → crypted (new_setting call.args word) token ≡ made → Came code (by_hash user today made) s new → Came code (stores_token call user (Some token)) s new
+    pub made : (hash : List ℕ) (code : Code) → hash ≡ hashed_token call.args word token → Came code (changes_shadow user hash today) s new → Came code (stores_token call user (Some token)) s new
     unfolding stores_token
-    by_made code made e h = λ act c end rest.
-        let is : made ≡ crypted (new_setting call.args s.clock.word) token = sym e ∙ ap (λ w. crypted (new_setting call.args w) token) random in
-        seeing (λ clock. by_hash user (day_of clock.moment) (crypted (new_setting call.args clock.word) token) act) s c end
-        (subst (λ (m : Result (List ℕ) SettingFault). Goes (by_hash user (day_of s.clock.moment) m act) s c end) is (subst (λ t. Goes (by_hash user t made act) s c end) day (h act c end rest)))
-
-    pub not_made : (fault : SettingFault) → crypted (new_setting call.args word) token ≡ Err fault → new ≡ s → Came returns.AuthtokErr (stores_token call user (Some token)) s new
-    not_made fault e same = by_made returns.AuthtokErr (Err fault) e (rw same (λ act c end rest. rest))
-
-    pub made : (hash : List ℕ) (code : Code) → crypted (new_setting call.args word) token ≡ Ok hash → Came code (changes_shadow user hash today) s new → Came code (stores_token call user (Some token)) s new
-    made hash code e h = by_made code (Ok hash) e h
+    made hash code e h = λ act c end rest.
+        let is : hash ≡ hashed_token call.args s.clock.word token = e ∙ ap (λ w. hashed_token call.args w token) random in
+        seeing (λ clock. changes_shadow user (hashed_token call.args clock.word token) (day_of clock.moment) act) s c end
+        (subst (λ (m : List ℕ). Goes (changes_shadow user m (day_of s.clock.moment) act) s c end) is (subst (λ t. Goes (changes_shadow user hash t act) s c end) day (h act c end rest)))
 
   -- ---- both passes
 

@@ -17,15 +17,13 @@ use Rattle.account_files.specs.declared.content.Content.TheVariants as content
 use Rattle.account_files.specs.Accounts.{account_limit}
 use Rattle.account_files.specs.Act.{Act, asks_user, reads_file, sees_items, replaces_file}
 use Rattle.module_acts.specs.Steps.{asks_token, exchanges, sees_caller, sees_clock, sets_item}
-use Rattle.sha_crypt.specs.declared.setting.SettingFault.{SettingFault}
-use Rattle.sha_crypt.specs.Hash.{crypted}
 use Rattle.mod_unix.specs.declared.look.Look.{Look}
 use Rattle.mod_unix.specs.declared.look.Look.TheVariants.{Unknown, Unavailable, Plain, Shadowed}
 use Rattle.mod_unix.specs.Aging.{aged, day_of}
 use Rattle.mod_unix.specs.Arguments.{change_expired_authtok, has_argument}
 use Rattle.mod_unix.specs.Authenticate.{is_empty}
 use Rattle.mod_unix.specs.Look.{looks, shadow_in}
-use Rattle.mod_unix.specs.NewHash.{new_setting}
+use Rattle.mod_unix.specs.NewHash.{hashed_token}
 use Rattle.mod_unix.specs.Verify.{hash_verified}
 
 -- ---- the first pass: whether the token may be changed
@@ -111,12 +109,8 @@ by_text None act = act returns.AuthtokErr
 unfoldable pub changes_shadow : List ℕ → List ℕ → ℕ → (Code → Act) → Act
 changes_shadow user hash today act = reads_file (codes "/etc/shadow") account_limit (λ c. by_text (changed_shadow user hash today c) act)
 
-abbrev pub by_hash : List ℕ → ℕ → Result (List ℕ) SettingFault → (Code → Act) → Act
-by_hash user today (Ok hash) act = changes_shadow user hash today act
-by_hash user today (Err fault) act = act returns.AuthtokErr
-
 abbrev pub by_token : PlainCall → List ℕ → Option (List ℕ) → (Code → Act) → Act
-by_token call user (Some token) act = sees_clock (λ clock. by_hash user (day_of clock.moment) (crypted (new_setting call.args clock.word) token) act)
+by_token call user (Some token) act = sees_clock (λ clock. changes_shadow user (hashed_token call.args clock.word token) (day_of clock.moment) act)
 by_token call user None act = act returns.AuthtokErr
 
 unfoldable pub stores_token : PlainCall → List ℕ → Option (List ℕ) → (Code → Act) → Act

@@ -1,8 +1,10 @@
--- The setting under which a new token is hashed (pam_unix(8), crypt(5)).
-use Rattle.std.specs.Prelude.{ℕ, max, min, nat_le, if◌then◌else◌, List, [], ◌++◌, length, Option, Some, None, codes, decimal}
+-- The hash of a new token, and the setting under which it is made (pam_unix(8), crypt(5)).
+use Rattle.std.specs.Prelude.{ℕ, max, min, nat_le, if◌then◌else◌, List, [], ◌++◌, length, Option, Some, None, Result, Ok, Err, codes, decimal}
 use Rattle.pam_base.specs.Number.{number_of_word}
 use Rattle.pam_room.specs.Call.{value_among}
 use Rattle.sha_crypt.specs.Characters.{characters}
+use Rattle.sha_crypt.specs.Hash.{crypted}
+use Rattle.sha_crypt.specs.declared.setting.SettingFault.{SettingFault}
 use Rattle.mod_unix.specs.Arguments.{has_argument}
 
 -- SHA-256 with `sha256`, else SHA-512
@@ -24,3 +26,12 @@ rounds_in None = []
 -- the salt is eight characters of a random word
 unfoldable pub new_setting : List (List ℕ) → ℕ → List ℕ
 new_setting args word = method_text args ++ rounds_in (value_among (codes "rounds=") args) ++ characters 8 word
+
+-- the hash that was made; a new setting has no fault, so there is one
+abbrev pub made_hash : Result (List ℕ) SettingFault → List ℕ
+made_hash (Ok hash) = hash
+made_hash (Err fault) = []
+
+-- the hash of a token under a new setting
+unfoldable pub hashed_token : List (List ℕ) → ℕ → List ℕ → List ℕ
+hashed_token args word token = made_hash (crypted (new_setting args word) token)

@@ -20,28 +20,30 @@ use account_files::user_of;
 use conv_port::Conv;
 use module_acts::{acting, require_token, require_user, talking};
 use pam_base::{Code, ConvErr, ItemName, Refuse, Text};
-use pam_outside::Vault;
+use pam_outside::{Clock, Vault};
 use pam_room::{Call, PRELIM_CHECK, Process, Transaction, get_item};
 use std::alloc::Global;
 
-/// Changes the user's token, or looks in the first pass whether it may be. The day and the random word are those of
-/// the clock.
+/// Changes the user's token, or looks in the first pass whether it may be. Today is the day of the clock,
+/// from which a random word is taken only where a new hash is made.
 pub(crate) fn change_token(
     alloc: Global,
     call: &Call,
     today: u64,
-    word: u64,
     transaction: &mut Transaction,
     process: &Process,
     conv: &mut dyn Conv,
     vault: &mut dyn Vault,
+    clock: &mut dyn Clock,
 ) -> Result<Code, Refuse<ConvErr>>
     ensures conv_tells { conv_tells conv.new ≡ conv_tells conv.old }
     ensures vault_tells { vault_tells vault.new ≡ vault_tells vault.old }
-    ensures told { IsTrue (conv_tells conv.old) → IsTrue (vault_tells vault.old) → (clock : ClockState) → today ≡ day_of clock.moment → word ≡ clock.word →
+    ensures clock_tells { clock_tells clock.new ≡ clock_tells clock.old }
+    ensures clock_stays { IsTrue (clock_tells clock.old) → clock_holds clock.new ≡ clock_holds clock.old }
+    ensures told { IsTrue (conv_tells conv.old) → IsTrue (vault_tells vault.old) → IsTrue (clock_tells clock.old) → today ≡ day_of (clock_holds clock.old).moment →
         Comes result (changes_token (plain_call call.now))
-        (lent transaction.old (conv_holds conv.old) (vault_holds vault.old) clock (plain_process process.now))
-        (lent transaction.new (conv_holds conv.new) (vault_holds vault.new) clock (plain_process process.now)) }
+        (lent transaction.old (conv_holds conv.old) (vault_holds vault.old) (clock_holds clock.old) (plain_process process.now))
+        (lent transaction.new (conv_holds conv.new) (vault_holds vault.new) (clock_holds clock.old) (plain_process process.now)) }
     ensures talks { Talks transaction.old transaction.new }
 {
     talking();
@@ -52,13 +54,13 @@ pub(crate) fn change_token(
         alloc,
         call,
         today,
-        word,
         user.bytes(),
         &look,
         transaction,
         process,
         conv,
         vault,
+        clock,
     )
 }
 
@@ -67,20 +69,22 @@ fn change_by(
     alloc: Global,
     call: &Call,
     today: u64,
-    word: u64,
     user: &[u8],
     look: &Look,
     transaction: &mut Transaction,
     process: &Process,
     conv: &mut dyn Conv,
     vault: &mut dyn Vault,
+    clock: &mut dyn Clock,
 ) -> Result<Code, Refuse<ConvErr>>
     ensures conv_tells { conv_tells conv.new ≡ conv_tells conv.old }
     ensures vault_tells { vault_tells vault.new ≡ vault_tells vault.old }
-    ensures told { IsTrue (conv_tells conv.old) → IsTrue (vault_tells vault.old) → (clock : ClockState) → today ≡ day_of clock.moment → word ≡ clock.word →
+    ensures clock_tells { clock_tells clock.new ≡ clock_tells clock.old }
+    ensures clock_stays { IsTrue (clock_tells clock.old) → clock_holds clock.new ≡ clock_holds clock.old }
+    ensures told { IsTrue (conv_tells conv.old) → IsTrue (vault_tells vault.old) → IsTrue (clock_tells clock.old) → today ≡ day_of (clock_holds clock.old).moment →
         Comes result (change_by (plain_call call.now) user.now look.now)
-        (lent transaction.old (conv_holds conv.old) (vault_holds vault.old) clock (plain_process process.now))
-        (lent transaction.new (conv_holds conv.new) (vault_holds vault.new) clock (plain_process process.now)) }
+        (lent transaction.old (conv_holds conv.old) (vault_holds vault.old) (clock_holds clock.old) (plain_process process.now))
+        (lent transaction.new (conv_holds conv.new) (vault_holds vault.new) (clock_holds clock.old) (plain_process process.now)) }
     ensures talks { Talks transaction.old transaction.new }
 {
     talking();
@@ -92,13 +96,13 @@ fn change_by(
             alloc,
             call,
             today,
-            word,
             user,
             entry,
             transaction,
             process,
             conv,
             vault,
+            clock,
         ),
     }
 }
@@ -108,20 +112,22 @@ fn change_entry(
     alloc: Global,
     call: &Call,
     today: u64,
-    word: u64,
     user: &[u8],
     entry: &Shadow,
     transaction: &mut Transaction,
     process: &Process,
     conv: &mut dyn Conv,
     vault: &mut dyn Vault,
+    clock: &mut dyn Clock,
 ) -> Result<Code, Refuse<ConvErr>>
     ensures conv_tells { conv_tells conv.new ≡ conv_tells conv.old }
     ensures vault_tells { vault_tells vault.new ≡ vault_tells vault.old }
-    ensures told { IsTrue (conv_tells conv.old) → IsTrue (vault_tells vault.old) → (clock : ClockState) → today ≡ day_of clock.moment → word ≡ clock.word →
+    ensures clock_tells { clock_tells clock.new ≡ clock_tells clock.old }
+    ensures clock_stays { IsTrue (clock_tells clock.old) → clock_holds clock.new ≡ clock_holds clock.old }
+    ensures told { IsTrue (conv_tells conv.old) → IsTrue (vault_tells vault.old) → IsTrue (clock_tells clock.old) → today ≡ day_of (clock_holds clock.old).moment →
         Comes result (changes_entry (plain_call call.now) user.now entry.now)
-        (lent transaction.old (conv_holds conv.old) (vault_holds vault.old) clock (plain_process process.now))
-        (lent transaction.new (conv_holds conv.new) (vault_holds vault.new) clock (plain_process process.now)) }
+        (lent transaction.old (conv_holds conv.old) (vault_holds vault.old) (clock_holds clock.old) (plain_process process.now))
+        (lent transaction.new (conv_holds conv.new) (vault_holds vault.new) (clock_holds clock.old) (plain_process process.now)) }
     ensures talks { Talks transaction.old transaction.new }
 {
     acting();
@@ -133,7 +139,7 @@ fn change_entry(
         return try_change(alloc, today, entry, transaction, process, conv);
     }
     let token = take_token(alloc, call, transaction, conv)?;
-    let code = store_token(alloc, call, today, word, user, token, process, vault)?;
+    let code = store_token(alloc, call, today, user, token, process, vault, clock)?;
     Ok(code)
 }
 

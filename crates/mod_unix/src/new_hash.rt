@@ -1,18 +1,41 @@
-ghost use Rattle.std.specs.Prelude.{◌≡◌, ◌≤◌, ◌++◌, IfOk, OnOk};
+ghost use Rattle.std.specs.Prelude.{◌≡◌, ◌≤◌, ◌++◌, IfOk, OnOk, length};
 ghost use Rattle.std.specs.Option.{option_copied};
 ghost use Rattle.sha_crypt.specs.Characters.{characters};
-ghost use Rattle.mod_unix.specs.NewHash.{method_text, new_setting, rounds_in, rounds_of, short_number};
+ghost use Rattle.mod_unix.specs.NewHash.{hashed_token, method_text, new_setting, rounds_in, rounds_of, short_number};
 
 use crate::arguments::has_argument;
-use pam_base::{NoMemory, Text, number_in};
+use pam_base::{NoMemory, Refuse, Text, number_in};
 use pam_room::Call;
+use sha_crypt::{crypt, plain_settings_have_no_fault};
 use std::alloc::Global;
 
 const ALPHABET: [u8; 64] = *b"./0123456789ABCDEFGHIJKLMNOPQRSTUVWXYZabcdefghijklmnopqrstuvwxyz";
 
-/// The setting for a new hash, with a random word.
+/// The hash of a token under a new setting, with a random word.
+#[tactic(auto, unfolding(crate::specs::NewHash::hashed_token))]
+pub(crate) fn hashed_token(
+    alloc: Global,
+    call: &Call,
+    word: u64,
+    token: &[u8],
+) -> Result<Text, NoMemory>
+    requires { length token.now ≤ 512 }
+    ensures { IfOk result (λ hash. hash ≡ hashed_token call.now.args.now word token.now) }
+{
+    plain_settings_have_no_fault();
+    let setting = new_setting(alloc, call, word)?;
+    match crypt(alloc, setting.bytes(), token) {
+        Ok(hash) => Ok(hash),
+        Err(refused) => match refused {
+            Refuse::NoMemory => Err(NoMemory),
+            Refuse::Named(_) => unreachable!(),
+        },
+    }
+}
+
+// The setting for a new hash, with a random word.
 #[tactic(auto, unfolding(crate::specs::NewHash::new_setting))]
-pub(crate) fn new_setting(alloc: Global, call: &Call, word: u64) -> Result<Text, NoMemory>
+fn new_setting(alloc: Global, call: &Call, word: u64) -> Result<Text, NoMemory>
     ensures { IfOk result (λ text. text ≡ new_setting call.now.args.now word) }
 {
     let mut text = Vec::new(alloc);

@@ -9,14 +9,13 @@ ghost use Rattle.mod_unix.specs.Aging.{day_of};
 ghost use Rattle.mod_unix.specs.Change.{by_done, changed_shadow, changes_shadow, stores_token};
 
 use crate::look::ACCOUNT_LIMIT;
-use crate::new_hash::new_setting;
+use crate::new_hash::hashed_token;
 use account_db::{replace_hash, shadow_of, shadows};
 use account_files::Content;
 use module_acts::{acting, read_whole, replace_whole};
 use pam_base::{Code, NoMemory, Refuse, Text};
-use pam_outside::Vault;
+use pam_outside::{Clock, Vault, random_word};
 use pam_room::{Call, Process};
-use sha_crypt::crypt;
 use std::alloc::Global;
 
 /// Hashes the new token, if there is one, and puts the hash into shadow.
@@ -24,31 +23,26 @@ pub(crate) fn store_token(
     alloc: Global,
     call: &Call,
     today: u64,
-    word: u64,
     user: &[u8],
     token: Option<Text>,
     process: &Process,
     vault: &mut dyn Vault,
+    clock: &mut dyn Clock,
 ) -> Result<Code, NoMemory>
     requires { IfSome token (λ t. length t ≤ 512) }
-    ensures tells { vault_tells vault.new ≡ vault_tells vault.old }
-    ensures told { IsTrue (vault_tells vault.old) → (room : PlainRoom) (clock : ClockState) → today ≡ day_of clock.moment → word ≡ clock.word →
+    ensures vault_tells { vault_tells vault.new ≡ vault_tells vault.old }
+    ensures clock_tells { clock_tells clock.new ≡ clock_tells clock.old }
+    ensures clock_stays { IsTrue (clock_tells clock.old) → clock_holds clock.new ≡ clock_holds clock.old }
+    ensures told { IsTrue (vault_tells vault.old) → IsTrue (clock_tells clock.old) → (room : PlainRoom) → today ≡ day_of (clock_holds clock.old).moment →
         IfOk result (λ code. Came code (stores_token (plain_call call.now) user.now token)
-        (scene_of room (vault_holds vault.old) clock (plain_process process.now)) (scene_of room (vault_holds vault.new) clock (plain_process process.now))) }
+        (scene_of room (vault_holds vault.old) (clock_holds clock.old) (plain_process process.now)) (scene_of room (vault_holds vault.new) (clock_holds clock.old) (plain_process process.now))) }
 {
     acting();
     let token = match token {
         Some(token) => token,
         None => return Ok(Code::AuthtokErr),
     };
-    let setting = new_setting(alloc, call, word)?;
-    let hash = match crypt(alloc, setting.bytes(), token.bytes()) {
-        Ok(hash) => hash,
-        Err(refused) => match refused {
-            Refuse::NoMemory => return Err(NoMemory),
-            Refuse::Named(_) => return Ok(Code::AuthtokErr),
-        },
-    };
+    let hash = hashed_token(alloc, call, random_word(clock), token.bytes())?;
     let code = change_shadow(alloc, today, user, hash.bytes(), process, vault)?;
     Ok(code)
 }

@@ -20,7 +20,7 @@ use conv_port::Conv;
 use data_cleanup::{DataList, Datum, Receipt};
 use module_acts::{acting, answer_and_keep, talking};
 use pam_base::{Code, ConvErr, Func, NoMemory, Refuse, code_number, code_of};
-use pam_outside::{Clock, Vault, current_moment, random_word};
+use pam_outside::{Clock, Vault, current_moment};
 use pam_room::{Call, Module, Process, Transaction, spend_by_length};
 use std::alloc::Global;
 
@@ -72,17 +72,16 @@ impl Module for Unix {
                 ended(answer)
             }
             Func::ChAuthTok => {
-                let word = random_word(clock);
                 let today = day_of(current_moment(clock));
                 let answer = change_token(
                     alloc,
                     call,
                     today,
-                    word,
                     transaction,
                     process,
                     conv,
                     vault,
+                    clock,
                 );
                 ended(answer)
             }

@@ -56,13 +56,12 @@ returns-in-ChAuthTok-clause-told g c = λ told.
     let clock_tells = (goal.Clock-dyn g clock).clock_tells clock.1 in
     let call = plain_call c.args.call.now in
     let ticks = third ((goal.Conv-dyn g c.args.conv.now).conv_tells c.args.conv.now.1) vault_tells clock_tells told in
-    let stays = c.random_word-word.ensures.stays ticks in
-    let moment = c.current_moment.ensures.told (c.random_word-word.ensures.tells ∙ ticks) in
+    let stays = c.change_token-answer.ensures.clock_stays ticks in
     c.acting.ensures.playing unix_act call _ _ c.ended-in-ChAuthTok.result
     (by_this _ ChAuthTok call c.ended-in-ChAuthTok.result _ _ c.in-ChAuthTok.is
     (at_clock _ _ _ _ _ _ _ c.ended-in-ChAuthTok.result stays
-    (c.ended-in-ChAuthTok.ensures.told (changes_token call) _ _ (c.change_token-answer.ensures.told (first _ vault_tells clock_tells told) (second _ vault_tells clock_tells told) _
-    (c.day_of-today.ensures ∙ ap day_of (moment ∙ ap (λ (k : ClockState). k.moment) stays)) (c.random_word-word.ensures.told ticks)))))
+    (c.ended-in-ChAuthTok.ensures.told (changes_token call) _ _ (c.change_token-answer.ensures.told (first _ vault_tells clock_tells told) (second _ vault_tells clock_tells told) ticks
+    (c.day_of-today.ensures ∙ ap day_of (c.current_moment.ensures.told ticks))))))
 
 pub returns-in-OpenSession-clause-told : goal.returns-in-OpenSession-clause-told
 returns-in-OpenSession-clause-told g c = λ told.
