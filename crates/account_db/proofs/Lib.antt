@@ -4,3 +4,4 @@ mod Reading
 mod Trimming
 mod Rows
 mod Placing
+mod Renewing

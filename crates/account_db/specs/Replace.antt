@@ -1,5 +1,5 @@
 -- A new hash in the shadow file (shadow(5), passwd(1)).
-use Rattle.std.specs.Prelude.{◌≡◌, true, ◌++◌, ℕ, Bool, ◌&&◌, not, if◌then◌else◌, List, [], ◌∷◌, drop, Result, Ok, Err, decimal}
+use Rattle.std.specs.Prelude.{◌≡◌, true, ◌++◌, ℕ, Bool, ◌&&◌, not, if◌then◌else◌, List, [], ◌∷◌, drop, Some, Result, Ok, Err, decimal}
 use Rattle.std.specs.List.{join_with_byte}
 use Rattle.std.specs.Str.{bytes_eq}
 use Rattle.account_db.specs.declared.fault.DbFault.{DbFault}
@@ -33,6 +33,16 @@ unless_faulty_file (Err fault) text = Err fault
 -- the new text, or the first line at fault
 abbrev pub hash_replaced : List ℕ → List ℕ → ℕ → List ℕ → Result (List ℕ) DbFault
 hash_replaced user hash day text = unless_faulty_file (shadows_of text) (with_hash user hash day text)
+
+-- an entry with this hash and this day of the last change
+abbrev pub renewed : List ℕ → ℕ → Shadow → Shadow
+renewed hash day entry = record entry { hash = hash; last_change = Some day }
+
+-- the first entry of the user is changed, and the others stay
+abbrev pub changed_entries : List ℕ → List ℕ → ℕ → List Shadow → List Shadow
+changed_entries user hash day [] = []
+changed_entries user hash day (entry ∷ entries) =
+    if bytes_eq entry.name user then renewed hash day entry ∷ entries else entry ∷ changed_entries user hash day entries
 
 -- A line of the user was changed, and what stands before and behind it stayed.
 pub record Placed (user hash : List ℕ) (day : ℕ) (old new : List ℕ) : Type 0 where

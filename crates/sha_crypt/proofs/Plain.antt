@@ -1,5 +1,5 @@
 -- A setting of a prefix, rounds and characters has no fault.
-use Rattle.std.proofs.Common.{◌≡◌, ℕ, zero, suc, ◌/◌, ◌%◌, ◌<◌, ◌≤◌, Bool, true, false, not, cond, List, [], ◌∷◌, ◌++◌, length, take, get_or, Option, Some, None, IfSome, Result, Ok, Err, is_ok, codes, decimal, refl, sym, ap, ◌∙◌, arith, eqb, append_assoc, length-append}
+use Rattle.std.proofs.Common.{◌≡◌, ℕ, zero, suc, ◌/◌, ◌%◌, ◌<◌, ◌≤◌, Bool, true, false, ◌||◌, not, cond, List, [], ◌∷◌, ◌++◌, length, take, get_or, Option, Some, None, IfSome, Result, Ok, Err, is_ok, codes, decimal, refl, sym, ap, ◌∙◌, arith, eqb, append_assoc, length-append}
 use Rattle.std.proofs.lemmas.Bool.{and_parts, eqb-true, lt-ltb, le-ltb}
 use Rattle.std.proofs.lemmas.Fmt.{decimal_nonempty}
 use Rattle.std.proofs.lemmas.List.Folds.{list_all_at}
@@ -12,14 +12,11 @@ use Rattle.sha_crypt.specs.Hash.{crypted, hash_or_fault}
 use Rattle.sha_crypt.specs.Setting.{Asked, asked, asked_of, begins, field_fault, is_dollar, is_forbidden, prefix, rounds_text, rounds_written, salt_in}
 use Rattle.sha_crypt.proofs.Again.{after_dollar, before, before_dollar, before_is, behind_prefix, digits_have_none}
 use Rattle.sha_crypt.proofs.Decimals.{Writes, writes}
-use Rattle.sha_crypt.proofs.Field.{characters_fit}
+use Rattle.sha_crypt.proofs.Field.{characters_fit, has_forbidden}
 
 -- ---- the salt
 
-has_forbidden : List ℕ → Bool
-has_forbidden text = list_any is_forbidden text
-
-left_false : (a b : Bool) → (cond a true b) ≡ false → (a ≡ false) × (b ≡ false)
+left_false : (a b : Bool) → (a || b) ≡ false → (a ≡ false) × (b ≡ false)
 left_false true b e = absurd cc
 left_false false b e = (refl, e)
 
@@ -52,12 +49,17 @@ salt_fits n number = rw (before_is (characters n number)) (take_fits 16 (before 
 no_equals : List ℕ → Bool
 no_equals text = list_all (λ b. not (eqb b 61)) text
 
+none_if : (k : ℕ) → k < 64 → (x : Bool) → not (eqb (get_or alphabet k 0) 61) ≡ x → not (eqb (get_or alphabet k 0) 61) ≡ true
+none_if k lt true e = e
+none_if k lt false e =
+    let some : ◌≡◌ {A = Bool} true false = list_all_at (λ b. not (eqb b 61)) alphabet k 0 lt e in
+    absurd cc
+
 characters_lack : (n number : ℕ) → no_equals (characters n number) ≡ true
 unfolding no_equals
 characters_lack zero number = refl
 characters_lack (suc n) number =
-    let lt : number % 64 < length alphabet = omega arith in
-    rw (list_all_at (λ b. not (eqb b 61)) alphabet (number % 64) 0 lt refl) (characters_lack n (number / 64))
+    rw (none_if (number % 64) (omega arith) _ refl) (characters_lack n (number / 64))
 
 same_lacks : (c b : ℕ) (cs : List ℕ) → eqb c b ≡ true → not (eqb b 61) ≡ true → no_equals cs ≡ true → no_equals (c ∷ cs) ≡ true
 unfolding no_equals
