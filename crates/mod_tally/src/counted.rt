@@ -70,15 +70,15 @@ pub(crate) fn counting_text(
     let mut rest = failures;
     while let [failure, after @ ..] = rest {
         if counts(interval, greatest, failure) {
-            write_line(alloc, &mut out, failure)?;
+            write_failure(alloc, &mut out, failure)?;
         }
         rest = after;
     }
     Ok(Text::from_vec(out))
 }
 
-/// Writes the line of a failure.
-fn write_line(alloc: Global, out: &mut Vec<u8>, failure: &Failure) -> Result<(), NoMemory>
+/// Writes the line of a failure, as a tally file of version 2 has it.
+pub fn write_failure(alloc: Global, out: &mut Vec<u8>, failure: &Failure) -> Result<(), NoMemory>
     ensures { OnOk result (out.new.items ≡ out.old.items ++ failure_line failure.now) }
 {
     let moment = format!(in alloc; "{}", failure.moment)?;

@@ -9,6 +9,8 @@ mod source;
 mod tally;
 mod tally_file;
 
+pub use counted::write_failure;
 pub use faillock::Faillock;
 pub use laws::{recorded_failures_stand, written_tallies_are_read};
 pub use tally::{Damaged, Failure, Failures, failures};
+pub use tally_file::is_no_file;

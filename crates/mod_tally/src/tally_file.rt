@@ -19,8 +19,8 @@ use std::alloc::Global;
 /// The most bytes of a tally file.
 const TALLY_LIMIT: u32 = 65536;
 
-/// Whether a user's name can't be the name of a file.
-pub(crate) fn is_no_file(user: &[u8]) -> bool
+/// Whether a user's name can't be the name of a file: it is empty, `.` or `..`, or holds a slash.
+pub fn is_no_file(user: &[u8]) -> bool
     ensures { result ≡ is_no_file user.now }
 {
     user.is_empty() || are_dots(user) || has_slash(user)

@@ -29,7 +29,7 @@ module _ (sha256 : (rounds : Option ℕ) (n number : ℕ) (key : List ℕ) → I
   by_method true text named word key = rw named.is (sha256 named.rounds 8 word key named.few)
   by_method false text named word key = rw named.is (sha512 named.rounds 8 word key named.few)
 
-  made : (args : List (List ℕ)) (word : ℕ) (key : List ℕ) → is_ok (crypted (new_setting args word) key) ≡ true
+  pub made : (args : List (List ℕ)) (word : ℕ) (key : List ℕ) → is_ok (crypted (new_setting args word) key) ≡ true
   unfolding new_setting
   made args word key = by_method (has_argument (codes "sha256") args) (rounds_in (value_among (codes "rounds=") args)) (by_word (value_among (codes "rounds=") args)) word key
 

@@ -9,3 +9,4 @@ mod Salting
 mod Changing
 mod Storing
 mod Faultless
+mod Standing

@@ -6,6 +6,7 @@ mod aging;
 mod arguments;
 mod authenticate;
 mod change;
+mod laws;
 mod look;
 mod new_hash;
 mod new_token;
@@ -13,4 +14,5 @@ mod store;
 mod unix;
 mod verify;
 
+pub use laws::changed_token_is_taken;
 pub use unix::Unix;

@@ -1,0 +1,44 @@
+ghost use Rattle.std.specs.Prelude.{◌≡◌, ◌≢◌, ◌⊎◌, ◌≤◌, IsTrue, Ok, Err};
+ghost use Rattle.pam_outside.specs.Counts.{RisesIf, Rose};
+ghost use Rattle.pam_outside.specs.Files.{counted};
+ghost use Rattle.item_stream.specs.Turns.{has_write_fault};
+ghost use Rattle.session_tally.specs.Tally.{Lists, tally_of};
+
+use crate::finding::{Tallied, find};
+use item_stream::Stop;
+use pam_base::{Failed, NoMemory};
+use pam_outside::{Sink, Vault, write_all};
+use std::alloc::Global;
+
+/// Lists the failures that stand in the file of a user under a root, `/var/run/faillock/USER`: each in the form of the
+/// file, and then how many they are; or it says that the file is damaged or can't be read. A file that isn't there has
+/// none. Of the world only what the vault counts changes: it is called once. The text is made whole before it is
+/// written.
+pub fn list_failures<K: Sink>(
+    alloc: Global,
+    root: &[u8],
+    user: &[u8],
+    out: &mut K,
+    vault: &mut dyn Vault,
+) -> Result<Tallied, Stop>
+    ensures sink_tells { K.sink_tells out.new ≡ K.sink_tells out.old }
+    ensures vault_tells { vault_tells vault.new ≡ vault_tells vault.old }
+    ensures told { IsTrue (K.sink_tells out.old) → IsTrue (vault_tells vault.old) →
+        Lists result (tally_of (vault_holds vault.old) root.now user.now) (K.sink_holds out.old) (K.sink_holds out.new) }
+    // One call of the vault, or, where there was no memory for its path, none.
+    ensures one_call { IsTrue (vault_tells vault.old) →
+        (vault_holds vault.new ≡ counted (vault_holds vault.old)) ⊎ ((result ≡ Err Stop.NoMemory) × (vault_holds vault.new ≡ vault_holds vault.old)) }
+    // The causes, in any world: it is unread only where the vault failed, and the vault fails with no other answer but
+    // where the line that says so can't be written.
+    ensures unread { result ≡ Ok Tallied.Unread → Rose (vault_faults vault.old) (vault_faults vault.new) }
+    ensures read { (result ≡ Ok Tallied.Listed) ⊎ (result ≡ Ok Tallied.Damaged) → vault_faults vault.new ≡ vault_faults vault.old }
+    ensures faults { RisesIf (has_write_fault result) (K.sink_faults out.old) (K.sink_faults out.new) }
+{
+    match find(alloc, root, user, vault) {
+        Err(NoMemory) => Err(Stop::NoMemory),
+        Ok(finding) => match write_all(out, finding.text.bytes()) {
+            Ok(()) => Ok(finding.tallied),
+            Err(Failed) => Err(Stop::WriteFault),
+        },
+    }
+}
