@@ -1,6 +1,7 @@
 """What the audits run: trees, scripts, and what must come of them; and how a run, a tree and a shim are handled."""
 import os
 import re
+import resource
 import shutil
 import stat
 import subprocess
@@ -12,6 +13,10 @@ PROGRAM = os.path.abspath(os.environ.get("PAMSESS") or f"{TOP}/crates/pam_sessio
 
 # What a stored row or example has beside its tree.
 PARTS = ("README.md", "after", "cases", "checked", "input", "output", "script", "status", "words")
+
+# How long a run may take, and how long one of a case that is run hundreds of times, in seconds.
+SECONDS = 60
+SLOW = 0.5
 
 # Files that are larger are compared by their size alone.
 LARGE = 16 << 20
@@ -240,17 +245,25 @@ def run(case, room, **environment):
             capture_output=True,
             cwd=room,
             env=environment,
-            timeout=60,
+            timeout=SECONDS,
             check=False,
         )
         return Ran(ran.returncode, ran.stdout, ran.stderr, tree_of(root))
+    except subprocess.TimeoutExpired as late:
+        return Ran("none", late.stdout or b"", b"not ended in %d seconds" % SECONDS, tree_of(root))
     finally:
         shutil.rmtree(root)
 
 
 def wrong_plainly(case, room):
-    """How a plain run differs from what is stored, or nothing."""
+    """How a plain run differs from what is stored, or nothing; and whether it takes too long to be swept over."""
+    before = resource.getrusage(resource.RUSAGE_CHILDREN).ru_utime
     ran = run(case, room)
+    is_slow = resource.getrusage(resource.RUSAGE_CHILDREN).ru_utime - before > SLOW
+    return difference(case, ran), is_slow
+
+
+def difference(case, ran):
     if (ran.status, ran.output, ran.said) != (case.status, case.output, b""):
         return f"status {ran.status}, output {ran.output!r} {ran.said!r}"
     given = {path: text for path, (mode, _, _, text) in ran.tree.items() if stat.S_ISREG(mode)}
