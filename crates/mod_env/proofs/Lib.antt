@@ -1,4 +1,5 @@
 mod Putting
 mod Collecting
 mod Settling
+mod Telling
 mod Rows

@@ -1,5 +1,5 @@
 -- Variables are set one by one.
-use Rattle.std.proofs.Common.{◌≡◌, ◌≤◌, ℕ, ◌-◌, Bool, true, false, List, [], ◌∷◌, length, take, drop, get_or, Option, refl, arith}
+use Rattle.std.proofs.Common.{◌≡◌, ◌≤◌, ℕ, ◌-◌, Bool, true, false, List, [], ◌∷◌, length, take, drop, get_or, Option, Some, None, refl, arith}
 use Rattle.std.proofs.lemmas.List.{take_all}
 use Rattle.conv_port.specs.Conv.{ConvState}
 use Rattle.env_list.specs.Environment.{Variable}
@@ -8,13 +8,13 @@ use Rattle.pam_base.specs.declared.code.Code.{Code}
 use Rattle.pam_base.specs.declared.code.Code.TheVariants.{BufErr}
 use Rattle.pam_room.specs.State.{Scene}
 use Rattle.account_db.specs.declared.passwd.Passwd.{Passwd}
-use Rattle.account_files.specs.Accounts.{Known}
-use Rattle.account_files.specs.Act.{Act, Acts, answers, sees_items}
+use Rattle.account_files.specs.Accounts.{Known, account_in, known_passwds}
+use Rattle.account_files.specs.Act.{Act, Acts, answers, reads_passwds, sees_items}
 use Rattle.mod_env.specs.declared.conf.Entry.{Entry}
 use Rattle.mod_env.specs.declared.expand.Outcome.{Outcome}
 use Rattle.mod_env.specs.declared.expand.Outcome.TheVariants.{TooLong, Puts}
-use Rattle.mod_env.specs.Env.{GoesOn, by_outcome, looks_if, puts_env, sees_env, sets_all, sets_by, sets_variable}
-use Rattle.mod_env.specs.Expand.{Sources, asks_account, outcome}
+use Rattle.mod_env.specs.Env.{GoesOn, by_outcome, by_user, entry_in, entry_known, looks_if, puts_env, sees_env, sets_all, sets_by, sets_variable}
+use Rattle.mod_env.specs.Expand.{Sources, asks_account, outcome_of}
 
 pub first_of : {A : Type 0} (whole : List A) (x : A) → 1 ≤ length whole → x ≡ get_or whole 0 x → whole ≡ x ∷ take (length whole - 1) (drop 1 whole)
 first_of [] x some is = absurd (omega (arith, some))
@@ -27,16 +27,16 @@ sources_in s account = record { items = s.room.transaction.items; env = s.room.t
 module _ (items : (act : ItemTexts → Act) (known : Known) (s : Scene) (code : Code) (new : Scene) → Acts (act s.room.transaction.items) known s code new → Acts (sees_items act) known s code new)
     (env : (act : List Variable → Act) (known : Known) (s : Scene) (code : Code) (new : Scene) → Acts (act s.room.transaction.env) known s code new → Acts (sees_env act) known s code new)
     (entry : Entry) (account : Option Passwd) (known : Known) (s : Scene) (found : Outcome) where
-  seen : (act : Act) (code : Code) (new : Scene) → found ≡ outcome entry (sources_in s account) → Acts (by_outcome found act) known s code new → Acts (sets_by entry account act) known s code new
+  seen : (act : Act) (code : Code) (new : Scene) → found ≡ outcome_of entry (sources_in s account) → Acts (by_outcome found act) known s code new → Acts (sets_by entry account act) known s code new
   unfolding sets_by
   seen act code new e a =
-      items (λ texts. sees_env (λ variables. by_outcome (outcome entry (record { items = texts; env = variables; entry = account })) act)) known s code new
-      (env (λ variables. by_outcome (outcome entry (record { items = s.room.transaction.items; env = variables; entry = account })) act) known s code new (rw (← e) a))
+      items (λ texts. sees_env (λ variables. by_outcome (outcome_of entry (record { items = texts; env = variables; entry = account })) act)) known s code new
+      (env (λ variables. by_outcome (outcome_of entry (record { items = s.room.transaction.items; env = variables; entry = account })) act) known s code new (rw (← e) a))
 
-  pub too_long : found ≡ outcome entry (sources_in s account) → found ≡ TooLong → Acts (answers BufErr) known s BufErr s → GoesOn false (sets_by entry account) known s known s
+  pub too_long : found ≡ outcome_of entry (sources_in s account) → found ≡ TooLong → Acts (answers BufErr) known s BufErr s → GoesOn false (sets_by entry account) known s known s
   too_long e f a = λ act. seen act BufErr s e (rw f a)
 
-  pub puts : (text : List ℕ) (new : Scene) → found ≡ outcome entry (sources_in s account) → found ≡ Puts text
+  pub puts : (text : List ℕ) (new : Scene) → found ≡ outcome_of entry (sources_in s account) → found ≡ Puts text
       → ((act : Act) (code : Code) (end : Scene) → Acts act known new code end → Acts (puts_env text act) known s code end) → GoesOn true (sets_by entry account) known s known new
   puts text new e f step = λ act code end a. seen act code end e (rw f (step act code end a))
 
@@ -54,3 +54,13 @@ module _ (entries rest after : List Entry) (entry : Entry) (first known now : Kn
 
   pub stopped : GoesOn false (sets_variable entry) known s now new → GoesOn false (sets_all entries) first old now new
   stopped h = λ act. told act BufErr new (rw is (h (sets_all after act)))
+
+module _ (found : Option (List ℕ)) where
+  pub by_found : (user : List ℕ) (act : Option Passwd → Act) (known now : Known) (s mid : Scene) (code : Code) (end : Scene) → Some user ≡ found
+      → ((act' : Option (List Passwd) → Act) → Acts (act' (known_passwds now)) now mid code end → Acts (reads_passwds act') known s code end)
+      → Acts (act (entry_known found now)) now mid code end → Acts (by_user found act) known s code end
+  by_found user act known now s mid code end e reads a = rw (← e) (reads (λ entries. act (entry_in (account_in user entries))) (rw (← e) at a))
+
+  pub by_none : (act : Option Passwd → Act) (known : Known) (s : Scene) (code : Code) (end : Scene) → None ≡ found
+      → Acts (act (entry_known found known)) known s code end → Acts (by_user found act) known s code end
+  by_none act known s code end e a = rw (← e) (rw (← e) at a)

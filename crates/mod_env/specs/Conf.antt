@@ -1,6 +1,6 @@
 -- The file of pam_env.conf(5): a variable a line, with a value by default and one that overrides it.
 use Rattle.std.specs.Prelude.{ℕ, zero, suc, ◌+◌, Bool, true, false, ◌==◌, ◌||◌, if◌then◌else◌, List, [], ◌∷◌, length, take, drop, Option, Some, None, position, codes}
-use Rattle.std.specs.List.{after_first, before_first, position_or_len}
+use Rattle.std.specs.List.{after_first, before_first}
 use Rattle.pam_base.specs.Bytes.{has_byte}
 use Rattle.pam_base.specs.Lines.{lines_of}
 use Rattle.pam_base.specs.White.{is_white}
@@ -34,13 +34,14 @@ quoted key marks None = broken
 quoted key marks (Some n) = if ends_word (drop (n + 1) marks) then one key (take n marks) (drop (n + 1) marks) else broken
 
 -- any other value goes to the next white space
-abbrev pub unquoted : Key → List Mark → ℕ → Setting
-unquoted key marks n = one key (take n marks) (drop n marks)
+abbrev pub unquoted : Key → List Mark → Option ℕ → Setting
+unquoted key marks (Some n) = one key (take n marks) (drop n marks)
+unquoted key marks None = one key marks []
 
 abbrev pub at_value : Key → List Mark → Setting
 at_value key marks =
     if begins_with (34 ∷ []) marks then quoted key (drop 1 marks) (position (is_byte 34) (drop 1 marks))
-    else unquoted key marks (position_or_len is_white_mark marks)
+    else unquoted key marks (position is_white_mark marks)
 
 -- a setting is DEFAULT= or OVERRIDE= with a value
 abbrev pub at_key : List Mark → Setting
@@ -61,19 +62,20 @@ abbrev pub with_value : Key → List Piece → Values → Values
 with_value Default pieces values = record values { default = Some pieces }
 with_value Override pieces values = record values { overriding = Some pieces }
 
--- the values of a line, with those that stand before; the last of each holds
+-- by what stands at the front, and what the rest comes to with the values that were found; the last of each holds
+abbrev pub by_pieces : (Values → List Mark → Option Values) → Values → Key → List Mark → Option (List Piece) → Option Values
+by_pieces more values key rest (Some pieces) = more (with_value key pieces values) rest
+by_pieces more values key rest None = None
+
+abbrev pub by_setting : (Values → List Mark → Option Values) → Values → Setting → Option Values
+by_setting more values ended = Some values
+by_setting more values broken = None
+by_setting more values (one key value rest) = by_pieces more values key rest (pieces_of value)
+
+-- the values of at most so many settings, and those that were found before
 abbrev pub values_within : ℕ → Values → List Mark → Option Values
-
-abbrev pub by_setting : ℕ → Values → Setting → Option Values
-
-abbrev pub by_pieces : ℕ → Values → Key → List Mark → Option (List Piece) → Option Values
 values_within zero values marks = if length (behind_white marks) == 0 then Some values else None
-values_within (suc n) values marks = by_setting n values (next_setting marks)
-by_setting n values ended = Some values
-by_setting n values broken = None
-by_setting n values (one key value rest) = by_pieces n values key rest (pieces_of value)
-by_pieces n values key rest (Some pieces) = values_within n (with_value key pieces values) rest
-by_pieces n values key rest None = None
+values_within (suc n) values marks = by_setting (values_within n) values (next_setting marks)
 
 -- the values of what stands behind a name, if it has their form; there are at most as many settings as bytes
 unfoldable pub values_of : List Mark → Option Values

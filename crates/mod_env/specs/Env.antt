@@ -20,7 +20,7 @@ use Rattle.mod_env.specs.declared.expand.Outcome.{Outcome}
 use Rattle.mod_env.specs.declared.expand.Outcome.TheVariants.{TooLong, Puts}
 use Rattle.mod_env.specs.Conf.{conf_of}
 use Rattle.mod_env.specs.EnvFile.{assignments_of}
-use Rattle.mod_env.specs.Expand.{Sources, asks_account, outcome}
+use Rattle.mod_env.specs.Expand.{Sources, asks_account, outcome_of}
 
 -- ---- the environment
 
@@ -70,7 +70,7 @@ abbrev pub sees_sources : Option Passwd → (Sources → Act) → Act
 sees_sources entry act = sees_items (λ items. sees_env (λ env. act (record { items = items; env = env; entry = entry })))
 
 unfoldable pub sets_by : Entry → Option Passwd → Act → Act
-sets_by entry account act = sees_sources account (λ from. by_outcome (outcome entry from) act)
+sets_by entry account act = sees_sources account (λ from. by_outcome (outcome_of entry from) act)
 
 unfoldable pub sets_variable : Entry → Act → Act
 sets_variable entry act = looks_if (asks_account entry) (λ account. sets_by entry account act)

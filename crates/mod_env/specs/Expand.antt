@@ -66,11 +66,11 @@ put_text name default (Some []) = put_default name default
 put_text name default (Some (b ∷ bs)) = name ++ 61 ∷ b ∷ bs
 
 -- the text of a value that is given, or that it is too long
-abbrev pub value_text : Sources → Option (List Piece) → Option (Option (List ℕ))
-
 abbrev pub fitted : Option (List ℕ) → Option (Option (List ℕ))
 fitted (Some text) = Some (Some text)
 fitted None = None
+
+abbrev pub value_text : Sources → Option (List Piece) → Option (Option (List ℕ))
 value_text from (Some value) = fitted (fitting (expanded from value))
 value_text from None = Some None
 
@@ -80,8 +80,8 @@ by_texts name (Some default) None = TooLong
 by_texts name None over = TooLong
 
 -- what becomes of a variable; a value that is too long counts although it isn't taken
-unfoldable pub outcome : Entry → Sources → Outcome
-outcome entry from = by_texts entry.name (value_text from entry.values.default) (value_text from entry.values.overriding)
+unfoldable pub outcome_of : Entry → Sources → Outcome
+outcome_of entry from = by_texts entry.name (value_text from entry.values.default) (value_text from entry.values.overriding)
 
 -- ---- the account
 

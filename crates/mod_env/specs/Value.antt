@@ -42,15 +42,16 @@ abbrev pub in_front : Piece → Option (List Piece) → Option (List Piece)
 in_front piece (Some more) = Some (piece ∷ more)
 in_front piece None = None
 
+-- by what stands at the front, and what the rest comes to
+abbrev pub by_next : (List Mark → Option (List Piece)) → Next → Option (List Piece)
+by_next more ended = Some []
+by_next more broken = None
+by_next more (one piece rest) = in_front piece (more rest)
+
 -- the pieces of a value, at most so many
 abbrev pub pieces_within : ℕ → List Mark → Option (List Piece)
-
-abbrev pub by_next : ℕ → Next → Option (List Piece)
 pieces_within zero value = if length value == 0 then Some [] else None
-pieces_within (suc n) value = by_next n (next_piece value)
-by_next n ended = Some []
-by_next n broken = None
-by_next n (one piece rest) = in_front piece (pieces_within n rest)
+pieces_within (suc n) value = by_next (pieces_within n) (next_piece value)
 
 -- the pieces of a value, if it has the form of one; there are at most as many as bytes
 unfoldable pub pieces_of : List Mark → Option (List Piece)

@@ -1,5 +1,5 @@
 ghost use Rattle.std.specs.Prelude.{◌≡◌, ℕ, List, IfOk, Some, position, option_map};
-ghost use Rattle.std.specs.List.{after_first, before_first, position_or_len};
+ghost use Rattle.std.specs.List.{after_first, before_first};
 ghost use Rattle.pam_base.specs.White.{is_white};
 ghost use Rattle.mod_env.specs.Conf.{at_key, at_value, conf_of, counts, ends_word, entry_at, next_setting, no_values, plain_setting, quoted, unquoted, values_of, with_value, without_front};
 ghost use Rattle.mod_env.specs.Marks.{is_byte, is_white_mark};
@@ -199,7 +199,7 @@ fn at_value(key: Key, marks: &[Mark]) -> Setting<'_>
         let value = &marks[1..];
         quoted(key, value, quote_place(value))
     } else {
-        unquoted(key, marks, value_length(marks))
+        unquoted(key, marks, white_mark_place(marks))
     }
 }
 
@@ -209,13 +209,10 @@ fn quote_place(marks: &[Mark]) -> Option<usize>
     marks.iter().position(|mark| is_byte(b'"', *mark))
 }
 
-fn value_length(marks: &[Mark]) -> usize
-    ensures { result ≡ position_or_len is_white_mark marks.now }
+fn white_mark_place(marks: &[Mark]) -> Option<usize>
+    ensures { result ≡ position is_white_mark marks.now }
 {
-    match marks.iter().position(|mark| is_white_mark(*mark)) {
-        Some(n) => n,
-        None => marks.len(),
-    }
+    marks.iter().position(|mark| is_white_mark(*mark))
 }
 
 // A value within quotes, which goes up to this one, if there is one.
@@ -236,11 +233,15 @@ fn quoted<'a>(key: Key, marks: &'a [Mark], quote: Option<usize>) -> Setting<'a>
     }
 }
 
-fn unquoted<'a>(key: Key, marks: &'a [Mark], n: usize) -> Setting<'a>
-    requires { n ≡ position_or_len is_white_mark marks.now }
-    ensures { plain_setting result ≡ unquoted key marks.now n }
+// Any other value, which goes up to this white space, if there is some.
+fn unquoted<'a>(key: Key, marks: &'a [Mark], white: Option<usize>) -> Setting<'a>
+    requires { white ≡ position is_white_mark marks.now }
+    ensures { plain_setting result ≡ unquoted key marks.now white }
 {
-    Setting::One(key, &marks[..n], &marks[n..])
+    match white {
+        Some(n) => Setting::One(key, &marks[..n], &marks[n..]),
+        None => Setting::One(key, marks, &[]),
+    }
 }
 
 // Whether a word ends here.

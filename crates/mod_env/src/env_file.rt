@@ -1,4 +1,5 @@
 ghost use Rattle.std.specs.Prelude.{◌≡◌, ◌++◌, ◌∷◌, IfOk};
+ghost use Rattle.std.specs.List.{list_all};
 ghost use Rattle.env_list.specs.Environment.{name_in, value_in};
 ghost use Rattle.mod_env.specs.EnvFile.{assignment_at, assignment_in, assignments_of, is_name, is_name_byte, unquoted, without_export, without_last, without_quotes};
 
@@ -58,7 +59,20 @@ fn assignment_at(alloc: Global, text: &[u8]) -> Result<Option<Text>, NoMemory>
 fn is_name(text: &[u8]) -> bool
     ensures { result ≡ is_name text.now }
 {
-    !text.is_empty() && text.iter().all(|byte| is_name_byte(*byte))
+    !text.is_empty() && are_name_bytes(text)
+}
+
+fn are_name_bytes(text: &[u8]) -> bool
+    ensures { result ≡ list_all is_name_byte text.now }
+{
+    let mut rest = text;
+    while let [byte, after @ ..] = rest {
+        if !is_name_byte(*byte) {
+            return false;
+        }
+        rest = after;
+    }
+    true
 }
 
 fn is_name_byte(byte: u8) -> bool

@@ -7,6 +7,7 @@ ghost use Rattle.pam_room.specs.Module.{length_note};
 ghost use Rattle.account_files.specs.Accounts.{nothing_known};
 ghost use Rattle.account_files.specs.Act.{Acts, answers, standing};
 ghost use Rattle.mod_env.specs.Env.{at_once, by_entries, by_first, by_texts, env_plays, is_zero, puts_all, reads_first, reads_second, sets_all, text_in};
+ghost use Rattle.mod_env.specs.Conf.{conf_of};
 ghost use Rattle.mod_env.specs.EnvFile.{assignments_of};
 ghost use Rattle.mod_env.specs.Puts.{Puts};
 
@@ -101,12 +102,10 @@ fn read_first(
     puts_alone();
     let name = name_or(call.value(b"conffile="), b"/etc/security/pam_env.conf");
     let content = read_named(alloc, vault, process.root.bytes(), name, ENV_LIMIT)?;
-    let conf = match text_in(alloc, content) {
-        Some(conf) => conf,
-        None => return Ok(Code::ServiceErr),
-    };
-    let code = read_second(alloc, call, conf.bytes(), transaction, process, vault)?;
-    Ok(code)
+    match text_in(alloc, content) {
+        None => Ok(Code::ServiceErr),
+        Some(conf) => read_second(alloc, call, conf.bytes(), transaction, process, vault),
+    }
 }
 
 // Reads the second file unless it isn't to be read, and goes on.
@@ -128,15 +127,13 @@ fn read_second(
     act_steps();
     puts_alone();
     if is_zero(call.value(b"readenv=")) {
-        let nothing = Some(Text::new(alloc));
-        let code = set_by_texts(alloc, conf, nothing, transaction, process, vault)?;
-        return Ok(code);
+        let nothing = no_text(alloc);
+        return set_by_texts(alloc, conf, nothing, transaction, process, vault);
     }
     let name = name_or(call.value(b"envfile="), b"/etc/environment");
     let content = read_named(alloc, vault, process.root.bytes(), name, ENV_LIMIT)?;
     let env = text_in(alloc, content);
-    let code = set_by_texts(alloc, conf, env, transaction, process, vault)?;
-    Ok(code)
+    set_by_texts(alloc, conf, env, transaction, process, vault)
 }
 
 // Sets the variables by the texts of both files.
@@ -157,16 +154,34 @@ fn set_by_texts(
 {
     act_steps();
     puts_alone();
-    let env = match env {
-        Some(env) => env,
-        None => return Ok(Code::ServiceErr),
-    };
-    let entries = match conf_of(alloc, conf)? {
-        Some(entries) => entries,
-        None => return Ok(Code::ServiceErr),
-    };
-    let code = set_both(alloc, &entries, env.bytes(), transaction, process, vault)?;
-    Ok(code)
+    match env {
+        None => Ok(Code::ServiceErr),
+        Some(env) => set_by_conf(alloc, conf, env.bytes(), transaction, process, vault),
+    }
+}
+
+// Sets the variables by the text of the first file, and that of the second.
+fn set_by_conf(
+    alloc: Global,
+    conf: &[u8],
+    env: &[u8],
+    transaction: &mut Transaction,
+    process: &Process,
+    vault: &mut dyn Vault,
+) -> Result<Code, NoMemory>
+    ensures tells { vault_tells vault.new ≡ vault_tells vault.old }
+    ensures told { IsTrue (vault_tells vault.old) → (conv : ConvState) (clock : ClockState) →
+        IfOk result (λ code. Acts (by_entries (conf_of conf.now) (assignments_of env.now)) nothing_known
+        (standing transaction.old conv (vault_holds vault.old) clock process.now) code
+        (standing transaction.new conv (vault_holds vault.new) clock process.now)) }
+    ensures puts { Puts transaction.old transaction.new }
+{
+    act_steps();
+    puts_alone();
+    match conf_of(alloc, conf)? {
+        None => Ok(Code::ServiceErr),
+        Some(entries) => set_both(alloc, &entries, env, transaction, process, vault),
+    }
 }
 
 // Sets the variables of the first file, and then those of the second.
@@ -193,6 +208,12 @@ fn set_both(
     }
     put_all(&assignments, transaction)?;
     Ok(Code::Success)
+}
+
+fn no_text(alloc: Global) -> Option<Text>
+    ensures { result ≡ Some [] }
+{
+    Some(Text::new(alloc))
 }
 
 // The text of a file; one that isn't there counts as empty, and None is one that can't be read.

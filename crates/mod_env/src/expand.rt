@@ -1,7 +1,8 @@
 ghost use Rattle.std.specs.Prelude.{◌≡◌, ◌||◌, ◌∷◌, ◌++◌, [], IfOk, OnOk, codes, unwrap_or};
 ghost use Rattle.std.specs.Str.{bytes_eq};
+ghost use Rattle.std.specs.List.{list_any};
 ghost use Rattle.std.specs.Option.{option_copied};
-ghost use Rattle.mod_env.specs.Expand.{asks_account, expanded, fitting, home_of, item_value, names_account, outcome, piece_text, plain_sources, put_default, put_text, shell_of, value_names_account, value_text};
+ghost use Rattle.mod_env.specs.Expand.{asks_account, expanded, fitting, home_of, item_value, names_account, outcome_of, piece_text, plain_sources, put_default, put_text, shell_of, value_names_account, value_text};
 
 use crate::conf::Entry;
 use crate::value::{Piece, Pieces};
@@ -33,8 +34,8 @@ pub struct Sources<'a> {
 }
 
 /// What becomes of a variable.
-pub fn outcome(alloc: Global, entry: &Entry, from: Sources) -> Result<Outcome, NoMemory>
-    ensures { IfOk result (λ outcome'. outcome' ≡ outcome entry.now (plain_sources from.entry)) }
+pub fn outcome_of(alloc: Global, entry: &Entry, from: Sources) -> Result<Outcome, NoMemory>
+    ensures { IfOk result (λ outcome. outcome ≡ outcome_of entry.now (plain_sources from.entry)) }
 {
     let default = match value_text(alloc, from, &entry.values.default)? {
         Some(default) => default,
@@ -192,9 +193,22 @@ fn value_names_account(value: &Option<Pieces>) -> bool
     ensures { result ≡ value_names_account value.now }
 {
     match value {
-        Some(value) => value.items().iter().any(|piece| names_account(piece)),
+        Some(value) => some_names_account(value),
         None => false,
     }
+}
+
+fn some_names_account(value: &Pieces) -> bool
+    ensures { result ≡ list_any names_account value.now }
+{
+    let mut rest = value.items();
+    while let [piece, after @ ..] = rest {
+        if names_account(piece) {
+            return true;
+        }
+        rest = after;
+    }
+    false
 }
 
 fn names_account(piece: &Piece) -> bool

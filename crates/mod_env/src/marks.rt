@@ -15,6 +15,7 @@ pub enum Mark {
 }
 
 /// The bytes of a text, of which a backslash makes the next one plain.
+#[tactic(auto, unfolding(crate::specs::Marks::marks_of))]
 pub fn marks_of(alloc: Global, text: &[u8]) -> Result<Vec<Mark>, NoMemory>
     ensures { IfOk result (λ marks. marks.items ≡ marks_of text.now) }
 {

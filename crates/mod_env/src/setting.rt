@@ -9,12 +9,12 @@ ghost use Rattle.pam_room.specs.declared.process.Process.{Process};
 ghost use Rattle.pam_room.specs.State.{Scene};
 ghost use Rattle.account_db.specs.declared.passwd.Passwd.{Passwd};
 ghost use Rattle.account_files.specs.Accounts.{Known, nothing_known};
-ghost use Rattle.account_files.specs.Act.{Act, Acts, standing};
-ghost use Rattle.mod_env.specs.Env.{GoesOn, entry_seen, looks_if, put_in, puts_all, sets_all, sets_by, sets_variable};
+ghost use Rattle.account_files.specs.Act.{Act, Acts, sees_items, standing};
+ghost use Rattle.mod_env.specs.Env.{GoesOn, by_user, entry_known, entry_seen, looks_if, put_in, puts_all, sets_all, sets_by, sets_variable};
 ghost use Rattle.mod_env.specs.Puts.{Puts};
 
 use crate::conf::{Entries, Entry};
-use crate::expand::{Outcome, Sources, asks_account, outcome};
+use crate::expand::{Outcome, Sources, asks_account, outcome_of};
 use crate::laws::{env_steps, puts_alone};
 use account_db::Passwd;
 use account_files::{Account, Accounts, act_steps};
@@ -91,15 +91,35 @@ fn look(
         Acts (looks_if asks act) accounts.old (standing transaction.now conv (vault_holds vault.old) clock process.now) code end) }
     ensures read { OnOk result (asks ≡ true → transaction.now.items.user ≢ None → accounts.new.passwds ≢ None) }
 {
+    if asks {
+        look_user(alloc, transaction, accounts, process, vault)
+    } else {
+        Ok(())
+    }
+}
+
+// Looks the user's account up, where USER is set.
+fn look_user(
+    alloc: Global,
+    transaction: &Transaction,
+    accounts: &mut Accounts,
+    process: &Process,
+    vault: &mut dyn Vault,
+) -> Result<(), NoMemory>
+    ensures tells { vault_tells vault.new ≡ vault_tells vault.old }
+    ensures told { IsTrue (vault_tells vault.old) → (conv : ConvState) (clock : ClockState) (act : Option Passwd → Act) (code : Code) (end : Scene) →
+        OnOk result (Acts (act (entry_known transaction.now.items.user accounts.new)) accounts.new (standing transaction.now conv (vault_holds vault.new) clock process.now) code end →
+        Acts (sees_items (λ items. by_user items.user act)) accounts.old (standing transaction.now conv (vault_holds vault.old) clock process.now) code end) }
+    ensures read { OnOk result (transaction.now.items.user ≢ None → accounts.new.passwds ≢ None) }
+{
     act_steps();
-    if !asks {
-        return Ok(());
-    }
     match get_item(&transaction.items, ItemName::User) {
-        Some(_) => accounts.read_passwds(alloc, vault, process.root.bytes())?,
-        None => {}
+        Some(_user) => {
+            accounts.read_passwds(alloc, vault, process.root.bytes())?;
+            Ok(())
+        }
+        None => Ok(()),
     }
-    Ok(())
 }
 
 // The user's entry, where it was looked up and is there.
@@ -141,7 +161,7 @@ fn set_by(
         env: &transaction.env,
         entry: account,
     };
-    match outcome(alloc, entry, from)? {
+    match outcome_of(alloc, entry, from)? {
         Outcome::TooLong => Ok(false),
         Outcome::Puts(text) => {
             put(text.bytes(), transaction)?;
