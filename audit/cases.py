@@ -16,7 +16,7 @@ PARTS = ("README.md", "after", "cases", "checked", "input", "output", "script", 
 
 # How long a run may take, and how long one of a case that is run hundreds of times, in seconds.
 SECONDS = 60
-SLOW = 0.5
+SLOW = 0.2
 
 # Files that are larger are compared by their size alone.
 LARGE = 16 << 20
