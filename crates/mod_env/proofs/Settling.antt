@@ -1,5 +1,5 @@
 -- Variables are set one by one.
-use Rattle.std.proofs.Common.{◌≡◌, ◌≤◌, ℕ, ◌-◌, Bool, true, false, List, [], ◌∷◌, length, take, drop, get_or, Option, Some, None, refl, arith}
+use Rattle.std.proofs.Common.{◌≡◌, ◌<◌, ◌≤◌, ℕ, ◌-◌, Bool, true, false, List, [], ◌∷◌, length, take, drop, get_or, Option, Some, None, refl, arith}
 use Rattle.std.proofs.lemmas.List.{take_all}
 use Rattle.conv_port.specs.Conv.{ConvState}
 use Rattle.env_list.specs.Environment.{Variable}
@@ -13,7 +13,7 @@ use Rattle.account_files.specs.Act.{Act, Acts, answers, reads_passwds, sees_item
 use Rattle.mod_env.specs.declared.conf.Entry.{Entry}
 use Rattle.mod_env.specs.declared.expand.Outcome.{Outcome}
 use Rattle.mod_env.specs.declared.expand.Outcome.TheVariants.{TooLong, Puts}
-use Rattle.mod_env.specs.Env.{GoesOn, by_outcome, by_user, entry_in, entry_known, looks_if, puts_env, sees_env, sets_all, sets_by, sets_variable}
+use Rattle.mod_env.specs.Env.{GoesOn, by_outcome, by_user, entry_in, entry_known, looks_if, puts_all, puts_env, sees_env, sets_all, sets_by, sets_variable}
 use Rattle.mod_env.specs.Expand.{Sources, asks_account, outcome_of}
 
 pub first_of : {A : Type 0} (whole : List A) (x : A) → 1 ≤ length whole → x ≡ get_or whole 0 x → whole ≡ x ∷ take (length whole - 1) (drop 1 whole)
@@ -64,3 +64,11 @@ module _ (found : Option (List ℕ)) where
   pub by_none : (act : Option Passwd → Act) (known : Known) (s : Scene) (code : Code) (end : Scene) → None ≡ found
       → Acts (act (entry_known found known)) known s code end → Acts (by_user found act) known s code end
   by_none act known s code end e a = rw (← e) (rw (← e) at a)
+
+pub nothing_left : {A : Type 0} (xs : List A) → length xs < 1 → xs ≡ []
+nothing_left [] few = refl
+nothing_left (x ∷ xs) few = absurd (omega (arith, few))
+
+pub puts_more : (rest after : List (List ℕ)) (text : List ℕ) (act : Act) (known : Known) (s : Scene) (code : Code) (end : Scene) → rest ≡ text ∷ after
+    → Acts (puts_env text (puts_all after act)) known s code end → Acts (puts_all rest act) known s code end
+puts_more rest after text act known s code end e a = rw e a

@@ -1,4 +1,4 @@
-ghost use Rattle.std.specs.Prelude.{◌≡◌, ℕ, List, IfOk, Some, position, option_map};
+ghost use Rattle.std.specs.Prelude.{◌≡◌, ◌≤◌, ℕ, List, IfOk, Some, drop, length, position, option_map};
 ghost use Rattle.std.specs.List.{after_first, before_first};
 ghost use Rattle.pam_base.specs.White.{is_white};
 ghost use Rattle.mod_env.specs.Conf.{at_key, at_value, conf_of, counts, ends_word, entry_at, next_setting, no_values, plain_setting, quoted, unquoted, values_of, with_value, without_front};
@@ -186,10 +186,18 @@ fn at_key(marks: &[Mark]) -> Setting<'_>
     } else if begins_with(b"DEFAULT=", marks) {
         at_value(Key::Default, &marks[8..])
     } else if begins_with(b"OVERRIDE=", marks) {
-        at_value(Key::Override, &marks[9..])
+        at_override(marks)
     } else {
         Setting::Broken
     }
+}
+
+// Behind `OVERRIDE=`.
+fn at_override(marks: &[Mark]) -> Setting<'_>
+    requires { 9 ≤ length marks.now }
+    ensures { plain_setting result ≡ at_value Key.Override (drop 9 marks.now) }
+{
+    at_value(Key::Override, &marks[9..])
 }
 
 fn at_value(key: Key, marks: &[Mark]) -> Setting<'_>

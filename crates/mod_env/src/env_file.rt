@@ -1,5 +1,6 @@
-ghost use Rattle.std.specs.Prelude.{◌≡◌, ◌++◌, ◌∷◌, IfOk};
+ghost use Rattle.std.specs.Prelude.{◌≡◌, ◌==◌, ℕ, IfOk, position};
 ghost use Rattle.std.specs.List.{list_all};
+ghost use Rattle.pam_base.specs.Bytes.{has_byte};
 ghost use Rattle.env_list.specs.Environment.{name_in, value_in};
 ghost use Rattle.mod_env.specs.EnvFile.{assignment_at, assignment_in, assignments_of, is_name, is_name_byte, unquoted, without_export, without_last, without_quotes};
 
@@ -10,6 +11,7 @@ use std::alloc::Global;
 
 /// What the lines of a file of `environment(5)` set, in order, each as `pam_putenv(3)` is told it. Lines that aren't of
 /// the form `NAME=VALUE` are passed over.
+#[tactic(auto, unfolding(crate::specs::EnvFile::assignments_of))]
 pub fn assignments_of(alloc: Global, text: &[u8]) -> Result<Texts, NoMemory>
     ensures { IfOk result (λ texts. texts ≡ assignments_of text.now) }
 {
@@ -42,16 +44,42 @@ fn without_export(text: &[u8]) -> &[u8]
 fn assignment_at(alloc: Global, text: &[u8]) -> Result<Option<Text>, NoMemory>
     ensures { IfOk result (λ text'. text' ≡ assignment_at text.now) }
 {
-    match first_place(b'=', text) {
-        Some(n) => {
-            if is_name(&text[..n]) {
-                let text = assignment(alloc, &text[..n], unquoted(&text[n + 1..]))?;
-                Ok(Some(text))
-            } else {
-                Ok(None)
-            }
-        }
-        None => Ok(None),
+    if !has_equals(text) || !is_name(name_in(text)) {
+        return Ok(None);
+    }
+    let text = assignment(alloc, name_in(text), unquoted(value_in(text)))?;
+    Ok(Some(text))
+}
+
+fn has_equals(text: &[u8]) -> bool
+    ensures { result ≡ has_byte 61 text.now }
+{
+    first_place(b'=', text).is_some()
+}
+
+fn equals_place(text: &[u8]) -> Option<usize>
+    ensures { result ≡ position (λ (b : ℕ). b == 61) text.now }
+{
+    text.iter().position(|byte| *byte == b'=')
+}
+
+// What stands before the first `=`.
+fn name_in(text: &[u8]) -> &[u8]
+    ensures { result.now ≡ name_in text.now }
+{
+    match equals_place(text) {
+        Some(n) => &text[..n],
+        None => text,
+    }
+}
+
+// What stands behind the first `=`.
+fn value_in(text: &[u8]) -> &[u8]
+    ensures { result.now ≡ value_in text.now }
+{
+    match equals_place(text) {
+        Some(n) => &text[n + 1..],
+        None => b"",
     }
 }
 

@@ -5,7 +5,7 @@ use Rattle.mod_env.proofs.conf.values_of.Goals as goal
 
 pub loop-left-preserved : goal.loop-left-preserved
 loop-left-preserved c =
-    rw c.with_value.ensures (setting_taken _ _ _ _ _ _ _ _ _ c.loop-left-test.true (omega arith) (sym c.next_setting.ensures ∙ ap plain_setting c.in-One.is) (sym c.in_ok-pieces_of-in-One.ensures) c.loop-left.invariant)
+    rw c.with_value-values.ensures (setting_taken _ _ _ _ _ _ _ _ _ c.loop-left-test.true (omega arith) (sym c.next_setting.ensures ∙ ap plain_setting c.in-One.is) (sym c.in_ok-pieces-in-One.ensures ∙ c.in-Some.is) c.loop-left.invariant)
 
 pub returns-in-Ended : goal.returns-in-Ended
 unfolding values_of

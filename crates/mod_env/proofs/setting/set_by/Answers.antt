@@ -5,7 +5,7 @@ pub returns-in-TooLong-clause-told : goal.returns-in-TooLong-clause-told
 returns-in-TooLong-clause-told c = λ conv vault clock process known.
     too_long c.act_steps.ensures.seeing c.env_steps.ensures.seeing _ _ known _ _ c.in_ok-outcome_of.ensures c.in-TooLong.is (c.act_steps.ensures.answers _ _ _)
 
-pub returns-clause-told : goal.returns-clause-told
-returns-clause-told c = λ conv vault clock process known.
+pub returns-in_ok-put-in-Puts-clause-told : goal.returns-in_ok-put-in-Puts-clause-told
+returns-in_ok-put-in-Puts-clause-told c = λ conv vault clock process known.
     puts c.act_steps.ensures.seeing c.env_steps.ensures.seeing _ _ known _ _ _ _ c.in_ok-outcome_of.ensures c.in-Puts.is
-    (λ act code end a. c.env_steps.ensures.putting _ act known _ _ conv vault clock process code end c.in_ok-put.ensures.puts c.in_ok-put.ensures.put a)
+    (λ act code end a. c.env_steps.ensures.putting _ act known _ _ conv vault clock process code end c.in_ok-put-in-Puts.ensures.puts (rw c.bytes.ensures at c.in_ok-put-in-Puts.ensures.put) a)

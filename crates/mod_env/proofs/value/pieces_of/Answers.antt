@@ -4,11 +4,11 @@ use Rattle.mod_env.proofs.Collecting.{no_pieces, piece_taken, pieces_break, piec
 use Rattle.mod_env.proofs.value.pieces_of.Goals as goal
 
 pub loop-left-init : goal.loop-left-init
-loop-left-init c = no_pieces _
+loop-left-init c = rw c.new-pieces.ensures (no_pieces _)
 
 pub loop-left-preserved : goal.loop-left-preserved
 loop-left-preserved c =
-    piece_taken _ _ _ c.in-One.piece _ _ _ c.loop-left-test.true (omega arith) (sym c.in_ok-next_piece.ensures ∙ ap plain_next c.in-One.is) c.loop-left.invariant
+    rw c.in_ok-push-in-One.ensures.ok (piece_taken _ _ _ c.in-One.piece _ _ _ c.loop-left-test.true (omega arith) (sym c.in_ok-next_piece.ensures ∙ ap plain_next c.in-One.is) c.loop-left.invariant)
 
 pub returns-in-Ended : goal.returns-in-Ended
 unfolding pieces_of
