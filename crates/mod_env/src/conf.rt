@@ -184,12 +184,20 @@ fn at_key(marks: &[Mark]) -> Setting<'_>
     if marks.is_empty() {
         Setting::Ended
     } else if begins_with(b"DEFAULT=", marks) {
-        at_value(Key::Default, &marks[8..])
+        at_default(marks)
     } else if begins_with(b"OVERRIDE=", marks) {
         at_override(marks)
     } else {
         Setting::Broken
     }
+}
+
+// Behind `DEFAULT=`.
+fn at_default(marks: &[Mark]) -> Setting<'_>
+    requires { 8 ≤ length marks.now }
+    ensures { plain_setting result ≡ at_value Key.Default (drop 8 marks.now) }
+{
+    at_value(Key::Default, &marks[8..])
 }
 
 // Behind `OVERRIDE=`.

@@ -104,7 +104,10 @@ fn read_first(
     let content = read_named(alloc, vault, process.root.bytes(), name, ENV_LIMIT)?;
     match text_in(alloc, content) {
         None => Ok(Code::ServiceErr),
-        Some(conf) => read_second(alloc, call, conf.bytes(), transaction, process, vault),
+        Some(conf) => {
+            let code = read_second(alloc, call, conf.bytes(), transaction, process, vault)?;
+            Ok(code)
+        }
     }
 }
 
@@ -133,7 +136,8 @@ fn read_second(
     let name = name_or(call.value(b"envfile="), b"/etc/environment");
     let content = read_named(alloc, vault, process.root.bytes(), name, ENV_LIMIT)?;
     let env = text_in(alloc, content);
-    set_by_texts(alloc, conf, env, transaction, process, vault)
+    let code = set_by_texts(alloc, conf, env, transaction, process, vault)?;
+    Ok(code)
 }
 
 // Sets the variables by the texts of both files.

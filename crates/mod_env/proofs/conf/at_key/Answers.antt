@@ -12,11 +12,14 @@ long_enough [] marks e = omega arith
 long_enough (c ∷ cs) [] e = absurd cc
 long_enough (c ∷ cs) (m ∷ ms) e = let rest : length cs ≤ length ms = long_enough cs ms (behind (is_byte c m) (begins_with cs ms) e) in omega arith
 
+pub at_default-requires : goal.at_default-requires
+at_default-requires c = long_enough (codes "DEFAULT=") c.args.marks.now (sym c.if-begins_with.ensures)
+
 pub at_override-requires : goal.at_override-requires
 at_override-requires c = long_enough (codes "OVERRIDE=") c.args.marks.now (sym c.if-begins_with-2.ensures)
 
 pub returns-then-begins_with : goal.returns-then-begins_with
-returns-then-begins_with c = rw (← c.if-is_empty.ensures, ← c.if-begins_with.ensures) c.at_value.ensures
+returns-then-begins_with c = rw (← c.if-is_empty.ensures, ← c.if-begins_with.ensures) c.at_default.ensures
 
 pub returns-then-begins_with-2 : goal.returns-then-begins_with-2
 returns-then-begins_with-2 c = rw (← c.if-is_empty.ensures, ← c.if-begins_with.ensures, ← c.if-begins_with-2.ensures) c.at_override.ensures
