@@ -7,3 +7,4 @@ mod Rereading
 mod Unspelling
 mod Wellformed
 mod Rows
+mod Fresh

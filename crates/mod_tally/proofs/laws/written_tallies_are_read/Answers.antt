@@ -1,3 +1,4 @@
+use Rattle.mod_tally.proofs.Fresh.{fresh}
 use Rattle.mod_tally.proofs.Rereading.{tally-read}
 use Rattle.mod_tally.proofs.Spelling.{unspelled-spelled}
 use Rattle.mod_tally.proofs.Unspelling.{unspelled-exact}
@@ -15,3 +16,6 @@ returns-clause-read c = read-fits
 
 pub returns-clause-spelling : goal.returns-clause-spelling
 returns-clause-spelling c = λ word source e. let exact = unspelled-exact word source e in (exact.text, exact.bytes)
+
+pub returns-clause-new : goal.returns-clause-new
+returns-clause-new c = λ moment items small host tty service there. fresh moment small _ _ _ host tty service there
