@@ -7,7 +7,7 @@ use Rattle.mod_env.specs.declared.conf.Values.{Values}
 use Rattle.mod_env.specs.declared.marks.Mark.{Mark}
 use Rattle.mod_env.specs.declared.value.Piece.{Piece}
 use Rattle.mod_env.specs.Marks.{behind_white}
-use Rattle.mod_env.specs.Conf.{by_pieces, counts, entries_of, entry_at, next_setting, values_within, with_value, without_front}
+use Rattle.mod_env.specs.Conf.{counts, entries_of, entry_at, next_setting, values_within, with_value, without_front}
 use Rattle.mod_env.specs.Conf.{broken as no_setting, ended as last_setting, one as one_setting, in_front as entry_in_front}
 use Rattle.mod_env.specs.Value.{broken, ended, in_front, next_piece, one, pieces_of, pieces_within}
 

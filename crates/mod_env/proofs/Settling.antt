@@ -1,7 +1,6 @@
 -- Variables are set one by one.
 use Rattle.std.proofs.Common.{◌≡◌, ◌<◌, ◌≤◌, ℕ, ◌-◌, Bool, true, false, List, [], ◌∷◌, length, take, drop, get_or, Option, Some, None, refl, arith}
 use Rattle.std.proofs.lemmas.List.{take_all}
-use Rattle.conv_port.specs.Conv.{ConvState}
 use Rattle.env_list.specs.Environment.{Variable}
 use Rattle.item_store.specs.Items.{ItemTexts}
 use Rattle.pam_base.specs.declared.code.Code.{Code}

@@ -1,12 +1,11 @@
 -- pam_env(8): variables are set by two files, pam_env.conf(5) and environment(5).
-use Rattle.std.specs.Prelude.{ℕ, Bool, true, false, not, if◌then◌else◌, List, [], ◌∷◌, Option, Some, None, unwrap_or, codes}
+use Rattle.std.specs.Prelude.{ℕ, Bool, true, false, if◌then◌else◌, List, [], ◌∷◌, Option, Some, None, unwrap_or, codes}
 use Rattle.std.specs.Str.{bytes_eq}
 use Rattle.pam_base.specs.declared.code.Code.{Code}
 use Rattle.pam_base.specs.declared.code.Code.TheVariants as returns
 use Rattle.pam_base.specs.declared.call.Func.{Func}
 use Rattle.pam_base.specs.declared.call.Func.TheVariants.{Authenticate, SetCred, AcctMgmt, OpenSession, CloseSession, ChAuthTok}
 use Rattle.env_list.specs.Environment.{Variable, after_put, is_refused}
-use Rattle.item_store.specs.Items.{ItemTexts}
 use Rattle.pam_room.specs.Call.{PlainCall, value_among}
 use Rattle.pam_room.specs.Module.{Plays}
 use Rattle.pam_room.specs.State.{Scene}

@@ -1,5 +1,5 @@
 -- A value of pam_env.conf(5): plain bytes, `${X}` for a variable, and `@{X}` for an item.
-use Rattle.std.specs.Prelude.{ℕ, zero, suc, ◌+◌, Bool, true, false, ◌==◌, ◌&&◌, ◌||◌, if◌then◌else◌, List, [], ◌∷◌, length, take, drop, Option, Some, None, position}
+use Rattle.std.specs.Prelude.{ℕ, zero, suc, ◌+◌, Bool, ◌==◌, ◌&&◌, ◌||◌, if◌then◌else◌, List, [], ◌∷◌, length, take, drop, Option, Some, None, position}
 use Rattle.mod_env.specs.declared.marks.Mark.{Mark}
 use Rattle.mod_env.specs.declared.marks.Mark.TheVariants as marks
 use Rattle.mod_env.specs.declared.value.Piece.{Piece}

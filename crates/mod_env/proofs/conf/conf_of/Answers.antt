@@ -1,4 +1,4 @@
-use Rattle.std.proofs.Common.{◌≡◌, List, [], ◌∷◌, Option, Some, slice_get, drop, refl, sym, ap, ◌∙◌}
+use Rattle.std.proofs.Common.{◌≡◌, List, [], ◌∷◌, Some, slice_get, drop, refl, sym, ap, ◌∙◌}
 use Rattle.mod_env.specs.Conf.{counts, entry_at}
 use Rattle.mod_env.proofs.Collecting.{line_taken}
 use Rattle.mod_env.proofs.conf.conf_of.Goals as goal
