@@ -13,7 +13,8 @@ use conv_port::{Conv, QueueConv};
 use data_cleanup::Ledger;
 pub use desk::Desk;
 use mod_basic::{Debug, Deny, Permit, Probe, Rootok};
-use mod_lists::{Listfile, Nologin, Shells};
+use mod_env::Env as EnvModule;
+use mod_lists::{Listfile, Nologin, Shells, SucceedIf};
 use mod_tally::Faillock;
 use mod_unix::Unix;
 use pam_base::{Code, Text};
@@ -85,6 +86,8 @@ fn serve<S: Source, K: Sink>(
     mods.push(Box::new(alloc, Nologin::new())?)?;
     mods.push(Box::new(alloc, Listfile::new())?)?;
     mods.push(Box::new(alloc, Shells::new())?)?;
+    mods.push(Box::new(alloc, SucceedIf::new())?)?;
+    mods.push(Box::new(alloc, EnvModule::new())?)?;
     mods.push(Box::new(alloc, Unix::new())?)?;
     mods.push(Box::new(alloc, Faillock::new())?)?;
     let mut convs: Vec<Box<dyn Conv>> = Vec::new(alloc);
