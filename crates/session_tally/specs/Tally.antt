@@ -1,5 +1,5 @@
 -- The failures of a user, listed (pam_faillock(8); the file's form is that of mod_tally, what is written is this project's own).
-use Rattle.std.specs.Prelude.{◌≡◌, ℕ, ◌+◌, ◌≤◌, nat_lt, if◌then◌else◌, List, [], ◌++◌, length, codes, decimal, Option, Some, None, Result, Ok, Err, IfOk, OnOk}
+use Rattle.std.specs.Prelude.{◌≡◌, ℕ, ◌+◌, ◌≤◌, nat_lt, if◌then◌else◌, List, [], ◌++◌, length, codes, decimal, Option, Some, None, Result, IfOk, OnOk}
 use Rattle.std.specs.List.{flat_map}
 use Rattle.pam_outside.specs.Files.{VaultState, file_at, is_failing}
 use Rattle.pam_outside.specs.Streams.{SinkState}
