@@ -3,8 +3,8 @@ ghost use Rattle.std.specs.Str.{IsUtf8};
 
 use crate::vault::ReplaceFault;
 use std::alloc::Global;
-use std::fs::OpenOptions;
-use std::io::{self, Write};
+use std::fs::{OpenFile, OpenOptions};
+use std::io::{self, ErrorKind, Write};
 use std::os::unix::fs::OpenOptionsExt;
 use std::rt::Files;
 
@@ -28,7 +28,8 @@ pub fn replace_beside<R: Files>(
     }
 }
 
-// The file may hold secrets: its owner alone may read it, or those who may read the one that it replaces.
+// The file may hold secrets: its owner alone may read it, or those who may read the one that it replaces. Its bytes are on
+// the disk before it has the name, so that a machine that stops leaves the one file or the other.
 fn write_and_rename<R: Files>(rt: &R, beside: &str, path: &str, bytes: &[u8]) -> io::Result<()> {
     let _ = rt.remove_file(beside);
     let mut file = OpenOptions::new()
@@ -36,9 +37,12 @@ fn write_and_rename<R: Files>(rt: &R, beside: &str, path: &str, bytes: &[u8]) ->
         .create_new(true)
         .mode(0o600)
         .open(rt, beside)?;
-    if let Ok(old) = rt.metadata(path) {
-        rt.set_permissions(beside, old.permissions())?;
+    match rt.metadata(path) {
+        Ok(old) => rt.set_permissions(beside, old.permissions())?,
+        Err(error) if error.kind() == ErrorKind::NotFound => {}
+        Err(error) => return Err(error),
     }
     file.write_all(bytes)?;
+    file.sync_all()?;
     rt.rename(beside, path)
 }
