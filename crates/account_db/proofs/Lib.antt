@@ -1,7 +1,7 @@
-mod Cutting
 mod Taking
 mod Reading
 mod Trimming
 mod Rows
 mod Placing
 mod Renewing
+pub mod Splitting

@@ -3,7 +3,7 @@ use Rattle.std.proofs.Common.{◌≡◌, ◌⊎◌, inl, inr, ℕ, Bool, true, f
 use Rattle.std.proofs.lemmas.List.{append-nil}
 use Rattle.std.specs.List.{join_with_byte}
 use Rattle.std.proofs.lemmas.List.Splits.{join_with_byte-slice_split}
-use Rattle.account_db.specs.Parts.{parts_of}
+use Rattle.pam_base.specs.Parts.{parts_of}
 use Rattle.account_db.specs.Replace.{Placed, changed_line, changed_lines, is_line_of, with_hash}
 
 -- what stands behind a line: nothing, or a newline and the lines that follow

@@ -4,7 +4,8 @@ use Rattle.std.specs.List.{join_with_byte}
 use Rattle.std.specs.Str.{bytes_eq}
 use Rattle.account_db.specs.declared.fault.DbFault.{DbFault}
 use Rattle.account_db.specs.declared.shadow.Shadow.{Shadow}
-use Rattle.account_db.specs.Parts.{field, fields_of, parts_of}
+use Rattle.pam_base.specs.Parts.{parts_of}
+use Rattle.account_db.specs.Parts.{field, fields_of}
 use Rattle.account_db.specs.Entries.{is_passed_over}
 use Rattle.account_db.specs.Shadow.{shadows_of}
 

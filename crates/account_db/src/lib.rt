@@ -5,7 +5,7 @@
 mod entry;
 mod fault;
 mod group;
-mod laws;
+pub mod laws;
 mod members;
 mod parts;
 mod passwd;
@@ -15,9 +15,7 @@ mod shell_list;
 
 pub use fault::DbFault;
 pub use group::{Group, Groups, groups};
-pub use laws::{hash_is_put_in_place, new_hash_is_read};
 pub use members::{group_names, group_of, is_in_group, is_member};
-pub use parts::Parts;
 pub use passwd::{Passwd, Passwds, entry_of, passwds};
 pub use replace::replace_hash;
 pub use shadow::{Shadow, Shadows, copy_of, shadow_of, shadows};

@@ -6,9 +6,8 @@ ghost use Rattle.account_db.specs.Replace.{changed_line, hash_replaced, is_line_
 
 use crate::entry::is_passed_over;
 use crate::fault::DbFault;
-use crate::parts::Parts;
 use crate::shadow::shadows;
-use pam_base::{NoMemory, Refuse, Text, Texts};
+use pam_base::{NoMemory, Parts, Refuse, Text, Texts};
 use std::alloc::Global;
 
 /// A shadow file (`shadow(5)`) in which the first line of the user has this hash, and this day as that of its last

@@ -19,7 +19,7 @@ use Rattle.account_db.specs.declared.group.Group.{Group}
 use Rattle.account_db.specs.declared.passwd.Passwd.{Passwd}
 use Rattle.account_files.specs.declared.content.Content.{Content}
 use Rattle.account_files.specs.declared.content.Content.TheVariants.{Absent}
-use Rattle.account_files.specs.Paths.{path_of}
+use Rattle.pam_outside.specs.Paths.{path_of}
 use Rattle.account_files.specs.Content.{after_named, content_at, is_rooted, named_content}
 use Rattle.account_files.specs.Accounts.{Known, Looked, groups_looked, account_limit, known_groups, known_passwds, nothing_known, passwds_looked, shells_in}
 use Rattle.account_files.specs.Accounts.{groups_by as known_groups_by, passwds_by as known_by}

@@ -19,7 +19,7 @@ use Rattle.account_db.specs.declared.passwd.Passwd.{Passwd}
 use Rattle.account_db.specs.declared.group.Group.{Group}
 use Rattle.account_files.specs.declared.content.Content.{Content}
 use Rattle.account_files.specs.declared.content.Content.TheVariants.{Absent}
-use Rattle.account_files.specs.Paths.{path_of}
+use Rattle.pam_outside.specs.Paths.{path_of}
 use Rattle.account_files.specs.Content.{content_of, is_rooted}
 use Rattle.account_files.specs.Accounts.{Account, Known, account_in, account_limit, groups_in, nothing_known, passwds_in, shells_in}
 

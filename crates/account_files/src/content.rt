@@ -3,10 +3,9 @@ ghost use Rattle.pam_outside.specs.Files.{counted};
 ghost use Rattle.account_files.specs.Act.{StepsTo, replaces_file};
 ghost use Rattle.account_files.specs.Content.{IsWithin, after_named, content_at, is_rooted, named_content};
 
-use crate::laws::act_steps;
-use crate::paths::path_of;
+use crate::laws;
 use pam_base::{NoMemory, Text};
-use pam_outside::{ReplaceFault, Vault, VaultFault, read_file, replace_file};
+use pam_outside::{ReplaceFault, Vault, VaultFault, path_of, read_file, replace_file};
 use pam_room::Process;
 use std::alloc::Global;
 
@@ -82,7 +81,7 @@ pub fn replace_named(
         IfOk result (λ done. StepsTo (replaces_file name.now bytes.now) done process.now (vault_holds vault.old) (vault_holds vault.new)) }
     ensures faults { vault_faults vault.old ≤ vault_faults vault.new }
 {
-    act_steps();
+    laws::act_steps();
     let path = path_of(alloc, process.root.bytes(), name)?;
     match replace_file(vault, alloc, path.bytes(), bytes) {
         Ok(()) => Ok(true),

@@ -18,7 +18,7 @@ ghost use Rattle.pam_room.specs.Say.{asked, user_asked};
 ghost use Rattle.account_db.specs.declared.passwd.Passwd.{Passwd};
 ghost use Rattle.account_db.specs.declared.group.Group.{Group};
 ghost use Rattle.account_files.specs.declared.content.Content.{Content};
-ghost use Rattle.account_files.specs.Paths.{path_of};
+ghost use Rattle.pam_outside.specs.Paths.{path_of};
 ghost use Rattle.account_files.specs.Content.{after_named, content_at, named_content};
 ghost use Rattle.account_files.specs.Accounts.{Known, account_limit, groups_looked, known_groups, known_passwds, nothing_known, passwds_looked, shells_in};
 ghost use Rattle.account_files.specs.Act.{Act, Acts, answers, asks_user, plays_by, reads_file, reads_groups, reads_passwds, reads_shells, replaces_file, sees_items, sees_moment, shown, shows};

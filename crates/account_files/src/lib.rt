@@ -4,12 +4,9 @@
 
 mod accounts;
 mod content;
-mod laws;
-mod paths;
+pub mod laws;
 mod speech;
 
 pub use accounts::{Account, Accounts, read_shells};
 pub use content::{Content, is_rooted, read_content, read_named, replace_named};
-pub use laws::{act_steps, speaking};
-pub use paths::path_of;
 pub use speech::{has_user, show, user_of};

@@ -12,16 +12,17 @@ use Rattle.script_stream.specs.Turns.{Ending, Reports}
 use Rattle.dispatch_core.specs.Lines.{names_of}
 use Rattle.pam_room.specs.Module.{Player}
 use Rattle.pam_room.specs.State.{PlainWorld}
-use Rattle.pam_handle.specs.Handle.{Stacks}
+use Rattle.service_load.specs.Stacks.{Stacks}
 use Rattle.pam_library.specs.Slots.{PlainSlot, closed, opened, slot_at, with_slot}
 use Rattle.session_run.specs.State.{Setting, RunState}
 use Rattle.session_run.specs.Step.{line_step, Fails}
 use Rattle.session_run.specs.Closings.{world_behind, text_of_end, closings_behind, closings, closings_text}
 use Rattle.session_run.specs.Whole.{ending_status, last_line}
-use Rattle.session_audit.specs.Line.{Seen, Block, closed_by_program, block_text, blocks_text, last_text, AreBlocks, IsLast}
+use Rattle.stack_walk.specs.Retell.{Seen}
+use Rattle.report_lines.specs.Line.{Block, closed_by_program, block_text, blocks_text, last_text, AreBlocks, IsLast}
 use Rattle.session_audit.specs.Fits.{Place, shut, running, with_place, all_shut, fold_on, fold, behind_block, behind_at, behind_result, with_behind}
 use Rattle.session_audit.specs.Sound.{AreSound}
-use Rattle.audit_laws.specs.Calls.{held_in}
+use Rattle.pam_handle.specs.StackCalls.{held_in}
 use Rattle.audit_laws.specs.Report.{closing_reported}
 use Rattle.audit_laws.specs.Step.{place_of, places_of, HaveStacks}
 use Rattle.audit_laws.specs.Run.{run_blocks, lines_looked, closing_blocks, last_of, RunsFit, ScriptsFit}

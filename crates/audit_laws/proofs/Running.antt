@@ -23,7 +23,8 @@ use Rattle.conv_port.specs.Conv.{ConvState}
 use Rattle.dispatch_core.specs.Lines.{names_of}
 use Rattle.pam_room.specs.Module.{Player}
 use Rattle.pam_room.specs.State.{PlainWorld}
-use Rattle.pam_handle.specs.Handle.{Stacks, PlainHandle}
+use Rattle.service_load.specs.Stacks.{Stacks}
+use Rattle.pam_handle.specs.Handle.{PlainHandle}
 use Rattle.pam_library.specs.declared.outcome.Answer.TheVariants as answers
 use Rattle.pam_library.specs.Outcome.{PlainOutcome, answers_only}
 use Rattle.pam_library.specs.Slots.{PlainSlot, closed, opened, slot_at}
@@ -33,7 +34,7 @@ use Rattle.session_report.specs.Cleaned.{filed_text}
 use Rattle.session_report.specs.Step.{step_text}
 use Rattle.session_run.specs.State.{Setting, RunState}
 use Rattle.session_run.specs.Step.{applied_or_refused, line_step}
-use Rattle.session_audit.specs.Line.{Block, Shown, block_text, blocks_text}
+use Rattle.report_lines.specs.Line.{Block, Shown, block_text, blocks_text}
 use Rattle.session_audit.specs.Fits.{Place, fold_on, fold, behind_block}
 use Rattle.session_audit.specs.Sound.{AreSound}
 use Rattle.session_audit.proofs.Sound.{folds_sound}

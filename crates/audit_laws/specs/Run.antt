@@ -15,7 +15,7 @@ use Rattle.script_stream.specs.Turns.{Ending}
 use Rattle.dispatch_core.specs.Lines.{names_of}
 use Rattle.pam_room.specs.Module.{Player}
 use Rattle.pam_room.specs.State.{PlainWorld}
-use Rattle.pam_handle.specs.Handle.{Stacks}
+use Rattle.service_load.specs.Stacks.{Stacks}
 use Rattle.pam_handle.specs.Start.{stacks_under}
 use Rattle.pam_library.specs.declared.outcome.Answer.{Answer}
 use Rattle.pam_library.specs.declared.outcome.Answer.TheVariants as answers
@@ -26,7 +26,7 @@ use Rattle.session_run.specs.State.{Setting, RunState}
 use Rattle.session_run.specs.Step.{line_step}
 use Rattle.session_run.specs.Closings.{world_behind}
 use Rattle.session_run.specs.Whole.{EndsAs, RunsScript, ending_status}
-use Rattle.session_audit.specs.Line.{long_of, Block, Last, unread, refused_at}
+use Rattle.report_lines.specs.Line.{long_of, Block, Last, unread, refused_at}
 use Rattle.session_audit.specs.Fits.{Fits, all_shut}
 use Rattle.audit_laws.specs.Report.{reported, closing_reported}
 use Rattle.session_audit.specs.Sound.{ArePrintable}

@@ -2,11 +2,10 @@
 //! of the line that they begin in, or the first fault of the text. What the tokens mean is left to others.
 #![tactic(auto)]
 
-mod laws;
+pub mod laws;
 mod lexer;
 mod service_file;
 mod token;
 
-pub use laws::{one_first_fault, one_reading, one_spelling};
 pub use service_file::rules;
 pub use token::{LexFault, RawRule, RawRules, Token, Tokens};

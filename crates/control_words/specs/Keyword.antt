@@ -1,8 +1,11 @@
 -- The four keywords, each as the control that pam.conf(5) says it stands for.
-use Rattle.std.specs.Prelude.{ℕ, List, Option, Some, None, codes, if◌then◌else◌}
+use Rattle.std.specs.Prelude.{ℕ, List, [], ◌∷◌, Option, option_map, codes}
+use Rattle.std.specs.List.{find}
 use Rattle.std.specs.Str.{str_eq_ignore_ascii_case}
 use Rattle.control_words.specs.declared.control.Action.{Action}
 use Rattle.control_words.specs.declared.control.Action.TheVariants.{Ignore, Bad, Die, Ok, Done}
+use Rattle.control_words.specs.declared.keywords.Keyword.{Keyword}
+use Rattle.control_words.specs.declared.keywords.Keyword.TheVariants.{Required, Requisite, Sufficient, Optional}
 use Rattle.control_words.specs.Control.{usual}
 
 -- [success=ok new_authtok_reqd=ok ignore=ignore default=bad]
@@ -21,11 +24,27 @@ sufficient = usual Done Ignore Ignore
 abbrev pub optional : List Action
 optional = usual Ok Ignore Ignore
 
--- the control that a word stands for, in any case
+-- the word of a keyword
+abbrev pub keyword_word : Keyword → List ℕ
+keyword_word Required = codes "required"
+keyword_word Requisite = codes "requisite"
+keyword_word Sufficient = codes "sufficient"
+keyword_word Optional = codes "optional"
+
+-- the control that a keyword stands for
+abbrev pub keyword_control : Keyword → List Action
+keyword_control Required = required
+keyword_control Requisite = requisite
+keyword_control Sufficient = sufficient
+keyword_control Optional = optional
+
+abbrev pub all_keywords : List Keyword
+all_keywords = Required ∷ Requisite ∷ Sufficient ∷ Optional ∷ []
+
+-- the keyword that a word is, in any case
+abbrev pub keyword_of_word : List ℕ → Option Keyword
+keyword_of_word word = find (λ keyword. str_eq_ignore_ascii_case word (keyword_word keyword)) all_keywords
+
+-- the control that a word stands for
 abbrev pub control_of_word : List ℕ → Option (List Action)
-control_of_word word =
-    if str_eq_ignore_ascii_case word (codes "required") then Some required
-    else if str_eq_ignore_ascii_case word (codes "requisite") then Some requisite
-    else if str_eq_ignore_ascii_case word (codes "sufficient") then Some sufficient
-    else if str_eq_ignore_ascii_case word (codes "optional") then Some optional
-    else None
+control_of_word word = option_map keyword_control (keyword_of_word word)

@@ -1,12 +1,24 @@
 ghost use Rattle.std.specs.Prelude.{◌≡◌, true, min};
 ghost use Rattle.std.specs.Char.{is_ascii_digit};
 ghost use Rattle.std.specs.List.{list_all};
+ghost use Rattle.std.specs.Str.{str_eq_ignore_ascii_case};
 ghost use Rattle.pam_base.specs.Number.{value_of_digits};
 ghost use Rattle.control_words.specs.Bracket.{action_of_word, named_action};
+ghost use Rattle.control_words.specs.Control.{action_name};
 
 use crate::bracket::ControlFault;
 use crate::control::Action;
 use pam_base::{FaultKind, are_digits};
+
+/// The actions that have a word.
+const PLAIN_ACTIONS: [Action; 6] = [
+    Action::Ignore,
+    Action::Bad,
+    Action::Die,
+    Action::Ok,
+    Action::Done,
+    Action::Reset,
+];
 
 /// The action that a word in brackets stands for (`pam.conf(5)`).
 pub(crate) fn action_named(word: &[u8]) -> Result<Action, ControlFault>
@@ -28,21 +40,16 @@ pub(crate) fn action_named(word: &[u8]) -> Result<Action, ControlFault>
 fn plain_action(word: &[u8]) -> Option<Action>
     ensures { result ≡ named_action word.now }
 {
-    if word.eq_ignore_ascii_case(b"ignore") {
-        Some(Action::Ignore)
-    } else if word.eq_ignore_ascii_case(b"bad") {
-        Some(Action::Bad)
-    } else if word.eq_ignore_ascii_case(b"die") {
-        Some(Action::Die)
-    } else if word.eq_ignore_ascii_case(b"ok") {
-        Some(Action::Ok)
-    } else if word.eq_ignore_ascii_case(b"done") {
-        Some(Action::Done)
-    } else if word.eq_ignore_ascii_case(b"reset") {
-        Some(Action::Reset)
-    } else {
-        None
-    }
+    PLAIN_ACTIONS
+        .iter()
+        .copied()
+        .find(|action| is_word_of(*action, word))
+}
+
+fn is_word_of(action: Action, word: &[u8]) -> bool
+    ensures { result ≡ str_eq_ignore_ascii_case word.now (action_name action) }
+{
+    word.eq_ignore_ascii_case(action.word().as_bytes())
 }
 
 // The value of some digits, or 256 where it is above 255.

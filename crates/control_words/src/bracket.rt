@@ -4,7 +4,7 @@ ghost use Rattle.control_words.specs.Entries.{entries_in};
 
 use crate::control::Control;
 use crate::entries::{behind_space, first_entry};
-use crate::keywords::keyword;
+use crate::keywords::control_named;
 use crate::table::Table;
 use conf_lex::Token;
 use pam_base::FaultKind;
@@ -41,7 +41,7 @@ pub fn control_of(token: &Token) -> Result<Control, ControlFault>
     if token.bracketed {
         control_in_bracket(text)
     } else {
-        keyword(text).ok_or(ControlFault::of(FaultKind::BadControl))
+        control_named(text).ok_or(ControlFault::of(FaultKind::BadControl))
     }
 }
 

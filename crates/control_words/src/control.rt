@@ -16,6 +16,25 @@ pub enum Action {
     Jump(u8),
 }
 
+impl Action {
+    ghost use Rattle.control_words.specs.Control.{action_name};
+
+    /// The word of the action (`pam.conf(5)`), in small letters. A jump has none, and gives the empty text.
+    pub fn word(self) -> &'static str
+        ensures { result.now ≡ action_name self }
+    {
+        match self {
+            Action::Ignore => "ignore",
+            Action::Bad => "bad",
+            Action::Die => "die",
+            Action::Ok => "ok",
+            Action::Done => "done",
+            Action::Reset => "reset",
+            Action::Jump(_) => "",
+        }
+    }
+}
+
 /// A control: one action for each of the 32 codes. Contracts see the list of the actions, in the order of
 /// the codes' numbers.
 #[derive(Clone, Copy, Debug)]

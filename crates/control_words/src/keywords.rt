@@ -1,22 +1,73 @@
-ghost use Rattle.std.specs.Prelude.{◌≡◌};
-ghost use Rattle.control_words.specs.Keyword.{control_of_word};
+ghost use Rattle.std.specs.Prelude.{◌≡◌, option_map};
+ghost use Rattle.std.specs.Str.{str_eq_ignore_ascii_case};
+ghost use Rattle.control_words.specs.Keyword.{control_of_word, keyword_control, keyword_of_word, keyword_word};
 
 use crate::control::{Action, Control};
 
-/// The control that a keyword stands for, `required`, `requisite`, `sufficient` or `optional` in any case
-/// (`pam.conf(5)`). None exactly for every other word.
-pub fn keyword(word: &[u8]) -> Option<Control>
+/// A word that stands for a control (`pam.conf(5)`).
+#[derive(Clone, Copy, Debug, PartialEq, Eq)]
+pub enum Keyword {
+    Required,
+    Requisite,
+    Sufficient,
+    Optional,
+}
+
+/// All keywords.
+pub const ALL_KEYWORDS: [Keyword; 4] = [
+    Keyword::Required,
+    Keyword::Requisite,
+    Keyword::Sufficient,
+    Keyword::Optional,
+];
+
+impl Keyword {
+    /// The word, in small letters.
+    pub fn word(self) -> &'static str
+        ensures { result.now ≡ keyword_word self }
+    {
+        match self {
+            Keyword::Required => "required",
+            Keyword::Requisite => "requisite",
+            Keyword::Sufficient => "sufficient",
+            Keyword::Optional => "optional",
+        }
+    }
+
+    /// The control that it stands for.
+    pub fn control(self) -> Control
+        ensures { result ≡ keyword_control self }
+    {
+        match self {
+            Keyword::Required => Control::usual(Action::Ok, Action::Ignore, Action::Bad),
+            Keyword::Requisite => Control::usual(Action::Ok, Action::Ignore, Action::Die),
+            Keyword::Sufficient => Control::usual(Action::Done, Action::Ignore, Action::Ignore),
+            Keyword::Optional => Control::usual(Action::Ok, Action::Ignore, Action::Ignore),
+        }
+    }
+}
+
+/// The control that a word stands for, in any case (`pam.conf(5)`). None exactly where it is no keyword.
+pub fn control_named(word: &[u8]) -> Option<Control>
     ensures { result ≡ control_of_word word.now }
 {
-    if word.eq_ignore_ascii_case(b"required") {
-        Some(Control::usual(Action::Ok, Action::Ignore, Action::Bad))
-    } else if word.eq_ignore_ascii_case(b"requisite") {
-        Some(Control::usual(Action::Ok, Action::Ignore, Action::Die))
-    } else if word.eq_ignore_ascii_case(b"sufficient") {
-        Some(Control::usual(Action::Done, Action::Ignore, Action::Ignore))
-    } else if word.eq_ignore_ascii_case(b"optional") {
-        Some(Control::usual(Action::Ok, Action::Ignore, Action::Ignore))
-    } else {
-        None
+    match keyword_named(word) {
+        Some(keyword) => Some(keyword.control()),
+        None => None,
     }
+}
+
+fn keyword_named(word: &[u8]) -> Option<Keyword>
+    ensures { result ≡ keyword_of_word word.now }
+{
+    ALL_KEYWORDS
+        .iter()
+        .copied()
+        .find(|keyword| is_word_of(*keyword, word))
+}
+
+fn is_word_of(keyword: Keyword, word: &[u8]) -> bool
+    ensures { result ≡ str_eq_ignore_ascii_case word.now (keyword_word keyword) }
+{
+    word.eq_ignore_ascii_case(keyword.word().as_bytes())
 }

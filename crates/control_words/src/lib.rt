@@ -13,6 +13,6 @@ mod table;
 
 pub use bracket::{ControlFault, control_of};
 pub use control::{Action, Control};
-pub use keywords::keyword;
+pub use keywords::{ALL_KEYWORDS, Keyword, control_named};
 pub use module::module_name;
 pub use nodes::{Node, Nodes, Rule};

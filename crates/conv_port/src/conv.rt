@@ -4,7 +4,7 @@ ghost use Rattle.conv_port.specs.Message.{AreReplies, HasPrompt, IsExchange};
 ghost use Rattle.conv_port.specs.Conv.{ConvState, TakesOffer, Talks};
 
 use crate::message::{Messages, Replies};
-use pam_base::NoMemory;
+use pam_base::{MAX_TEXT, NoMemory};
 use std::alloc::Global;
 
 /// Why an exchange gives no replies.
@@ -66,7 +66,7 @@ pub trait Conv: Drop {
     /// bytes `\later` as a mark, which puts off the exchange that finds it in front; one that tells adds what was
     /// offered at the end, and without memory holds what it held. Neither count changes.
     fn offer(&mut self, alloc: Global, text: &[u8]) -> Result<(), NoMemory>
-        requires { length text.now ≤ 512 }
+        requires { length text.now ≤ MAX_TEXT }
         ensures tells { conv_tells self.new ≡ conv_tells self.old }
         ensures told { IsTrue (conv_tells self.old) → TakesOffer result text.now (conv_holds self.old) (conv_holds self.new) }
         ensures faults { conv_faults self.new ≡ conv_faults self.old }
@@ -96,7 +96,7 @@ pub fn talk_with(
 
 /// `Conv::offer` of a conversation that is lent.
 pub fn offer_to(conv: &mut dyn Conv, alloc: Global, text: &[u8]) -> Result<(), NoMemory>
-    requires { length text.now ≤ 512 }
+    requires { length text.now ≤ MAX_TEXT }
     ensures tells { conv_tells conv.new ≡ conv_tells conv.old }
     ensures told { IsTrue (conv_tells conv.old) → TakesOffer result text.now (conv_holds conv.old) (conv_holds conv.new) }
     ensures faults { conv_faults conv.new ≡ conv_faults conv.old }

@@ -4,7 +4,7 @@
 #![tactic(auto)]
 
 mod conv;
-mod laws;
+pub mod laws;
 mod message;
 mod offer;
 mod queue_conv;
@@ -12,7 +12,6 @@ mod term_conv;
 mod wire_conv;
 
 pub use conv::{Conv, ConvFault, offer_to, talk_with};
-pub use laws::exchange_without_replies;
 pub use message::{Message, Messages, Replies, Reply};
 pub use offer::Offer;
 pub use queue_conv::QueueConv;

@@ -8,7 +8,7 @@ ghost use Rattle.conv_port.specs.Terminal.{Types, TypesLine, all_shown, shown};
 
 use crate::conv::{Conv, ConvFault};
 use crate::message::{Message, Messages, Replies, Reply};
-use pam_base::{NoMemory, Text};
+use pam_base::{MAX_TEXT, NoMemory, Text};
 use std::alloc::Global;
 use std::io::{Read, Write};
 use std::marker::Model;
@@ -84,7 +84,7 @@ impl<R: Read + Drop, W: Write + Drop> Conv for TermConv<R, W> {
 
     /// Does nothing: a terminal's replies are typed.
     fn offer(&mut self, _alloc: Global, _text: &[u8]) -> Result<(), NoMemory>
-        requires { length _text.now ≤ 512 }
+        requires { length _text.now ≤ MAX_TEXT }
         ensures tells { ⟦<TermConv<R, W> as Conv>⟧.conv_tells self.new ≡ ⟦<TermConv<R, W> as Conv>⟧.conv_tells self.old }
         ensures told { IsTrue (⟦<TermConv<R, W> as Conv>⟧.conv_tells self.old) → TakesOffer result _text.now (⟦<TermConv<R, W> as Conv>⟧.conv_holds self.old) (⟦<TermConv<R, W> as Conv>⟧.conv_holds self.new) }
         ensures faults { ⟦<TermConv<R, W> as Conv>⟧.conv_faults self.new ≡ ⟦<TermConv<R, W> as Conv>⟧.conv_faults self.old }
@@ -146,12 +146,12 @@ fn read_reply<R: Read>(alloc: Global, message: &Message, reader: &mut R) -> Resu
 
 // The next line, or a part of 512 bytes of a longer one.
 fn read_line<R: Read>(alloc: Global, reader: &mut R) -> Result<Text, ConvFault>
-    ensures short { IfOk result (λ text. length text ≤ 512) }
+    ensures short { IfOk result (λ text. length text ≤ MAX_TEXT) }
     ensures never_again { result ≢ Err ConvFault.Again }
     ensures typed { IfOk result (λ text. TypesLine text (R.remaining reader.old) (R.remaining reader.new)) }
 {
-    let mut bytes = Vec::with_capacity(alloc, 512).map_err(|_| ConvFault::NoMemory)?;
-    while bytes.len() < 512 {
+    let mut bytes = Vec::with_capacity(alloc, MAX_TEXT).map_err(|_| ConvFault::NoMemory)?;
+    while bytes.len() < MAX_TEXT {
         match read_byte(reader)? {
             Some(b'\n') => return Ok(Text::from_vec(bytes)),
             Some(byte) => bytes.push(byte).unwrap(),

@@ -7,7 +7,17 @@ ghost use Rattle.data_cleanup.specs.Sets.{Sets};
 ghost use Rattle.data_cleanup.specs.Grows.{Grows};
 ghost use Rattle.data_cleanup.specs.declared.receipt.Receipt.{Receipt};
 
+use crate::ledger::Ledger;
+
 // Each of these does nothing: its contract is a law about the definitions, for those who call it in a proof.
+
+/// What holds of every ledger: its births and receipts fit, and its births are numbered in order.
+pub fn ledger_is_sound(ledger: &Ledger)
+    ensures sound { IsSound ledger.now.births ledger.now.filed }
+    ensures numbered { AreNumbered 0 ledger.now.births }
+{
+    ledger.sound();
+}
 
 /// What grows and grows again has grown.
 pub fn growth_is_transitive()

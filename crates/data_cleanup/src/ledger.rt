@@ -53,8 +53,8 @@ impl Ledger {
         &self.filed
     }
 
-    /// Does nothing. Its contract says what holds of every ledger.
-    pub fn sound(&self)
+    // It does nothing: the field that it reads brings the model's invariant.
+    pub(crate) fn sound(&self)
         ensures sound { IsSound self.now.births self.now.filed }
         ensures numbered { AreNumbered 0 self.now.births }
     {

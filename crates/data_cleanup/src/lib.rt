@@ -5,16 +5,11 @@
 
 mod data_list;
 mod datum;
-mod laws;
+pub mod laws;
 mod ledger;
 mod receipt;
 
 pub use data_list::DataList;
 pub use datum::{Birth, Births, Datum};
-pub use laws::{
-    cleanup_begins, cleanup_ends, cleanup_goes_on, growth_is_transitive, next_awaits_cleanup,
-    nothing_grows, nothing_sets, one_birth_sets, reversed_await_cleanup, set_data_await_cleanup,
-    setting_is_transitive, swept_setting_grows,
-};
 pub use ledger::Ledger;
 pub use receipt::{Filed, Receipt};

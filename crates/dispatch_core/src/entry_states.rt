@@ -36,7 +36,8 @@ impl EntryStates {
     pub fn enter(&mut self, level: usize, opens: usize, opinion: Opinion)
         requires deep { level ≤ 16 }
         requires opens { opens ≤ level }
-        ensures { (k : ℕ) → entry_at self.new k ≡ entered level opens opinion (entry_at self.old) k }
+        ensures { (k : ℕ) → entry_at self.new k
+            ≡ entered level opens opinion (entry_at self.old) k }
     {
         enter_lists(&mut self.opinions, level, opens, opinion);
     }
@@ -53,7 +54,8 @@ impl EntryStates {
 fn enter_lists(opinions: &mut [Opinion], level: usize, opens: usize, opinion: Opinion)
     requires level { level < length opinions.old }
     requires opens { opens ≤ level }
-    ensures { (k : ℕ) → entry_at opinions.new k ≡ entered level opens opinion (entry_at opinions.old) k }
+    ensures { (k : ℕ) → entry_at opinions.new k
+        ≡ entered level opens opinion (entry_at opinions.old) k }
 {
     for k in level + 1 - opens..level + 1 {
         opinions[k] = opinion;

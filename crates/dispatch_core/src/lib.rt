@@ -1,22 +1,22 @@
 //! One pass over a stack that was laid flat, by the indices of its lines: each line's module serves the call, and the
 //! walker goes on where the line's list goes on. Whatever the modules do, the pass is the walk over the nested stack.
 //!
-//! Begin at `pass.rt`; `turn.rt` is one line, and `walker.rt` decides where the pass goes on.
+//! Begin at pass.rt; turn.rt is one line, and walker.rt with onward.rt decides where the pass goes on behind it.
 #![tactic(auto)]
 
 mod entry_states;
 mod given;
-mod laws;
+pub mod laws;
 mod line;
+mod onward;
 mod pass;
 mod paths;
 mod paused;
 mod request;
-mod step;
 mod supplies;
 mod turn;
 mod walker;
 
-pub use laws::soundness_is_transitive;
 pub use pass::dispatch;
 pub use paused::Paused;
+pub use request::PassRequest;

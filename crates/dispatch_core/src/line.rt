@@ -11,7 +11,7 @@ ghost use Rattle.dispatch_core.specs.Lines.{answers_by};
 ghost use Rattle.dispatch_core.specs.Paths.{HasPaths};
 
 use crate::paths::Paths;
-use crate::request::Request;
+use crate::request::PassRequest;
 use handler_chain::Chain;
 use pam_base::{Code, NoMemory};
 use pam_room::{Call, Module, Room, RoomTold, StackLine, World, WorldTold, serve_line};
@@ -22,7 +22,7 @@ pub fn ask_line(
     alloc: Global,
     chain: &Chain,
     mods: &[Box<dyn Module>],
-    request: Request,
+    request: PassRequest,
     i: usize,
     paths: &mut Paths,
     room: &mut Room,
@@ -33,21 +33,32 @@ pub fn ask_line(
     requires few { length mods.now < 2 ^ 32 }
     requires paths { HasPaths chain.now.nodes i paths.old }
     requires spare { 0 < room.old.transaction.trail.spare }
-    requires ready { IsReady (length mods.now) (plain_transaction room.old.transaction) (plain_process world.old.process) }
+    requires ready { IsReady (length mods.now) (plain_transaction room.old.transaction)
+        (plain_process world.old.process) }
     ensures room_tells { ⟦<Room as RoomTold>⟧.tells room.new ≡ ⟦<Room as RoomTold>⟧.tells room.old }
-    ensures world_tells { ⟦<World as WorldTold>⟧.tells world.new ≡ ⟦<World as WorldTold>⟧.tells world.old }
+    ensures world_tells { ⟦<World as WorldTold>⟧.tells world.new
+        ≡ ⟦<World as WorldTold>⟧.tells world.old }
     ensures nap { world.new.nap ≡ world.old.nap }
-    ensures told { IsTrue (⟦<Room as RoomTold>⟧.tells room.old && ⟦<World as WorldTold>⟧.tells world.old) →
-        IfOk result (λ answer. AnswersAs (answers_by (map (player_of label plays note) mods.now) request.func request.flags (rule_at chain.now.nodes i) (i + 1)
+    ensures told { IsTrue (⟦<Room as RoomTold>⟧.tells room.old
+        && ⟦<World as WorldTold>⟧.tells world.old) →
+        IfOk result (λ answer. AnswersAs
+        (answers_by (map (player_of label plays note) mods.now) request.func request.flags
+        (rule_at chain.now.nodes i) (i + 1)
         (state_of (⟦<Room as RoomTold>⟧.plain room.old) (⟦<World as WorldTold>⟧.plain world.old)))
-        answer (state_of (⟦<Room as RoomTold>⟧.plain room.new) (⟦<World as WorldTold>⟧.plain world.new))) }
-    ensures visits { OnOk result (length room.new.transaction.trail.visits ≡ length room.old.transaction.trail.visits + 1) }
+        answer (state_of (⟦<Room as RoomTold>⟧.plain room.new)
+        (⟦<World as WorldTold>⟧.plain world.new))) }
+    ensures visits { OnOk result (length room.new.transaction.trail.visits
+        ≡ length room.old.transaction.trail.visits + 1) }
     ensures spare { room.old.transaction.trail.spare ≤ room.new.transaction.trail.spare + 1 }
     ensures paths { HasPaths chain.now.nodes (i + 1) paths.new }
-    ensures sound { GoesSoundly (notes_of (map (player_of label plays note) mods.now)) (length mods.now)
-        (plain_transaction room.old.transaction) (plain_transaction room.new.transaction) (plain_process world.old.process) (plain_process world.new.process) }
-    ensures ready { IsReady (length mods.now) (plain_transaction room.new.transaction) (plain_process world.new.process) }
+    ensures sound { GoesSoundly (notes_of (map (player_of label plays note) mods.now))
+        (length mods.now)
+        (plain_transaction room.old.transaction) (plain_transaction room.new.transaction)
+        (plain_process world.old.process) (plain_process world.new.process) }
+    ensures ready { IsReady (length mods.now) (plain_transaction room.new.transaction)
+        (plain_process world.new.process) }
 {
+    // It does nothing at run time: its contract says that a stack has fewer than 4,097 lines.
     let _few = chain.len();
     let line = StackLine {
         place: i as u32 + 1,

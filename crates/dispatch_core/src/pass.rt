@@ -12,16 +12,15 @@ ghost use Rattle.dispatch_core.specs.Lines.{answers_by};
 ghost use Rattle.dispatch_core.specs.Paths.{HasPaths};
 ghost use Rattle.dispatch_core.specs.Passes.{LeavesAs, PassesAs, WalksAs, by_place, kept_behind, kept_failed};
 
-use crate::laws::soundness_is_transitive;
+use crate::laws;
 use crate::paused::Paused;
-use crate::request::Request;
+use crate::request::PassRequest;
 use crate::supplies::Supplies;
-use crate::turn::take_turn;
+use crate::turn::walk_line;
 use crate::walker::Walker;
-use data_cleanup::nothing_grows;
 use frozen_chain::Kept;
 use handler_chain::Chain;
-use pam_base::{Code, Func, NoMemory};
+use pam_base::{Code, NoMemory};
 use pam_room::{Module, Room, RoomTold, World, WorldTold};
 use stack_walk::PassKind;
 use std::alloc::Global;
@@ -31,7 +30,7 @@ fn walk(
     alloc: Global,
     chain: &mut Chain,
     mods: &[Box<dyn Module>],
-    request: Request,
+    request: PassRequest,
     follows: &Kept,
     keeps: &mut Kept,
     supplies: &mut Supplies,
@@ -44,30 +43,42 @@ fn walk(
     requires answers { lines_in chain.old.nodes ≤ supplies.old.given.room }
     requires paths { HasPaths chain.old.nodes 0 supplies.old.paths }
     requires spare { lines_in chain.old.nodes ≤ room.old.transaction.trail.spare }
-    requires cells { is_some keeps.old ≡ true → keeps.old ≡ Some (empty_cells (lines_in chain.old.nodes)) }
-    requires ready { IsReady (length mods.now) (plain_transaction room.old.transaction) (plain_process world.old.process) }
+    requires cells { is_some keeps.old ≡ true →
+        keeps.old ≡ Some (empty_cells (lines_in chain.old.nodes)) }
+    requires ready { IsReady (length mods.now) (plain_transaction room.old.transaction)
+        (plain_process world.old.process) }
     ensures room_tells { ⟦<Room as RoomTold>⟧.tells room.new ≡ ⟦<Room as RoomTold>⟧.tells room.old }
-    ensures world_tells { ⟦<World as WorldTold>⟧.tells world.new ≡ ⟦<World as WorldTold>⟧.tells world.old }
+    ensures world_tells { ⟦<World as WorldTold>⟧.tells world.new
+        ≡ ⟦<World as WorldTold>⟧.tells world.old }
     ensures nap { world.new.nap ≡ world.old.nap }
-    ensures told { IsTrue (⟦<Room as RoomTold>⟧.tells room.old && ⟦<World as WorldTold>⟧.tells world.old) →
-        IfOk result (λ end. WalksAs (pass_after request.kind (by_place follows.now) (answers_by (map (player_of label plays note) mods.now) request.func request.flags) chain.old.nodes supplies.old.given.past
+    ensures told { IsTrue (⟦<Room as RoomTold>⟧.tells room.old
+        && ⟦<World as WorldTold>⟧.tells world.old) →
+        IfOk result (λ end. WalksAs
+        (pass_after request.kind (by_place follows.now)
+        (answers_by (map (player_of label plays note) mods.now) request.func request.flags)
+        chain.old.nodes supplies.old.given.past
         (state_of (⟦<Room as RoomTold>⟧.plain room.old) (⟦<World as WorldTold>⟧.plain world.old)))
-        end keeps.new supplies.new.given (state_of (⟦<Room as RoomTold>⟧.plain room.new) (⟦<World as WorldTold>⟧.plain world.new))) }
+        end keeps.new supplies.new.given
+        (state_of (⟦<Room as RoomTold>⟧.plain room.new) (⟦<World as WorldTold>⟧.plain world.new))) }
     ensures held { OnOk result (is_some keeps.new ≡ is_some keeps.old) }
     ensures none { IfOk result (λ end. IsNone end → supplies.new.given.past ≡ []) }
     ensures nodes { chain.new.nodes ≡ chain.old.nodes }
     ensures names { chain.new.names ≡ chain.old.names }
     ensures looks { OnOk result (chain.new.looks + 4 * length room.old.transaction.trail.visits
-        ≤ chain.old.looks + 4 * (length room.new.transaction.trail.visits + length supplies.old.given.past)) }
-    ensures sound { GoesSoundly (notes_of (map (player_of label plays note) mods.now)) (length mods.now)
-        (plain_transaction room.old.transaction) (plain_transaction room.new.transaction) (plain_process world.old.process) (plain_process world.new.process) }
-    ensures ready { IsReady (length mods.now) (plain_transaction room.new.transaction) (plain_process world.new.process) }
+        ≤ chain.old.looks + 4 *
+        (length room.new.transaction.trail.visits + length supplies.old.given.past)) }
+    ensures sound { GoesSoundly (notes_of (map (player_of label plays note) mods.now))
+        (length mods.now)
+        (plain_transaction room.old.transaction) (plain_transaction room.new.transaction)
+        (plain_process world.old.process) (plain_process world.new.process) }
+    ensures ready { IsReady (length mods.now) (plain_transaction room.new.transaction)
+        (plain_process world.new.process) }
 {
-    nothing_grows();
-    soundness_is_transitive();
+    data_cleanup::laws::nothing_grows();
+    laws::soundness_is_transitive();
     let mut walker = Walker::new();
     while walker.at < chain.len() {
-        let Some(_answer) = take_turn(
+        let Some(_answer) = walk_line(
             alloc,
             chain,
             mods,
@@ -91,7 +102,7 @@ fn walk_all(
     alloc: Global,
     chain: &mut Chain,
     mods: &[Box<dyn Module>],
-    request: Request,
+    request: PassRequest,
     follows: &Kept,
     keeps: &mut Kept,
     paused: &mut Paused,
@@ -101,25 +112,36 @@ fn walk_all(
     requires names { chain.old.names ≡ map label mods.now }
     requires few { length mods.now < 2 ^ 32 }
     requires cells { keeps.old ≡ None }
-    requires ready { IsReady (length mods.now) (plain_transaction room.old.transaction) (plain_process world.old.process) }
+    requires ready { IsReady (length mods.now) (plain_transaction room.old.transaction)
+        (plain_process world.old.process) }
     ensures room_tells { ⟦<Room as RoomTold>⟧.tells room.new ≡ ⟦<Room as RoomTold>⟧.tells room.old }
-    ensures world_tells { ⟦<World as WorldTold>⟧.tells world.new ≡ ⟦<World as WorldTold>⟧.tells world.old }
+    ensures world_tells { ⟦<World as WorldTold>⟧.tells world.new
+        ≡ ⟦<World as WorldTold>⟧.tells world.old }
     ensures nap { world.new.nap ≡ world.old.nap }
-    ensures told { IsTrue (⟦<Room as RoomTold>⟧.tells room.old && ⟦<World as WorldTold>⟧.tells world.old) →
-        IfOk result (λ code. PassesAs request.kind (pass_after request.kind (by_place follows.now) (answers_by (map (player_of label plays note) mods.now) request.func request.flags) chain.old.nodes (past_of paused.old)
+    ensures told { IsTrue (⟦<Room as RoomTold>⟧.tells room.old
+        && ⟦<World as WorldTold>⟧.tells world.old) →
+        IfOk result (λ code. PassesAs request.kind
+        (pass_after request.kind (by_place follows.now)
+        (answers_by (map (player_of label plays note) mods.now) request.func request.flags)
+        chain.old.nodes (past_of paused.old)
         (state_of (⟦<Room as RoomTold>⟧.plain room.old) (⟦<World as WorldTold>⟧.plain world.old)))
-        code keeps.new paused.new (state_of (⟦<Room as RoomTold>⟧.plain room.new) (⟦<World as WorldTold>⟧.plain world.new))) }
+        code keeps.new paused.new
+        (state_of (⟦<Room as RoomTold>⟧.plain room.new) (⟦<World as WorldTold>⟧.plain world.new))) }
     ensures paused { OnErr result (paused.new ≡ None) }
     ensures put_off { IfOk result (λ code. IsTrue (is_some paused.new) → code ≡ Code.Incomplete) }
     ensures nodes { chain.new.nodes ≡ chain.old.nodes }
     ensures names { chain.new.names ≡ chain.old.names }
     ensures looks { OnOk result (chain.new.looks + 4 * length room.old.transaction.trail.visits
-        ≤ chain.old.looks + 4 * (length room.new.transaction.trail.visits + length (past_of paused.old))) }
-    ensures sound { GoesSoundly (notes_of (map (player_of label plays note) mods.now)) (length mods.now)
-        (plain_transaction room.old.transaction) (plain_transaction room.new.transaction) (plain_process world.old.process) (plain_process world.new.process) }
-    ensures ready { IsReady (length mods.now) (plain_transaction room.new.transaction) (plain_process world.new.process) }
+        ≤ chain.old.looks + 4 *
+        (length room.new.transaction.trail.visits + length (past_of paused.old))) }
+    ensures sound { GoesSoundly (notes_of (map (player_of label plays note) mods.now))
+        (length mods.now)
+        (plain_transaction room.old.transaction) (plain_transaction room.new.transaction)
+        (plain_process world.old.process) (plain_process world.new.process) }
+    ensures ready { IsReady (length mods.now) (plain_transaction room.new.transaction)
+        (plain_process world.new.process) }
 {
-    nothing_grows();
+    data_cleanup::laws::nothing_grows();
     let mut supplies = Supplies::take(alloc, chain, paused, room)?;
     if request.kind == PassKind::Keep {
         keeps.open(alloc, chain.len())?;
@@ -144,7 +166,7 @@ fn walk_all(
 }
 
 // What stays kept behind a pass that has answered, or for which there was no memory.
-fn settle(kind: PassKind, kept: &mut Kept, keeps: Kept, answered: bool)
+fn keep_answers(kind: PassKind, kept: &mut Kept, keeps: Kept, answered: bool)
     ensures { kept.new ≡ kept_behind kind answered keeps kept.old }
 {
     match kind {
@@ -166,9 +188,7 @@ pub fn dispatch(
     alloc: Global,
     chain: &mut Chain,
     mods: &[Box<dyn Module>],
-    func: Func,
-    flags: u32,
-    kind: PassKind,
+    request: PassRequest,
     kept: &mut Kept,
     paused: &mut Paused,
     room: &mut Room,
@@ -176,30 +196,40 @@ pub fn dispatch(
 ) -> Result<Code, NoMemory>
     requires names { chain.old.names ≡ map label mods.now }
     requires few { length mods.now < 2 ^ 32 }
-    requires ready { IsReady (length mods.now) (plain_transaction room.old.transaction) (plain_process world.old.process) }
+    requires ready { IsReady (length mods.now) (plain_transaction room.old.transaction)
+        (plain_process world.old.process) }
     ensures room_tells { ⟦<Room as RoomTold>⟧.tells room.new ≡ ⟦<Room as RoomTold>⟧.tells room.old }
-    ensures world_tells { ⟦<World as WorldTold>⟧.tells world.new ≡ ⟦<World as WorldTold>⟧.tells world.old }
+    ensures world_tells { ⟦<World as WorldTold>⟧.tells world.new
+        ≡ ⟦<World as WorldTold>⟧.tells world.old }
     ensures nap { world.new.nap ≡ world.old.nap }
-    ensures told { IsTrue (⟦<Room as RoomTold>⟧.tells room.old && ⟦<World as WorldTold>⟧.tells world.old) →
-        IfOk result (λ code. LeavesAs kind (pass_after kind (by_place kept.old) (answers_by (map (player_of label plays note) mods.now) func flags) chain.old.nodes (past_of paused.old)
+    ensures told { IsTrue (⟦<Room as RoomTold>⟧.tells room.old
+        && ⟦<World as WorldTold>⟧.tells world.old) →
+        IfOk result (λ code. LeavesAs request.kind
+        (pass_after request.kind (by_place kept.old)
+        (answers_by (map (player_of label plays note) mods.now) request.func request.flags)
+        chain.old.nodes (past_of paused.old)
         (state_of (⟦<Room as RoomTold>⟧.plain room.old) (⟦<World as WorldTold>⟧.plain world.old)))
-        kept.old code kept.new paused.new (state_of (⟦<Room as RoomTold>⟧.plain room.new) (⟦<World as WorldTold>⟧.plain world.new))) }
-    ensures kept { OnErr result (kept.new ≡ kept_failed kind kept.old) }
+        kept.old code kept.new paused.new
+        (state_of (⟦<Room as RoomTold>⟧.plain room.new) (⟦<World as WorldTold>⟧.plain world.new))) }
+    ensures kept { OnErr result (kept.new ≡ kept_failed request.kind kept.old) }
     ensures paused { OnErr result (paused.new ≡ None) }
     ensures put_off { IfOk result (λ code. IsTrue (is_some paused.new) → code ≡ Code.Incomplete) }
     ensures nodes { chain.new.nodes ≡ chain.old.nodes }
     ensures names { chain.new.names ≡ chain.old.names }
     ensures looks { OnOk result (chain.new.looks + 4 * length room.old.transaction.trail.visits
-        ≤ chain.old.looks + 4 * (length room.new.transaction.trail.visits + length (past_of paused.old))) }
-    ensures sound { GoesSoundly (notes_of (map (player_of label plays note) mods.now)) (length mods.now)
-        (plain_transaction room.old.transaction) (plain_transaction room.new.transaction) (plain_process world.old.process) (plain_process world.new.process) }
-    ensures ready { IsReady (length mods.now) (plain_transaction room.new.transaction) (plain_process world.new.process) }
+        ≤ chain.old.looks + 4 *
+        (length room.new.transaction.trail.visits + length (past_of paused.old))) }
+    ensures sound { GoesSoundly (notes_of (map (player_of label plays note) mods.now))
+        (length mods.now)
+        (plain_transaction room.old.transaction) (plain_transaction room.new.transaction)
+        (plain_process world.old.process) (plain_process world.new.process) }
+    ensures ready { IsReady (length mods.now) (plain_transaction room.new.transaction)
+        (plain_process world.new.process) }
 {
     let mut keeps = Kept::none();
-    let request = Request { func, flags, kind };
     let result = walk_all(
         alloc, chain, mods, request, kept, &mut keeps, paused, room, world,
     );
-    settle(kind, kept, keeps, result.is_ok());
+    keep_answers(request.kind, kept, keeps, result.is_ok());
     result
 }

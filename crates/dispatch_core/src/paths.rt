@@ -37,7 +37,8 @@ impl Paths {
     pub fn take(&mut self, alloc: Global, i: usize) -> Text
         requires { i < length self.old }
         ensures path { result ≡ path_in self.old i }
-        ensures others { (stack : Stack) → HasPaths stack i self.old → HasPaths stack (i + 1) self.new }
+        ensures others { (stack : Stack) → HasPaths stack i self.old →
+            HasPaths stack (i + 1) self.new }
     {
         mem::replace(&mut self.texts[i], Text::new(alloc))
     }

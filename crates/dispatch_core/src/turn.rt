@@ -17,10 +17,10 @@ ghost use Rattle.dispatch_core.specs.Paths.{HasPaths};
 ghost use Rattle.dispatch_core.specs.Passes.{IsAhead, answer_in, by_place, kept_with, taken_with, turned, visits_with};
 
 use crate::line::ask_line;
-use crate::request::Request;
+use crate::request::PassRequest;
 use crate::supplies::Supplies;
 use crate::walker::Walker;
-use data_cleanup::nothing_grows;
+use data_cleanup::laws;
 use frozen_chain::Kept;
 use handler_chain::Chain;
 use pam_base::{Code, NoMemory};
@@ -52,7 +52,7 @@ pub fn next_answer(
     alloc: Global,
     chain: &Chain,
     mods: &[Box<dyn Module>],
-    request: Request,
+    request: PassRequest,
     i: usize,
     supplies: &mut Supplies,
     room: &mut Room,
@@ -64,29 +64,45 @@ pub fn next_answer(
     requires answers { supplies.old.given.past ≡ [] → 0 < supplies.old.given.room }
     requires paths { HasPaths chain.now.nodes i supplies.old.paths }
     requires spare { 0 < room.old.transaction.trail.spare }
-    requires ready { IsReady (length mods.now) (plain_transaction room.old.transaction) (plain_process world.old.process) }
+    requires ready { IsReady (length mods.now) (plain_transaction room.old.transaction)
+        (plain_process world.old.process) }
     ensures room_tells { ⟦<Room as RoomTold>⟧.tells room.new ≡ ⟦<Room as RoomTold>⟧.tells room.old }
-    ensures world_tells { ⟦<World as WorldTold>⟧.tells world.new ≡ ⟦<World as WorldTold>⟧.tells world.old }
+    ensures world_tells { ⟦<World as WorldTold>⟧.tells world.new
+        ≡ ⟦<World as WorldTold>⟧.tells world.old }
     ensures nap { world.new.nap ≡ world.old.nap }
-    ensures told { IsTrue (⟦<Room as RoomTold>⟧.tells room.old && ⟦<World as WorldTold>⟧.tells world.old) →
+    ensures told { IsTrue (⟦<Room as RoomTold>⟧.tells room.old
+        && ⟦<World as WorldTold>⟧.tells world.old) →
         IfOk result (λ answer. (kind : PassKind) (kept : KeptAnswers) (visits : List Visit) →
-        ServedAs (serving kind kept (answers_by (map (player_of label plays note) mods.now) request.func request.flags) (rule_at chain.now.nodes i) (i + 1)
-        (pass_state supplies.old.given.past visits (state_of (⟦<Room as RoomTold>⟧.plain room.old) (⟦<World as WorldTold>⟧.plain world.old))))
+        ServedAs
+        (serving kind kept
+        (answers_by (map (player_of label plays note) mods.now) request.func request.flags)
+        (rule_at chain.now.nodes i) (i + 1)
+        (pass_state supplies.old.given.past visits
+        (state_of (⟦<Room as RoomTold>⟧.plain room.old) (⟦<World as WorldTold>⟧.plain world.old))))
         (answer_in answer) (decides kind kept (i + 1) (answer_in answer)) (is_none answer)
-        (pass_state supplies.new.given.past (visits_with visits (i + 1) answer) (state_of (⟦<Room as RoomTold>⟧.plain room.new) (⟦<World as WorldTold>⟧.plain world.new)))) }
-    ensures taken { IfOk result (λ answer. supplies.new.given.taken ≡ taken_with supplies.old.given.taken answer) }
+        (pass_state supplies.new.given.past (visits_with visits (i + 1) answer)
+        (state_of (⟦<Room as RoomTold>⟧.plain room.new)
+        (⟦<World as WorldTold>⟧.plain world.new)))) }
+    ensures taken { IfOk result (λ answer. supplies.new.given.taken
+        ≡ taken_with supplies.old.given.taken answer) }
     ensures none { IfOk result (λ answer. IsNone answer → supplies.new.given.past ≡ []) }
-    ensures answers { OnOk result (length supplies.old.given.taken + length supplies.old.given.past + supplies.old.given.room
-        ≤ length supplies.new.given.taken + length supplies.new.given.past + supplies.new.given.room) }
-    ensures counted { OnOk result (length room.new.transaction.trail.visits + length supplies.old.given.past
+    ensures answers { OnOk result (length supplies.old.given.taken + length supplies.old.given.past
+        + supplies.old.given.room
+        ≤ length supplies.new.given.taken + length supplies.new.given.past +
+        supplies.new.given.room) }
+    ensures counted { OnOk result (length room.new.transaction.trail.visits + length
+        supplies.old.given.past
         ≡ length room.old.transaction.trail.visits + length supplies.new.given.past + 1) }
     ensures spare { room.old.transaction.trail.spare ≤ room.new.transaction.trail.spare + 1 }
     ensures paths { HasPaths chain.now.nodes (i + 1) supplies.new.paths }
-    ensures sound { GoesSoundly (notes_of (map (player_of label plays note) mods.now)) (length mods.now)
-        (plain_transaction room.old.transaction) (plain_transaction room.new.transaction) (plain_process world.old.process) (plain_process world.new.process) }
-    ensures ready { IsReady (length mods.now) (plain_transaction room.new.transaction) (plain_process world.new.process) }
+    ensures sound { GoesSoundly (notes_of (map (player_of label plays note) mods.now))
+        (length mods.now)
+        (plain_transaction room.old.transaction) (plain_transaction room.new.transaction)
+        (plain_process world.old.process) (plain_process world.new.process) }
+    ensures ready { IsReady (length mods.now) (plain_transaction room.new.transaction)
+        (plain_process world.new.process) }
 {
-    nothing_grows();
+    laws::nothing_grows();
     if let Some(answer) = supplies.given.next() {
         return Ok(Some(answer));
     }
@@ -109,11 +125,11 @@ pub fn next_answer(
 
 /// One turn: the next line gives its answer, which is kept where cells are open, and the walker acts on it. None where
 /// the line puts the pass off.
-pub fn take_turn(
+pub fn walk_line(
     alloc: Global,
     chain: &mut Chain,
     mods: &[Box<dyn Module>],
-    request: Request,
+    request: PassRequest,
     follows: &Kept,
     keeps: &mut Kept,
     supplies: &mut Supplies,
@@ -127,31 +143,51 @@ pub fn take_turn(
     requires answers { supplies.old.given.past ≡ [] → 0 < supplies.old.given.room }
     requires paths { HasPaths chain.old.nodes walker.old.at supplies.old.paths }
     requires spare { 0 < room.old.transaction.trail.spare }
-    requires ready { IsReady (length mods.now) (plain_transaction room.old.transaction) (plain_process world.old.process) }
+    requires ready { IsReady (length mods.now) (plain_transaction room.old.transaction)
+        (plain_process world.old.process) }
     requires cells { is_some keeps.old ≡ true → walker.old.at < lines_kept keeps.old }
     ensures room_tells { ⟦<Room as RoomTold>⟧.tells room.new ≡ ⟦<Room as RoomTold>⟧.tells room.old }
-    ensures world_tells { ⟦<World as WorldTold>⟧.tells world.new ≡ ⟦<World as WorldTold>⟧.tells world.old }
+    ensures world_tells { ⟦<World as WorldTold>⟧.tells world.new
+        ≡ ⟦<World as WorldTold>⟧.tells world.old }
     ensures nap { world.new.nap ≡ world.old.nap }
-    ensures told { IsTrue (⟦<Room as RoomTold>⟧.tells room.old && ⟦<World as WorldTold>⟧.tells world.old) → IfOk result (λ answer. (visits : List Visit) →
-        walk_on request.kind (serving request.kind (by_place follows.now) (answers_by (map (player_of label plays note) mods.now) request.func request.flags)) chain.old.nodes walker.old
-        (pass_state supplies.old.given.past visits (state_of (⟦<Room as RoomTold>⟧.plain room.old) (⟦<World as WorldTold>⟧.plain world.old)))
-        ≡ turned request.kind (serving request.kind (by_place follows.now) (answers_by (map (player_of label plays note) mods.now) request.func request.flags)) chain.old.nodes answer walker.old.opinion walker.new
-        (pass_state supplies.new.given.past (visits_with visits (walker.old.at + 1) answer) (state_of (⟦<Room as RoomTold>⟧.plain room.new) (⟦<World as WorldTold>⟧.plain world.new)))) }
+    ensures told { IsTrue (⟦<Room as RoomTold>⟧.tells room.old
+        && ⟦<World as WorldTold>⟧.tells world.old) → IfOk result (λ answer. (visits : List Visit) →
+        walk_on request.kind
+        (serving request.kind (by_place follows.now)
+        (answers_by (map (player_of label plays note) mods.now) request.func request.flags))
+        chain.old.nodes walker.old
+        (pass_state supplies.old.given.past visits
+        (state_of (⟦<Room as RoomTold>⟧.plain room.old) (⟦<World as WorldTold>⟧.plain world.old)))
+        ≡ turned request.kind
+        (serving request.kind (by_place follows.now)
+        (answers_by (map (player_of label plays note) mods.now) request.func request.flags))
+        chain.old.nodes answer walker.old.opinion walker.new
+        (pass_state supplies.new.given.past (visits_with visits (walker.old.at + 1) answer)
+        (state_of (⟦<Room as RoomTold>⟧.plain room.new)
+        (⟦<World as WorldTold>⟧.plain world.new)))) }
     ensures ahead { IfOk result (λ answer. IsAhead answer walker.old walker.new) }
     ensures keeps { IfOk result (λ answer. keeps.new ≡ kept_with keeps.old walker.old.at answer) }
-    ensures taken { IfOk result (λ answer. supplies.new.given.taken ≡ taken_with supplies.old.given.taken answer) }
+    ensures taken { IfOk result (λ answer. supplies.new.given.taken
+        ≡ taken_with supplies.old.given.taken answer) }
     ensures none { IfOk result (λ answer. IsNone answer → supplies.new.given.past ≡ []) }
-    ensures answers { OnOk result (length supplies.old.given.taken + length supplies.old.given.past + supplies.old.given.room
-        ≤ length supplies.new.given.taken + length supplies.new.given.past + supplies.new.given.room) }
+    ensures answers { OnOk result (length supplies.old.given.taken + length supplies.old.given.past
+        + supplies.old.given.room
+        ≤ length supplies.new.given.taken + length supplies.new.given.past +
+        supplies.new.given.room) }
     ensures spare { room.old.transaction.trail.spare ≤ room.new.transaction.trail.spare + 1 }
     ensures paths { HasPaths chain.old.nodes (walker.old.at + 1) supplies.new.paths }
     ensures nodes { chain.new.nodes ≡ chain.old.nodes }
     ensures names { chain.new.names ≡ chain.old.names }
-    ensures looks { OnOk result (chain.new.looks + 4 * (length room.old.transaction.trail.visits + length supplies.new.given.past)
-        ≤ chain.old.looks + 4 * (length room.new.transaction.trail.visits + length supplies.old.given.past)) }
-    ensures sound { GoesSoundly (notes_of (map (player_of label plays note) mods.now)) (length mods.now)
-        (plain_transaction room.old.transaction) (plain_transaction room.new.transaction) (plain_process world.old.process) (plain_process world.new.process) }
-    ensures ready { IsReady (length mods.now) (plain_transaction room.new.transaction) (plain_process world.new.process) }
+    ensures looks { OnOk result (chain.new.looks + 4 *
+        (length room.old.transaction.trail.visits + length supplies.new.given.past)
+        ≤ chain.old.looks + 4 *
+        (length room.new.transaction.trail.visits + length supplies.old.given.past)) }
+    ensures sound { GoesSoundly (notes_of (map (player_of label plays note) mods.now))
+        (length mods.now)
+        (plain_transaction room.old.transaction) (plain_transaction room.new.transaction)
+        (plain_process world.old.process) (plain_process world.new.process) }
+    ensures ready { IsReady (length mods.now) (plain_transaction room.new.transaction)
+        (plain_process world.new.process) }
 {
     let i = walker.at;
     let Some(answer) = next_answer(alloc, chain, mods, request, i, supplies, room, world)? else {

@@ -1,5 +1,5 @@
 use crate::entry_states::EntryStates;
-use crate::step::step_behind;
+use crate::onward::onward_from;
 use handler_chain::Chain;
 use pam_base::Code;
 use stack_walk::{Opinion, PassKind};
@@ -36,13 +36,15 @@ impl Walker {
     /// Acts on the next line, which has answered, and goes on to where its list goes on behind it.
     pub fn go_on(&mut self, chain: &mut Chain, kind: PassKind, answer: Code, deciding: Code)
         requires { self.old.at < lines_in chain.old.nodes }
-        ensures goes { (line : FlatLine) → Stands chain.old.nodes self.old.at line → GoesOn kind line answer deciding self.old self.new }
+        ensures goes { (line : FlatLine) → Stands chain.old.nodes self.old.at line →
+            GoesOn kind line answer deciding self.old self.new }
         ensures ahead { self.old.at < self.new.at }
         ensures nodes { chain.new.nodes ≡ chain.old.nodes }
         ensures names { chain.new.names ≡ chain.old.names }
         ensures looks { chain.new.looks ≤ chain.old.looks + 4 }
     {
         let i = self.at;
+        // It does nothing at run time: its contract says that a stack has fewer than 4,097 lines.
         let _few = chain.len();
         let level = chain.level(i) as usize;
         let opens = chain.opens(i) as usize;
@@ -50,8 +52,8 @@ impl Walker {
         let action = chain.control(i).action(deciding);
         let entry = self.entries.at(level);
         let new = self.opinion.after(kind, action, answer, deciding, entry);
-        let step = step_behind(chain, i, action, new);
-        self.opinion = step.opinion;
-        self.at = step.next;
+        let onward = onward_from(chain, i, action, new);
+        self.opinion = onward.opinion;
+        self.at = onward.next;
     }
 }

@@ -2,7 +2,6 @@
 #![tactic(auto)]
 
 mod environment;
-mod laws;
+pub mod laws;
 
 pub use environment::EnvList;
-pub use laws::{deleting_closes_up, put_texts, setting_keeps_the_place};

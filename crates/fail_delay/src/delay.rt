@@ -15,12 +15,13 @@ pub struct Delay {
 
 impl Model for Delay {
     ghost use Rattle.std.specs.Prelude.{ℕ, ◌≤◌};
+    ghost use Rattle.fail_delay.specs.declared.delay.TheConstants.{LONGEST_REQUEST};
 
     ghost Value = { ℕ };
 
     ghost view = { λ delay. delay.longest };
 
-    ghost invariant = { λ delay. delay.longest ≤ 60000000 };
+    ghost invariant = { λ delay. delay.longest ≤ LONGEST_REQUEST };
 }
 
 impl Delay {
@@ -41,7 +42,7 @@ impl Delay {
     /// The longest request, in microseconds; 0 without one.
     pub fn longest(&self) -> u32
         ensures longest { result ≡ self.now }
-        ensures counted { result ≤ 60000000 }
+        ensures counted { result ≤ LONGEST_REQUEST }
     {
         self.longest
     }

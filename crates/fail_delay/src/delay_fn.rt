@@ -1,7 +1,9 @@
 ghost use Rattle.std.specs.Prelude.{◌≡◌, ◌≤◌, ℕ};
 ghost use Rattle.pam_base.specs.declared.code.Code.{Code};
+ghost use Rattle.fail_delay.specs.declared.delay_fn.TheConstants.{LONGEST_ASKED};
 ghost use Rattle.fail_delay.specs.DelayFn.{GivesOneNumber, IsNumberGiven};
 
+use crate::delay::LONGEST_REQUEST;
 use pam_base::Code;
 
 /// The longest delay that can be asked for, 90 seconds, in microseconds.
@@ -22,7 +24,7 @@ pub trait DelayTold {
 #[derive(Drop)]
 pub struct DelayFn {
     rule: DelayRule,
-    ghost callable: { (code : Code) (asked : ℕ) → asked ≤ 90000000 → DelayRule.pre rule code asked },
+    ghost callable: { (code : Code) (asked : ℕ) → asked ≤ LONGEST_ASKED → DelayRule.pre rule code asked },
     ghost one_number: { GivesOneNumber (DelayRule.post rule) },
 }
 
@@ -34,7 +36,7 @@ impl DelayFn {
     /// The function may be called for every code and every asked delay up to 90 seconds. It gives one number
     /// for each pair of them, always the same, and at most 60 seconds.
     pub fn new(rule: DelayRule) -> Self
-        requires callable { (code : Code) (asked : ℕ) → asked ≤ 90000000 → DelayRule.pre rule code asked }
+        requires callable { (code : Code) (asked : ℕ) → asked ≤ LONGEST_ASKED → DelayRule.pre rule code asked }
         requires one_number { GivesOneNumber (DelayRule.post rule) }
         ensures { (number : Code → ℕ → ℕ) → IsNumberGiven (DelayRule.post rule) number →
             ⟦<DelayFn as DelayTold>⟧.delay_is result number }
@@ -45,10 +47,10 @@ impl DelayFn {
     /// How long to wait, in microseconds: the one number that the function gives for the code and the asked
     /// delay. It is at most 60 seconds.
     pub fn wait(&self, code: Code, asked: u32) -> u32
-        requires { asked ≤ 90000000 }
+        requires { asked ≤ LONGEST_ASKED }
         ensures number { (number : Code → ℕ → ℕ) → ⟦<DelayFn as DelayTold>⟧.delay_is self.now number →
             result ≡ number code asked }
-        ensures within { result ≤ 60000000 }
+        ensures within { result ≤ LONGEST_REQUEST }
     {
         (self.rule)(code, asked)
     }

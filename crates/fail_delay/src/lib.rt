@@ -4,12 +4,11 @@
 
 mod delay;
 mod delay_fn;
-mod laws;
+pub mod laws;
 mod spread;
 mod waiting;
 
 pub use delay::{Delay, LONGEST_REQUEST};
 pub use delay_fn::{DelayFn, DelayRule, DelayTold, LONGEST_ASKED};
-pub use laws::{asked_within_half, longest_is_the_maximum, zero_asks_for_nothing};
 pub use spread::asked;
 pub use waiting::wait_after;

@@ -1,13 +1,16 @@
 ghost use Rattle.std.specs.Prelude.{◌≡◌, ◌≤◌};
 ghost use Rattle.fail_delay.specs.Delay.{asked_delay, spread};
 
+use crate::delay::LONGEST_REQUEST;
+use crate::delay_fn::LONGEST_ASKED;
+
 /// The delay that is asked for after the longest request, both in microseconds: the request, lengthened or
 /// shortened by up to half of itself as the random word says, so that its length tells nothing. 0 where there
 /// was no request; the request itself for the word 0.
 pub fn asked(longest: u32, word: u64) -> u32
-    requires { longest ≤ 60000000 }
+    requires { longest ≤ LONGEST_REQUEST }
     ensures asked { result ≡ asked_delay longest word }
-    ensures bound { result ≤ 90000000 }
+    ensures bound { result ≤ LONGEST_ASKED }
 {
     if longest == 0 {
         return 0;

@@ -2,17 +2,17 @@ ghost use Rattle.std.specs.Prelude.{◌≡◌, ◌≤◌, ℕ, is_some, IfSome};
 ghost use Rattle.pam_base.specs.declared.code.Code.{Code};
 ghost use Rattle.fail_delay.specs.Wait.{wait_of};
 
-use crate::delay_fn::{DelayFn, DelayTold};
+use crate::delay_fn::{DelayFn, DelayTold, LONGEST_ASKED};
 use pam_base::Code;
 
 /// How long to wait after an authentication that answered this code, both in microseconds: what the delay
 /// function answers, where it is on; else the asked delay, where the code isn't SUCCESS. None where nothing is
 /// waited and no function was called.
 pub fn wait_after(delay_fn: Option<&DelayFn>, code: Code, asked: u32) -> Option<u32>
-    requires { asked ≤ 90000000 }
+    requires { asked ≤ LONGEST_ASKED }
     ensures wait { (number : Code → ℕ → ℕ) → IfSome delay_fn.entry (λ f. ⟦<DelayFn as DelayTold>⟧.delay_is f.now number) →
         result ≡ wait_of (is_some delay_fn.entry) number code asked }
-    ensures within { IfSome result (λ wait. wait ≤ 90000000) }
+    ensures within { IfSome result (λ wait. wait ≤ LONGEST_ASKED) }
 {
     match delay_fn {
         Some(delay_fn) => Some(delay_fn.wait(code, asked)),

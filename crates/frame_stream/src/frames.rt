@@ -3,7 +3,7 @@ ghost use Rattle.pam_base.specs.declared.call.Step.{Step};
 
 use crate::front::front_of_frames;
 use item_stream::{Front, Stepping};
-use pam_wire::front_settles;
+use pam_wire::laws;
 use std::marker::PhantomData;
 
 /// What the calls of a front end do, for those who state what a run over them comes to. It has ghost members alone.
@@ -50,10 +50,10 @@ impl<R: CallStepping> Stepping for FramesOf<R> {
     }
 
     fn cuts() {
-        front_settles();
+        laws::front_settles();
     }
 
     fn keeps() {
-        front_settles();
+        laws::front_settles();
     }
 }

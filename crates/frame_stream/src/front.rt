@@ -3,14 +3,14 @@ ghost use Rattle.frame_stream.specs.Looked.{looked, refuses};
 
 use crate::limit::MAX_FRAMES;
 use item_stream::Front;
-use pam_wire::{Front as FrameFront, front_of, front_settles};
+use pam_wire::{Front as FrameFront, front_of, laws};
 
 /// What stands at the front of bytes behind so many frames: a frame, which may be no call; nothing yet; or a length that
 /// no frame has, or the first byte of one frame too many.
 pub fn front_of_frames(before: u32, held: &[u8]) -> Front
     ensures { IsFront looked refuses result before held.now }
 {
-    front_settles();
+    laws::front_settles();
     if held.is_empty() {
         return Front::Wait;
     }

@@ -5,11 +5,10 @@
 mod fault;
 mod frames;
 mod front;
-mod laws;
+pub mod laws;
 mod limit;
 
 pub use fault::FrameFault;
 pub use frames::{CallStepping, FramesOf};
 pub use front::front_of_frames;
-pub use laws::steps_are_looked_at;
 pub use limit::MAX_FRAMES;

@@ -3,8 +3,7 @@
 
 mod access;
 mod items;
-mod laws;
+pub mod laws;
 
 pub use access::Access;
 pub use items::Items;
-pub use laws::{items_stand_alone, tokens_stand_alone};

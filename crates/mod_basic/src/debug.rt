@@ -6,9 +6,9 @@ ghost use Rattle.mod_basic.specs.Debug.{code_or_success, debug_key, debug_plays}
 
 use conv_port::Conv;
 use data_cleanup::{Datum, Receipt};
-use pam_base::{Code, Func, NoMemory, code_named};
+use pam_base::{Code, Func, NoMemory, PRELIM_CHECK, code_named};
 use pam_outside::{Clock, Vault};
-use pam_room::{Call, Module, PRELIM_CHECK, Process, Transaction, spend_by_length};
+use pam_room::{Call, Module, Process, Transaction, spend_by_length};
 use std::alloc::Global;
 
 /// `pam_debug(8)`: the code that an argument names, one for each function and two for chauthtok: `auth=`, `cred=`,

@@ -12,10 +12,7 @@ use conv_port::Conv;
 use data_cleanup::{Datum, Ledger, Receipt};
 use pam_base::{Code, ConvErr, NoMemory, Refuse, Text, Texts, code_named};
 use pam_outside::{Clock, Vault};
-use pam_room::{
-    Call, Module, Process, Transaction, first_bytes, nothing_is_set, parts_are_played, send,
-    set_data_are_sets, setting_goes_on, value_in,
-};
+use pam_room::{Call, Module, Process, Transaction, first_bytes, laws, send, value_in};
 use std::alloc::Global;
 
 /// pam_probe, this project's own, with which a stack is tried out. It does what its arguments ask for, in order:
@@ -54,8 +51,8 @@ impl Module for Probe {
         _vault: &mut dyn Vault,
         _clock: &mut dyn Clock,
     ) -> Result<Code, NoMemory> {
-        set_data_are_sets();
-        parts_are_played();
+        laws::set_data_are_sets();
+        laws::parts_are_played();
         match do_all(alloc, call.args, transaction, &mut process.ledger, conv) {
             Ok(()) => Ok(fixed_answer(call.args)),
             Err(Refuse::NoMemory) => Err(NoMemory),
@@ -93,9 +90,9 @@ fn do_all(
       put_off = transaction.new.put_off;
     } }
 {
-    nothing_is_set();
-    setting_goes_on();
-    set_data_are_sets();
+    laws::nothing_is_set();
+    laws::setting_goes_on();
+    laws::set_data_are_sets();
     let mut rest = args.items();
     while let [arg, after @ ..] = rest {
         let request = request_in(arg.bytes());
@@ -128,7 +125,7 @@ fn do_request(
       put_off = transaction.new.put_off;
     } }
 {
-    nothing_is_set();
+    laws::nothing_is_set();
     match request {
         Request::SetData { name, payload } => {
             transaction.set_data(alloc, ledger, name, payload)?;

@@ -8,9 +8,9 @@ use Rattle.item_store.specs.Items.{no_texts}
 use Rattle.pam_outside.specs.Files.{File}
 use Rattle.pam_room.specs.State.{PlainRoom, new_transaction, room_of, scene_of}
 use Rattle.pam_room.specs.Module.{Played, failing_of, seen_of, sight_of}
-use Rattle.account_db.specs.Parts.{parts_of}
+use Rattle.pam_base.specs.Parts.{parts_of}
 use Rattle.account_db.specs.Entries.{entries_of}
-use Rattle.account_files.specs.Paths.{path_of}
+use Rattle.pam_outside.specs.Paths.{path_of}
 use Rattle.account_files.specs.Content.{content_of}
 use Rattle.account_files.specs.Act.{answers, reads_file, reads_passwds, sees_items}
 use Rattle.mod_env.specs.declared.value.Piece.TheVariants.{Byte, Variable as Var, Item}

@@ -15,7 +15,7 @@ use crate::conf::{Entries, conf_of};
 use crate::env_file::assignments_of;
 use crate::laws::puts_alone;
 use crate::setting::{put_all, set_all};
-use account_files::{Content, act_steps, read_named};
+use account_files::{Content, laws, read_named};
 use conv_port::Conv;
 use data_cleanup::{Datum, Receipt};
 use pam_base::{Code, Func, NoMemory, Text};
@@ -59,7 +59,7 @@ impl Module for Env {
         vault: &mut dyn Vault,
         _clock: &mut dyn Clock,
     ) -> Result<Code, NoMemory> {
-        act_steps();
+        laws::act_steps();
         puts_alone();
         match at_once(call.func) {
             Some(code) => Ok(code),
@@ -98,7 +98,7 @@ fn read_first(
         (standing transaction.new conv (vault_holds vault.new) clock process.now)) }
     ensures puts { Puts transaction.old transaction.new }
 {
-    act_steps();
+    laws::act_steps();
     puts_alone();
     let name = name_or(call.value(b"conffile="), b"/etc/security/pam_env.conf");
     let content = read_named(alloc, vault, process.root.bytes(), name, ENV_LIMIT)?;
@@ -127,7 +127,7 @@ fn read_second(
         (standing transaction.new conv (vault_holds vault.new) clock process.now)) }
     ensures puts { Puts transaction.old transaction.new }
 {
-    act_steps();
+    laws::act_steps();
     puts_alone();
     if is_zero(call.value(b"readenv=")) {
         let nothing = no_text(alloc);
@@ -156,7 +156,7 @@ fn set_by_texts(
         (standing transaction.new conv (vault_holds vault.new) clock process.now)) }
     ensures puts { Puts transaction.old transaction.new }
 {
-    act_steps();
+    laws::act_steps();
     puts_alone();
     match env {
         None => Ok(Code::ServiceErr),
@@ -180,7 +180,7 @@ fn set_by_conf(
         (standing transaction.new conv (vault_holds vault.new) clock process.now)) }
     ensures puts { Puts transaction.old transaction.new }
 {
-    act_steps();
+    laws::act_steps();
     puts_alone();
     match conf_of(alloc, conf)? {
         None => Ok(Code::ServiceErr),
@@ -204,7 +204,7 @@ fn set_both(
         (standing transaction.new conv (vault_holds vault.new) clock process.now)) }
     ensures puts { Puts transaction.old transaction.new }
 {
-    act_steps();
+    laws::act_steps();
     puts_alone();
     let assignments = assignments_of(alloc, env)?;
     if !set_all(alloc, entries, transaction, process, vault)? {

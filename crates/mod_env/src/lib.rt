@@ -5,7 +5,7 @@ mod conf;
 mod env_file;
 mod env_module;
 mod expand;
-mod laws;
+pub mod laws;
 mod marks;
 mod setting;
 mod value;

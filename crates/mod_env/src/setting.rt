@@ -15,9 +15,9 @@ ghost use Rattle.mod_env.specs.Puts.{Puts};
 
 use crate::conf::{Entries, Entry};
 use crate::expand::{Outcome, Sources, asks_account, outcome_of};
-use crate::laws::{env_steps, puts_alone};
+use crate::laws::puts_alone;
 use account_db::Passwd;
-use account_files::{Account, Accounts, act_steps};
+use account_files::{Account, Accounts, laws};
 use env_list::EnvList;
 use item_store::Items;
 use pam_base::{ItemName, NoMemory, Refuse, Texts};
@@ -112,7 +112,7 @@ fn look_user(
         Acts (sees_items (λ items. by_user items.user act)) accounts.old (standing transaction.now conv (vault_holds vault.old) clock process.now) code end) }
     ensures read { OnOk result (transaction.now.items.user ≢ None → accounts.new.passwds ≢ None) }
 {
-    act_steps();
+    laws::act_steps();
     match get_item(&transaction.items, ItemName::User) {
         Some(_user) => {
             accounts.read_passwds(alloc, vault, process.root.bytes())?;
@@ -153,8 +153,8 @@ fn set_by(
         (standing transaction.new conv vault clock process)) }
     ensures puts { Puts transaction.old transaction.new }
 {
-    act_steps();
-    env_steps();
+    laws::act_steps();
+    crate::laws::env_steps();
     puts_alone();
     let from = Sources {
         items: &transaction.items,
@@ -177,7 +177,7 @@ pub(crate) fn put_all(texts: &Texts, transaction: &mut Transaction) -> Result<()
         Acts (puts_all texts.now act) known (standing transaction.old conv vault clock process) code end) }
     ensures puts { Puts transaction.old transaction.new }
 {
-    env_steps();
+    crate::laws::env_steps();
     puts_alone();
     let mut rest = texts.items();
     while let [text, after @ ..] = rest {

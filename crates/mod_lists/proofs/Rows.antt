@@ -10,10 +10,10 @@ use Rattle.pam_outside.specs.Files.{File}
 use Rattle.pam_room.specs.State.{PlainRoom, new_transaction, room_of, scene_of}
 use Rattle.pam_room.specs.Call.{PlainCall}
 use Rattle.pam_room.specs.Module.{Played, Plays, failing_of, seen_of, sight_of}
-use Rattle.account_db.specs.Parts.{parts_of}
+use Rattle.pam_base.specs.Parts.{parts_of}
 use Rattle.account_db.specs.Entries.{entries_of}
 use Rattle.account_db.specs.Shells.{shells_of, without_end}
-use Rattle.account_files.specs.Paths.{path_of}
+use Rattle.pam_outside.specs.Paths.{path_of}
 use Rattle.account_files.specs.Content.{content_of}
 use Rattle.account_files.specs.Act.{answers, asks_user, reads_file, reads_groups, reads_passwds, reads_shells, sees_items, shows}
 use Rattle.mod_lists.specs.Condition.{condition_of}

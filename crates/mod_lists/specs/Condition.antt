@@ -4,7 +4,7 @@ use Rattle.std.specs.Char.{is_ascii_digit}
 use Rattle.std.specs.List.{list_all, list_any}
 use Rattle.std.specs.Str.{bytes_eq}
 use Rattle.pam_base.specs.Number.{value_of_digits}
-use Rattle.account_db.specs.Parts.{parts_of}
+use Rattle.pam_base.specs.Parts.{parts_of}
 use Rattle.mod_lists.specs.declared.condition.AccountField.{AccountField}
 use Rattle.mod_lists.specs.declared.condition.AccountField.TheVariants.{Uid, Gid, Shell, Home}
 use Rattle.mod_lists.specs.declared.condition.ItemField.TheVariants as items

@@ -4,8 +4,7 @@ ghost use Rattle.std.specs.Str.{bytes_eq};
 ghost use Rattle.pam_base.specs.Number.{value_of_digits};
 ghost use Rattle.mod_lists.specs.Condition.{condition_of, count_of, field_of, group_sense, holds_if, in_sense, is_count, is_so, items_of, on_number, on_text, order_of, plain_condition, plain_test, test_of, text_test, compared};
 
-use account_db::Parts;
-use pam_base::{NoMemory, are_digits};
+use pam_base::{NoMemory, Parts, are_digits};
 use std::alloc::Global;
 
 /// An item of the transaction.

@@ -19,12 +19,12 @@ ghost use Rattle.mod_lists.specs.SucceedIf.{at_once, by_groups, by_passwds, by_t
 use crate::condition::{
     AccountField, Condition, Field, ItemField, Test, Truth, condition_of, in_sense,
 };
-use account_db::{Groups, Parts, Passwd, is_in_group};
-use account_files::{Account, Accounts, act_steps, has_user, speaking, user_of};
+use account_db::{Groups, Passwd, is_in_group};
+use account_files::{Account, Accounts, has_user, laws, user_of};
 use conv_port::Conv;
 use data_cleanup::{Datum, Receipt};
 use item_store::Items;
-use pam_base::{Code, Func, ItemName, NoMemory, Text, Texts};
+use pam_base::{Code, Func, ItemName, NoMemory, Parts, Text, Texts};
 use pam_outside::{Clock, Vault};
 use pam_room::{Call, Module, Process, Transaction, get_item, spend_by_length};
 use std::alloc::Global;
@@ -62,8 +62,8 @@ impl Module for SucceedIf {
         vault: &mut dyn Vault,
         _clock: &mut dyn Clock,
     ) -> Result<Code, NoMemory> {
-        act_steps();
-        speaking();
+        laws::act_steps();
+        laws::speaking();
         match at_once(call.func) {
             Some(code) => Ok(code),
             None => check_conditions(alloc, call.args, transaction, process, conv, vault),
@@ -101,8 +101,8 @@ fn check_conditions(
         (standing transaction.new (conv_holds conv.new) (vault_holds vault.new) clock process.now)) }
     ensures speaks { Speaks transaction.old transaction.new }
 {
-    act_steps();
-    speaking();
+    laws::act_steps();
+    laws::speaking();
     if uses_uid(args) {
         return Ok(Code::ServiceErr);
     }
@@ -162,7 +162,7 @@ fn meet_all(
         (standing transaction.now conv (vault_holds vault.old) clock process.now) code
         (standing transaction.now conv (vault_holds vault.new) clock process.now)) }
 {
-    act_steps();
+    laws::act_steps();
     let mut accounts = Accounts::new();
     let mut rest = conditions.items();
     while let [field, word, value, after @ ..] = rest {
@@ -203,7 +203,7 @@ fn try_words(
         IfOk result (λ truth. Acts (act truth) accounts.new (standing transaction.now conv (vault_holds vault.new) clock process.now) code end →
         Acts (tries_words (option_map plain_condition condition.entry) (unwrap_or transaction.now.items.user []) act) accounts.old (standing transaction.now conv (vault_holds vault.old) clock process.now) code end) }
 {
-    act_steps();
+    laws::act_steps();
     let condition = match condition {
         Some(condition) => condition,
         None => return Ok(Truth::Faulty),
@@ -261,7 +261,7 @@ fn try_account(
     ensures told { IsTrue (vault_tells vault.old) →
         IfOk result (λ truth. LooksTo (tests_field (Field.Account field) (plain_test test.entry) user.now) truth process.now accounts.old (vault_holds vault.old) accounts.new (vault_holds vault.new)) }
 {
-    act_steps();
+    laws::act_steps();
     accounts.read_passwds(alloc, vault, process.root.bytes())?;
     let truth = on_account(alloc, field, test, accounts.account(user))?;
     Ok(truth)
@@ -312,7 +312,7 @@ fn try_groups(
     ensures told { IsTrue (vault_tells vault.old) →
         IfOk result (λ truth. LooksTo (λ act. reads_passwds (by_passwds sense (items_of names.now) user.now act)) truth process.now accounts.old (vault_holds vault.old) accounts.new (vault_holds vault.new)) }
 {
-    act_steps();
+    laws::act_steps();
     accounts.read_passwds(alloc, vault, process.root.bytes())?;
     match accounts.passwds() {
         None => return Ok(Truth::Faulty),

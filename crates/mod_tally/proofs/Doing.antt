@@ -11,7 +11,7 @@ use Rattle.pam_room.specs.Module.{NamedData, Played, SeenRoom, Sight}
 use Rattle.pam_room.specs.Say.{user_asked}
 use Rattle.account_db.specs.declared.passwd.Passwd.{Passwd}
 use Rattle.account_files.specs.declared.content.Content.TheVariants.{Unreadable, Holds}
-use Rattle.account_files.specs.Paths.{path_of}
+use Rattle.pam_outside.specs.Paths.{path_of}
 use Rattle.account_files.specs.Content.{content_of, is_rooted}
 use Rattle.account_files.specs.Accounts.{Account, found, missing, unreadable, account_in, nothing_known}
 use Rattle.account_files.specs.Act.{Act, Stage, answers, asks_user, called, finds_account, in_room, later, passwds_by, reads_file, reads_if, reads_passwds, replaced, replaces_file, sees_items, sees_moment}

@@ -18,7 +18,7 @@ use crate::counted::{counting_text, is_locked};
 use crate::settings::{Settings, Task, settings_of, task_among};
 use crate::tally::{Failure, Failures};
 use crate::tally_file::{is_no_file, read_tally, set_text, tally_name};
-use account_files::{Account, Accounts, act_steps, has_user, speaking, user_of};
+use account_files::{Account, Accounts, has_user, laws, user_of};
 use conv_port::Conv;
 use data_cleanup::{Datum, Receipt};
 use item_store::Items;
@@ -59,8 +59,8 @@ impl Module for Faillock {
         vault: &mut dyn Vault,
         clock: &mut dyn Clock,
     ) -> Result<Code, NoMemory> {
-        act_steps();
-        speaking();
+        laws::act_steps();
+        laws::speaking();
         match task_of(call.func, task_among(call.args)) {
             Ok(task) => {
                 let settings = settings_of(call);
@@ -117,8 +117,8 @@ fn check_tally(
         (standing transaction.new (conv_holds conv.new) (vault_holds vault.new) (clock_holds clock.now) process.now)) }
     ensures speaks { Speaks transaction.old transaction.new }
 {
-    act_steps();
-    speaking();
+    laws::act_steps();
+    laws::speaking();
     if !has_user(alloc, transaction, conv)? {
         return Ok(Code::ConvErr);
     }
@@ -145,7 +145,7 @@ fn check_user(
         (standing transaction.now conv (vault_holds vault.old) (clock_holds clock.now) process.now) code
         (standing transaction.now conv (vault_holds vault.new) (clock_holds clock.now) process.now)) }
 {
-    act_steps();
+    laws::act_steps();
     let user = user_of(transaction);
     if is_no_file(user) {
         return Ok(Code::UserUnknown);
@@ -207,7 +207,7 @@ fn by_spared(
         (standing transaction.now conv (vault_holds vault.old) (clock_holds clock.now) process.now) code
         (standing transaction.now conv (vault_holds vault.new) (clock_holds clock.now) process.now)) }
 {
-    act_steps();
+    laws::act_steps();
     if spared {
         return Ok(spared_answer(task));
     }
@@ -249,7 +249,7 @@ fn by_task(
         (standing transaction.now conv (vault_holds vault.old) (clock_holds clock.now) process.now) code
         (standing transaction.now conv (vault_holds vault.new) (clock_holds clock.now) process.now)) }
 {
-    act_steps();
+    laws::act_steps();
     let moment = current_moment(clock);
     let locked = is_locked(
         settings.deny,
@@ -309,7 +309,7 @@ fn clear(
         (scene_of room (vault_holds vault.old) clock (plain_process process.now)) code
         (scene_of room (vault_holds vault.new) clock (plain_process process.now))) }
 {
-    act_steps();
+    laws::act_steps();
     match failures {
         [] => Ok(Code::Success),
         [_, ..] => {

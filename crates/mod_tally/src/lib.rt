@@ -3,7 +3,7 @@
 
 mod counted;
 mod faillock;
-mod laws;
+pub mod laws;
 mod settings;
 mod source;
 mod tally;
@@ -11,6 +11,5 @@ mod tally_file;
 
 pub use counted::write_failure;
 pub use faillock::Faillock;
-pub use laws::{recorded_failures_stand, written_tallies_are_read};
 pub use tally::{Damaged, Failure, Failures, failures};
 pub use tally_file::is_no_file;

@@ -10,7 +10,7 @@ ghost use Rattle.account_files.specs.Act.{Acts, StepsTo};
 ghost use Rattle.mod_tally.specs.Faillock.{failures_in, is_no_file, reads_tally, sets_text, tally_limit, tally_name};
 
 use crate::tally::{Failures, failures};
-use account_files::{Content, act_steps, is_rooted, read_named, replace_named};
+use account_files::{Content, is_rooted, laws, read_named, replace_named};
 use pam_base::{Code, NoMemory, Refuse, Text};
 use pam_outside::Vault;
 use pam_room::Process;
@@ -62,7 +62,7 @@ pub(crate) fn read_tally(
     ensures told { IsTrue (vault_tells vault.old) →
         IfOk result (λ found. StepsTo (reads_tally name.now) found process.now (vault_holds vault.old) (vault_holds vault.new)) }
 {
-    act_steps();
+    laws::act_steps();
     let content = read_named(alloc, vault, process.root.bytes(), name, TALLY_LIMIT)?;
     let found = failures_in(alloc, content)?;
     Ok(found)
@@ -98,7 +98,7 @@ pub(crate) fn set_text(
         (scene_of room (vault_holds vault.old) clock (plain_process process.now)) answer
         (scene_of room (vault_holds vault.new) clock (plain_process process.now))) }
 {
-    act_steps();
+    laws::act_steps();
     if !can_be_set(name, text) {
         return Ok(Code::ServiceErr);
     }

@@ -10,7 +10,7 @@ use crate::aging::{aged, day_of};
 use crate::look::{Look, look_up};
 use account_files::user_of;
 use conv_port::Conv;
-use module_acts::{acting, require_user};
+use module_acts::{laws, require_user};
 use pam_base::{Code, ConvErr, Refuse};
 use pam_outside::{Clock, Vault, current_moment};
 use pam_room::{Process, Transaction};
@@ -44,7 +44,7 @@ fn account_by(look: &Look, clock: &dyn Clock) -> Code
     ensures told { IsTrue (clock_tells clock.now) → (room : PlainRoom) (vault : VaultState) (process : PlainProcess) →
         Came result (account_by look.now) (scene_of room vault (clock_holds clock.now) process) (scene_of room vault (clock_holds clock.now) process) }
 {
-    acting();
+    laws::acting();
     match look {
         Look::Unknown => Code::UserUnknown,
         Look::Unavailable => Code::AuthinfoUnavail,

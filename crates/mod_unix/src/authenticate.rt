@@ -7,13 +7,13 @@ ghost use Rattle.module_acts.specs.Comes.{Comes, lent};
 ghost use Rattle.module_acts.specs.Talks.{Talks};
 ghost use Rattle.mod_unix.specs.Authenticate.{asks_password, authenticates, by_look, has_empty_hash, is_open, is_success, verifies_token};
 
-use crate::arguments::{DISALLOW_NULL_AUTHTOK, has_argument};
+use crate::arguments::has_argument;
 use crate::look::{Look, look_up};
 use crate::verify::verify;
 use account_files::user_of;
 use conv_port::Conv;
-use module_acts::{acting, request_delay, require_token, require_user, talking};
-use pam_base::{Code, ConvErr, ItemName, Refuse};
+use module_acts::{laws, request_delay, require_token, require_user};
+use pam_base::{Code, ConvErr, DISALLOW_NULL_AUTHTOK, ItemName, Refuse};
 use pam_outside::Vault;
 use pam_room::{Call, Process, Transaction, get_item};
 use std::alloc::Global;
@@ -43,7 +43,7 @@ pub(crate) fn authenticate(
         (lent transaction.new (conv_holds conv.new) (vault_holds vault.new) clock (plain_process process.now)) }
     ensures talks { Talks transaction.old transaction.new }
 {
-    talking();
+    laws::talking();
     require_user(alloc, transaction, conv)?;
     let look = look_up(alloc, vault, process, user_of(transaction))?;
     by_look(alloc, call, &look, transaction, conv)
@@ -63,7 +63,7 @@ fn by_look(
         (lent transaction.old (conv_holds conv.old) vault clock process) (lent transaction.new (conv_holds conv.new) vault clock process) }
     ensures talks { Talks transaction.old transaction.new }
 {
-    talking();
+    laws::talking();
     if is_open(call, look) {
         return Ok(Answer::Kept(Code::Success));
     }
@@ -107,8 +107,8 @@ fn verify_token(
         (lent transaction.old (conv_holds conv.old) vault clock process) (lent transaction.new (conv_holds conv.new) vault clock process) }
     ensures talks { Talks transaction.old transaction.new }
 {
-    acting();
-    talking();
+    laws::acting();
+    laws::talking();
     if has_argument(b"use_first_pass", call.args) {
         return match get_item(&transaction.items, ItemName::AuthTok) {
             Some(token) => Ok(Answer::Kept(verify(alloc, look, token)?)),

@@ -10,7 +10,7 @@ ghost use Rattle.mod_unix.specs.Aging.{day_of};
 ghost use Rattle.mod_unix.specs.Change.{asks_old, change_by, changes_entry, changes_token, is_kept, is_too_early, takes_token, tries_change};
 
 use crate::aging::aged;
-use crate::arguments::{CHANGE_EXPIRED_AUTHTOK, has_argument};
+use crate::arguments::has_argument;
 use crate::look::{Look, look_up};
 use crate::new_token::take_token;
 use crate::store::store_token;
@@ -18,10 +18,10 @@ use crate::verify::verify_hash;
 use account_db::Shadow;
 use account_files::user_of;
 use conv_port::Conv;
-use module_acts::{acting, require_token, require_user, talking};
-use pam_base::{Code, ConvErr, ItemName, Refuse, Text};
+use module_acts::{laws, require_token, require_user};
+use pam_base::{CHANGE_EXPIRED_AUTHTOK, Code, ConvErr, ItemName, PRELIM_CHECK, Refuse, Text};
 use pam_outside::{Clock, Vault};
-use pam_room::{Call, PRELIM_CHECK, Process, Transaction, get_item};
+use pam_room::{Call, Process, Transaction, get_item};
 use std::alloc::Global;
 
 /// Changes the user's token, or looks in the first pass whether it may be. Today is the day of the clock,
@@ -46,7 +46,7 @@ pub(crate) fn change_token(
         (lent transaction.new (conv_holds conv.new) (vault_holds vault.new) (clock_holds clock.old) (plain_process process.now)) }
     ensures talks { Talks transaction.old transaction.new }
 {
-    talking();
+    laws::talking();
     require_user(alloc, transaction, conv)?;
     let user = Text::from_bytes(alloc, user_of(transaction))?;
     let look = look_up(alloc, vault, process, user.bytes())?;
@@ -87,7 +87,7 @@ fn change_by(
         (lent transaction.new (conv_holds conv.new) (vault_holds vault.new) (clock_holds clock.old) (plain_process process.now)) }
     ensures talks { Talks transaction.old transaction.new }
 {
-    talking();
+    laws::talking();
     match look {
         Look::Unknown => Ok(Code::UserUnknown),
         Look::Unavailable => Ok(Code::AuthinfoUnavail),
@@ -130,8 +130,8 @@ fn change_entry(
         (lent transaction.new (conv_holds conv.new) (vault_holds vault.new) (clock_holds clock.old) (plain_process process.now)) }
     ensures talks { Talks transaction.old transaction.new }
 {
-    acting();
-    talking();
+    laws::acting();
+    laws::talking();
     if is_kept(call, today, entry) {
         return Ok(Code::Success);
     }
@@ -166,8 +166,8 @@ fn try_change(
         (lent transaction.old (conv_holds conv.old) vault clock (plain_process process.now)) (lent transaction.new (conv_holds conv.new) vault clock (plain_process process.now)) }
     ensures talks { Talks transaction.old transaction.new }
 {
-    acting();
-    talking();
+    laws::acting();
+    laws::talking();
     if process.caller == 0 {
         return Ok(Code::Success);
     }

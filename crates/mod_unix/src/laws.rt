@@ -7,9 +7,7 @@ ghost use Rattle.pam_room.specs.Module.{NamedData, SeenRoom, Sight};
 ghost use Rattle.mod_unix.specs.Stands.{StaysOrStands};
 ghost use Rattle.mod_unix.specs.Unix.{unix_plays};
 
-use account_db::new_hash_is_read;
 use pam_base::{Code, Func};
-use sha_crypt::{hash_fits_a_field, hash_is_a_setting, plain_settings_have_no_fault};
 
 /// Does nothing: its contract is that after a second pass of chauthtok that answers SUCCESS the token that was set is
 /// the user's, and every other user's entry is as it was, as is every other file. Under CHANGE_EXPIRED_AUTHTOK all may
@@ -18,8 +16,8 @@ pub fn changed_token_is_taken()
     ensures { (call : PlainCall) (room : SeenRoom) (held : List NamedData) (sight : Sight) → call.func ≡ Func.ChAuthTok → has_flag call.flags prelim_check ≡ false → sight.clock.moment ≤ 1000000000000 →
         (unix_plays call room held sight).code ≡ Code.Success → StaysOrStands call sight (unix_plays call room held sight) }
 {
-    new_hash_is_read();
-    hash_is_a_setting();
-    hash_fits_a_field();
-    plain_settings_have_no_fault();
+    account_db::laws::new_hash_is_read();
+    sha_crypt::laws::hash_is_a_setting();
+    sha_crypt::laws::hash_fits_a_field();
+    sha_crypt::laws::plain_settings_have_no_fault();
 }

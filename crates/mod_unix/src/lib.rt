@@ -6,7 +6,7 @@ mod aging;
 mod arguments;
 mod authenticate;
 mod change;
-mod laws;
+pub mod laws;
 mod look;
 mod new_hash;
 mod new_token;
@@ -14,5 +14,4 @@ mod store;
 mod unix;
 mod verify;
 
-pub use laws::changed_token_is_taken;
 pub use unix::Unix;

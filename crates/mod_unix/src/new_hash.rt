@@ -6,7 +6,7 @@ ghost use Rattle.mod_unix.specs.NewHash.{hashed_token, method_text, new_setting,
 use crate::arguments::has_argument;
 use pam_base::{NoMemory, Refuse, Text, number_in};
 use pam_room::Call;
-use sha_crypt::{crypt, plain_settings_have_no_fault};
+use sha_crypt::{crypt, laws};
 use std::alloc::Global;
 
 const ALPHABET: [u8; 64] = *b"./0123456789ABCDEFGHIJKLMNOPQRSTUVWXYZabcdefghijklmnopqrstuvwxyz";
@@ -22,7 +22,7 @@ pub(crate) fn hashed_token(
     requires { length token.now ≤ 512 }
     ensures { IfOk result (λ hash. hash ≡ hashed_token call.now.args.now word token.now) }
 {
-    plain_settings_have_no_fault();
+    laws::plain_settings_have_no_fault();
     let setting = new_setting(alloc, call, word)?;
     match crypt(alloc, setting.bytes(), token) {
         Ok(hash) => Ok(hash),

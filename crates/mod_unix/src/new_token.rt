@@ -10,7 +10,7 @@ ghost use Rattle.mod_unix.specs.Change.{new_prompts, same_reply, takes_token, us
 
 use crate::arguments::has_argument;
 use conv_port::{Conv, Message, Messages, Replies};
-use module_acts::{acting, exchange, set_token, talking};
+use module_acts::{exchange, laws, set_token};
 use pam_base::{ConvErr, ItemName, NoMemory, Refuse, Style, Text};
 use pam_room::{Call, Transaction, get_item};
 use std::alloc::Global;
@@ -30,8 +30,8 @@ pub(crate) fn take_token(
     ensures short { IfOk result (λ token. IfSome token (λ t. length t ≤ 512)) }
     ensures talks { Talks transaction.old transaction.new }
 {
-    acting();
-    talking();
+    laws::acting();
+    laws::talking();
     if has_argument(b"use_authtok", call.args) {
         let token = usable(alloc, get_item(&transaction.items, ItemName::AuthTok))?;
         return Ok(token);

@@ -12,7 +12,7 @@ use crate::look::ACCOUNT_LIMIT;
 use crate::new_hash::hashed_token;
 use account_db::{replace_hash, shadow_of, shadows};
 use account_files::Content;
-use module_acts::{acting, read_whole, replace_whole};
+use module_acts::{laws, read_whole, replace_whole};
 use pam_base::{Code, NoMemory, Refuse, Text};
 use pam_outside::{Clock, Vault, random_word};
 use pam_room::{Call, Process};
@@ -37,7 +37,7 @@ pub(crate) fn store_token(
         IfOk result (λ code. Came code (stores_token (plain_call call.now) user.now token)
         (scene_of room (vault_holds vault.old) (clock_holds clock.old) (plain_process process.now)) (scene_of room (vault_holds vault.new) (clock_holds clock.old) (plain_process process.now))) }
 {
-    acting();
+    laws::acting();
     let token = match token {
         Some(token) => token,
         None => return Ok(Code::AuthtokErr),

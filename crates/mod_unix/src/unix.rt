@@ -18,7 +18,7 @@ use crate::authenticate::{Answer, authenticate};
 use crate::change::change_token;
 use conv_port::Conv;
 use data_cleanup::{DataList, Datum, Receipt};
-use module_acts::{acting, answer_and_keep, talking};
+use module_acts::{answer_and_keep, laws};
 use pam_base::{Code, ConvErr, Func, NoMemory, Refuse, code_number, code_of};
 use pam_outside::{Clock, Vault, current_moment};
 use pam_room::{Call, Module, Process, Transaction, spend_by_length};
@@ -59,8 +59,8 @@ impl Module for Unix {
         vault: &mut dyn Vault,
         clock: &mut dyn Clock,
     ) -> Result<Code, NoMemory> {
-        acting();
-        talking();
+        laws::acting();
+        laws::talking();
         match call.func {
             Func::Authenticate => {
                 let answer = authenticate(alloc, call, transaction, process, conv, vault);
@@ -111,8 +111,8 @@ fn settle(
     ensures others { transaction.new ≡ record transaction.old { datums = transaction.new.datums } }
     ensures process { process.new ≡ record process.old { ledger = process.new.ledger } }
 {
-    acting();
-    talking();
+    laws::acting();
+    laws::talking();
     match answer {
         Ok(answer) => match answer {
             Answer::Kept(code) => {
@@ -132,7 +132,7 @@ fn settle(
 fn ended(answer: Result<Code, Refuse<ConvErr>>) -> Result<Code, NoMemory>
     ensures told { (step : (Code → Act) → Act) (old new : Scene) → Comes answer step old new → IfOk result (λ code. Goes (step answers) old code new) }
 {
-    acting();
+    laws::acting();
     match answer {
         Ok(code) => Ok(code),
         Err(refused) => match refused {

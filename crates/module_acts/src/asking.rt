@@ -11,7 +11,7 @@ ghost use Rattle.module_acts.specs.Steps.{asks_token, exchanges};
 ghost use Rattle.module_acts.specs.Talks.{Talks};
 
 use conv_port::{Conv, Messages, Replies};
-use pam_base::{ConvErr, Refuse};
+use pam_base::{ConvErr, MAX_TEXT, Refuse};
 use pam_room::{Transaction, ask_token, get_user, say};
 use std::alloc::Global;
 
@@ -39,7 +39,7 @@ pub fn require_token(
     old: bool,
     prompt: &[u8],
 ) -> Result<(), Refuse<ConvErr>>
-    requires { length prompt.now ≤ 512 }
+    requires { length prompt.now ≤ MAX_TEXT }
     ensures tells { conv_tells conv.new ≡ conv_tells conv.old }
     ensures told { IsTrue (conv_tells conv.old) → (vault : VaultState) (clock : ClockState) (process : PlainProcess) →
         ComesTo result (unwrap_or (text_of transaction.new.items (token_of old)) []) (asks_token old prompt.now)

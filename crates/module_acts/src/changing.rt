@@ -10,7 +10,7 @@ ghost use Rattle.module_acts.specs.Steps.{answers_keeping, requests_delay, sets_
 ghost use Rattle.module_acts.specs.Talks.{Talks};
 
 use pam_base::{Code, ItemName, NoMemory};
-use pam_room::{Process, Transaction, set_data_are_sets, set_item};
+use pam_room::{Process, Transaction, laws, set_item};
 use std::alloc::Global;
 
 /// Requests a delay, in microseconds (`pam_fail_delay(3)`).
@@ -52,7 +52,7 @@ pub fn answer_and_keep(
     ensures others { transaction.new ≡ record transaction.old { datums = transaction.new.datums } }
     ensures process { process.new ≡ record process.old { ledger = process.new.ledger } }
 {
-    set_data_are_sets();
+    laws::set_data_are_sets();
     transaction.set_data(alloc, &mut process.ledger, name, payload)?;
     Ok(code)
 }

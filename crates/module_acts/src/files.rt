@@ -6,7 +6,7 @@ ghost use Rattle.account_files.specs.Act.{reads_file, replaces_file};
 ghost use Rattle.account_files.specs.Content.{IsWithin};
 ghost use Rattle.module_acts.specs.Comes.{Came};
 
-use account_files::{Content, act_steps, read_named, replace_named};
+use account_files::{Content, laws, read_named, replace_named};
 use pam_base::NoMemory;
 use pam_outside::Vault;
 use pam_room::Process;
@@ -26,7 +26,7 @@ pub fn read_whole(
         IfOk result (λ content. Came content (reads_file name.now limit)
         (scene_of room (vault_holds vault.old) clock (plain_process process.now)) (scene_of room (vault_holds vault.new) clock (plain_process process.now))) }
 {
-    act_steps();
+    laws::act_steps();
     let content = read_named(alloc, vault, process.root.bytes(), name, limit)?;
     Ok(content)
 }

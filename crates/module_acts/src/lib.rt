@@ -5,9 +5,8 @@
 mod asking;
 mod changing;
 mod files;
-mod laws;
+pub mod laws;
 
 pub use asking::{exchange, require_token, require_user};
 pub use changing::{answer_and_keep, request_delay, set_token};
 pub use files::{read_whole, replace_whole};
-pub use laws::{acting, talking};

@@ -10,8 +10,8 @@ use pam_outside::{
     Clock, FixedClock, MemVault, NapSum, Vault, current_moment, read_file, replace_file,
 };
 use pam_room::{
-    Call, Module, Process, Room, StackLine, Transaction, World, end_room, nothing_is_set,
-    serve_line, set_data_are_sets, setting_goes_on, spend_by_length,
+    Call, Module, Process, Room, StackLine, Transaction, World, end_room, laws, serve_line,
+    spend_by_length,
 };
 use std::alloc::Global;
 use std::test::Fail;
@@ -44,9 +44,9 @@ impl Module for Forgetful {
         vault: &mut dyn Vault,
         clock: &mut dyn Clock,
     ) -> Result<Code, NoMemory> {
-        nothing_is_set();
-        setting_goes_on();
-        set_data_are_sets();
+        laws::nothing_is_set();
+        laws::setting_goes_on();
+        laws::set_data_are_sets();
         transaction.set_data(alloc, &mut process.ledger, b"a", b"x")?;
         transaction.set_data(alloc, &mut process.ledger, b"a", b"yy")?;
         let stamp = if current_moment(&*clock) < 5 {

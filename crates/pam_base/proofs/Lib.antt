@@ -1,3 +1,4 @@
+pub mod Cutting
 pub mod Finding
 pub mod Numbering
 pub mod Reading

@@ -1,6 +1,6 @@
 -- The return codes, by the table of numbers and names in pam(3) and _pam_types.h.
 use Rattle.std.specs.Prelude.{ℕ, Bool, List, [], ◌∷◌, Option, codes}
-use Rattle.std.specs.Str.{str_eq_ignore_ascii_case}
+use Rattle.std.specs.Str.{str_eq_ignore_ascii_case, str_to_ascii_lowercase}
 use Rattle.std.specs.List.{find, list_any}
 use Rattle.pam_base.specs.declared.code.Code.{Code}
 use Rattle.pam_base.specs.declared.code.Code.TheVariants.{Success, OpenErr, SymbolErr, ServiceErr, SystemErr, BufErr, PermDenied, AuthErr, CredInsufficient, AuthinfoUnavail, UserUnknown, MaxTries, NewAuthtokReqd, AcctExpired, SessionErr, CredUnavail, CredExpired, CredErr, NoModuleData, ConvErr, AuthtokErr, AuthtokRecoveryErr, AuthtokLockBusy, AuthtokDisableAging, TryAgain, Ignore, Abort, AuthtokExpired, ModuleUnknown, BadItem, ConvAgain, Incomplete}
@@ -74,6 +74,11 @@ name_of ModuleUnknown = codes "MODULE_UNKNOWN"
 name_of BadItem = codes "BAD_ITEM"
 name_of ConvAgain = codes "CONV_AGAIN"
 name_of Incomplete = codes "INCOMPLETE"
+
+-- the word of a code (pam.conf(5)): its name in lower case; 21 is `authtok_recover_err` there
+abbrev pub code_word : Code → List ℕ
+code_word AuthtokRecoveryErr = codes "authtok_recover_err"
+code_word code = str_to_ascii_lowercase (name_of code)
 
 -- all codes, in the order of their numbers
 abbrev pub all_codes : List Code

@@ -4,6 +4,7 @@ pub mod Fault
 pub mod Lines
 pub mod Words
 pub mod Number
+pub mod Parts
 pub mod Quote
 pub mod Item
 pub mod Style

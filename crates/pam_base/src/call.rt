@@ -1,6 +1,9 @@
 use crate::item::ItemName;
 use crate::sequence::Text;
 
+/// The longest text of a message or of a reply, in bytes.
+pub const MAX_TEXT: usize = 512;
+
 /// The function of a module that a stack call runs (`pam(3)`: the six `pam_sm_` functions).
 #[derive(Clone, Copy, Debug, PartialEq, Eq)]
 pub enum Func {

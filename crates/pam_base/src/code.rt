@@ -1,5 +1,5 @@
 ghost use Rattle.std.specs.Prelude.{◌≡◌, ◌<◌, ◌↔◌, IfSome, IsNone};
-ghost use Rattle.pam_base.specs.Code.{number_of, name_of, all_codes, is_word, code_of_word};
+ghost use Rattle.pam_base.specs.Code.{number_of, name_of, code_word, all_codes, is_word, code_of_word};
 
 /// The return codes of PAM, in the order of their numbers (`pam(3)`, `_pam_types.h`).
 #[derive(Clone, Copy, Debug, PartialEq, Eq)]
@@ -74,44 +74,41 @@ pub const ALL_CODES: [Code; 32] = [
     Code::Incomplete,
 ];
 
-/// The names, in the order of the codes' numbers.
-const CODE_NAMES: [&str; 32] = [
-    "SUCCESS",
-    "OPEN_ERR",
-    "SYMBOL_ERR",
-    "SERVICE_ERR",
-    "SYSTEM_ERR",
-    "BUF_ERR",
-    "PERM_DENIED",
-    "AUTH_ERR",
-    "CRED_INSUFFICIENT",
-    "AUTHINFO_UNAVAIL",
-    "USER_UNKNOWN",
-    "MAXTRIES",
-    "NEW_AUTHTOK_REQD",
-    "ACCT_EXPIRED",
-    "SESSION_ERR",
-    "CRED_UNAVAIL",
-    "CRED_EXPIRED",
-    "CRED_ERR",
-    "NO_MODULE_DATA",
-    "CONV_ERR",
-    "AUTHTOK_ERR",
-    "AUTHTOK_RECOVERY_ERR",
-    "AUTHTOK_LOCK_BUSY",
-    "AUTHTOK_DISABLE_AGING",
-    "TRY_AGAIN",
-    "IGNORE",
-    "ABORT",
-    "AUTHTOK_EXPIRED",
-    "MODULE_UNKNOWN",
-    "BAD_ITEM",
-    "CONV_AGAIN",
-    "INCOMPLETE",
+/// The name of each code and its word in a configuration (`pam.conf(5)`), in the order of the codes' numbers.
+const CODE_WORDS: [(&str, &str); 32] = [
+    ("SUCCESS", "success"),
+    ("OPEN_ERR", "open_err"),
+    ("SYMBOL_ERR", "symbol_err"),
+    ("SERVICE_ERR", "service_err"),
+    ("SYSTEM_ERR", "system_err"),
+    ("BUF_ERR", "buf_err"),
+    ("PERM_DENIED", "perm_denied"),
+    ("AUTH_ERR", "auth_err"),
+    ("CRED_INSUFFICIENT", "cred_insufficient"),
+    ("AUTHINFO_UNAVAIL", "authinfo_unavail"),
+    ("USER_UNKNOWN", "user_unknown"),
+    ("MAXTRIES", "maxtries"),
+    ("NEW_AUTHTOK_REQD", "new_authtok_reqd"),
+    ("ACCT_EXPIRED", "acct_expired"),
+    ("SESSION_ERR", "session_err"),
+    ("CRED_UNAVAIL", "cred_unavail"),
+    ("CRED_EXPIRED", "cred_expired"),
+    ("CRED_ERR", "cred_err"),
+    ("NO_MODULE_DATA", "no_module_data"),
+    ("CONV_ERR", "conv_err"),
+    ("AUTHTOK_ERR", "authtok_err"),
+    ("AUTHTOK_RECOVERY_ERR", "authtok_recover_err"),
+    ("AUTHTOK_LOCK_BUSY", "authtok_lock_busy"),
+    ("AUTHTOK_DISABLE_AGING", "authtok_disable_aging"),
+    ("TRY_AGAIN", "try_again"),
+    ("IGNORE", "ignore"),
+    ("ABORT", "abort"),
+    ("AUTHTOK_EXPIRED", "authtok_expired"),
+    ("MODULE_UNKNOWN", "module_unknown"),
+    ("BAD_ITEM", "bad_item"),
+    ("CONV_AGAIN", "conv_again"),
+    ("INCOMPLETE", "incomplete"),
 ];
-
-/// The other word for code 21, which `pam.conf(5)` has.
-const RECOVER_ERR: &[u8] = b"authtok_recover_err";
 
 /// The number of a code, from 0 to 31.
 pub fn code_number(code: Code) -> u32
@@ -143,7 +140,14 @@ fn code_at(number: u32) -> Code
 pub fn code_name(code: Code) -> &'static str
     ensures { result.now ≡ name_of code }
 {
-    CODE_NAMES[code as usize]
+    CODE_WORDS[code as usize].0
+}
+
+/// The word that `pam.conf(5)` has for the code: its name in small letters, but `authtok_recover_err` for 21.
+pub fn code_word(code: Code) -> &'static str
+    ensures { result.now ≡ code_word code }
+{
+    CODE_WORDS[code as usize].1
 }
 
 /// The code that a word of a configuration names, in any case (`pam.conf(5)`). Each code is named by its
@@ -161,5 +165,6 @@ fn is_word_of(code: Code, word: &[u8]) -> bool
     ensures { result ≡ is_word code word.now }
 {
     word.eq_ignore_ascii_case(code_name(code).as_bytes())
-        || (code == Code::AuthtokRecoveryErr && word.eq_ignore_ascii_case(RECOVER_ERR))
+        || (code == Code::AuthtokRecoveryErr
+            && word.eq_ignore_ascii_case(code_word(code).as_bytes()))
 }

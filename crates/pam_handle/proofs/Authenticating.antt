@@ -14,10 +14,11 @@ use Rattle.stack_walk.specs.declared.pass_kind.PassKind.TheVariants.{Keep}
 use Rattle.pam_room.specs.Module.{Player}
 use Rattle.pam_room.specs.State.{PlainRoom, PlainWorld, State, state_of}
 use Rattle.pam_handle.specs.declared.wait.Wait.{Wait}
-use Rattle.pam_handle.specs.Handle.{Pending, PlainHandle}
+use Rattle.dispatch_core.specs.Pending.{Pending, is_other_pending, past_in, pending_behind, same_func}
+use Rattle.pam_handle.specs.Handle.{PlainHandle}
 use Rattle.pam_handle.specs.Items.{with_items}
 use Rattle.pam_handle.specs.Pass.{Passed, PassesTo, passed}
-use Rattle.pam_handle.specs.Call.{Called, CallsAs, WaitsBehind, called, code_at_end, begun_or_going_on, is_other_pending, items_begun, past_in, pending_behind, request_forgotten, rested_by, tokens_cleared, same_func, waited_by}
+use Rattle.pam_handle.specs.Call.{Called, CallsAs, WaitsBehind, called, code_at_end, begun_or_going_on, items_begun, request_forgotten, rested_by, tokens_cleared, waited_by}
 use Rattle.pam_handle.specs.AnyWorld.{Waits, WaitsOnlyAtEnd}
 use Rattle.pam_handle.specs.StackCalls.{authenticate, authenticated, authentication}
 use Rattle.pam_handle.proofs.Calling.{runs}

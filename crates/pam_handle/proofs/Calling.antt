@@ -9,9 +9,11 @@ use Rattle.stack_walk.specs.declared.pass_kind.PassKind.TheVariants.{Keep}
 use Rattle.stack_walk.specs.Route.{KeptAnswers}
 use Rattle.dispatch_core.specs.Passes.{kept_failed}
 use Rattle.pam_room.specs.State.{PlainRoom, PlainWorld, State, state_of}
-use Rattle.pam_handle.specs.Handle.{Pending, PlainHandle}
-use Rattle.pam_handle.specs.Pass.{Passed, PassesTo, following, kept_answers}
-use Rattle.pam_handle.specs.Call.{Called, CallsAs, begun_or_going_on, is_other_pending, past_in, pending_behind, request_behind, same_func}
+use Rattle.dispatch_core.specs.Pending.{Pending, is_other_pending, past_in, pending_behind, same_func}
+use Rattle.pam_handle.specs.Handle.{PlainHandle}
+use Rattle.dispatch_core.specs.Calls.{following}
+use Rattle.pam_handle.specs.Pass.{Passed, PassesTo, kept_answers}
+use Rattle.pam_handle.specs.Call.{Called, CallsAs, begun_or_going_on, request_behind}
 use Rattle.pam_handle.specs.StackCalls.{ended}
 use Rattle.pam_handle.specs.AnyWorld.{ClearsTokens, FailsAs, authenticated_failed, opened_failed}
 

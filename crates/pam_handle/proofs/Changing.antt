@@ -16,11 +16,12 @@ use Rattle.data_cleanup.specs.Cleanup.{Notes}
 use Rattle.dispatch_core.specs.AnyWorld.{GoesSoundly}
 use Rattle.item_store.specs.Items.{ItemTexts}
 use Rattle.pam_room.specs.State.{PlainProcess}
-use Rattle.pam_handle.specs.Handle.{Pending, PlainHandle}
+use Rattle.dispatch_core.specs.Pending.{Pending, first_in, is_other_pending, past_in, pending_behind, same_func}
+use Rattle.pam_handle.specs.Handle.{PlainHandle}
 use Rattle.pam_handle.specs.Items.{with_items}
 use Rattle.pam_handle.specs.Pass.{Passed, PassesTo, kept_answers, passed}
 use Rattle.pam_handle.specs.AnyWorld.{FailsAs, RunsSoundly}
-use Rattle.pam_handle.specs.Call.{Called, CallsAs, begun_or_going_on, called, first_in, is_other_pending, items_begun, items_behind, past_in, pending_behind, request_behind, same_func, tokens_cleared}
+use Rattle.pam_handle.specs.Call.{Called, CallsAs, begun_or_going_on, called, items_begun, items_behind, request_behind, tokens_cleared}
 use Rattle.pam_handle.specs.StackCalls.{behind_check, change_goes_on, changed, chauthtok, check, has_pass_flag, update}
 use Rattle.pam_handle.proofs.Calling.{runs}
 

@@ -15,7 +15,8 @@ use Rattle.dispatch_core.specs.Lines.{answers_by, names_of}
 use Rattle.dispatch_core.specs.Passes.{by_place, paused_after, KeepsAfter, KeepsAll, LeavesAs}
 use Rattle.pam_room.specs.State.{State}
 use Rattle.pam_room.specs.Module.{Player, Plays, Note, player_of}
-use Rattle.pam_handle.specs.Pass.{PassesTo, answers_held, kept_answers, kept_behind, passed}
+use Rattle.dispatch_core.specs.Calls.{answers_held, kept_behind}
+use Rattle.pam_handle.specs.Pass.{PassesTo, kept_answers, passed}
 
 none_by_place : (place : ℕ) → by_place None place ≡ None
 none_by_place zero = refl

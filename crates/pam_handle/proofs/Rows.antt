@@ -25,8 +25,10 @@ use Rattle.pam_room.specs.Say.{Spoken, speak}
 use Rattle.pam_room.specs.State.{PlainWorld, world_of}
 use Rattle.pam_room.specs.declared.visits.Visit.{Visit}
 use Rattle.pam_handle.specs.declared.wait.Wait.{Wait}
-use Rattle.pam_handle.specs.Handle.{PlainHandle, Stacks}
-use Rattle.pam_handle.specs.Call.{Called, pending_func}
+use Rattle.service_load.specs.Stacks.{Stacks}
+use Rattle.pam_handle.specs.Handle.{PlainHandle}
+use Rattle.dispatch_core.specs.Pending.{pending_func}
+use Rattle.pam_handle.specs.Call.{Called}
 use Rattle.pam_handle.specs.End.{world_after_end}
 use Rattle.pam_handle.specs.Items.{all_told, missing_from, with_delay_function, with_environment, with_items, with_request}
 use Rattle.pam_handle.specs.Start.{new_handle}

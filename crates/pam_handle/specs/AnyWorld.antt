@@ -11,7 +11,8 @@ use Rattle.dispatch_core.specs.AnyWorld.{GoesSoundly}
 use Rattle.pam_room.specs.State.{PlainProcess}
 use Rattle.stack_walk.specs.Route.{KeptAnswers}
 use Rattle.pam_handle.specs.declared.wait.Wait.{Wait}
-use Rattle.pam_handle.specs.Handle.{PlainHandle, Pending}
+use Rattle.dispatch_core.specs.Pending.{Pending}
+use Rattle.pam_handle.specs.Handle.{PlainHandle}
 use Rattle.pam_handle.specs.Call.{waited_by}
 
 -- what a stack call leaves: the stacks, the names and the delay function; what was told is only added to, and data and ledger grow

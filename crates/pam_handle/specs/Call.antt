@@ -1,19 +1,18 @@
 -- What a call of the application comes to, and what of a transaction's calls is common to several (pam_fail_delay(3); that a
 -- call may be put off, and what others answer meanwhile, is this project's own).
-use Rattle.std.specs.Prelude.{◌≡◌, ℕ, Bool, true, false, not, Option, Some, None, List, [], Result, if◌then◌else◌, ◌==◌}
+use Rattle.std.specs.Prelude.{◌≡◌, ℕ, Bool, Option, Some, None, List, Result, if◌then◌else◌, ◌==◌}
 use Rattle.std.specs.Result.{result_ok}
 use Rattle.pam_base.specs.declared.code.Code.{Code}
 use Rattle.pam_base.specs.declared.call.Func.{Func}
 use Rattle.pam_base.specs.declared.fault.NoMemory.{NoMemory}
-use Rattle.pam_base.specs.declared.call.Func.TheVariants.{Authenticate, SetCred, AcctMgmt, OpenSession, CloseSession, ChAuthTok}
 use Rattle.item_store.specs.Items.{ItemTexts, without_tokens}
 use Rattle.fail_delay.specs.Delay.{asked_delay}
 use Rattle.fail_delay.specs.Wait.{wait_of}
 use Rattle.pam_outside.specs.Time.{rested}
-use Rattle.stack_walk.specs.Route.{KeptAnswers}
 use Rattle.pam_room.specs.State.{PlainRoom, PlainWorld}
 use Rattle.pam_handle.specs.declared.wait.Wait.{Wait}
-use Rattle.pam_handle.specs.Handle.{Pending, PlainHandle, in_room}
+use Rattle.dispatch_core.specs.Pending.{Pending, same_func}
+use Rattle.pam_handle.specs.Handle.{PlainHandle, in_room}
 
 -- the code that a call answers, and the transaction and the world after it
 pub record Called : Type 0 where
@@ -48,49 +47,16 @@ request_forgotten h = in_room (without_request h.room) h
 
 -- ---- calls that were put off
 
-abbrev pub same_func : Func → Func → Bool
-same_func Authenticate Authenticate = true
-same_func SetCred SetCred = true
-same_func AcctMgmt AcctMgmt = true
-same_func OpenSession OpenSession = true
-same_func CloseSession CloseSession = true
-same_func ChAuthTok ChAuthTok = true
-same_func a b = false
-
 -- The call of a function: where another is pending it is aborted and nothing changes; where it is pending itself it goes on
 -- after what it was given; else it begins.
 abbrev pub begun_or_going_on : Option Pending → Func → Called → Called → (Pending → Called) → Called
 begun_or_going_on None func aborted begins goes_on = begins
 begun_or_going_on (Some p) func aborted begins goes_on = if same_func p.func func then goes_on p else aborted
 
--- the function of the call that is pending
-abbrev pub pending_func : Option Pending → Option Func
-pending_func None = None
-pending_func (Some p) = Some p.func
-
--- the answers that the call that is pending was given, and those of the first pass of a change of token; none where nothing is pending
-abbrev pub past_in : Option Pending → List Code
-past_in None = []
-past_in (Some p) = p.past
-
-abbrev pub first_in : Option Pending → Option KeptAnswers
-first_in None = None
-first_in (Some p) = p.first
-
 -- the items when a call that clears the tokens takes them up: it clears them where it begins
 abbrev pub items_begun : Option Pending → ItemTexts → ItemTexts
 items_begun None items = without_tokens items
 items_begun (Some p) items = items
-
--- whether another call than this function's is pending
-abbrev pub is_other_pending : Option Pending → Func → Bool
-is_other_pending None func = false
-is_other_pending (Some p) func = not (same_func p.func func)
-
--- what is pending behind a pass: the call, where the pass was put off
-abbrev pub pending_behind : Func → Option KeptAnswers → Option (List Code) → Option Pending
-pending_behind func first None = None
-pending_behind func first (Some past) = Some (record { func = func; past = past; first = first })
 
 -- the request for a delay is forgotten when a pass has ended, and stays where it was put off
 abbrev pub request_behind : Option (List Code) → PlainRoom → PlainRoom

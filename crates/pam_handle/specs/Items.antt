@@ -10,7 +10,8 @@ use Rattle.control_words.specs.Module.{name_of_module}
 use Rattle.control_words.specs.Stack.{Stack, none, line, sub}
 use Rattle.handler_chain.specs.FlatLines.{module_of}
 use Rattle.pam_room.specs.State.{PlainTransaction}
-use Rattle.pam_handle.specs.Handle.{PlainHandle, Stacks, in_room}
+use Rattle.service_load.specs.Stacks.{Stacks}
+use Rattle.pam_handle.specs.Handle.{PlainHandle, in_room}
 
 abbrev pub with_transaction : PlainTransaction → PlainHandle → PlainHandle
 with_transaction t h = in_room (record h.room { transaction = t }) h

@@ -7,3 +7,4 @@ pub mod Start
 pub mod End
 pub mod AnyWorld
 pub mod Plain
+pub mod Ready

@@ -5,12 +5,12 @@ use Rattle.pam_base.specs.declared.call.Func.{Func}
 use Rattle.control_words.specs.Stack.{Stack}
 use Rattle.frozen_chain.specs.Kept.{Answers}
 use Rattle.stack_walk.specs.declared.pass_kind.PassKind.{PassKind}
-use Rattle.stack_walk.specs.declared.pass_kind.PassKind.TheVariants as kinds
-use Rattle.stack_walk.specs.Walk.{Walked, code_of}
 use Rattle.stack_walk.specs.Route.{KeptAnswers}
-use Rattle.stack_walk.specs.Pass.{PassState, Visit, kept_in, pass_after}
+use Rattle.stack_walk.specs.Pass.{pass_after}
 use Rattle.dispatch_core.specs.Lines.{answers_by}
-use Rattle.dispatch_core.specs.Passes.{by_place, paused_after}
+use Rattle.dispatch_core.specs.Passes.{by_place}
+use Rattle.dispatch_core.specs.Calls as calls
+use Rattle.dispatch_core.specs.Calls.{answers_held, passed_by}
 use Rattle.pam_room.specs.State.{State}
 use Rattle.pam_room.specs.Module.{Player}
 
@@ -18,35 +18,13 @@ use Rattle.pam_room.specs.Module.{Player}
 abbrev pub kept_answers : Answers → Option KeptAnswers
 kept_answers cells = if is_some cells then Some (by_place cells) else None
 
--- the answer that is kept for a place; where nothing is held there is none
-abbrev pub answers_held : Option KeptAnswers → KeptAnswers
-answers_held None place = None
-answers_held (Some kept) place = kept place
-
--- what is kept behind a pass: its own answers, what was kept before, nothing
-abbrev pub kept_behind : PassKind → List Visit → Option KeptAnswers → Option KeptAnswers
-kept_behind kinds.Keep visits kept = Some (kept_in visits)
-kept_behind kinds.Follow visits kept = kept
-kept_behind kinds.Loose visits kept = None
-
 -- a pass's code, what is kept behind it, the answers that it was given where it was put off, and the room and world after it
-pub record Passed : Type 0 where
-  pub code : Code
-  pub kept : Option KeptAnswers
-  pub paused : Option (List Code)
-  pub state : State
-
-abbrev pub passed_by : PassKind → Option KeptAnswers → Walked (PassState State) → Passed
-passed_by kind kept w = record { code = code_of w; kept = kept_behind kind w.state.visits kept; paused = paused_after w; state = w.state.state }
+abbrev pub Passed : Type 0
+Passed = calls.Passed State
 
 -- a pass of a kind over a stack, with what is kept, after answers given in its earlier calls
 abbrev pub passed : List Player → Func → ℕ → PassKind → Option KeptAnswers → Stack → List Code → State → Passed
 passed players func flags kind kept stack past s = passed_by kind kept (pass_after kind (answers_held kept) (answers_by players func flags) stack past s)
-
--- a pass that goes by kept answers, where any are held
-abbrev pub following : Option KeptAnswers → PassKind
-following None = kinds.Loose
-following (Some kept) = kinds.Follow
 
 -- a code, what is kept and what is paused behind a pass, and a state are those of a pass
 pub record PassesTo (p : Passed) (code : Code) (kept : Option KeptAnswers) (paused : Option (List Code)) (state : State) : Type 0 where

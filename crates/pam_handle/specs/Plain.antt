@@ -8,7 +8,9 @@ use Rattle.pam_room.specs.declared.room.Room.{Room}
 use Rattle.pam_handle.specs.declared.chains.Chains.{Chains}
 use Rattle.pam_handle.specs.declared.handle.Handle.{Handle}
 use Rattle.pam_handle.specs.declared.put_off.PutOff.{PutOff}
-use Rattle.pam_handle.specs.Handle.{PlainHandle, Pending, Stacks}
+use Rattle.service_load.specs.Stacks.{Stacks}
+use Rattle.dispatch_core.specs.Pending.{Pending}
+use Rattle.pam_handle.specs.Handle.{PlainHandle}
 use Rattle.pam_handle.specs.Pass.{kept_answers}
 
 -- the stacks that four chains were made from

@@ -1,19 +1,21 @@
 -- The six calls that run a stack: pam_authenticate(3), pam_setcred(3), pam_acct_mgmt(3), pam_open_session(3),
 -- pam_close_session(3), pam_chauthtok(3). Which answers the second of two calls follows is the Module Writers' Guide's; that a
 -- call may be put off and goes on is this project's own.
-use Rattle.std.specs.Prelude.{ℕ, Bool, ◌||◌, ◌==◌, if◌then◌else◌, bit_or, Option, Some, None, List, []}
+use Rattle.std.specs.Prelude.{ℕ, Bool, true, false, ◌||◌, ◌==◌, if◌then◌else◌, bit_or, Option, Some, None, List, []}
 use Rattle.pam_base.specs.declared.code.Code.{Code}
 use Rattle.pam_base.specs.declared.code.Code.TheVariants as codes
 use Rattle.pam_base.specs.declared.call.Func.{Func}
 use Rattle.pam_base.specs.declared.call.Func.TheVariants.{Authenticate, SetCred, AcctMgmt, OpenSession, CloseSession, ChAuthTok}
-use Rattle.stack_walk.specs.declared.pass_kind.PassKind.TheVariants as kinds
 use Rattle.stack_walk.specs.Route.{KeptAnswers}
 use Rattle.pam_room.specs.Call.{has_flag, prelim_check}
 use Rattle.pam_room.specs.Module.{Player}
-use Rattle.pam_room.specs.State.{PlainWorld, state_of}
+use Rattle.pam_room.specs.State.{PlainWorld, State, state_of}
 use Rattle.pam_handle.specs.Handle.{PlainHandle}
-use Rattle.pam_handle.specs.Pass.{Passed, passed, following}
-use Rattle.pam_handle.specs.Call.{Called, called, tokens_cleared, request_forgotten, begun_or_going_on, pending_behind, request_behind, waits_after}
+use Rattle.dispatch_core.specs.Lines.{answers_by}
+use Rattle.dispatch_core.specs.Calls.{Asking, Held, held, held_behind, first_pass, second_pass}
+use Rattle.dispatch_core.specs.Pending.{pending_behind}
+use Rattle.pam_handle.specs.Pass.{Passed}
+use Rattle.pam_handle.specs.Call.{Called, called, tokens_cleared, request_forgotten, begun_or_going_on, request_behind, waits_after}
 
 -- PAM_UPDATE_AUTHTOK, the flag of the second pass of a change of token (pam_chauthtok(3))
 abbrev pub update_authtok : ℕ
@@ -29,6 +31,23 @@ establish_cred = 0x2
 
 abbrev pub credential_flags : ℕ → ℕ
 credential_flags flags = if flags == 0 then establish_cred else flags
+
+-- the flags that modules see in a pass, by those of the call; in a change of token, by whether it is the second pass
+abbrev pub flags_seen : Func → Bool → ℕ → ℕ
+flags_seen SetCred second flags = credential_flags flags
+flags_seen ChAuthTok false flags = bit_or flags prelim_check
+flags_seen ChAuthTok true flags = bit_or flags update_authtok
+flags_seen func second flags = flags
+
+-- what a transaction holds between its calls
+abbrev pub held_in : PlainHandle → Held
+held_in h = held h.authenticated h.opened h.pending
+
+-- a transaction behind a pass of a call
+abbrev pub behind_pass : Func → Option KeptAnswers → Passed → PlainHandle → PlainHandle
+behind_pass func first p h =
+    let k = held_behind func first p (held_in h) in
+    record h { room = p.state.room; authenticated = k.authenticated; opened = k.opened; pending = k.pending }
 
 -- behind the only pass of a call
 abbrev pub ended : Func → Passed → PlainHandle → Called
@@ -47,12 +66,23 @@ changed (Some past) code h w = called code h w
 changed None code h w = called code (request_forgotten (tokens_cleared h)) w
 
 module _ (players : List Player) where
+  -- lines answer as modules play
+  abbrev pub asking_by : ℕ → Asking State
+  asking_by flags func second = answers_by players func (flags_seen func second flags)
+
+  -- the first pass of a call, and the second of a change of token
+  abbrev pub passes_first : Func → ℕ → List Code → PlainHandle → PlainWorld → Passed
+  passes_first func flags past h w = first_pass (asking_by flags) h.stacks func past (held_in h) (state_of h.room w)
+
+  abbrev pub passes_second : ℕ → Option KeptAnswers → List Code → PlainHandle → PlainWorld → Passed
+  passes_second flags first past h w = second_pass (asking_by flags) h.stacks first past (state_of h.room w)
+
   -- ---- pam_authenticate(3)
 
   abbrev pub authentication : (Code → ℕ → ℕ) → ℕ → List Code → PlainHandle → PlainWorld → Called
   authentication number flags past h w =
-      let p = passed players Authenticate flags kinds.Keep h.authenticated h.stacks.auth past (state_of h.room w) in
-      authenticated number p.paused p.code (record h { room = p.state.room; authenticated = p.kept; pending = pending_behind Authenticate None p.paused }) p.state.world
+      let p = passes_first Authenticate flags past h w in
+      authenticated number p.paused p.code (behind_pass Authenticate None p h) p.state.world
 
   abbrev pub authenticate : (Code → ℕ → ℕ) → ℕ → PlainHandle → PlainWorld → Called
   authenticate number flags h w = begun_or_going_on h.pending Authenticate (called codes.Abort h w)
@@ -63,8 +93,8 @@ module _ (players : List Player) where
 
   abbrev pub credentials : ℕ → List Code → PlainHandle → PlainWorld → Called
   credentials flags past h w =
-      let p = passed players SetCred (credential_flags flags) (following h.authenticated) h.authenticated h.stacks.auth past (state_of h.room w) in
-      ended SetCred p (record h { authenticated = p.kept })
+      let p = passes_first SetCred flags past h w in
+      ended SetCred p (behind_pass SetCred None p h)
 
   abbrev pub setcred : ℕ → PlainHandle → PlainWorld → Called
   setcred flags h w = begun_or_going_on h.pending SetCred (called codes.Abort h w) (credentials flags [] h w) (λ p. credentials flags p.past h w)
@@ -72,7 +102,7 @@ module _ (players : List Player) where
   -- ---- pam_acct_mgmt(3): its answers aren't kept
 
   abbrev pub account : ℕ → List Code → PlainHandle → PlainWorld → Called
-  account flags past h w = ended AcctMgmt (passed players AcctMgmt flags kinds.Keep None h.stacks.account past (state_of h.room w)) h
+  account flags past h w = ended AcctMgmt (passes_first AcctMgmt flags past h w) h
 
   abbrev pub acct_mgmt : ℕ → PlainHandle → PlainWorld → Called
   acct_mgmt flags h w = begun_or_going_on h.pending AcctMgmt (called codes.Abort h w) (account flags [] h w) (λ p. account flags p.past h w)
@@ -81,16 +111,16 @@ module _ (players : List Player) where
 
   abbrev pub opening : ℕ → List Code → PlainHandle → PlainWorld → Called
   opening flags past h w =
-      let p = passed players OpenSession flags kinds.Keep h.opened h.stacks.session past (state_of h.room w) in
-      ended OpenSession p (record h { opened = p.kept })
+      let p = passes_first OpenSession flags past h w in
+      ended OpenSession p (behind_pass OpenSession None p h)
 
   abbrev pub open_session : ℕ → PlainHandle → PlainWorld → Called
   open_session flags h w = begun_or_going_on h.pending OpenSession (called codes.Abort h w) (opening flags [] h w) (λ p. opening flags p.past h w)
 
   abbrev pub closing : ℕ → List Code → PlainHandle → PlainWorld → Called
   closing flags past h w =
-      let p = passed players CloseSession flags (following h.opened) h.opened h.stacks.session past (state_of h.room w) in
-      ended CloseSession p (record h { opened = p.kept })
+      let p = passes_first CloseSession flags past h w in
+      ended CloseSession p (behind_pass CloseSession None p h)
 
   abbrev pub close_session : ℕ → PlainHandle → PlainWorld → Called
   close_session flags h w = begun_or_going_on h.pending CloseSession (called codes.Abort h w) (closing flags [] h w) (λ p. closing flags p.past h w)
@@ -99,8 +129,8 @@ module _ (players : List Player) where
 
   abbrev pub update : ℕ → Option KeptAnswers → List Code → PlainHandle → PlainWorld → Called
   update flags first past h w =
-      let p = passed players ChAuthTok (bit_or flags update_authtok) kinds.Follow first h.stacks.password past (state_of h.room w) in
-      changed p.paused p.code (record h { room = p.state.room; pending = pending_behind ChAuthTok first p.paused }) p.state.world
+      let p = passes_second flags first past h w in
+      changed p.paused p.code (behind_pass ChAuthTok first p h) p.state.world
 
   abbrev pub behind_check : ℕ → Code → Option (List Code) → Option KeptAnswers → PlainHandle → PlainWorld → Called
   behind_check flags codes.Success paused kept h w = update flags kept [] h w
@@ -108,8 +138,8 @@ module _ (players : List Player) where
 
   abbrev pub check : ℕ → List Code → PlainHandle → PlainWorld → Called
   check flags past h w =
-      let p = passed players ChAuthTok (bit_or flags prelim_check) kinds.Keep None h.stacks.password past (state_of h.room w) in
-      behind_check flags p.code p.paused p.kept (record h { room = p.state.room; pending = pending_behind ChAuthTok None p.paused }) p.state.world
+      let p = passes_first ChAuthTok flags past h w in
+      behind_check flags p.code p.paused p.kept (behind_pass ChAuthTok None p h) p.state.world
 
   abbrev pub change_goes_on : ℕ → List Code → Option KeptAnswers → PlainHandle → PlainWorld → Called
   change_goes_on flags past None h w = check flags past h w

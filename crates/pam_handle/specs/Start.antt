@@ -16,7 +16,8 @@ use Rattle.item_store.specs.Items.{ItemTexts, no_texts}
 use Rattle.pam_room.specs.State.{PlainWorld, new_transaction, room_of}
 use Rattle.pam_handle.specs.declared.chains.Chains.{Chains}
 use Rattle.pam_handle.specs.Plain.{stacks_in}
-use Rattle.pam_handle.specs.Handle.{PlainHandle, Stacks, stacks_of}
+use Rattle.service_load.specs.Stacks.{Stacks, stacks_of}
+use Rattle.pam_handle.specs.Handle.{PlainHandle}
 
 -- only SERVICE and, where it is known, USER are set
 abbrev pub first_texts : List ℕ → Option (List ℕ) → ItemTexts

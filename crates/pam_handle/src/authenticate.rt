@@ -1,19 +1,20 @@
 ghost use Rattle.std.specs.Prelude.{◌≡◌, ◌<◌, ◌^◌, ◌&&◌, ℕ, false, None, Ok, IfOk, OnErr, IsTrue, length};
 ghost use Rattle.pam_base.specs.declared.code.Code.{Code};
-ghost use Rattle.dispatch_core.specs.Lines.{names_of};
 ghost use Rattle.pam_room.specs.Module.{notes_of};
-ghost use Rattle.pam_room.specs.Stays.{IsReady};
 ghost use Rattle.pam_handle.specs.AnyWorld.{FailsAs, LeavesOthers, LeavesPending, RunsSoundly, Waits};
-ghost use Rattle.pam_handle.specs.Call.{CallsAs, is_other_pending};
+ghost use Rattle.dispatch_core.specs.Pending.{is_other_pending};
+ghost use Rattle.pam_handle.specs.Call.{CallsAs};
 ghost use Rattle.pam_handle.specs.Plain.{plain_handle, room_in};
+ghost use Rattle.pam_handle.specs.Ready.{IsReadyFor};
 ghost use Rattle.pam_handle.specs.StackCalls.{authenticate};
 
+use crate::delaying::wait_behind;
 use crate::gear::{Gear, GearTold};
 use crate::handle::Handle;
 use crate::pass::pass;
 use crate::pending::{clear_unless_pending, clear_unless_put_off, code_at_end, taken_up};
-use crate::waiting::wait_behind;
-use data_cleanup::nothing_grows;
+use data_cleanup::laws;
+use dispatch_core::PassRequest;
 use fail_delay::{DelayFn, DelayTold};
 use frozen_chain::Kept;
 use pam_base::{Code, Func, NoMemory};
@@ -27,11 +28,6 @@ impl Handle {
     /// is always asked where it is on; where it is off, the longest request, lengthened or shortened by a random word, is
     /// waited after every code but SUCCESS.
     ///
-    /// Where a line puts it off it answers INCOMPLETE and is pending: called again it goes on at that line, with the flags of
-    /// the new call, and what it does before a pass isn't done again. Where another call is pending it answers ABORT, and
-    /// nothing changes. A call that has ended leaves nothing pending and no request for a delay. It takes memory unless it
-    /// aborts; without memory too nothing is pending, no request is left, no datum waits for its cleanup, and what was told
-    /// before stands in front.
     /// Without memory no answers of an authentication are kept, the tokens are cleared, and nothing was waited.
     pub fn authenticate(
         &mut self,
@@ -40,27 +36,55 @@ impl Handle {
         world: &mut World,
         flags: u32,
     ) -> Result<Code, NoMemory>
-        requires names { (plain_handle ⟦<Room as RoomTold>⟧.plain self.old).names ≡ names_of (⟦<Gear as GearTold>⟧.players gear.now) }
-        requires few { length (⟦<Gear as GearTold>⟧.players gear.now) < 2 ^ 32 }
-        requires ready { IsReady (length (⟦<Gear as GearTold>⟧.players gear.now)) (plain_handle ⟦<Room as RoomTold>⟧.plain self.old).room.transaction (⟦<World as WorldTold>⟧.plain world.old).process }
-        ensures tells { ⟦<Room as RoomTold>⟧.tells (room_in self.new) ≡ ⟦<Room as RoomTold>⟧.tells (room_in self.old) }
-        ensures world_tells { ⟦<World as WorldTold>⟧.tells world.new ≡ ⟦<World as WorldTold>⟧.tells world.old }
-        ensures told { (number : Code → ℕ → ℕ) → ⟦<DelayFn as DelayTold>⟧.delay_is gear.now.delay number → IsTrue (⟦<Room as RoomTold>⟧.tells (room_in self.old) && ⟦<World as WorldTold>⟧.tells world.old) →
-            IfOk result (λ code. CallsAs (authenticate (⟦<Gear as GearTold>⟧.players gear.now) number flags (plain_handle ⟦<Room as RoomTold>⟧.plain self.old) (⟦<World as WorldTold>⟧.plain world.old)) code (plain_handle ⟦<Room as RoomTold>⟧.plain self.new) (⟦<World as WorldTold>⟧.plain world.new)) }
-        ensures aborted { IsTrue (is_other_pending (plain_handle ⟦<Room as RoomTold>⟧.plain self.old).pending Func.Authenticate) →
+        requires { IsReadyFor (⟦<Gear as GearTold>⟧.players gear.now)
+            (plain_handle ⟦<Room as RoomTold>⟧.plain self.old)
+            (⟦<World as WorldTold>⟧.plain world.old).process }
+        ensures tells { ⟦<Room as RoomTold>⟧.tells (room_in self.new)
+            ≡ ⟦<Room as RoomTold>⟧.tells (room_in self.old) }
+        ensures world_tells { ⟦<World as WorldTold>⟧.tells world.new
+            ≡ ⟦<World as WorldTold>⟧.tells world.old }
+        ensures told { (number : Code → ℕ → ℕ) →
+            ⟦<DelayFn as DelayTold>⟧.delay_is gear.now.delay number →
+            IsTrue (⟦<Room as RoomTold>⟧.tells (room_in self.old)
+            && ⟦<World as WorldTold>⟧.tells world.old) →
+            IfOk result (λ code. CallsAs
+            (authenticate (⟦<Gear as GearTold>⟧.players gear.now) number flags
+            (plain_handle ⟦<Room as RoomTold>⟧.plain self.old)
+            (⟦<World as WorldTold>⟧.plain world.old)) code
+            (plain_handle ⟦<Room as RoomTold>⟧.plain self.new)
+            (⟦<World as WorldTold>⟧.plain world.new)) }
+        ensures aborted { IsTrue (is_other_pending
+            (plain_handle ⟦<Room as RoomTold>⟧.plain self.old).pending Func.Authenticate) →
             (result ≡ Ok Code.Abort) × (self.new ≡ self.old) × (world.new ≡ world.old) }
-        ensures left { is_other_pending (plain_handle ⟦<Room as RoomTold>⟧.plain self.old).pending Func.Authenticate ≡ false →
-            IfOk result (λ code. LeavesPending Func.Authenticate code (plain_handle ⟦<Room as RoomTold>⟧.plain self.old) (plain_handle ⟦<Room as RoomTold>⟧.plain self.new) (plain_handle ⟦<Room as RoomTold>⟧.plain self.new).pending) }
-        ensures waited { is_other_pending (plain_handle ⟦<Room as RoomTold>⟧.plain self.old).pending Func.Authenticate ≡ false →
-            IfOk result (λ code. (plain_handle ⟦<Room as RoomTold>⟧.plain self.new).pending ≡ None → Waits code (plain_handle ⟦<Room as RoomTold>⟧.plain self.old) (plain_handle ⟦<Room as RoomTold>⟧.plain self.new)) }
+        ensures left { is_other_pending (plain_handle ⟦<Room as RoomTold>⟧.plain self.old).pending
+            Func.Authenticate ≡ false →
+            IfOk result (λ code. LeavesPending Func.Authenticate code
+            (plain_handle ⟦<Room as RoomTold>⟧.plain self.old)
+            (plain_handle ⟦<Room as RoomTold>⟧.plain self.new)
+            (plain_handle ⟦<Room as RoomTold>⟧.plain self.new).pending) }
+        ensures waited { is_other_pending (plain_handle ⟦<Room as RoomTold>⟧.plain self.old).pending
+            Func.Authenticate ≡ false →
+            IfOk result (λ code. (plain_handle ⟦<Room as RoomTold>⟧.plain self.new).pending ≡ None →
+            Waits code (plain_handle ⟦<Room as RoomTold>⟧.plain self.old)
+            (plain_handle ⟦<Room as RoomTold>⟧.plain self.new)) }
         ensures no_nap { OnErr result (world.new.nap ≡ world.old.nap) }
-        ensures err { OnErr result (FailsAs Func.Authenticate (plain_handle ⟦<Room as RoomTold>⟧.plain self.old) (plain_handle ⟦<Room as RoomTold>⟧.plain self.new)) }
-        ensures others { LeavesOthers Func.Authenticate (plain_handle ⟦<Room as RoomTold>⟧.plain self.old) (plain_handle ⟦<Room as RoomTold>⟧.plain self.new) }
-        ensures sound { RunsSoundly (notes_of (⟦<Gear as GearTold>⟧.players gear.now)) (length (⟦<Gear as GearTold>⟧.players gear.now))
-            (plain_handle ⟦<Room as RoomTold>⟧.plain self.old) (plain_handle ⟦<Room as RoomTold>⟧.plain self.new) (⟦<World as WorldTold>⟧.plain world.old).process (⟦<World as WorldTold>⟧.plain world.new).process }
-        ensures ready { IsReady (length (⟦<Gear as GearTold>⟧.players gear.now)) (plain_handle ⟦<Room as RoomTold>⟧.plain self.new).room.transaction (⟦<World as WorldTold>⟧.plain world.new).process }
+        ensures err { OnErr result (FailsAs Func.Authenticate
+            (plain_handle ⟦<Room as RoomTold>⟧.plain self.old)
+            (plain_handle ⟦<Room as RoomTold>⟧.plain self.new)) }
+        ensures others { LeavesOthers Func.Authenticate
+            (plain_handle ⟦<Room as RoomTold>⟧.plain self.old)
+            (plain_handle ⟦<Room as RoomTold>⟧.plain self.new) }
+        ensures sound { RunsSoundly (notes_of (⟦<Gear as GearTold>⟧.players gear.now))
+            (length (⟦<Gear as GearTold>⟧.players gear.now))
+            (plain_handle ⟦<Room as RoomTold>⟧.plain self.old)
+            (plain_handle ⟦<Room as RoomTold>⟧.plain self.new)
+            (⟦<World as WorldTold>⟧.plain world.old).process
+            (⟦<World as WorldTold>⟧.plain world.new).process }
+        ensures ready { IsReadyFor (⟦<Gear as GearTold>⟧.players gear.now)
+            (plain_handle ⟦<Room as RoomTold>⟧.plain self.new)
+            (⟦<World as WorldTold>⟧.plain world.new).process }
     {
-        nothing_grows();
+        laws::nothing_grows();
         if self.is_other_pending(Func::Authenticate) {
             return Ok(Code::Abort);
         }
@@ -70,9 +94,11 @@ impl Handle {
             alloc,
             gear,
             &mut self.chains.auth,
-            Func::Authenticate,
-            flags,
-            PassKind::Keep,
+            PassRequest {
+                func: Func::Authenticate,
+                flags,
+                kind: PassKind::Keep,
+            },
             &mut self.authenticated,
             &mut paused,
             &mut self.room,

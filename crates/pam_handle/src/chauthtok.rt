@@ -6,23 +6,24 @@ ghost use Rattle.pam_room.specs.Module.{notes_of};
 ghost use Rattle.pam_room.specs.Plain.{plain_process, plain_transaction};
 ghost use Rattle.pam_room.specs.Stays.{IsReady};
 ghost use Rattle.pam_handle.specs.AnyWorld.{FailsAs, LeavesOthers, LeavesPending, RunsSoundly};
-ghost use Rattle.pam_handle.specs.Call.{CallsAs, is_other_pending, pending_behind};
+ghost use Rattle.dispatch_core.specs.Pending.{is_other_pending, pending_behind};
+ghost use Rattle.pam_handle.specs.Call.{CallsAs};
 ghost use Rattle.pam_handle.specs.Handle.{PlainHandle};
 ghost use Rattle.pam_handle.specs.Pass.{kept_answers};
 ghost use Rattle.pam_handle.specs.Plain.{plain_handle, room_in};
+ghost use Rattle.pam_handle.specs.Ready.{IsReadyFor};
 ghost use Rattle.pam_handle.specs.StackCalls.{change_goes_on, changed, chauthtok, check, has_pass_flag, update};
 
-use crate::flags::{UPDATE_AUTHTOK, has_pass_flag};
+use crate::flags::has_pass_flag;
 use crate::gear::{Gear, GearTold};
 use crate::handle::Handle;
 use crate::pass::pass;
 use crate::pending::{clear_unless_pending, clear_unless_put_off, taken_up};
-use data_cleanup::nothing_grows;
-use dispatch_core::{Paused, soundness_is_transitive};
+use dispatch_core::{PassRequest, Paused};
 use frozen_chain::Kept;
 use handler_chain::Chain;
-use pam_base::{Code, Func, NoMemory};
-use pam_room::{PRELIM_CHECK, Room, RoomTold, World, WorldTold};
+use pam_base::{Code, Func, NoMemory, PRELIM_CHECK, UPDATE_AUTHTOK};
+use pam_room::{Room, RoomTold, World, WorldTold};
 use stack_walk::PassKind;
 use std::alloc::Global;
 
@@ -31,11 +32,6 @@ impl Handle {
     /// that gives SUCCESS one with PAM_UPDATE_AUTHTOK, which goes by the answers of the first. The tokens are cleared before
     /// the first and behind the last. Flags that hold one of these two are answered SYSTEM_ERR, and nothing changes.
     ///
-    /// Where a line puts it off it answers INCOMPLETE and is pending: called again it goes on at that line, with the flags of
-    /// the new call, and what it does before a pass isn't done again. Where another call is pending it answers ABORT, and
-    /// nothing changes. A call that has ended leaves nothing pending and no request for a delay. It takes memory unless it
-    /// aborts; without memory too nothing is pending, no request is left, no datum waits for its cleanup, and what was told
-    /// before stands in front.
     /// Without memory what authentications and openings kept stays, and the tokens are cleared.
     pub fn chauthtok(
         &mut self,
@@ -44,26 +40,51 @@ impl Handle {
         world: &mut World,
         flags: u32,
     ) -> Result<Code, NoMemory>
-        requires names { (plain_handle ⟦<Room as RoomTold>⟧.plain self.old).names ≡ names_of (⟦<Gear as GearTold>⟧.players gear.now) }
-        requires few { length (⟦<Gear as GearTold>⟧.players gear.now) < 2 ^ 32 }
-        requires ready { IsReady (length (⟦<Gear as GearTold>⟧.players gear.now)) (plain_handle ⟦<Room as RoomTold>⟧.plain self.old).room.transaction (⟦<World as WorldTold>⟧.plain world.old).process }
-        ensures tells { ⟦<Room as RoomTold>⟧.tells (room_in self.new) ≡ ⟦<Room as RoomTold>⟧.tells (room_in self.old) }
-        ensures world_tells { ⟦<World as WorldTold>⟧.tells world.new ≡ ⟦<World as WorldTold>⟧.tells world.old }
-        ensures told { IsTrue (⟦<Room as RoomTold>⟧.tells (room_in self.old) && ⟦<World as WorldTold>⟧.tells world.old) →
-            IfOk result (λ code. CallsAs (chauthtok (⟦<Gear as GearTold>⟧.players gear.now) flags (plain_handle ⟦<Room as RoomTold>⟧.plain self.old) (⟦<World as WorldTold>⟧.plain world.old)) code (plain_handle ⟦<Room as RoomTold>⟧.plain self.new) (⟦<World as WorldTold>⟧.plain world.new)) }
-        ensures refused { IsTrue (has_pass_flag flags) → (result ≡ Ok Code.SystemErr) × (self.new ≡ self.old) × (world.new ≡ world.old) }
-        ensures aborted { has_pass_flag flags ≡ false → IsTrue (is_other_pending (plain_handle ⟦<Room as RoomTold>⟧.plain self.old).pending Func.ChAuthTok) →
+        requires { IsReadyFor (⟦<Gear as GearTold>⟧.players gear.now)
+            (plain_handle ⟦<Room as RoomTold>⟧.plain self.old)
+            (⟦<World as WorldTold>⟧.plain world.old).process }
+        ensures tells { ⟦<Room as RoomTold>⟧.tells (room_in self.new)
+            ≡ ⟦<Room as RoomTold>⟧.tells (room_in self.old) }
+        ensures world_tells { ⟦<World as WorldTold>⟧.tells world.new
+            ≡ ⟦<World as WorldTold>⟧.tells world.old }
+        ensures told { IsTrue (⟦<Room as RoomTold>⟧.tells (room_in self.old)
+            && ⟦<World as WorldTold>⟧.tells world.old) →
+            IfOk result (λ code. CallsAs (chauthtok (⟦<Gear as GearTold>⟧.players gear.now) flags
+            (plain_handle ⟦<Room as RoomTold>⟧.plain self.old)
+            (⟦<World as WorldTold>⟧.plain world.old)) code
+            (plain_handle ⟦<Room as RoomTold>⟧.plain self.new)
+            (⟦<World as WorldTold>⟧.plain world.new)) }
+        ensures refused { IsTrue (has_pass_flag flags) →
+            (result ≡ Ok Code.SystemErr) × (self.new ≡ self.old) × (world.new ≡ world.old) }
+        ensures aborted { has_pass_flag flags ≡ false →
+            IsTrue (is_other_pending
+            (plain_handle ⟦<Room as RoomTold>⟧.plain self.old).pending Func.ChAuthTok) →
             (result ≡ Ok Code.Abort) × (self.new ≡ self.old) × (world.new ≡ world.old) }
-        ensures left { has_pass_flag flags ≡ false → is_other_pending (plain_handle ⟦<Room as RoomTold>⟧.plain self.old).pending Func.ChAuthTok ≡ false →
-            IfOk result (λ code. LeavesPending Func.ChAuthTok code (plain_handle ⟦<Room as RoomTold>⟧.plain self.old) (plain_handle ⟦<Room as RoomTold>⟧.plain self.new) (plain_handle ⟦<Room as RoomTold>⟧.plain self.new).pending) }
+        ensures left { has_pass_flag flags ≡ false →
+            is_other_pending
+            (plain_handle ⟦<Room as RoomTold>⟧.plain self.old).pending Func.ChAuthTok ≡ false →
+            IfOk result (λ code. LeavesPending Func.ChAuthTok code
+            (plain_handle ⟦<Room as RoomTold>⟧.plain self.old)
+            (plain_handle ⟦<Room as RoomTold>⟧.plain self.new)
+            (plain_handle ⟦<Room as RoomTold>⟧.plain self.new).pending) }
         ensures no_nap { OnErr result (world.new.nap ≡ world.old.nap) }
-        ensures err { OnErr result (FailsAs Func.ChAuthTok (plain_handle ⟦<Room as RoomTold>⟧.plain self.old) (plain_handle ⟦<Room as RoomTold>⟧.plain self.new)) }
-        ensures others { LeavesOthers Func.ChAuthTok (plain_handle ⟦<Room as RoomTold>⟧.plain self.old) (plain_handle ⟦<Room as RoomTold>⟧.plain self.new) }
-        ensures sound { RunsSoundly (notes_of (⟦<Gear as GearTold>⟧.players gear.now)) (length (⟦<Gear as GearTold>⟧.players gear.now))
-            (plain_handle ⟦<Room as RoomTold>⟧.plain self.old) (plain_handle ⟦<Room as RoomTold>⟧.plain self.new) (⟦<World as WorldTold>⟧.plain world.old).process (⟦<World as WorldTold>⟧.plain world.new).process }
-        ensures ready { IsReady (length (⟦<Gear as GearTold>⟧.players gear.now)) (plain_handle ⟦<Room as RoomTold>⟧.plain self.new).room.transaction (⟦<World as WorldTold>⟧.plain world.new).process }
+        ensures err { OnErr result (FailsAs Func.ChAuthTok
+            (plain_handle ⟦<Room as RoomTold>⟧.plain self.old)
+            (plain_handle ⟦<Room as RoomTold>⟧.plain self.new)) }
+        ensures others { LeavesOthers Func.ChAuthTok
+            (plain_handle ⟦<Room as RoomTold>⟧.plain self.old)
+            (plain_handle ⟦<Room as RoomTold>⟧.plain self.new) }
+        ensures sound { RunsSoundly (notes_of (⟦<Gear as GearTold>⟧.players gear.now))
+            (length (⟦<Gear as GearTold>⟧.players gear.now))
+            (plain_handle ⟦<Room as RoomTold>⟧.plain self.old)
+            (plain_handle ⟦<Room as RoomTold>⟧.plain self.new)
+            (⟦<World as WorldTold>⟧.plain world.old).process
+            (⟦<World as WorldTold>⟧.plain world.new).process }
+        ensures ready { IsReadyFor (⟦<Gear as GearTold>⟧.players gear.now)
+            (plain_handle ⟦<Room as RoomTold>⟧.plain self.new)
+            (⟦<World as WorldTold>⟧.plain world.new).process }
     {
-        nothing_grows();
+        data_cleanup::laws::nothing_grows();
         if has_pass_flag(flags) {
             return Ok(Code::SystemErr);
         }
@@ -100,21 +121,35 @@ fn change(
     world: &mut World,
 ) -> Result<Code, NoMemory>
     requires names { chain.old.names ≡ names_of (⟦<Gear as GearTold>⟧.players gear.now) }
-    requires few { length (⟦<Gear as GearTold>⟧.players gear.now) < 2 ^ 32 }
-    requires ready { IsReady (length (⟦<Gear as GearTold>⟧.players gear.now)) (plain_transaction room.old.transaction) (plain_process world.old.process) }
+    requires ready { IsReady (length (⟦<Gear as GearTold>⟧.players gear.now))
+        (plain_transaction room.old.transaction) (plain_process world.old.process) }
     ensures tells { ⟦<Room as RoomTold>⟧.tells room.new ≡ ⟦<Room as RoomTold>⟧.tells room.old }
-    ensures world_tells { ⟦<World as WorldTold>⟧.tells world.new ≡ ⟦<World as WorldTold>⟧.tells world.old }
+    ensures world_tells { ⟦<World as WorldTold>⟧.tells world.new
+        ≡ ⟦<World as WorldTold>⟧.tells world.old }
     ensures nap { world.new.nap ≡ world.old.nap }
-    ensures told { IsTrue (⟦<Room as RoomTold>⟧.tells room.old && ⟦<World as WorldTold>⟧.tells world.old) → (h : PlainHandle) → h.room ≡ ⟦<Room as RoomTold>⟧.plain room.old → h.stacks.password ≡ chain.old.nodes →
-        IfOk result (λ code. change_goes_on (⟦<Gear as GearTold>⟧.players gear.now) flags (past_of paused.old) (kept_answers first.old) h (⟦<World as WorldTold>⟧.plain world.old)
-        ≡ changed paused.new code (record h { room = ⟦<Room as RoomTold>⟧.plain room.new; pending = pending_behind Func.ChAuthTok (kept_answers first.new) paused.new }) (⟦<World as WorldTold>⟧.plain world.new)) }
+    ensures told { IsTrue (⟦<Room as RoomTold>⟧.tells room.old
+        && ⟦<World as WorldTold>⟧.tells world.old) → (h : PlainHandle) →
+        h.room ≡ ⟦<Room as RoomTold>⟧.plain room.old → h.stacks.password ≡ chain.old.nodes →
+        IfOk result (λ code. change_goes_on (⟦<Gear as GearTold>⟧.players gear.now) flags
+        (past_of paused.old)
+        (kept_answers first.old) h (⟦<World as WorldTold>⟧.plain world.old)
+        ≡ changed paused.new code
+        (record h {
+          room =
+              ⟦<Room as RoomTold>⟧.plain room.new;
+          pending = pending_behind Func.ChAuthTok
+              (kept_answers first.new) paused.new;
+        }) (⟦<World as WorldTold>⟧.plain world.new)) }
     ensures paused { OnErr result (paused.new ≡ None) }
     ensures put_off { IfOk result (λ code. IsTrue (is_some paused.new) → code ≡ Code.Incomplete) }
     ensures nodes { chain.new.nodes ≡ chain.old.nodes }
     ensures names { chain.new.names ≡ chain.old.names }
-    ensures sound { GoesSoundly (notes_of (⟦<Gear as GearTold>⟧.players gear.now)) (length (⟦<Gear as GearTold>⟧.players gear.now))
-        (plain_transaction room.old.transaction) (plain_transaction room.new.transaction) (plain_process world.old.process) (plain_process world.new.process) }
-    ensures ready { IsReady (length (⟦<Gear as GearTold>⟧.players gear.now)) (plain_transaction room.new.transaction) (plain_process world.new.process) }
+    ensures sound { GoesSoundly (notes_of (⟦<Gear as GearTold>⟧.players gear.now))
+        (length (⟦<Gear as GearTold>⟧.players gear.now))
+        (plain_transaction room.old.transaction) (plain_transaction room.new.transaction)
+        (plain_process world.old.process) (plain_process world.new.process) }
+    ensures ready { IsReady (length (⟦<Gear as GearTold>⟧.players gear.now))
+        (plain_transaction room.new.transaction) (plain_process world.new.process) }
 {
     if first.held() {
         update(alloc, gear, chain, flags, first, paused, room, world)
@@ -135,32 +170,48 @@ fn check(
     world: &mut World,
 ) -> Result<Code, NoMemory>
     requires names { chain.old.names ≡ names_of (⟦<Gear as GearTold>⟧.players gear.now) }
-    requires few { length (⟦<Gear as GearTold>⟧.players gear.now) < 2 ^ 32 }
-    requires ready { IsReady (length (⟦<Gear as GearTold>⟧.players gear.now)) (plain_transaction room.old.transaction) (plain_process world.old.process) }
+    requires ready { IsReady (length (⟦<Gear as GearTold>⟧.players gear.now))
+        (plain_transaction room.old.transaction) (plain_process world.old.process) }
     requires first { first.old ≡ None }
     ensures tells { ⟦<Room as RoomTold>⟧.tells room.new ≡ ⟦<Room as RoomTold>⟧.tells room.old }
-    ensures world_tells { ⟦<World as WorldTold>⟧.tells world.new ≡ ⟦<World as WorldTold>⟧.tells world.old }
+    ensures world_tells { ⟦<World as WorldTold>⟧.tells world.new
+        ≡ ⟦<World as WorldTold>⟧.tells world.old }
     ensures nap { world.new.nap ≡ world.old.nap }
-    ensures told { IsTrue (⟦<Room as RoomTold>⟧.tells room.old && ⟦<World as WorldTold>⟧.tells world.old) → (h : PlainHandle) → h.room ≡ ⟦<Room as RoomTold>⟧.plain room.old → h.stacks.password ≡ chain.old.nodes →
-        IfOk result (λ code. check (⟦<Gear as GearTold>⟧.players gear.now) flags (past_of paused.old) h (⟦<World as WorldTold>⟧.plain world.old)
-        ≡ changed paused.new code (record h { room = ⟦<Room as RoomTold>⟧.plain room.new; pending = pending_behind Func.ChAuthTok (kept_answers first.new) paused.new }) (⟦<World as WorldTold>⟧.plain world.new)) }
+    ensures told { IsTrue (⟦<Room as RoomTold>⟧.tells room.old
+        && ⟦<World as WorldTold>⟧.tells world.old) → (h : PlainHandle) →
+        h.room ≡ ⟦<Room as RoomTold>⟧.plain room.old → h.stacks.password ≡ chain.old.nodes →
+        IfOk result (λ code. check (⟦<Gear as GearTold>⟧.players gear.now) flags
+        (past_of paused.old) h
+        (⟦<World as WorldTold>⟧.plain world.old)
+        ≡ changed paused.new code
+        (record h {
+          room =
+              ⟦<Room as RoomTold>⟧.plain room.new;
+          pending = pending_behind Func.ChAuthTok
+              (kept_answers first.new) paused.new;
+        }) (⟦<World as WorldTold>⟧.plain world.new)) }
     ensures paused { OnErr result (paused.new ≡ None) }
     ensures put_off { IfOk result (λ code. IsTrue (is_some paused.new) → code ≡ Code.Incomplete) }
     ensures nodes { chain.new.nodes ≡ chain.old.nodes }
     ensures names { chain.new.names ≡ chain.old.names }
-    ensures sound { GoesSoundly (notes_of (⟦<Gear as GearTold>⟧.players gear.now)) (length (⟦<Gear as GearTold>⟧.players gear.now))
-        (plain_transaction room.old.transaction) (plain_transaction room.new.transaction) (plain_process world.old.process) (plain_process world.new.process) }
-    ensures ready { IsReady (length (⟦<Gear as GearTold>⟧.players gear.now)) (plain_transaction room.new.transaction) (plain_process world.new.process) }
+    ensures sound { GoesSoundly (notes_of (⟦<Gear as GearTold>⟧.players gear.now))
+        (length (⟦<Gear as GearTold>⟧.players gear.now))
+        (plain_transaction room.old.transaction) (plain_transaction room.new.transaction)
+        (plain_process world.old.process) (plain_process world.new.process) }
+    ensures ready { IsReady (length (⟦<Gear as GearTold>⟧.players gear.now))
+        (plain_transaction room.new.transaction) (plain_process world.new.process) }
 {
-    soundness_is_transitive();
+    dispatch_core::laws::soundness_is_transitive();
     let mut kept = Kept::none();
     let code = pass(
         alloc,
         gear,
         chain,
-        Func::ChAuthTok,
-        flags | PRELIM_CHECK,
-        PassKind::Keep,
+        PassRequest {
+            func: Func::ChAuthTok,
+            flags: flags | PRELIM_CHECK,
+            kind: PassKind::Keep,
+        },
         &mut kept,
         paused,
         room,
@@ -187,29 +238,45 @@ fn update(
     world: &mut World,
 ) -> Result<Code, NoMemory>
     requires names { chain.old.names ≡ names_of (⟦<Gear as GearTold>⟧.players gear.now) }
-    requires few { length (⟦<Gear as GearTold>⟧.players gear.now) < 2 ^ 32 }
-    requires ready { IsReady (length (⟦<Gear as GearTold>⟧.players gear.now)) (plain_transaction room.old.transaction) (plain_process world.old.process) }
+    requires ready { IsReady (length (⟦<Gear as GearTold>⟧.players gear.now))
+        (plain_transaction room.old.transaction) (plain_process world.old.process) }
     ensures tells { ⟦<Room as RoomTold>⟧.tells room.new ≡ ⟦<Room as RoomTold>⟧.tells room.old }
-    ensures world_tells { ⟦<World as WorldTold>⟧.tells world.new ≡ ⟦<World as WorldTold>⟧.tells world.old }
+    ensures world_tells { ⟦<World as WorldTold>⟧.tells world.new
+        ≡ ⟦<World as WorldTold>⟧.tells world.old }
     ensures nap { world.new.nap ≡ world.old.nap }
-    ensures told { IsTrue (⟦<Room as RoomTold>⟧.tells room.old && ⟦<World as WorldTold>⟧.tells world.old) → (h : PlainHandle) → h.room ≡ ⟦<Room as RoomTold>⟧.plain room.old → h.stacks.password ≡ chain.old.nodes →
-        IfOk result (λ code. update (⟦<Gear as GearTold>⟧.players gear.now) flags (kept_answers first.old) (past_of paused.old) h (⟦<World as WorldTold>⟧.plain world.old)
-        ≡ changed paused.new code (record h { room = ⟦<Room as RoomTold>⟧.plain room.new; pending = pending_behind Func.ChAuthTok (kept_answers first.new) paused.new }) (⟦<World as WorldTold>⟧.plain world.new)) }
+    ensures told { IsTrue (⟦<Room as RoomTold>⟧.tells room.old
+        && ⟦<World as WorldTold>⟧.tells world.old) → (h : PlainHandle) →
+        h.room ≡ ⟦<Room as RoomTold>⟧.plain room.old → h.stacks.password ≡ chain.old.nodes →
+        IfOk result (λ code. update (⟦<Gear as GearTold>⟧.players gear.now) flags
+        (kept_answers first.old)
+        (past_of paused.old) h (⟦<World as WorldTold>⟧.plain world.old)
+        ≡ changed paused.new code
+        (record h {
+          room =
+              ⟦<Room as RoomTold>⟧.plain room.new;
+          pending = pending_behind Func.ChAuthTok
+              (kept_answers first.new) paused.new;
+        }) (⟦<World as WorldTold>⟧.plain world.new)) }
     ensures paused { OnErr result (paused.new ≡ None) }
     ensures put_off { IfOk result (λ code. IsTrue (is_some paused.new) → code ≡ Code.Incomplete) }
     ensures nodes { chain.new.nodes ≡ chain.old.nodes }
     ensures names { chain.new.names ≡ chain.old.names }
-    ensures sound { GoesSoundly (notes_of (⟦<Gear as GearTold>⟧.players gear.now)) (length (⟦<Gear as GearTold>⟧.players gear.now))
-        (plain_transaction room.old.transaction) (plain_transaction room.new.transaction) (plain_process world.old.process) (plain_process world.new.process) }
-    ensures ready { IsReady (length (⟦<Gear as GearTold>⟧.players gear.now)) (plain_transaction room.new.transaction) (plain_process world.new.process) }
+    ensures sound { GoesSoundly (notes_of (⟦<Gear as GearTold>⟧.players gear.now))
+        (length (⟦<Gear as GearTold>⟧.players gear.now))
+        (plain_transaction room.old.transaction) (plain_transaction room.new.transaction)
+        (plain_process world.old.process) (plain_process world.new.process) }
+    ensures ready { IsReady (length (⟦<Gear as GearTold>⟧.players gear.now))
+        (plain_transaction room.new.transaction) (plain_process world.new.process) }
 {
     pass(
         alloc,
         gear,
         chain,
-        Func::ChAuthTok,
-        flags | UPDATE_AUTHTOK,
-        PassKind::Follow,
+        PassRequest {
+            func: Func::ChAuthTok,
+            flags: flags | UPDATE_AUTHTOK,
+            kind: PassKind::Follow,
+        },
         first,
         paused,
         room,

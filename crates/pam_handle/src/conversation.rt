@@ -5,7 +5,7 @@ ghost use Rattle.pam_handle.specs.Plain.{in_box, plain_handle, room_in};
 
 use crate::handle::Handle;
 use conv_port::{Conv, offer_to};
-use pam_base::NoMemory;
+use pam_base::{MAX_TEXT, NoMemory};
 use pam_room::{Room, RoomTold};
 use std::alloc::Global;
 use std::mem;
@@ -15,7 +15,9 @@ impl Handle {
     pub fn set_conv(&mut self, conv: Box<dyn Conv>) -> Box<dyn Conv>
         ensures old { result ≡ (room_in self.old).conv }
         ensures conv { (room_in self.new).conv ≡ conv }
-        ensures plain { plain_handle ⟦<Room as RoomTold>⟧.plain self.new ≡ with_conversation (conv_holds conv) (plain_handle ⟦<Room as RoomTold>⟧.plain self.old) }
+        ensures plain { plain_handle ⟦<Room as RoomTold>⟧.plain self.new
+            ≡ with_conversation (conv_holds conv)
+            (plain_handle ⟦<Room as RoomTold>⟧.plain self.old) }
     {
         mem::replace(&mut self.room.conv, conv)
     }
@@ -23,13 +25,19 @@ impl Handle {
     /// Offers the conversation a reply of at most 512 bytes for a prompt to come, as `Conv::offer` does. Without memory a
     /// conversation that tells holds what it held.
     pub fn offer(&mut self, alloc: Global, text: &[u8]) -> Result<(), NoMemory>
-        requires { length text.now ≤ 512 }
-        ensures tells { ⟦<Room as RoomTold>⟧.tells (room_in self.new) ≡ ⟦<Room as RoomTold>⟧.tells (room_in self.old) }
+        requires { length text.now ≤ MAX_TEXT }
+        ensures tells { ⟦<Room as RoomTold>⟧.tells (room_in self.new)
+            ≡ ⟦<Room as RoomTold>⟧.tells (room_in self.old) }
         ensures told { IsTrue (⟦<Room as RoomTold>⟧.tells (room_in self.old)) →
-            TakesOffer result text.now (plain_handle ⟦<Room as RoomTold>⟧.plain self.old).room.conv (plain_handle ⟦<Room as RoomTold>⟧.plain self.new).room.conv }
-        ensures others { plain_handle ⟦<Room as RoomTold>⟧.plain self.new ≡ with_conversation (plain_handle ⟦<Room as RoomTold>⟧.plain self.new).room.conv (plain_handle ⟦<Room as RoomTold>⟧.plain self.old) }
-        ensures faults { conv_faults (in_box (room_in self.new).conv) ≡ conv_faults (in_box (room_in self.old).conv) }
-        ensures deferrals { conv_deferrals (in_box (room_in self.new).conv) ≡ conv_deferrals (in_box (room_in self.old).conv) }
+            TakesOffer result text.now (plain_handle ⟦<Room as RoomTold>⟧.plain self.old).room.conv
+            (plain_handle ⟦<Room as RoomTold>⟧.plain self.new).room.conv }
+        ensures others { plain_handle ⟦<Room as RoomTold>⟧.plain self.new
+            ≡ with_conversation (plain_handle ⟦<Room as RoomTold>⟧.plain self.new).room.conv
+            (plain_handle ⟦<Room as RoomTold>⟧.plain self.old) }
+        ensures faults { conv_faults (in_box (room_in self.new).conv)
+            ≡ conv_faults (in_box (room_in self.old).conv) }
+        ensures deferrals { conv_deferrals (in_box (room_in self.new).conv)
+            ≡ conv_deferrals (in_box (room_in self.old).conv) }
     {
         offer_to(&mut *self.room.conv, alloc, text)
     }

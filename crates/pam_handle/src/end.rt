@@ -1,10 +1,9 @@
-ghost use Rattle.std.specs.Prelude.{◌≡◌, length};
-ghost use Rattle.dispatch_core.specs.Lines.{names_of};
+ghost use Rattle.std.specs.Prelude.{◌≡◌};
 ghost use Rattle.pam_room.specs.Module.{notes_of};
-ghost use Rattle.pam_room.specs.Stays.{IsReady};
 ghost use Rattle.pam_room.specs.Plain.{plain_process};
 ghost use Rattle.pam_handle.specs.End.{process_after_end, world_after_end};
 ghost use Rattle.pam_handle.specs.Plain.{plain_handle, room_in};
+ghost use Rattle.pam_handle.specs.Ready.{IsReadyFor};
 
 use crate::gear::{Gear, GearTold};
 use crate::handle::Handle;
@@ -16,14 +15,22 @@ impl Handle {
     /// status, as it is given, the last name first, and the receipt is filed. The conversation is given back. It takes no
     /// memory.
     pub fn end(self, gear: &Gear, world: &mut World, status: u32) -> Box<dyn Conv>
-        requires names { (plain_handle ⟦<Room as RoomTold>⟧.plain self).names ≡ names_of (⟦<Gear as GearTold>⟧.players gear.now) }
-        requires ready { IsReady (length (⟦<Gear as GearTold>⟧.players gear.now)) (plain_handle ⟦<Room as RoomTold>⟧.plain self).room.transaction (⟦<World as WorldTold>⟧.plain world.old).process }
+        requires { IsReadyFor (⟦<Gear as GearTold>⟧.players gear.now)
+            (plain_handle ⟦<Room as RoomTold>⟧.plain self)
+            (⟦<World as WorldTold>⟧.plain world.old).process }
         ensures conv { result ≡ (room_in self).conv }
-        ensures tells { ⟦<World as WorldTold>⟧.tells world.new ≡ ⟦<World as WorldTold>⟧.tells world.old }
-        ensures world { ⟦<World as WorldTold>⟧.plain world.new ≡ world_after_end (notes_of (⟦<Gear as GearTold>⟧.players gear.now)) status (plain_handle ⟦<Room as RoomTold>⟧.plain self) (⟦<World as WorldTold>⟧.plain world.old) }
+        ensures tells { ⟦<World as WorldTold>⟧.tells world.new
+            ≡ ⟦<World as WorldTold>⟧.tells world.old }
+        ensures world { ⟦<World as WorldTold>⟧.plain world.new
+            ≡ world_after_end (notes_of (⟦<Gear as GearTold>⟧.players gear.now)) status
+            (plain_handle ⟦<Room as RoomTold>⟧.plain self)
+            (⟦<World as WorldTold>⟧.plain world.old) }
         ensures others { world.new ≡ record world.old {
           process = record world.old.process {
-            ledger = (process_after_end (notes_of (⟦<Gear as GearTold>⟧.players gear.now)) status (plain_handle ⟦<Room as RoomTold>⟧.plain self) (plain_process world.old.process)).ledger;
+            ledger =
+                (process_after_end (notes_of (⟦<Gear as GearTold>⟧.players gear.now)) status
+                (plain_handle ⟦<Room as RoomTold>⟧.plain self)
+                (plain_process world.old.process)).ledger;
           };
         } }
     {

@@ -15,11 +15,17 @@ impl Handle {
     /// BadItem exactly where the name is empty or an unset one is deleted. A deletion takes no memory. After a refusal and
     /// without memory all is as it was.
     pub fn putenv(&mut self, text: &[u8]) -> Result<(), Refuse<BadItem>>
-        ensures tells { ⟦<Room as RoomTold>⟧.tells (room_in self.new) ≡ ⟦<Room as RoomTold>⟧.tells (room_in self.old) }
-        ensures ok { OnOk result ((plain_handle ⟦<Room as RoomTold>⟧.plain self.new) ≡ with_environment
-            (after_put text.now (plain_handle ⟦<Room as RoomTold>⟧.plain self.old).room.transaction.env) (plain_handle ⟦<Room as RoomTold>⟧.plain self.old)) }
+        ensures tells { ⟦<Room as RoomTold>⟧.tells (room_in self.new)
+            ≡ ⟦<Room as RoomTold>⟧.tells (room_in self.old) }
+        ensures ok { OnOk result ((plain_handle ⟦<Room as RoomTold>⟧.plain self.new)
+            ≡ with_environment
+            (after_put text.now
+            (plain_handle ⟦<Room as RoomTold>⟧.plain self.old).room.transaction.env)
+            (plain_handle ⟦<Room as RoomTold>⟧.plain self.old)) }
         ensures err { OnErr result (self.new ≡ self.old) }
-        ensures bad_item { (result ≡ Err (Refuse.Named bad_item)) ↔ IsTrue (is_refused text.now (plain_handle ⟦<Room as RoomTold>⟧.plain self.old).room.transaction.env) }
+        ensures bad_item { (result ≡ Err (Refuse.Named bad_item)) ↔ IsTrue
+            (is_refused text.now
+            (plain_handle ⟦<Room as RoomTold>⟧.plain self.old).room.transaction.env) }
         ensures deletion { IsTrue (is_deletion text.now) → result ≢ Err Refuse.NoMemory }
     {
         self.room.transaction.env.put(text)
@@ -27,14 +33,17 @@ impl Handle {
 
     /// The value of a name; None where it isn't set (`pam_getenv(3)`).
     pub fn getenv(&self, name: &[u8]) -> Option<&[u8]>
-        ensures { option_copied result ≡ value_of name.now (plain_handle ⟦<Room as RoomTold>⟧.plain self.now).room.transaction.env }
+        ensures { option_copied result ≡ value_of name.now
+            (plain_handle ⟦<Room as RoomTold>⟧.plain self.now).room.transaction.env }
     {
         self.room.transaction.env.get(name)
     }
 
     /// A copy of all variables, `NAME=VALUE` each, in the order in which they were first set (`pam_getenvlist(3)`).
     pub fn getenvlist(&self, alloc: Global) -> Result<Texts, NoMemory>
-        ensures { IfOk result (λ texts. texts ≡ map variable_text (plain_handle ⟦<Room as RoomTold>⟧.plain self.now).room.transaction.env) }
+        ensures { IfOk result (λ texts. texts
+            ≡ map variable_text
+            (plain_handle ⟦<Room as RoomTold>⟧.plain self.now).room.transaction.env) }
     {
         self.room.transaction.env.list(alloc)
     }

@@ -1,3 +1,5 @@
+ghost use Rattle.std.specs.Prelude.{◌<◌, ◌^◌, length};
+
 use fail_delay::DelayFn;
 use pam_room::Module;
 
@@ -7,6 +9,7 @@ use pam_room::Module;
 pub struct Gear {
     pub mods: Vec<Box<dyn Module>>,
     pub delay: DelayFn,
+    ghost few: { length mods.items < 2 ^ 32 },
 }
 
 /// Names the modules of a gear, for contracts.

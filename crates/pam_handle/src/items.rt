@@ -16,11 +16,15 @@ impl Handle {
     /// SERVICE, which the start alone sets, for the tokens, which are the modules', and for CONV and FAIL_DELAY, which have
     /// calls of their own. After a refusal and without memory all is as it was. A call that is pending stays so.
     pub fn set_item(&mut self, item: ItemName, value: Option<&[u8]>) -> Result<(), Refuse<BadItem>>
-        ensures tells { ⟦<Room as RoomTold>⟧.tells (room_in self.new) ≡ ⟦<Room as RoomTold>⟧.tells (room_in self.old) }
+        ensures tells { ⟦<Room as RoomTold>⟧.tells (room_in self.new)
+            ≡ ⟦<Room as RoomTold>⟧.tells (room_in self.old) }
         ensures ok { OnOk result ((plain_handle ⟦<Room as RoomTold>⟧.plain self.new) ≡ with_items
-            (with_text (plain_handle ⟦<Room as RoomTold>⟧.plain self.old).room.transaction.items item (option_copied value.entry)) (plain_handle ⟦<Room as RoomTold>⟧.plain self.old)) }
+            (with_text
+            (plain_handle ⟦<Room as RoomTold>⟧.plain self.old).room.transaction.items item
+            (option_copied value.entry)) (plain_handle ⟦<Room as RoomTold>⟧.plain self.old)) }
         ensures err { OnErr result (self.new ≡ self.old) }
-        ensures bad_item { (result ≡ Err (Refuse.Named bad_item)) ↔ IsTrue (is_refused ApplicationSets item) }
+        ensures bad_item { (result ≡ Err (Refuse.Named bad_item)) ↔ IsTrue
+            (is_refused ApplicationSets item) }
         ensures unset { value.entry ≡ None → result ≢ Err Refuse.NoMemory }
     {
         self.room.transaction.items.set_app(item, value)
@@ -28,7 +32,9 @@ impl Handle {
 
     /// `pam_get_item(3)`; None where the item isn't set. BadItem exactly for the tokens, CONV and FAIL_DELAY.
     pub fn get_item(&self, item: ItemName) -> Result<Option<&[u8]>, BadItem>
-        ensures ok { IfOk result (λ text. option_copied text ≡ text_of (plain_handle ⟦<Room as RoomTold>⟧.plain self.now).room.transaction.items item) }
+        ensures ok { IfOk result (λ text. option_copied text
+            ≡ text_of
+            (plain_handle ⟦<Room as RoomTold>⟧.plain self.now).room.transaction.items item) }
         ensures bad_item { IsErr result ↔ IsTrue (is_refused ApplicationGets item) }
     {
         self.room.transaction.items.get_app(item)

@@ -2,8 +2,7 @@
 //! items, environment, delays and conversation, and its end. A stack call may be put off, and goes on when it is called
 //! again.
 //!
-//! Begin at `handle.rt` and `authenticate.rt`; `pass.rt` hands a pass over to the stack, and `put_off.rt` is what stays of a
-//! call that is to go on.
+//! Begin at start.rt and authenticate.rt; pass.rt is one pass, pending.rt what stands round it where it is put off.
 #![tactic(auto)]
 
 mod acct_mgmt;
@@ -13,6 +12,7 @@ mod chauthtok;
 mod close_session;
 mod conversation;
 mod delay;
+mod delaying;
 mod end;
 mod environment;
 mod flags;
@@ -29,7 +29,6 @@ mod setcred;
 mod start;
 mod take_told;
 mod wait;
-mod waiting;
 
 pub use flags::has_pass_flag;
 pub use gear::{Gear, GearTold};

@@ -16,7 +16,9 @@ impl Handle {
     /// account, password and session, and in each in written order. A name stands as often as it is missing; a line that is
     /// silent about its module (a `-` before its type, `pam.conf(5)`) adds none.
     pub fn missing(&self, alloc: Global) -> Result<Texts, NoMemory>
-        ensures { IfOk result (λ names. names ≡ missing_from (plain_handle ⟦<Room as RoomTold>⟧.plain self.now).names (plain_handle ⟦<Room as RoomTold>⟧.plain self.now).stacks) }
+        ensures { IfOk result (λ names. names
+            ≡ missing_from (plain_handle ⟦<Room as RoomTold>⟧.plain self.now).names
+            (plain_handle ⟦<Room as RoomTold>⟧.plain self.now).stacks) }
     {
         let mut names = Texts::new(alloc);
         add_missing(alloc, &self.chains.auth, &mut names)?;
@@ -39,7 +41,8 @@ fn add_missing(alloc: Global, chain: &Chain, names: &mut Texts) -> Result<(), No
 
 fn add_if_missing(alloc: Global, chain: &Chain, i: usize, names: &mut Texts) -> Result<(), NoMemory>
     requires { i < lines_in chain.now.nodes }
-    ensures { OnOk result (names.new ≡ names.old ++ missing_of chain.now.names (rule_at chain.now.nodes i)) }
+    ensures { OnOk result (names.new ≡ names.old
+        ++ missing_of chain.now.names (rule_at chain.now.nodes i)) }
 {
     if !chain.silent(i) && chain.module(i).is_none() {
         let name = module_name(chain.path(i).bytes());

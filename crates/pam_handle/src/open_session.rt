@@ -1,17 +1,18 @@
 ghost use Rattle.std.specs.Prelude.{◌≡◌, ◌<◌, ◌^◌, ◌&&◌, false, None, Ok, IfOk, OnErr, IsTrue, length};
-ghost use Rattle.dispatch_core.specs.Lines.{names_of};
 ghost use Rattle.pam_room.specs.Module.{notes_of};
-ghost use Rattle.pam_room.specs.Stays.{IsReady};
 ghost use Rattle.pam_handle.specs.AnyWorld.{FailsAs, LeavesOthers, LeavesPending, RunsSoundly};
-ghost use Rattle.pam_handle.specs.Call.{CallsAs, is_other_pending};
+ghost use Rattle.dispatch_core.specs.Pending.{is_other_pending};
+ghost use Rattle.pam_handle.specs.Call.{CallsAs};
 ghost use Rattle.pam_handle.specs.Plain.{plain_handle, room_in};
+ghost use Rattle.pam_handle.specs.Ready.{IsReadyFor};
 ghost use Rattle.pam_handle.specs.StackCalls.{open_session};
 
 use crate::gear::{Gear, GearTold};
 use crate::handle::Handle;
 use crate::pass::pass;
 use crate::pending::taken_up;
-use data_cleanup::nothing_grows;
+use data_cleanup::laws;
+use dispatch_core::PassRequest;
 use frozen_chain::Kept;
 use pam_base::{Code, Func, NoMemory};
 use pam_room::{Room, RoomTold, World, WorldTold};
@@ -21,11 +22,6 @@ use std::alloc::Global;
 impl Handle {
     /// Opens a session (`pam_open_session(3)`): a pass over the session stack, whose answers are kept for `close_session`.
     ///
-    /// Where a line puts it off it answers INCOMPLETE and is pending: called again it goes on at that line, with the flags of
-    /// the new call, and what it does before a pass isn't done again. Where another call is pending it answers ABORT, and
-    /// nothing changes. A call that has ended leaves nothing pending and no request for a delay. It takes memory unless it
-    /// aborts; without memory too nothing is pending, no request is left, no datum waits for its cleanup, and what was told
-    /// before stands in front.
     /// Without memory no answers of an opening are kept.
     pub fn open_session(
         &mut self,
@@ -34,25 +30,47 @@ impl Handle {
         world: &mut World,
         flags: u32,
     ) -> Result<Code, NoMemory>
-        requires names { (plain_handle ⟦<Room as RoomTold>⟧.plain self.old).names ≡ names_of (⟦<Gear as GearTold>⟧.players gear.now) }
-        requires few { length (⟦<Gear as GearTold>⟧.players gear.now) < 2 ^ 32 }
-        requires ready { IsReady (length (⟦<Gear as GearTold>⟧.players gear.now)) (plain_handle ⟦<Room as RoomTold>⟧.plain self.old).room.transaction (⟦<World as WorldTold>⟧.plain world.old).process }
-        ensures tells { ⟦<Room as RoomTold>⟧.tells (room_in self.new) ≡ ⟦<Room as RoomTold>⟧.tells (room_in self.old) }
-        ensures world_tells { ⟦<World as WorldTold>⟧.tells world.new ≡ ⟦<World as WorldTold>⟧.tells world.old }
-        ensures told { IsTrue (⟦<Room as RoomTold>⟧.tells (room_in self.old) && ⟦<World as WorldTold>⟧.tells world.old) →
-            IfOk result (λ code. CallsAs (open_session (⟦<Gear as GearTold>⟧.players gear.now) flags (plain_handle ⟦<Room as RoomTold>⟧.plain self.old) (⟦<World as WorldTold>⟧.plain world.old)) code (plain_handle ⟦<Room as RoomTold>⟧.plain self.new) (⟦<World as WorldTold>⟧.plain world.new)) }
-        ensures aborted { IsTrue (is_other_pending (plain_handle ⟦<Room as RoomTold>⟧.plain self.old).pending Func.OpenSession) →
+        requires { IsReadyFor (⟦<Gear as GearTold>⟧.players gear.now)
+            (plain_handle ⟦<Room as RoomTold>⟧.plain self.old)
+            (⟦<World as WorldTold>⟧.plain world.old).process }
+        ensures tells { ⟦<Room as RoomTold>⟧.tells (room_in self.new)
+            ≡ ⟦<Room as RoomTold>⟧.tells (room_in self.old) }
+        ensures world_tells { ⟦<World as WorldTold>⟧.tells world.new
+            ≡ ⟦<World as WorldTold>⟧.tells world.old }
+        ensures told { IsTrue (⟦<Room as RoomTold>⟧.tells (room_in self.old)
+            && ⟦<World as WorldTold>⟧.tells world.old) →
+            IfOk result (λ code. CallsAs (open_session (⟦<Gear as GearTold>⟧.players gear.now) flags
+            (plain_handle ⟦<Room as RoomTold>⟧.plain self.old)
+            (⟦<World as WorldTold>⟧.plain world.old)) code
+            (plain_handle ⟦<Room as RoomTold>⟧.plain self.new)
+            (⟦<World as WorldTold>⟧.plain world.new)) }
+        ensures aborted { IsTrue (is_other_pending
+            (plain_handle ⟦<Room as RoomTold>⟧.plain self.old).pending Func.OpenSession) →
             (result ≡ Ok Code.Abort) × (self.new ≡ self.old) × (world.new ≡ world.old) }
-        ensures left { is_other_pending (plain_handle ⟦<Room as RoomTold>⟧.plain self.old).pending Func.OpenSession ≡ false →
-            IfOk result (λ code. LeavesPending Func.OpenSession code (plain_handle ⟦<Room as RoomTold>⟧.plain self.old) (plain_handle ⟦<Room as RoomTold>⟧.plain self.new) (plain_handle ⟦<Room as RoomTold>⟧.plain self.new).pending) }
+        ensures left { is_other_pending (plain_handle ⟦<Room as RoomTold>⟧.plain self.old).pending
+            Func.OpenSession ≡ false →
+            IfOk result (λ code. LeavesPending Func.OpenSession code
+            (plain_handle ⟦<Room as RoomTold>⟧.plain self.old)
+            (plain_handle ⟦<Room as RoomTold>⟧.plain self.new)
+            (plain_handle ⟦<Room as RoomTold>⟧.plain self.new).pending) }
         ensures no_nap { OnErr result (world.new.nap ≡ world.old.nap) }
-        ensures err { OnErr result (FailsAs Func.OpenSession (plain_handle ⟦<Room as RoomTold>⟧.plain self.old) (plain_handle ⟦<Room as RoomTold>⟧.plain self.new)) }
-        ensures others { LeavesOthers Func.OpenSession (plain_handle ⟦<Room as RoomTold>⟧.plain self.old) (plain_handle ⟦<Room as RoomTold>⟧.plain self.new) }
-        ensures sound { RunsSoundly (notes_of (⟦<Gear as GearTold>⟧.players gear.now)) (length (⟦<Gear as GearTold>⟧.players gear.now))
-            (plain_handle ⟦<Room as RoomTold>⟧.plain self.old) (plain_handle ⟦<Room as RoomTold>⟧.plain self.new) (⟦<World as WorldTold>⟧.plain world.old).process (⟦<World as WorldTold>⟧.plain world.new).process }
-        ensures ready { IsReady (length (⟦<Gear as GearTold>⟧.players gear.now)) (plain_handle ⟦<Room as RoomTold>⟧.plain self.new).room.transaction (⟦<World as WorldTold>⟧.plain world.new).process }
+        ensures err { OnErr result (FailsAs Func.OpenSession
+            (plain_handle ⟦<Room as RoomTold>⟧.plain self.old)
+            (plain_handle ⟦<Room as RoomTold>⟧.plain self.new)) }
+        ensures others { LeavesOthers Func.OpenSession
+            (plain_handle ⟦<Room as RoomTold>⟧.plain self.old)
+            (plain_handle ⟦<Room as RoomTold>⟧.plain self.new) }
+        ensures sound { RunsSoundly (notes_of (⟦<Gear as GearTold>⟧.players gear.now))
+            (length (⟦<Gear as GearTold>⟧.players gear.now))
+            (plain_handle ⟦<Room as RoomTold>⟧.plain self.old)
+            (plain_handle ⟦<Room as RoomTold>⟧.plain self.new)
+            (⟦<World as WorldTold>⟧.plain world.old).process
+            (⟦<World as WorldTold>⟧.plain world.new).process }
+        ensures ready { IsReadyFor (⟦<Gear as GearTold>⟧.players gear.now)
+            (plain_handle ⟦<Room as RoomTold>⟧.plain self.new)
+            (⟦<World as WorldTold>⟧.plain world.new).process }
     {
-        nothing_grows();
+        laws::nothing_grows();
         if self.is_other_pending(Func::OpenSession) {
             return Ok(Code::Abort);
         }
@@ -61,9 +79,11 @@ impl Handle {
             alloc,
             gear,
             &mut self.chains.session,
-            Func::OpenSession,
-            flags,
-            PassKind::Keep,
+            PassRequest {
+                func: Func::OpenSession,
+                flags,
+                kind: PassKind::Keep,
+            },
             &mut self.opened,
             &mut paused,
             &mut self.room,

@@ -7,13 +7,14 @@ ghost use Rattle.pam_room.specs.Module.{notes_of};
 ghost use Rattle.pam_room.specs.Plain.{plain_process, plain_transaction};
 ghost use Rattle.pam_room.specs.State.{state_of};
 ghost use Rattle.pam_room.specs.Stays.{IsReady};
-ghost use Rattle.pam_handle.specs.Pass.{PassesTo, following, kept_answers, passed};
+ghost use Rattle.dispatch_core.specs.Calls.{following};
+ghost use Rattle.pam_handle.specs.Pass.{PassesTo, kept_answers, passed};
 
 use crate::gear::{Gear, GearTold};
-use dispatch_core::{Paused, dispatch};
+use dispatch_core::{PassRequest, Paused, dispatch};
 use frozen_chain::Kept;
 use handler_chain::Chain;
-use pam_base::{Code, Func, NoMemory};
+use pam_base::{Code, NoMemory};
 use pam_room::{Room, RoomTold, World, WorldTold};
 use stack_walk::PassKind;
 use std::alloc::Global;
@@ -24,36 +25,40 @@ pub(crate) fn pass(
     alloc: Global,
     gear: &Gear,
     chain: &mut Chain,
-    func: Func,
-    flags: u32,
-    kind: PassKind,
+    request: PassRequest,
     kept: &mut Kept,
     paused: &mut Paused,
     room: &mut Room,
     world: &mut World,
 ) -> Result<Code, NoMemory>
     requires names { chain.old.names ≡ names_of (⟦<Gear as GearTold>⟧.players gear.now) }
-    requires few { length (⟦<Gear as GearTold>⟧.players gear.now) < 2 ^ 32 }
-    requires ready { IsReady (length (⟦<Gear as GearTold>⟧.players gear.now)) (plain_transaction room.old.transaction) (plain_process world.old.process) }
+    requires ready { IsReady (length (⟦<Gear as GearTold>⟧.players gear.now))
+        (plain_transaction room.old.transaction) (plain_process world.old.process) }
     ensures tells { ⟦<Room as RoomTold>⟧.tells room.new ≡ ⟦<Room as RoomTold>⟧.tells room.old }
-    ensures world_tells { ⟦<World as WorldTold>⟧.tells world.new ≡ ⟦<World as WorldTold>⟧.tells world.old }
+    ensures world_tells { ⟦<World as WorldTold>⟧.tells world.new
+        ≡ ⟦<World as WorldTold>⟧.tells world.old }
     ensures nap { world.new.nap ≡ world.old.nap }
-    ensures told { IsTrue (⟦<Room as RoomTold>⟧.tells room.old && ⟦<World as WorldTold>⟧.tells world.old) →
-        IfOk result (λ code. PassesTo (passed (⟦<Gear as GearTold>⟧.players gear.now) func flags kind (kept_answers kept.old) chain.old.nodes (past_of paused.old)
+    ensures told { IsTrue (⟦<Room as RoomTold>⟧.tells room.old
+        && ⟦<World as WorldTold>⟧.tells world.old) →
+        IfOk result (λ code. PassesTo
+        (passed (⟦<Gear as GearTold>⟧.players gear.now) request.func request.flags request.kind
+        (kept_answers kept.old) chain.old.nodes (past_of paused.old)
         (state_of (⟦<Room as RoomTold>⟧.plain room.old) (⟦<World as WorldTold>⟧.plain world.old)))
-        code (kept_answers kept.new) paused.new (state_of (⟦<Room as RoomTold>⟧.plain room.new) (⟦<World as WorldTold>⟧.plain world.new))) }
-    ensures kept { OnErr result (kept.new ≡ kept_failed kind kept.old) }
+        code (kept_answers kept.new) paused.new
+        (state_of (⟦<Room as RoomTold>⟧.plain room.new) (⟦<World as WorldTold>⟧.plain world.new))) }
+    ensures kept { OnErr result (kept.new ≡ kept_failed request.kind kept.old) }
     ensures paused { OnErr result (paused.new ≡ None) }
     ensures put_off { IfOk result (λ code. IsTrue (is_some paused.new) → code ≡ Code.Incomplete) }
     ensures nodes { chain.new.nodes ≡ chain.old.nodes }
     ensures names { chain.new.names ≡ chain.old.names }
-    ensures sound { GoesSoundly (notes_of (⟦<Gear as GearTold>⟧.players gear.now)) (length (⟦<Gear as GearTold>⟧.players gear.now))
-        (plain_transaction room.old.transaction) (plain_transaction room.new.transaction) (plain_process world.old.process) (plain_process world.new.process) }
-    ensures ready { IsReady (length (⟦<Gear as GearTold>⟧.players gear.now)) (plain_transaction room.new.transaction) (plain_process world.new.process) }
+    ensures sound { GoesSoundly (notes_of (⟦<Gear as GearTold>⟧.players gear.now))
+        (length (⟦<Gear as GearTold>⟧.players gear.now))
+        (plain_transaction room.old.transaction) (plain_transaction room.new.transaction)
+        (plain_process world.old.process) (plain_process world.new.process) }
+    ensures ready { IsReady (length (⟦<Gear as GearTold>⟧.players gear.now))
+        (plain_transaction room.new.transaction) (plain_process world.new.process) }
 {
-    dispatch(
-        alloc, chain, &gear.mods, func, flags, kind, kept, paused, room, world,
-    )
+    dispatch(alloc, chain, &gear.mods, request, kept, paused, room, world)
 }
 
 /// A pass that goes by kept answers, where any are held.

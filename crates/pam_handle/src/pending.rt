@@ -1,7 +1,8 @@
 ghost use Rattle.std.specs.Prelude.{◌≡◌, false, None};
 ghost use Rattle.std.specs.Option.{option_map};
 ghost use Rattle.dispatch_core.specs.Given.{past_of};
-ghost use Rattle.pam_handle.specs.Call.{code_at_end, first_in, is_other_pending, items_begun, items_behind, past_in, pending_behind, pending_func, request_behind, same_func};
+ghost use Rattle.dispatch_core.specs.Pending.{first_in, is_other_pending, past_in, pending_behind, pending_func, same_func};
+ghost use Rattle.pam_handle.specs.Call.{code_at_end, items_begun, items_behind, request_behind};
 ghost use Rattle.pam_handle.specs.Pass.{kept_answers};
 ghost use Rattle.pam_handle.specs.Plain.{pending_of, plain_handle, room_in};
 
@@ -27,7 +28,8 @@ impl Handle {
 
     // Whether another call than this one is pending.
     pub(crate) fn is_other_pending(&self, func: Func) -> bool
-        ensures { result ≡ is_other_pending (plain_handle ⟦<Room as RoomTold>⟧.plain self.now).pending func }
+        ensures { result ≡ is_other_pending
+            (plain_handle ⟦<Room as RoomTold>⟧.plain self.now).pending func }
     {
         match &self.pending {
             Some(put_off) => !is_same(put_off.func, func),
@@ -38,11 +40,13 @@ impl Handle {
     // Behind a pass: the call is pending where it was put off, else the request for a delay is forgotten.
     pub(crate) fn settle(&mut self, func: Func, paused: Paused, first: Kept)
         requires { (plain_handle ⟦<Room as RoomTold>⟧.plain self.old).pending ≡ None }
-        ensures tells { ⟦<Room as RoomTold>⟧.tells (room_in self.new) ≡ ⟦<Room as RoomTold>⟧.tells (room_in self.old) }
-        ensures plain { plain_handle ⟦<Room as RoomTold>⟧.plain self.new ≡ record (plain_handle ⟦<Room as RoomTold>⟧.plain self.old) {
-          room = request_behind paused (plain_handle ⟦<Room as RoomTold>⟧.plain self.old).room;
-          pending = pending_behind func (kept_answers first) paused;
-        } }
+        ensures tells { ⟦<Room as RoomTold>⟧.tells (room_in self.new)
+            ≡ ⟦<Room as RoomTold>⟧.tells (room_in self.old) }
+        ensures plain { plain_handle ⟦<Room as RoomTold>⟧.plain self.new
+            ≡ record (plain_handle ⟦<Room as RoomTold>⟧.plain self.old) {
+              room = request_behind paused (plain_handle ⟦<Room as RoomTold>⟧.plain self.old).room;
+              pending = pending_behind func (kept_answers first) paused;
+            } }
     {
         if paused.is_none() {
             self.room.transaction.delay.forget();

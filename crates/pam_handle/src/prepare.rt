@@ -1,6 +1,5 @@
 ghost use Rattle.std.specs.Prelude.{◌≡◌, ◌<◌, ◌^◌, Some, map, length, IfOk};
 ghost use Rattle.std.specs.Option.{option_copied};
-ghost use Rattle.std.specs.Str.{str_to_ascii_lowercase};
 ghost use Rattle.dispatch_core.specs.Lines.{names_of};
 ghost use Rattle.service_load.specs.Load.{AreBounded};
 ghost use Rattle.pam_handle.specs.Plain.{stacks_in};
@@ -10,8 +9,8 @@ use crate::chains::Chains;
 use crate::gear::{Gear, GearTold};
 use handler_chain::flatten;
 use item_store::Items;
-use pam_base::{ItemName, NoMemory, Text, Texts};
-use pam_room::{Module, set_item};
+use pam_base::{ItemName, NoMemory, Text, Texts, lowercase};
+use pam_room::{Module, name_of, set_item};
 use service_load::Trees;
 use std::alloc::Global;
 
@@ -31,14 +30,6 @@ pub(crate) fn first_items(
     Ok(items)
 }
 
-fn lowercase(alloc: Global, word: &[u8]) -> Result<Text, NoMemory>
-    ensures { IfOk result (λ text. text ≡ str_to_ascii_lowercase word.now) }
-{
-    let mut text = Vec::from_slice(alloc, word)?;
-    text.as_mut_slice().make_ascii_lowercase();
-    Ok(Text::from_vec(text))
-}
-
 /// The names of a gear's modules, in order.
 pub(crate) fn module_names(alloc: Global, gear: &Gear) -> Result<Texts, NoMemory>
     ensures { IfOk result (λ names. names ≡ names_of (⟦<Gear as GearTold>⟧.players gear.now)) }
@@ -54,12 +45,6 @@ fn names_in(alloc: Global, mods: &[Box<dyn Module>]) -> Result<Texts, NoMemory>
         names.push(Text::from_bytes(alloc, name_of(handler))?)?;
     }
     Ok(names)
-}
-
-fn name_of(handler: &Box<dyn Module>) -> &[u8]
-    ensures { result.now ≡ label handler.now }
-{
-    handler.name()
 }
 
 /// The stacks of a service, laid flat for modules with these names.

@@ -2,10 +2,10 @@ ghost use Rattle.std.specs.Prelude.{◌≡◌, ◌<◌, ◌^◌, ◌+◌, ℕ, R
 ghost use Rattle.std.specs.Option.{option_copied};
 ghost use Rattle.pam_base.specs.ServiceName.{is_service_name};
 ghost use Rattle.dispatch_core.specs.Lines.{names_of};
-ghost use Rattle.pam_room.specs.Stays.{IsReady};
 ghost use Rattle.service_load.specs.Load.{AreBounded};
 ghost use Rattle.service_load.specs.Loading.{CountsFaults, OnlyCalls};
 ghost use Rattle.pam_handle.specs.Plain.{in_box, plain_handle, room_in, stacks_in};
+ghost use Rattle.pam_handle.specs.Ready.{IsReadyFor};
 ghost use Rattle.pam_handle.specs.Start.{Opens, Prepares, RefusalCounts, Refuses, first_texts, handle_with, new_handle, stacks_of_trees, started};
 
 use crate::chains::Chains;
@@ -43,20 +43,34 @@ impl Handle {
         conv: Box<dyn Conv>,
     ) -> Result<Handle, StartRefused>
         requires service { IsTrue (is_service_name service.now) }
-        requires few { length (⟦<Gear as GearTold>⟧.players gear.now) < 2 ^ 32 }
         ensures conv { IfOk result (λ handle. (room_in handle).conv ≡ conv) }
         ensures given_back { IfErr result (λ refused. refused.conv ≡ conv) }
-        ensures tells { ⟦<World as WorldTold>⟧.tells world.new ≡ ⟦<World as WorldTold>⟧.tells world.old }
+        ensures tells { ⟦<World as WorldTold>⟧.tells world.new
+            ≡ ⟦<World as WorldTold>⟧.tells world.old }
         ensures told { IsTrue (vault_tells (in_box world.old.vault)) →
-            (let s = started number service.now (option_copied user.entry) (conv_holds conv) (names_of (⟦<Gear as GearTold>⟧.players gear.now)) (⟦<World as WorldTold>⟧.plain world.old) in
-            MatchResult result (λ handle. Opens s (plain_handle ⟦<Room as RoomTold>⟧.plain handle) (⟦<World as WorldTold>⟧.plain world.new)) (λ refused. Refuses s refused.why (⟦<World as WorldTold>⟧.plain world.new))) }
-        ensures calls { IsTrue (vault_tells (in_box world.old.vault)) → OnlyCalls (⟦<World as WorldTold>⟧.plain world.old).vault (⟦<World as WorldTold>⟧.plain world.new).vault }
-        ensures fresh { IfOk result (λ handle. plain_handle ⟦<Room as RoomTold>⟧.plain handle ≡ new_handle number service.now (option_copied user.entry) (conv_holds conv)
-            (names_of (⟦<Gear as GearTold>⟧.players gear.now)) (plain_handle ⟦<Room as RoomTold>⟧.plain handle).stacks) }
-        ensures ready { IfOk result (λ handle. IsReady (length (⟦<Gear as GearTold>⟧.players gear.now)) (plain_handle ⟦<Room as RoomTold>⟧.plain handle).room.transaction (⟦<World as WorldTold>⟧.plain world.new).process) }
+            (let s = started number service.now (option_copied user.entry) (conv_holds conv)
+            (names_of (⟦<Gear as GearTold>⟧.players gear.now))
+            (⟦<World as WorldTold>⟧.plain world.old) in
+            MatchResult result (λ handle. Opens s (plain_handle ⟦<Room as RoomTold>⟧.plain handle)
+            (⟦<World as WorldTold>⟧.plain world.new)) (λ refused. Refuses s refused.why
+            (⟦<World as WorldTold>⟧.plain world.new))) }
+        ensures calls { IsTrue (vault_tells (in_box world.old.vault)) →
+            OnlyCalls (⟦<World as WorldTold>⟧.plain world.old).vault
+            (⟦<World as WorldTold>⟧.plain world.new).vault }
+        ensures fresh { IfOk result (λ handle. plain_handle ⟦<Room as RoomTold>⟧.plain handle
+            ≡ new_handle number service.now (option_copied user.entry) (conv_holds conv)
+            (names_of (⟦<Gear as GearTold>⟧.players gear.now))
+            (plain_handle ⟦<Room as RoomTold>⟧.plain handle).stacks) }
+        ensures ready { IfOk result (λ handle. IsReadyFor (⟦<Gear as GearTold>⟧.players gear.now)
+            (plain_handle ⟦<Room as RoomTold>⟧.plain handle)
+            (⟦<World as WorldTold>⟧.plain world.new).process) }
         ensures others { world.new ≡ record world.old { vault = world.new.vault } }
-        ensures vault_tells { vault_tells (in_box world.new.vault) ≡ vault_tells (in_box world.old.vault) }
-        ensures faults { MatchResult result (λ _. vault_faults (in_box world.new.vault) ≡ vault_faults (in_box world.old.vault)) (λ refused. RefusalCounts refused.why (vault_faults (in_box world.old.vault)) (vault_faults (in_box world.new.vault))) }
+        ensures vault_tells { vault_tells (in_box world.new.vault)
+            ≡ vault_tells (in_box world.old.vault) }
+        ensures faults { MatchResult result (λ _. vault_faults (in_box world.new.vault)
+            ≡ vault_faults (in_box world.old.vault)) (λ refused. RefusalCounts refused.why
+            (vault_faults (in_box world.old.vault))
+            (vault_faults (in_box world.new.vault))) }
     {
         match prepare(alloc, gear, world, service, user) {
             Ok((items, chains)) => Ok(opened(alloc, number, items, chains, conv)),
@@ -74,14 +88,23 @@ fn prepare(
     user: Option<&[u8]>,
 ) -> Result<(Items, Chains), Refuse<LoadFault>>
     requires { length (⟦<Gear as GearTold>⟧.players gear.now) < 2 ^ 32 }
-    ensures tells { ⟦<World as WorldTold>⟧.tells world.new ≡ ⟦<World as WorldTold>⟧.tells world.old }
-    ensures told { IsTrue (vault_tells (in_box world.old.vault)) → Prepares result (⟦<World as WorldTold>⟧.plain world.old) (⟦<World as WorldTold>⟧.plain world.new).vault service.now }
-    ensures calls { IsTrue (vault_tells (in_box world.old.vault)) → OnlyCalls (⟦<World as WorldTold>⟧.plain world.old).vault (⟦<World as WorldTold>⟧.plain world.new).vault }
-    ensures items { IfOk result (λ parts. parts.0 ≡ first_texts service.now (option_copied user.entry)) }
-    ensures names { IfOk result (λ parts. parts.1.auth.names ≡ names_of (⟦<Gear as GearTold>⟧.players gear.now)) }
+    ensures tells { ⟦<World as WorldTold>⟧.tells world.new
+        ≡ ⟦<World as WorldTold>⟧.tells world.old }
+    ensures told { IsTrue (vault_tells (in_box world.old.vault)) →
+        Prepares result (⟦<World as WorldTold>⟧.plain world.old)
+        (⟦<World as WorldTold>⟧.plain world.new).vault service.now }
+    ensures calls { IsTrue (vault_tells (in_box world.old.vault)) →
+        OnlyCalls (⟦<World as WorldTold>⟧.plain world.old).vault
+        (⟦<World as WorldTold>⟧.plain world.new).vault }
+    ensures items { IfOk result (λ parts. parts.0
+        ≡ first_texts service.now (option_copied user.entry)) }
+    ensures names { IfOk result (λ parts. parts.1.auth.names
+        ≡ names_of (⟦<Gear as GearTold>⟧.players gear.now)) }
     ensures others { world.new ≡ record world.old { vault = world.new.vault } }
-    ensures vault_tells { vault_tells (in_box world.new.vault) ≡ vault_tells (in_box world.old.vault) }
-    ensures faults { CountsFaults result (vault_faults (in_box world.old.vault)) (vault_faults (in_box world.new.vault)) }
+    ensures vault_tells { vault_tells (in_box world.new.vault)
+        ≡ vault_tells (in_box world.old.vault) }
+    ensures faults { CountsFaults result (vault_faults (in_box world.old.vault))
+        (vault_faults (in_box world.new.vault)) }
 {
     let trees = load(
         alloc,
@@ -100,11 +123,12 @@ fn laid_out(
     service: &[u8],
     user: Option<&[u8]>,
 ) -> Result<(Items, Chains), NoMemory>
-    requires few { length (⟦<Gear as GearTold>⟧.players gear.now) < 2 ^ 32 }
     requires bounded { AreBounded trees.now }
-    ensures items { IfOk result (λ parts. parts.0 ≡ first_texts service.now (option_copied user.entry)) }
+    ensures items { IfOk result (λ parts. parts.0
+        ≡ first_texts service.now (option_copied user.entry)) }
     ensures stacks { IfOk result (λ parts. stacks_in parts.1 ≡ stacks_of_trees trees.now) }
-    ensures names { IfOk result (λ parts. parts.1.auth.names ≡ names_of (⟦<Gear as GearTold>⟧.players gear.now)) }
+    ensures names { IfOk result (λ parts. parts.1.auth.names
+        ≡ names_of (⟦<Gear as GearTold>⟧.players gear.now)) }
 {
     let names = module_names(alloc, gear)?;
     let chains = lay_flat(alloc, trees, &names)?;
@@ -115,7 +139,8 @@ fn laid_out(
 // It takes no memory, since what it makes can't be dropped.
 fn opened(alloc: Global, number: u32, items: Items, chains: Chains, conv: Box<dyn Conv>) -> Handle
     ensures conv { (room_in result).conv ≡ conv }
-    ensures plain { plain_handle ⟦<Room as RoomTold>⟧.plain result ≡ handle_with number items (conv_holds conv) chains.auth.names (stacks_in chains) }
+    ensures plain { plain_handle ⟦<Room as RoomTold>⟧.plain result
+        ≡ handle_with number items (conv_holds conv) chains.auth.names (stacks_in chains) }
 {
     let mut transaction = Transaction::new(alloc, number);
     transaction.items = items;

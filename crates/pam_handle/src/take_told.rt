@@ -21,11 +21,15 @@ pub struct Told {
 impl Handle {
     /// What was said, visited and waited since it was last called. It alone empties them. It takes no memory.
     pub fn take_told(&mut self, alloc: Global) -> Told
-        ensures tells { ⟦<Room as RoomTold>⟧.tells (room_in self.new) ≡ ⟦<Room as RoomTold>⟧.tells (room_in self.old) }
-        ensures said { result.said ≡ (plain_handle ⟦<Room as RoomTold>⟧.plain self.old).room.transaction.said }
-        ensures trail { result.trail.visits ≡ (plain_handle ⟦<Room as RoomTold>⟧.plain self.old).room.transaction.trail }
+        ensures tells { ⟦<Room as RoomTold>⟧.tells (room_in self.new)
+            ≡ ⟦<Room as RoomTold>⟧.tells (room_in self.old) }
+        ensures said { result.said ≡ (plain_handle
+            ⟦<Room as RoomTold>⟧.plain self.old).room.transaction.said }
+        ensures trail { result.trail.visits ≡ (plain_handle
+            ⟦<Room as RoomTold>⟧.plain self.old).room.transaction.trail }
         ensures wait { result.wait ≡ (plain_handle ⟦<Room as RoomTold>⟧.plain self.old).waited }
-        ensures emptied { plain_handle ⟦<Room as RoomTold>⟧.plain self.new ≡ all_told (plain_handle ⟦<Room as RoomTold>⟧.plain self.old) }
+        ensures emptied { plain_handle ⟦<Room as RoomTold>⟧.plain self.new
+            ≡ all_told (plain_handle ⟦<Room as RoomTold>⟧.plain self.old) }
     {
         let transaction = &mut self.room.transaction;
         let said = mem::replace(&mut transaction.said, Messages::new(alloc));

@@ -34,9 +34,12 @@ use Rattle.service_load.specs.declared.load_fault.LoadFault.{LoadFault}
 use Rattle.pam_outside.specs.Time.{rested}
 use Rattle.fail_delay.specs.Delay.{asked_delay}
 use Rattle.fail_delay.specs.Wait.{wait_of}
-use Rattle.pam_handle.specs.Handle.{Pending, PlainHandle, Stacks}
-use Rattle.pam_handle.specs.Pass.{Passed, answers_held, following, passed}
-use Rattle.pam_handle.specs.Call.{Called, begun_or_going_on, called, pending_behind, rested_by, same_func, tokens_cleared}
+use Rattle.service_load.specs.Stacks.{Stacks}
+use Rattle.dispatch_core.specs.Pending.{Pending, pending_behind, same_func}
+use Rattle.pam_handle.specs.Handle.{PlainHandle}
+use Rattle.dispatch_core.specs.Calls.{answers_held, following}
+use Rattle.pam_handle.specs.Pass.{Passed, passed}
+use Rattle.pam_handle.specs.Call.{Called, begun_or_going_on, called, rested_by, tokens_cleared}
 use Rattle.pam_handle.specs.StackCalls.{account, acct_mgmt, authenticate, authenticated, authentication, behind_check, change_goes_on, changed, chauthtok, check, close_session, closing, credential_flags, credentials, has_pass_flag, open_session, opening, setcred, stack_call, update, update_authtok}
 use Rattle.pam_library.specs.Plays.{GoesBy, GoesOn, ModuleCall}
 use Rattle.pam_library.specs.SlotStep.{SlotStepped, answered, closed_step, filed_in, is_refused_for_flags, open_step, opened_by, other_pending, slot_step, stack_step, told_by, unless_pending}

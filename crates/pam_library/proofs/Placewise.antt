@@ -23,7 +23,8 @@ use Rattle.pam_room.specs.Module.{Player, notes_of}
 use Rattle.pam_room.specs.State.{PlainRoom, PlainWorld, State, state_of}
 use Rattle.pam_handle.specs.Call.{Called, called}
 use Rattle.pam_handle.specs.End.{world_after_end}
-use Rattle.pam_handle.specs.Handle.{PlainHandle, Stacks, in_room}
+use Rattle.service_load.specs.Stacks.{Stacks}
+use Rattle.pam_handle.specs.Handle.{PlainHandle, in_room}
 use Rattle.pam_handle.specs.Items.{all_told, missing_from, with_delay_function, with_environment, with_items}
 use Rattle.pam_handle.specs.Start.{new_handle, stacks_under, started, started_by}
 use Rattle.pam_handle.specs.StackCalls.{stack_call}

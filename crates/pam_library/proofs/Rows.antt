@@ -23,7 +23,8 @@ use Rattle.service_load.specs.Entry.{entry_of}
 use Rattle.service_load.specs.Tree.{nodes}
 use Rattle.service_load.specs.Order.{items}
 use Rattle.service_load.specs.FirstFault.{look}
-use Rattle.pam_handle.specs.Handle.{PlainHandle, Stacks}
+use Rattle.service_load.specs.Stacks.{Stacks}
+use Rattle.pam_handle.specs.Handle.{PlainHandle}
 use Rattle.pam_handle.specs.Start.{new_handle}
 use Rattle.pam_library.specs.declared.outcome.Answer.{Answer as StepAnswer}
 use Rattle.pam_library.specs.declared.outcome.Answer.TheVariants as answers
@@ -31,6 +32,7 @@ use Rattle.pam_library.specs.Outcome.{answers_only}
 use Rattle.pam_library.specs.Slots.{PlainSlot, closed, opened, slot_at, is_open_at}
 use Rattle.pam_library.specs.Step.{Stepped, stepped}
 use Rattle.pam_library.specs.Closing.{ClosedOne, closed_one}
+use Rattle.pam_outside.specs.Paths.{path_of}
 
 -- ---- two modules: one sets a datum, the other is put off by its conversation
 
@@ -149,16 +151,16 @@ started_second : Stepped
 started_second = of_step (first_open (codes "p")) 2 (calls.Start (codes "T") (Some (codes "joe")))
 
 start_answer : started_second.outcome ≡ answers_only 0 (answers.Code codes.Success)
-unfolding stepped started_second look items answer_to answer_at pieces_behind first_piece entry_of nodes
+unfolding stepped started_second look items answer_to answer_at pieces_behind first_piece entry_of nodes path_of
 start_answer = refl
 
 start_opens : is_open_at (slot_at started_second.slots 2) ≡ true
-unfolding stepped started_second look items answer_to answer_at pieces_behind first_piece entry_of nodes
+unfolding stepped started_second look items answer_to answer_at pieces_behind first_piece entry_of nodes path_of
 start_opens = refl
 
 -- a module that isn't there is told
 missing_told : (stepped (is_put_off ∷ []) number_of all_closed at_first (step 1 (calls.Start (codes "t") None))).outcome.missing ≡ codes "p" ∷ []
-unfolding stepped look items answer_to answer_at pieces_behind first_piece entry_of nodes
+unfolding stepped look items answer_to answer_at pieces_behind first_piece entry_of nodes path_of
 missing_told = refl
 
 -- ---- a datum is set, and cleaned up at the end; the other transaction stays

@@ -18,9 +18,11 @@ use Rattle.stack_walk.specs.declared.pass_kind.PassKind.TheVariants as kinds
 use Rattle.stack_walk.specs.Pass.{PassState, pass_after}
 use Rattle.stack_walk.specs.Route.{KeptAnswers}
 use Rattle.stack_walk.specs.Walk.{Walked}
-use Rattle.pam_handle.specs.Handle.{Pending, PlainHandle, in_room}
-use Rattle.pam_handle.specs.Pass.{Passed, answers_held, following, passed, passed_by}
-use Rattle.pam_handle.specs.Call.{Called, begun_or_going_on, called, pending_behind, request_behind, request_forgotten, rested_by, same_func, tokens_cleared, waits, without_its_tokens, without_request}
+use Rattle.dispatch_core.specs.Pending.{Pending, pending_behind, same_func}
+use Rattle.pam_handle.specs.Handle.{PlainHandle, in_room}
+use Rattle.dispatch_core.specs.Calls.{answers_held, following, passed_by}
+use Rattle.pam_handle.specs.Pass.{Passed, passed}
+use Rattle.pam_handle.specs.Call.{Called, begun_or_going_on, called, request_behind, request_forgotten, rested_by, tokens_cleared, waits, without_its_tokens, without_request}
 use Rattle.pam_handle.specs.StackCalls.{account, authenticated, authentication, behind_check, change_goes_on, changed, chauthtok, check, closing, credential_flags, credentials, ended, has_pass_flag, opening, stack_call, update, update_authtok}
 use Rattle.pam_library.proofs.Alongside.{PassTwins, WalkedTwins, pass_twins}
 use Rattle.pam_library.proofs.Twins.{Twins, asked_twins, touched}

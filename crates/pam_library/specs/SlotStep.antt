@@ -17,8 +17,9 @@ use Rattle.service_load.specs.declared.load_fault.LoadFault.{LoadFault}
 use Rattle.pam_room.specs.Module.{Player, notes_of}
 use Rattle.pam_room.specs.State.{PlainWorld}
 use Rattle.dispatch_core.specs.Lines.{names_of}
-use Rattle.pam_handle.specs.Handle.{PlainHandle, Pending}
-use Rattle.pam_handle.specs.Call.{Called, same_func}
+use Rattle.dispatch_core.specs.Pending.{Pending, same_func}
+use Rattle.pam_handle.specs.Handle.{PlainHandle}
+use Rattle.pam_handle.specs.Call.{Called}
 use Rattle.pam_handle.specs.StackCalls.{stack_call, has_pass_flag}
 use Rattle.pam_handle.specs.Items.{with_items, with_environment, with_request, with_delay_function, with_conversation, all_told, missing_from}
 use Rattle.pam_handle.specs.Start.{started}

@@ -42,3 +42,7 @@ data_in number (Some (opened h)) = h.room.transaction.datums
 -- the data of all transactions, by their numbers
 abbrev pub lists_of : List PlainSlot → Lists
 lists_of slots number = data_in number (slot_at slots number)
+
+-- one more than the greatest number of a transaction
+abbrev pub handle_limit : ℕ
+handle_limit = 17

@@ -7,7 +7,7 @@ use Rattle.data_due.specs.Kept.{AreHeld}
 use Rattle.dispatch_core.specs.Lines.{names_of}
 use Rattle.pam_room.specs.Module.{Player}
 use Rattle.pam_handle.specs.Handle.{PlainHandle}
-use Rattle.pam_library.specs.Slots.{PlainSlot, closed, opened, slot_at, lists_of}
+use Rattle.pam_library.specs.Slots.{PlainSlot, closed, handle_limit, lists_of, opened, slot_at}
 
 -- an open transaction has the number of its place, and was started with these modules
 pub record IsPlaced (names : List (List ℕ)) (number : ℕ) (h : PlainHandle) : Type 0 where
@@ -28,7 +28,7 @@ pub record ArePlaced (names : List (List ℕ)) (slots : List PlainSlot) : Type 0
 -- of the modules as its owner
 pub record IsSound (names : List (List ℕ)) (modules : ℕ) (slots : List PlainSlot) (ledger : PlainLedger) : Type 0 where
   pub placed : ArePlaced names slots
-  pub held : AreHeld modules 17 ledger (lists_of slots)
+  pub held : AreHeld modules handle_limit ledger (lists_of slots)
   pub owned : AllByRecursion (λ (b : Birth). b.owner < modules) ledger.births
 
 -- the same of a library with these modules

@@ -4,18 +4,17 @@ ghost use Rattle.data_due.specs.Moves.{Moves};
 ghost use Rattle.pam_room.specs.Module.{notes_of};
 ghost use Rattle.pam_handle.specs.Plain.{in_box};
 ghost use Rattle.pam_library.specs.Outcome.{plain_outcome};
-ghost use Rattle.pam_library.specs.Slots.{lists_of, slot_at};
+ghost use Rattle.pam_library.specs.Slots.{handle_limit, lists_of, slot_at};
 ghost use Rattle.pam_library.specs.Sound.{IsSoundFor};
 ghost use Rattle.pam_base.specs.Call.{is_fit};
 ghost use Rattle.pam_library.specs.Step.{StepsAs, stepped};
 ghost use Rattle.pam_library.specs.AnyWorld.{AnswersBy, CountsRefusal, FailsAt, SpendsAt, end_at, leaves_world, refusal, stays_inside, takes_no_memory};
 
-use crate::laws::one_place_moves;
+use crate::laws;
 use crate::library::{Library, LibraryTold};
 use crate::outcome::{Answer, Outcome};
 use crate::slot::Stepped;
 use crate::world::receipts_in;
-use data_due::{held_data_await_cleanup, nothing_moves};
 use fail_delay::{DelayFn, DelayTold};
 use pam_base::{NoMemory, Step};
 use pam_handle::{Gear, GearTold};
@@ -44,46 +43,88 @@ impl Library {
         world: &mut World,
         step: &Step,
     ) -> Result<Outcome, NoMemory>
-        requires sound { IsSoundFor (⟦<Gear as GearTold>⟧.players (gear_in self.old)) (⟦<Library as LibraryTold>⟧.slots self.old) (⟦<World as WorldTold>⟧.plain world.old).process.ledger }
+        requires sound { IsSoundFor (⟦<Gear as GearTold>⟧.players (gear_in self.old))
+            (⟦<Library as LibraryTold>⟧.slots self.old)
+            (⟦<World as WorldTold>⟧.plain world.old).process.ledger }
         requires fit { IsTrue (is_fit step.now.call) }
 
         // In every world, with every answer and without memory too.
-        ensures sound { IsSoundFor (⟦<Gear as GearTold>⟧.players (gear_in self.new)) (⟦<Library as LibraryTold>⟧.slots self.new) (⟦<World as WorldTold>⟧.plain world.new).process.ledger }
+        ensures sound { IsSoundFor (⟦<Gear as GearTold>⟧.players (gear_in self.new))
+            (⟦<Library as LibraryTold>⟧.slots self.new)
+            (⟦<World as WorldTold>⟧.plain world.new).process.ledger }
         ensures gear { gear_in self.new ≡ gear_in self.old }
-        ensures tells { ⟦<Library as LibraryTold>⟧.tells self.new ≡ ⟦<Library as LibraryTold>⟧.tells self.old }
-        ensures world_tells { ⟦<World as WorldTold>⟧.tells world.new ≡ ⟦<World as WorldTold>⟧.tells world.old }
-        ensures others { (number : ℕ) → (number ≡ step.now.number → ⊥) → slot_at (⟦<Library as LibraryTold>⟧.slots self.new) number ≡ slot_at (⟦<Library as LibraryTold>⟧.slots self.old) number }
-        ensures spends { SpendsAt (notes_of (⟦<Gear as GearTold>⟧.players (gear_in self.old))) (length (⟦<Gear as GearTold>⟧.players (gear_in self.old))) (slot_at (⟦<Library as LibraryTold>⟧.slots self.old) step.now.number) step.now.call
-            (lists_of (⟦<Library as LibraryTold>⟧.slots self.old) step.now.number) (⟦<World as WorldTold>⟧.plain world.old).process.ledger
-            (lists_of (⟦<Library as LibraryTold>⟧.slots self.new) step.now.number) (⟦<World as WorldTold>⟧.plain world.new).process.ledger }
-        ensures moves { Moves (notes_of (⟦<Gear as GearTold>⟧.players (gear_in self.old))) 17 (end_at (slot_at (⟦<Library as LibraryTold>⟧.slots self.old) step.now.number) step.now.number step.now.call)
-            (⟦<World as WorldTold>⟧.plain world.old).process.ledger (lists_of (⟦<Library as LibraryTold>⟧.slots self.old))
-            (⟦<World as WorldTold>⟧.plain world.new).process.ledger (lists_of (⟦<Library as LibraryTold>⟧.slots self.new)) }
-        ensures root { (⟦<World as WorldTold>⟧.plain world.new).process.root ≡ (⟦<World as WorldTold>⟧.plain world.old).process.root }
-        ensures caller { (⟦<World as WorldTold>⟧.plain world.new).process.caller ≡ (⟦<World as WorldTold>⟧.plain world.old).process.caller }
-        ensures world { leaves_world (slot_at (⟦<Library as LibraryTold>⟧.slots self.old) step.now.number) step.now.call ≡ true → world.new ≡ world.old }
+        ensures tells { ⟦<Library as LibraryTold>⟧.tells self.new
+            ≡ ⟦<Library as LibraryTold>⟧.tells self.old }
+        ensures world_tells { ⟦<World as WorldTold>⟧.tells world.new
+            ≡ ⟦<World as WorldTold>⟧.tells world.old }
+        ensures others { (number : ℕ) → (number ≡ step.now.number → ⊥) →
+            slot_at (⟦<Library as LibraryTold>⟧.slots self.new) number
+            ≡ slot_at (⟦<Library as LibraryTold>⟧.slots self.old) number }
+        ensures spends { SpendsAt (notes_of (⟦<Gear as GearTold>⟧.players (gear_in self.old)))
+            (length (⟦<Gear as GearTold>⟧.players (gear_in self.old)))
+            (slot_at (⟦<Library as LibraryTold>⟧.slots self.old) step.now.number) step.now.call
+            (lists_of (⟦<Library as LibraryTold>⟧.slots self.old) step.now.number)
+            (⟦<World as WorldTold>⟧.plain world.old).process.ledger
+            (lists_of (⟦<Library as LibraryTold>⟧.slots self.new) step.now.number)
+            (⟦<World as WorldTold>⟧.plain world.new).process.ledger }
+        ensures moves { Moves (notes_of (⟦<Gear as GearTold>⟧.players (gear_in self.old)))
+            handle_limit
+            (end_at (slot_at (⟦<Library as LibraryTold>⟧.slots self.old) step.now.number)
+            step.now.number step.now.call)
+            (⟦<World as WorldTold>⟧.plain world.old).process.ledger
+            (lists_of (⟦<Library as LibraryTold>⟧.slots self.old))
+            (⟦<World as WorldTold>⟧.plain world.new).process.ledger
+            (lists_of (⟦<Library as LibraryTold>⟧.slots self.new)) }
+        ensures root { (⟦<World as WorldTold>⟧.plain world.new).process.root
+            ≡ (⟦<World as WorldTold>⟧.plain world.old).process.root }
+        ensures caller { (⟦<World as WorldTold>⟧.plain world.new).process.caller
+            ≡ (⟦<World as WorldTold>⟧.plain world.old).process.caller }
+        ensures world { leaves_world (slot_at (⟦<Library as LibraryTold>⟧.slots self.old)
+            step.now.number) step.now.call ≡ true → world.new ≡ world.old }
 
         // The answer, in every world: by number, place and pending call, else one of those that the call has.
-        ensures answer { IfOk result (λ outcome. AnswersBy (refusal (slot_at (⟦<Library as LibraryTold>⟧.slots self.old) step.now.number) step.now.call) step.now.call outcome.answer) }
-        ensures filed_from { IfOk result (λ outcome. outcome.filed_from ≡ length (⟦<World as WorldTold>⟧.plain world.old).process.ledger.filed) }
-        ensures faults { IfOk result (λ outcome. CountsRefusal outcome.answer (vault_faults (in_box world.old.vault)) (vault_faults (in_box world.new.vault))) }
+        ensures answer { IfOk result (λ outcome. AnswersBy
+            (refusal
+            (slot_at (⟦<Library as LibraryTold>⟧.slots self.old) step.now.number) step.now.call)
+            step.now.call outcome.answer) }
+        ensures filed_from { IfOk result (λ outcome. outcome.filed_from
+            ≡ length (⟦<World as WorldTold>⟧.plain world.old).process.ledger.filed) }
+        ensures faults { IfOk result (λ outcome. CountsRefusal outcome.answer
+            (vault_faults (in_box world.old.vault)) (vault_faults (in_box world.new.vault))) }
 
         // What a step comes to: in every world where it asks nobody outside, else where all that it asks tells.
-        ensures inside { (number_of : Code → ℕ → ℕ) → stays_inside (slot_at (⟦<Library as LibraryTold>⟧.slots self.old) step.now.number) step.now.call ≡ true →
-            IfOk result (λ outcome. StepsAs (stepped (⟦<Gear as GearTold>⟧.players (gear_in self.old)) number_of (⟦<Library as LibraryTold>⟧.slots self.old) (⟦<World as WorldTold>⟧.plain world.old) step.now)
-            (plain_outcome outcome) (⟦<Library as LibraryTold>⟧.slots self.new) (⟦<World as WorldTold>⟧.plain world.new)) }
-        ensures told { (number_of : Code → ℕ → ℕ) → ⟦<DelayFn as DelayTold>⟧.delay_is (gear_in self.old).delay number_of →
-            IsTrue (⟦<Library as LibraryTold>⟧.tells self.old && ⟦<World as WorldTold>⟧.tells world.old) →
-            IfOk result (λ outcome. StepsAs (stepped (⟦<Gear as GearTold>⟧.players (gear_in self.old)) number_of (⟦<Library as LibraryTold>⟧.slots self.old) (⟦<World as WorldTold>⟧.plain world.old) step.now)
-            (plain_outcome outcome) (⟦<Library as LibraryTold>⟧.slots self.new) (⟦<World as WorldTold>⟧.plain world.new)) }
+        ensures inside { (number_of : Code → ℕ → ℕ) →
+            stays_inside
+            (slot_at (⟦<Library as LibraryTold>⟧.slots self.old) step.now.number) step.now.call
+            ≡ true →
+            IfOk result (λ outcome. StepsAs
+            (stepped (⟦<Gear as GearTold>⟧.players (gear_in self.old)) number_of
+            (⟦<Library as LibraryTold>⟧.slots self.old)
+            (⟦<World as WorldTold>⟧.plain world.old) step.now)
+            (plain_outcome outcome) (⟦<Library as LibraryTold>⟧.slots self.new)
+            (⟦<World as WorldTold>⟧.plain world.new)) }
+        ensures told { (number_of : Code → ℕ → ℕ) →
+            ⟦<DelayFn as DelayTold>⟧.delay_is (gear_in self.old).delay number_of →
+            IsTrue (⟦<Library as LibraryTold>⟧.tells self.old
+            && ⟦<World as WorldTold>⟧.tells world.old) →
+            IfOk result (λ outcome. StepsAs
+            (stepped (⟦<Gear as GearTold>⟧.players (gear_in self.old)) number_of
+            (⟦<Library as LibraryTold>⟧.slots self.old)
+            (⟦<World as WorldTold>⟧.plain world.old) step.now)
+            (plain_outcome outcome) (⟦<Library as LibraryTold>⟧.slots self.new)
+            (⟦<World as WorldTold>⟧.plain world.new)) }
 
         // Want of memory.
-        ensures succeeds { takes_no_memory (slot_at (⟦<Library as LibraryTold>⟧.slots self.old) step.now.number) step.now.call ≡ true → IsOk result }
-        ensures fails { OnErr result (FailsAt (⟦<Library as LibraryTold>⟧.tells self.old) step.now.call (slot_at (⟦<Library as LibraryTold>⟧.slots self.old) step.now.number) (slot_at (⟦<Library as LibraryTold>⟧.slots self.new) step.now.number)) }
+        ensures succeeds { takes_no_memory (slot_at
+            (⟦<Library as LibraryTold>⟧.slots self.old) step.now.number) step.now.call ≡ true →
+            IsOk result }
+        ensures fails { OnErr result (FailsAt (⟦<Library as LibraryTold>⟧.tells self.old)
+            step.now.call (slot_at (⟦<Library as LibraryTold>⟧.slots self.old) step.now.number)
+            (slot_at (⟦<Library as LibraryTold>⟧.slots self.new) step.now.number)) }
     {
-        one_place_moves();
-        nothing_moves();
-        held_data_await_cleanup();
+        laws::one_place_moves();
+        data_due::laws::nothing_moves();
+        data_due::laws::held_data_await_cleanup();
         let number = step.number as usize;
         if number == 0 || self.slots.len() < number {
             let filed_from = receipts_in(world);
@@ -92,7 +133,7 @@ impl Library {
         let slot = self.slots.remove(number - 1);
         let Stepped { slot, outcome } = slot.step(alloc, &self.gear, world, step);
         self.slots.insert(number - 1, slot).unwrap();
-        world.process.ledger.sound();
+        data_cleanup::laws::ledger_is_sound(&world.process.ledger);
         outcome
     }
 }

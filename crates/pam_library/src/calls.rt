@@ -1,8 +1,7 @@
 ghost use Rattle.std.specs.Prelude.{◌≡◌, ◌<◌, ◌^◌, false, true, Some, IsTrue, length};
-ghost use Rattle.dispatch_core.specs.Lines.{names_of};
-ghost use Rattle.pam_room.specs.Stays.{IsReady};
 ghost use Rattle.pam_handle.specs.Items.{all_told};
 ghost use Rattle.pam_handle.specs.Plain.{plain_handle, room_in};
+ghost use Rattle.pam_handle.specs.Ready.{IsReadyFor};
 ghost use Rattle.pam_library.specs.AnyWorld.{leaves_world};
 ghost use Rattle.pam_library.specs.InPlace.{GoesInPlace, is_end};
 ghost use Rattle.pam_library.specs.Slots.{opened};
@@ -13,7 +12,7 @@ use crate::reply::offer_open;
 use crate::stack_call::call_stack;
 use crate::values::{get_env, get_item, list_env, put_env, request_delay, set_item, turn_delay};
 use crate::world::receipts_in;
-use data_cleanup::nothing_grows;
+use data_cleanup::laws;
 use fail_delay::{DelayFn, DelayTold};
 use pam_base::{AppCall, Func, NoMemory};
 use pam_handle::{Gear, GearTold, Handle};
@@ -28,20 +27,30 @@ pub(crate) fn call_open(
     handle: &mut Handle,
     call: &AppCall,
 ) -> Result<Outcome, NoMemory>
-    requires told { plain_handle ⟦<Room as RoomTold>⟧.plain handle.old ≡ all_told (plain_handle ⟦<Room as RoomTold>⟧.plain handle.old) }
-    requires names { (plain_handle ⟦<Room as RoomTold>⟧.plain handle.old).names ≡ names_of (⟦<Gear as GearTold>⟧.players gear.now) }
-    requires few { length (⟦<Gear as GearTold>⟧.players gear.now) < 2 ^ 32 }
-    requires ready { IsReady (length (⟦<Gear as GearTold>⟧.players gear.now)) (plain_handle ⟦<Room as RoomTold>⟧.plain handle.old).room.transaction (⟦<World as WorldTold>⟧.plain world.old).process }
+    requires told { plain_handle ⟦<Room as RoomTold>⟧.plain handle.old
+        ≡ all_told (plain_handle ⟦<Room as RoomTold>⟧.plain handle.old) }
+    requires ready { IsReadyFor (⟦<Gear as GearTold>⟧.players gear.now)
+        (plain_handle ⟦<Room as RoomTold>⟧.plain handle.old)
+        (⟦<World as WorldTold>⟧.plain world.old).process }
     requires fit { IsTrue (is_fit call.now) }
     requires goes_on { is_end call.now ≡ false }
-    ensures tells { ⟦<Room as RoomTold>⟧.tells (room_in handle.new) ≡ ⟦<Room as RoomTold>⟧.tells (room_in handle.old) }
-    ensures world_tells { ⟦<World as WorldTold>⟧.tells world.new ≡ ⟦<World as WorldTold>⟧.tells world.old }
-    ensures goes { GoesInPlace (⟦<Gear as GearTold>⟧.players gear.now) (⟦<DelayFn as DelayTold>⟧.delay_is gear.now.delay) (⟦<Room as RoomTold>⟧.tells (room_in handle.old)) (⟦<World as WorldTold>⟧.tells world.old)
-        (plain_handle ⟦<Room as RoomTold>⟧.plain handle.old).room.transaction.handle call.now (opened (plain_handle ⟦<Room as RoomTold>⟧.plain handle.old)) (⟦<World as WorldTold>⟧.plain world.old)
-        result (opened (plain_handle ⟦<Room as RoomTold>⟧.plain handle.new)) (⟦<World as WorldTold>⟧.plain world.new) }
-    ensures world { leaves_world (Some (opened (plain_handle ⟦<Room as RoomTold>⟧.plain handle.old))) call.now ≡ true → world.new ≡ world.old }
+    ensures tells { ⟦<Room as RoomTold>⟧.tells (room_in handle.new)
+        ≡ ⟦<Room as RoomTold>⟧.tells (room_in handle.old) }
+    ensures world_tells { ⟦<World as WorldTold>⟧.tells world.new
+        ≡ ⟦<World as WorldTold>⟧.tells world.old }
+    ensures goes { GoesInPlace (⟦<Gear as GearTold>⟧.players gear.now)
+        (⟦<DelayFn as DelayTold>⟧.delay_is gear.now.delay)
+        (⟦<Room as RoomTold>⟧.tells (room_in handle.old)) (⟦<World as WorldTold>⟧.tells world.old)
+        (plain_handle ⟦<Room as RoomTold>⟧.plain handle.old).room.transaction.handle call.now
+        (opened (plain_handle ⟦<Room as RoomTold>⟧.plain handle.old))
+        (⟦<World as WorldTold>⟧.plain world.old)
+        result (opened (plain_handle ⟦<Room as RoomTold>⟧.plain handle.new))
+        (⟦<World as WorldTold>⟧.plain world.new) }
+    ensures world { leaves_world (Some (opened
+        (plain_handle ⟦<Room as RoomTold>⟧.plain handle.old))) call.now ≡ true →
+        world.new ≡ world.old }
 {
-    nothing_grows();
+    laws::nothing_grows();
     let filed = receipts_in(world);
     match call {
         AppCall::Start { .. } => Ok(Outcome::only(alloc, filed, Answer::AlreadyOpen)),

@@ -1,14 +1,13 @@
 ghost use Rattle.std.specs.Prelude.{◌≡◌, ◌↔◌, map, IsNone, IfSome, slice_get};
 ghost use Rattle.data_due.specs.Moves.{Moves};
 ghost use Rattle.pam_room.specs.Module.{notes_of};
-ghost use Rattle.pam_library.specs.Slots.{NoneIsOpen, lists_of};
+ghost use Rattle.pam_library.specs.Slots.{NoneIsOpen, handle_limit, lists_of};
 ghost use Rattle.pam_library.specs.Sound.{IsSoundFor};
 ghost use Rattle.pam_library.specs.Closing.{ClosesAs, IsFirstOpen, closed_one, end_of, first_open};
 
-use crate::laws::one_place_moves;
+use crate::laws;
 use crate::library::{Library, LibraryTold};
 use crate::slot::{Slot, SlotTold};
-use data_due::{held_data_await_cleanup, nothing_moves};
 use pam_handle::{Gear, GearTold};
 use pam_room::{World, WorldTold};
 
@@ -32,28 +31,41 @@ impl Library {
     ///
     /// As with `apply`, the births of the world's ledger that have no receipt are exactly the data of the open transactions.
     pub fn close_one(&mut self, world: &mut World, status: u32) -> Option<u32>
-        requires { IsSoundFor (⟦<Gear as GearTold>⟧.players (gear_in self.old)) (⟦<Library as LibraryTold>⟧.slots self.old) (⟦<World as WorldTold>⟧.plain world.old).process.ledger }
-        ensures sound { IsSoundFor (⟦<Gear as GearTold>⟧.players (gear_in self.new)) (⟦<Library as LibraryTold>⟧.slots self.new) (⟦<World as WorldTold>⟧.plain world.new).process.ledger }
+        requires { IsSoundFor (⟦<Gear as GearTold>⟧.players (gear_in self.old))
+            (⟦<Library as LibraryTold>⟧.slots self.old)
+            (⟦<World as WorldTold>⟧.plain world.old).process.ledger }
+        ensures sound { IsSoundFor (⟦<Gear as GearTold>⟧.players (gear_in self.new))
+            (⟦<Library as LibraryTold>⟧.slots self.new)
+            (⟦<World as WorldTold>⟧.plain world.new).process.ledger }
         ensures gear { gear_in self.new ≡ gear_in self.old }
-        ensures tells { ⟦<Library as LibraryTold>⟧.tells self.new ≡ ⟦<Library as LibraryTold>⟧.tells self.old }
-        ensures world_tells { ⟦<World as WorldTold>⟧.tells world.new ≡ ⟦<World as WorldTold>⟧.tells world.old }
-        ensures closes { ClosesAs (closed_one (notes_of (⟦<Gear as GearTold>⟧.players (gear_in self.old))) status (⟦<Library as LibraryTold>⟧.slots self.old) (⟦<World as WorldTold>⟧.plain world.old))
-            result (⟦<Library as LibraryTold>⟧.slots self.old) (⟦<World as WorldTold>⟧.plain world.old) (⟦<Library as LibraryTold>⟧.slots self.new) (⟦<World as WorldTold>⟧.plain world.new) }
+        ensures tells { ⟦<Library as LibraryTold>⟧.tells self.new
+            ≡ ⟦<Library as LibraryTold>⟧.tells self.old }
+        ensures world_tells { ⟦<World as WorldTold>⟧.tells world.new
+            ≡ ⟦<World as WorldTold>⟧.tells world.old }
+        ensures closes { ClosesAs (closed_one (notes_of
+            (⟦<Gear as GearTold>⟧.players (gear_in self.old))) status
+            (⟦<Library as LibraryTold>⟧.slots self.old) (⟦<World as WorldTold>⟧.plain world.old))
+            result (⟦<Library as LibraryTold>⟧.slots self.old)
+            (⟦<World as WorldTold>⟧.plain world.old) (⟦<Library as LibraryTold>⟧.slots self.new)
+            (⟦<World as WorldTold>⟧.plain world.new) }
         ensures none { IsNone result ↔ NoneIsOpen (⟦<Library as LibraryTold>⟧.slots self.old) }
-        ensures moves { Moves (notes_of (⟦<Gear as GearTold>⟧.players (gear_in self.old))) 17 (end_of status result)
-            (⟦<World as WorldTold>⟧.plain world.old).process.ledger (lists_of (⟦<Library as LibraryTold>⟧.slots self.old))
-            (⟦<World as WorldTold>⟧.plain world.new).process.ledger (lists_of (⟦<Library as LibraryTold>⟧.slots self.new)) }
+        ensures moves { Moves (notes_of (⟦<Gear as GearTold>⟧.players (gear_in self.old)))
+            handle_limit (end_of status result)
+            (⟦<World as WorldTold>⟧.plain world.old).process.ledger
+            (lists_of (⟦<Library as LibraryTold>⟧.slots self.old))
+            (⟦<World as WorldTold>⟧.plain world.new).process.ledger
+            (lists_of (⟦<Library as LibraryTold>⟧.slots self.new)) }
         ensures others { world.new ≡ record world.old { process = world.new.process } }
     {
-        one_place_moves();
-        nothing_moves();
-        held_data_await_cleanup();
+        laws::one_place_moves();
+        data_due::laws::nothing_moves();
+        data_due::laws::held_data_await_cleanup();
         let place = place_of_first_open(&self.slots)?;
         match self.slots.remove(place) {
             Slot::Open(handle) => {
                 let conv = handle.end(&self.gear, world, status);
                 self.slots.insert(place, Slot::Closed(conv)).unwrap();
-                world.process.ledger.sound();
+                data_cleanup::laws::ledger_is_sound(&world.process.ledger);
                 Some(place as u32 + 1)
             }
             Slot::Closed(_conv) => unreachable!(),

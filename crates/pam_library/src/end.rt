@@ -1,7 +1,6 @@
 ghost use Rattle.std.specs.Prelude.{◌≡◌, IfOk, length};
-ghost use Rattle.dispatch_core.specs.Lines.{names_of};
-ghost use Rattle.pam_room.specs.Stays.{IsReady};
 ghost use Rattle.pam_handle.specs.Plain.{plain_handle, room_in};
+ghost use Rattle.pam_handle.specs.Ready.{IsReadyFor};
 ghost use Rattle.pam_library.specs.InPlace.{GoesInPlace};
 ghost use Rattle.pam_library.specs.Slots.{opened};
 
@@ -22,13 +21,21 @@ pub(crate) fn end(
     handle: Handle,
     status: u32,
 ) -> Stepped
-    requires names { (plain_handle ⟦<Room as RoomTold>⟧.plain handle).names ≡ names_of (⟦<Gear as GearTold>⟧.players gear.now) }
-    requires ready { IsReady (length (⟦<Gear as GearTold>⟧.players gear.now)) (plain_handle ⟦<Room as RoomTold>⟧.plain handle).room.transaction (⟦<World as WorldTold>⟧.plain world.old).process }
-    ensures tells { ⟦<Slot as SlotTold>⟧.tells result.slot ≡ ⟦<Room as RoomTold>⟧.tells (room_in handle) }
-    ensures world_tells { ⟦<World as WorldTold>⟧.tells world.new ≡ ⟦<World as WorldTold>⟧.tells world.old }
-    ensures goes { GoesInPlace (⟦<Gear as GearTold>⟧.players gear.now) (⟦<DelayFn as DelayTold>⟧.delay_is gear.now.delay) (⟦<Room as RoomTold>⟧.tells (room_in handle)) (⟦<World as WorldTold>⟧.tells world.old)
-        (plain_handle ⟦<Room as RoomTold>⟧.plain handle).room.transaction.handle (AppCall.End status) (opened (plain_handle ⟦<Room as RoomTold>⟧.plain handle)) (⟦<World as WorldTold>⟧.plain world.old)
-        result.outcome (⟦<Slot as SlotTold>⟧.plain result.slot) (⟦<World as WorldTold>⟧.plain world.new) }
+    requires { IsReadyFor (⟦<Gear as GearTold>⟧.players gear.now)
+        (plain_handle ⟦<Room as RoomTold>⟧.plain handle)
+        (⟦<World as WorldTold>⟧.plain world.old).process }
+    ensures tells { ⟦<Slot as SlotTold>⟧.tells result.slot
+        ≡ ⟦<Room as RoomTold>⟧.tells (room_in handle) }
+    ensures world_tells { ⟦<World as WorldTold>⟧.tells world.new
+        ≡ ⟦<World as WorldTold>⟧.tells world.old }
+    ensures goes { GoesInPlace (⟦<Gear as GearTold>⟧.players gear.now)
+        (⟦<DelayFn as DelayTold>⟧.delay_is gear.now.delay)
+        (⟦<Room as RoomTold>⟧.tells (room_in handle)) (⟦<World as WorldTold>⟧.tells world.old)
+        (plain_handle ⟦<Room as RoomTold>⟧.plain handle).room.transaction.handle
+        (AppCall.End status) (opened (plain_handle ⟦<Room as RoomTold>⟧.plain handle))
+        (⟦<World as WorldTold>⟧.plain world.old)
+        result.outcome (⟦<Slot as SlotTold>⟧.plain result.slot)
+        (⟦<World as WorldTold>⟧.plain world.new) }
     ensures answer { IfOk result.outcome (λ outcome. outcome.answer ≡ Answer.Code Code.Success) }
 {
     let filed_from = receipts_in(world);

@@ -13,79 +13,91 @@ ghost use Rattle.data_cleanup.specs.Due.{Event};
 ghost use Rattle.data_due.specs.Stands.{Lists, StandFor};
 ghost use Rattle.data_due.specs.Moves.{Moves};
 ghost use Rattle.pam_room.specs.Module.{Player};
-ghost use Rattle.pam_library.specs.Slots.{PlainSlot, closed, data_in, lists_of, slot_at, with_slot};
+ghost use Rattle.pam_library.specs.Slots.{PlainSlot, closed, data_in, handle_limit, lists_of, slot_at, with_slot};
 ghost use Rattle.pam_library.specs.Sound.{IsAtPlace, IsSound};
 ghost use Rattle.pam_library.specs.AnyWorld.{SpendsAt, end_at};
 ghost use Rattle.pam_library.specs.Calls.{MoveOn, Moved, events_of, last_ledger, last_lists};
 ghost use Rattle.pam_library.specs.Alike.{AreAlike, AreInOrder, ComeToSame, NoCallFails};
 ghost use Rattle.pam_library.specs.SideBySide.{Met, alone, outcomes_alone, outcomes_on, own_steps, slots_after};
 
-use data_cleanup::nothing_grows;
-use data_due::{
-    end_holds, end_moves, growth_holds, growth_moves, nothing_is_held, nothing_moves,
-    nothing_stands_for_none,
-};
-
 // Each of these does nothing: its contract is a law about the definitions, for those who call it in a proof.
 
 /// What a call does in one place keeps all places and the ledger sound, and moves them on by the births that were added
 /// and by the end that the call was.
 pub fn one_place_moves()
-    ensures sound { (note : Notes) (names : List (List ℕ)) (modules : ℕ) (slots : List PlainSlot) (number : ℕ) (old new : PlainSlot) (call : AppCall) (before after : PlainLedger) →
-        IsSound names modules slots before → slot_at slots number ≡ Some old → IsAtPlace names number new →
-        SpendsAt note modules (Some old) call (data_in number (Some old)) before (data_in number (Some new)) after → AreNumbered 0 after.births →
+    ensures sound { (note : Notes) (names : List (List ℕ)) (modules : ℕ) (slots : List PlainSlot)
+        (number : ℕ) (old new : PlainSlot) (call : AppCall) (before after : PlainLedger) →
+        IsSound names modules slots before → slot_at slots number ≡ Some old →
+        IsAtPlace names number new →
+        SpendsAt note modules (Some old) call (data_in number (Some old)) before
+        (data_in number (Some new)) after → AreNumbered 0 after.births →
         IsSound names modules (with_slot slots number new) after }
-    ensures moves { (note : Notes) (names : List (List ℕ)) (modules : ℕ) (slots : List PlainSlot) (number : ℕ) (old new : PlainSlot) (call : AppCall) (before after : PlainLedger) →
-        IsSound names modules slots before → slot_at slots number ≡ Some old → IsAtPlace names number new →
-        SpendsAt note modules (Some old) call (data_in number (Some old)) before (data_in number (Some new)) after → AreNumbered 0 after.births →
-        Moves note 17 (end_at (Some old) number call) before (lists_of slots) after (lists_of (with_slot slots number new)) }
+    ensures moves { (note : Notes) (names : List (List ℕ)) (modules : ℕ) (slots : List PlainSlot)
+        (number : ℕ) (old new : PlainSlot) (call : AppCall) (before after : PlainLedger) →
+        IsSound names modules slots before → slot_at slots number ≡ Some old →
+        IsAtPlace names number new →
+        SpendsAt note modules (Some old) call (data_in number (Some old)) before
+        (data_in number (Some new)) after → AreNumbered 0 after.births →
+        Moves note handle_limit (end_at (Some old) number call) before (lists_of slots) after
+        (lists_of (with_slot slots number new)) }
 {
-    nothing_grows();
-    growth_holds();
-    growth_moves();
-    end_holds();
-    end_moves();
-    nothing_moves();
+    data_cleanup::laws::nothing_grows();
+    data_due::laws::growth_holds();
+    data_due::laws::growth_moves();
+    data_due::laws::end_holds();
+    data_due::laws::end_moves();
+    data_due::laws::nothing_moves();
 }
 
 /// Sixteen closed places and a ledger without births are sound, and stand for no events.
 pub fn closed_places_stand_for_none()
     ensures sound { (names : List (List ℕ)) (modules : ℕ) (convs : List ConvState) →
-        length convs ≡ 16 → IsSound names modules (map closed convs) (record { births = []; filed = [] }) }
+        length convs ≡ 16 →
+        IsSound names modules (map closed convs) (record { births = []; filed = [] }) }
     ensures stand { (note : Notes) (convs : List ConvState) →
-        StandFor note 17 (record { births = []; filed = [] }) (lists_of (map closed convs)) [] }
+        StandFor note handle_limit (record { births = []; filed = [] })
+        (lists_of (map closed convs)) [] }
 {
-    nothing_grows();
-    growth_holds();
-    nothing_is_held();
-    nothing_moves();
-    nothing_stands_for_none();
+    data_cleanup::laws::nothing_grows();
+    data_due::laws::growth_holds();
+    data_due::laws::nothing_is_held();
+    data_due::laws::nothing_moves();
+    data_due::laws::nothing_stands_for_none();
 }
 
 /// What stood for some events stands, after a list of calls of which each moved on, for these events and then the births
 /// and the end of each call, in order.
 pub fn calls_stand_for_their_events()
-    ensures { (note : Notes) (limit : ℕ) (calls : List Moved) (ledger : PlainLedger) (lists : Lists) (events : List Event) →
+    ensures { (note : Notes) (limit : ℕ) (calls : List Moved) (ledger : PlainLedger) (lists : Lists)
+        (events : List Event) →
         StandFor note limit ledger lists events → MoveOn note limit ledger lists calls →
-        StandFor note limit (last_ledger ledger calls) (last_lists lists calls) (events ++ events_of ledger calls) }
+        StandFor note limit (last_ledger ledger calls) (last_lists lists calls)
+        (events ++ events_of ledger calls) }
 {}
 
 /// Whatever steps a run has, what stands in one place after them, and the outcomes of the steps on it, are what its own
 /// steps come to alone, each in the world as it stood before it.
 pub fn places_stand_side_by_side()
-    ensures slot { (players : List Player) (number_of : Code → ℕ → ℕ) (number : ℕ) (steps : List Met) (slots : List PlainSlot) (slot : PlainSlot) →
+    ensures slot { (players : List Player) (number_of : Code → ℕ → ℕ) (number : ℕ)
+        (steps : List Met) (slots : List PlainSlot) (slot : PlainSlot) →
         slot_at slots number ≡ Some slot →
-        slot_at (slots_after players number_of slots steps) number ≡ Some (alone players number_of number slot (own_steps number steps)) }
-    ensures outcomes { (players : List Player) (number_of : Code → ℕ → ℕ) (number : ℕ) (steps : List Met) (slots : List PlainSlot) (slot : PlainSlot) →
+        slot_at (slots_after players number_of slots steps) number
+        ≡ Some (alone players number_of number slot (own_steps number steps)) }
+    ensures outcomes { (players : List Player) (number_of : Code → ℕ → ℕ) (number : ℕ)
+        (steps : List Met) (slots : List PlainSlot) (slot : PlainSlot) →
         slot_at slots number ≡ Some slot →
-        outcomes_on players number_of number slots steps ≡ outcomes_alone players number_of number slot (own_steps number steps) }
+        outcomes_on players number_of number slots steps
+        ≡ outcomes_alone players number_of number slot (own_steps number steps) }
 {}
 
 /// Places and a ledger between two calls are in order; and so are closed places and a ledger without births.
 pub fn sound_places_are_in_order()
-    ensures sound { (names : List (List ℕ)) (modules : ℕ) (slots : List PlainSlot) (ledger : PlainLedger) →
-        IsSound names modules slots ledger → AreNumbered 0 ledger.births → LedgerIsSound ledger.births ledger.filed → AreInOrder slots ledger }
-    ensures closed { (convs : List ConvState) → AreInOrder (map closed convs) (record { births = []; filed = [] }) }
+    ensures sound { (names : List (List ℕ)) (modules : ℕ) (slots : List PlainSlot)
+        (ledger : PlainLedger) →
+        IsSound names modules slots ledger → AreNumbered 0 ledger.births →
+        LedgerIsSound ledger.births ledger.filed → AreInOrder slots ledger }
+    ensures closed { (convs : List ConvState) →
+        AreInOrder (map closed convs) (record { births = []; filed = [] }) }
 {}
 
 /// Where a vault lists no number of a call that is to fail, no call is.
@@ -97,19 +109,24 @@ pub fn no_call_fails_where_none_is_listed()
 /// to the same, and leaves two that are alike; and so does, in one of them, a call on another number that changes no
 /// file. It holds of whatever the modules play.
 pub fn calls_keep_to_themselves()
-    ensures own { (players : List Player) (number_of : Code → ℕ → ℕ) (step : Step) (slots others : List PlainSlot) (w v : PlainWorld) →
+    ensures own { (players : List Player) (number_of : Code → ℕ → ℕ) (step : Step)
+        (slots others : List PlainSlot) (w v : PlainWorld) →
         AreAlike step.number slots w others v →
-        ComeToSame step.number (stepped players number_of slots w step) (stepped players number_of others v step) }
-    ensures other { (players : List Player) (number_of : Code → ℕ → ℕ) (number : ℕ) (step : Step) (slots others : List PlainSlot) (w v : PlainWorld) →
+        ComeToSame step.number (stepped players number_of slots w step)
+        (stepped players number_of others v step) }
+    ensures other { (players : List Player) (number_of : Code → ℕ → ℕ) (number : ℕ) (step : Step)
+        (slots others : List PlainSlot) (w v : PlainWorld) →
         nat_eq step.number number ≡ false → AreAlike number slots w others v →
         (stepped players number_of slots w step).world.vault.files ≡ w.vault.files →
-        AreAlike number (stepped players number_of slots w step).slots (stepped players number_of slots w step).world others v }
+        AreAlike number (stepped players number_of slots w step).slots
+        (stepped players number_of slots w step).world others v }
 {}
 
 /// A step changes files by what modules play, one after another, and by nothing else. What some plays lead to, and others
 /// lead on from, both lead to together.
 pub fn steps_change_files_by_plays()
-    ensures step { (players : List Player) (number_of : Code → ℕ → ℕ) (slots : List PlainSlot) (w : PlainWorld) (step : Step) →
+    ensures step { (players : List Player) (number_of : Code → ℕ → ℕ) (slots : List PlainSlot)
+        (w : PlainWorld) (step : Step) →
         GoesOn players w.vault.files (stepped players number_of slots w step).world.vault.files }
     ensures together { (players : List Player) (first middle last : List File) →
         GoesOn players first middle → GoesOn players middle last → GoesOn players first last }

@@ -8,7 +8,7 @@ mod apply;
 mod calls;
 mod close_one;
 mod end;
-mod laws;
+pub mod laws;
 mod library;
 mod outcome;
 mod reply;
@@ -20,10 +20,5 @@ mod texts;
 mod values;
 mod world;
 
-pub use laws::{
-    calls_keep_to_themselves, calls_stand_for_their_events, closed_places_stand_for_none,
-    no_call_fails_where_none_is_listed, one_place_moves, places_stand_side_by_side,
-    sound_places_are_in_order, steps_change_files_by_plays,
-};
 pub use library::{Library, LibraryTold};
 pub use outcome::{Answer, Outcome};

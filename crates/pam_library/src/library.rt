@@ -6,7 +6,7 @@ use crate::slot::Slot;
 use conv_port::Conv;
 use pam_base::NoMemory;
 use pam_handle::{Gear, GearTold};
-use pam_room::Module;
+use pam_room::{Module, name_of};
 use std::alloc::Global;
 use std::mem;
 
@@ -16,7 +16,6 @@ pub struct Library {
     pub(crate) gear: Gear,
     pub(crate) slots: Vec<Slot>,
     ghost sixteen: { length slots.items ≡ 16 },
-    ghost few: { length gear.mods.items < 2 ^ 32 },
 }
 
 /// Names what a library holds and what its conversations tell, for contracts.
@@ -48,9 +47,10 @@ impl Library {
     /// gear and conversations are given up.
     pub fn new(alloc: Global, gear: Gear, convs: Vec<Box<dyn Conv>>) -> Result<Library, NoMemory>
         requires sixteen { length convs.items ≡ 16 }
-        requires few { length (⟦<Gear as GearTold>⟧.players gear) < 2 ^ 32 }
-        ensures slots { IfOk result (λ library. ⟦<Library as LibraryTold>⟧.slots library ≡ map (closed_with conv_holds) convs.items) }
-        ensures tells { IfOk result (λ library. ⟦<Library as LibraryTold>⟧.tells library ≡ list_all conv_tells convs.items) }
+        ensures slots { IfOk result (λ library. ⟦<Library as LibraryTold>⟧.slots library
+            ≡ map (closed_with conv_holds) convs.items) }
+        ensures tells { IfOk result (λ library. ⟦<Library as LibraryTold>⟧.tells library
+            ≡ list_all conv_tells convs.items) }
         ensures gear { IfOk result (λ library. gear_in library ≡ gear) }
     {
         let mut slots = Vec::with_capacity(alloc, 16)?;
@@ -76,7 +76,8 @@ impl Library {
     /// The name of the module with this number, from 0.
     pub fn module_name(&self, owner: u32) -> &[u8]
         requires { owner < length (⟦<Gear as GearTold>⟧.players (gear_in self.now)) }
-        ensures { slice_get (names_of (⟦<Gear as GearTold>⟧.players (gear_in self.now))) owner ≡ Some result.now }
+        ensures { slice_get (names_of (⟦<Gear as GearTold>⟧.players (gear_in self.now))) owner
+            ≡ Some result.now }
     {
         name_of(&self.gear.mods[owner as usize])
     }
@@ -86,10 +87,16 @@ impl Library {
     pub fn put_conv(&mut self, number: u32, conv: Box<dyn Conv>) -> Box<dyn Conv>
         requires first { 1 ≤ number }
         requires last { number ≤ 16 }
-        ensures slots { (slot : PlainSlot) → slot_at (⟦<Library as LibraryTold>⟧.slots self.old) number ≡ Some slot →
-            ⟦<Library as LibraryTold>⟧.slots self.new ≡ with_slot (⟦<Library as LibraryTold>⟧.slots self.old) number (with_conv (conv_holds conv) slot) }
-        ensures old { (slot : PlainSlot) → slot_at (⟦<Library as LibraryTold>⟧.slots self.old) number ≡ Some slot → conv_holds result ≡ conv_of slot }
-        ensures tells { IsTrue (⟦<Library as LibraryTold>⟧.tells self.old && conv_tells conv) → IsTrue (⟦<Library as LibraryTold>⟧.tells self.new && conv_tells result) }
+        ensures slots { (slot : PlainSlot) → slot_at
+            (⟦<Library as LibraryTold>⟧.slots self.old) number ≡ Some slot →
+            ⟦<Library as LibraryTold>⟧.slots self.new
+            ≡ with_slot (⟦<Library as LibraryTold>⟧.slots self.old) number
+            (with_conv (conv_holds conv) slot) }
+        ensures old { (slot : PlainSlot) → slot_at
+            (⟦<Library as LibraryTold>⟧.slots self.old) number ≡ Some slot →
+            conv_holds result ≡ conv_of slot }
+        ensures tells { IsTrue (⟦<Library as LibraryTold>⟧.tells self.old && conv_tells conv) →
+            IsTrue (⟦<Library as LibraryTold>⟧.tells self.new && conv_tells result) }
         ensures gear { gear_in self.new ≡ gear_in self.old }
     {
         match &mut self.slots[number as usize - 1] {
@@ -112,10 +119,4 @@ impl Library {
         }
         slots.destroy_empty();
     }
-}
-
-fn name_of(handler: &Box<dyn Module>) -> &[u8]
-    ensures { result.now ≡ label handler.now }
-{
-    handler.name()
 }

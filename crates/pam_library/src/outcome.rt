@@ -38,7 +38,8 @@ pub struct Outcome {
     pub said: Messages,
     /// The lines that it visited.
     pub trail: Visits,
-    /// The number of receipts in the ledger before it: its own are those from there on.
+    /// The number of receipts in the ledger before it: its own are those from there on, and stay in the ledger, which
+    /// has the name of each.
     pub filed_from: u64,
     /// What was waited after an authentication.
     pub wait: Option<Wait>,
@@ -66,7 +67,8 @@ impl Outcome {
 
     // SUCCESS of a start, and the modules that are missing. It takes no memory.
     pub(crate) fn missing(alloc: Global, filed_from: u64, missing: Texts) -> Self
-        ensures plain { plain_outcome result ≡ record (answers_only filed_from (Answer.Code Code.Success)) { missing = missing } }
+        ensures plain { plain_outcome result ≡ record
+            (answers_only filed_from (Answer.Code Code.Success)) { missing = missing } }
         ensures answer { result.answer ≡ Answer.Code Code.Success }
         ensures filed_from { result.filed_from ≡ filed_from }
     {
@@ -82,7 +84,14 @@ impl Outcome {
 
     // An answer, and what was told. It takes no memory.
     pub(crate) fn telling(alloc: Global, filed_from: u64, told: Told, answer: Answer) -> Self
-        ensures plain { plain_outcome result ≡ record { said = told.said; trail = told.trail.visits; filed_from = filed_from; wait = told.wait; missing = []; answer = answer } }
+        ensures plain { plain_outcome result ≡ record {
+          said = told.said;
+          trail = told.trail.visits;
+          filed_from = filed_from;
+          wait = told.wait;
+          missing = [];
+          answer = answer;
+        } }
         ensures answer { result.answer ≡ answer }
         ensures filed_from { result.filed_from ≡ filed_from }
     {

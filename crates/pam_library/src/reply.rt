@@ -6,7 +6,7 @@ ghost use Rattle.pam_library.specs.InPlace.{IsOffered};
 
 use crate::outcome::{Answer, Outcome};
 use conv_port::{Conv, offer_to};
-use pam_base::{NoMemory, Text};
+use pam_base::{MAX_TEXT, NoMemory, Text};
 use pam_handle::Handle;
 use pam_room::{Room, RoomTold};
 use std::alloc::Global;
@@ -18,14 +18,19 @@ pub(crate) fn offer_open(
     filed_from: u64,
     text: &Text,
 ) -> Result<Outcome, NoMemory>
-    requires { length text.now ≤ 512 }
-    ensures outcome { IfOk result (λ outcome. plain_outcome outcome ≡ answers_only filed_from Answer.Nothing) }
+    requires { length text.now ≤ MAX_TEXT }
+    ensures outcome { IfOk result (λ outcome. plain_outcome outcome
+        ≡ answers_only filed_from Answer.Nothing) }
     ensures answer { IfOk result (λ outcome. outcome.answer ≡ Answer.Nothing) }
     ensures filed_from { IfOk result (λ outcome. outcome.filed_from ≡ filed_from) }
-    ensures tells { ⟦<Room as RoomTold>⟧.tells (room_in handle.new) ≡ ⟦<Room as RoomTold>⟧.tells (room_in handle.old) }
+    ensures tells { ⟦<Room as RoomTold>⟧.tells (room_in handle.new)
+        ≡ ⟦<Room as RoomTold>⟧.tells (room_in handle.old) }
     ensures told { IsTrue (⟦<Room as RoomTold>⟧.tells (room_in handle.old)) →
-        IsOffered result text.now (plain_handle ⟦<Room as RoomTold>⟧.plain handle.old).room.conv (plain_handle ⟦<Room as RoomTold>⟧.plain handle.new).room.conv }
-    ensures others { plain_handle ⟦<Room as RoomTold>⟧.plain handle.new ≡ with_conversation (plain_handle ⟦<Room as RoomTold>⟧.plain handle.new).room.conv (plain_handle ⟦<Room as RoomTold>⟧.plain handle.old) }
+        IsOffered result text.now (plain_handle ⟦<Room as RoomTold>⟧.plain handle.old).room.conv
+        (plain_handle ⟦<Room as RoomTold>⟧.plain handle.new).room.conv }
+    ensures others { plain_handle ⟦<Room as RoomTold>⟧.plain handle.new
+        ≡ with_conversation (plain_handle ⟦<Room as RoomTold>⟧.plain handle.new).room.conv
+        (plain_handle ⟦<Room as RoomTold>⟧.plain handle.old) }
 {
     handle.offer(alloc, text.bytes())?;
     Ok(Outcome::only(alloc, filed_from, Answer::Nothing))
@@ -38,12 +43,14 @@ pub(crate) fn offer_closed(
     filed_from: u64,
     text: &Text,
 ) -> Result<Outcome, NoMemory>
-    requires { length text.now ≤ 512 }
-    ensures outcome { IfOk result (λ outcome. plain_outcome outcome ≡ answers_only filed_from Answer.Nothing) }
+    requires { length text.now ≤ MAX_TEXT }
+    ensures outcome { IfOk result (λ outcome. plain_outcome outcome
+        ≡ answers_only filed_from Answer.Nothing) }
     ensures answer { IfOk result (λ outcome. outcome.answer ≡ Answer.Nothing) }
     ensures filed_from { IfOk result (λ outcome. outcome.filed_from ≡ filed_from) }
     ensures tells { conv_tells conv.new ≡ conv_tells conv.old }
-    ensures told { IsTrue (conv_tells conv.old) → IsOffered result text.now (conv_holds conv.old) (conv_holds conv.new) }
+    ensures told { IsTrue (conv_tells conv.old) →
+        IsOffered result text.now (conv_holds conv.old) (conv_holds conv.new) }
 {
     offer_to(&mut **conv, alloc, text.bytes())?;
     Ok(Outcome::only(alloc, filed_from, Answer::Nothing))

@@ -1,12 +1,11 @@
 ghost use Rattle.std.specs.Prelude.{◌≡◌, ◌<◌, ◌^◌, ◌&&◌, ℕ, false, true, None, Some, IfOk, OnErr, IsTrue, length};
 ghost use Rattle.pam_base.specs.declared.code.Code.{Code};
-ghost use Rattle.dispatch_core.specs.Lines.{names_of};
 ghost use Rattle.pam_room.specs.Module.{notes_of};
-ghost use Rattle.pam_room.specs.Stays.{IsReady};
 ghost use Rattle.pam_handle.specs.AnyWorld.{FailsAs, RunsSoundly};
 ghost use Rattle.pam_handle.specs.Call.{CallsAs};
 ghost use Rattle.pam_handle.specs.Items.{all_told};
 ghost use Rattle.pam_handle.specs.Plain.{plain_handle, room_in};
+ghost use Rattle.pam_handle.specs.Ready.{IsReadyFor};
 ghost use Rattle.pam_handle.specs.StackCalls.{stack_call};
 ghost use Rattle.pam_library.specs.AnyWorld.{leaves_world, stack_refusal};
 ghost use Rattle.pam_library.specs.InPlace.{GoesInPlace, stack_app_call};
@@ -15,7 +14,7 @@ ghost use Rattle.pam_library.specs.Sound.{IsPlaced};
 
 use crate::outcome::{Answer, Outcome};
 use crate::world::receipts_in;
-use data_cleanup::nothing_grows;
+use data_cleanup::laws;
 use fail_delay::{DelayFn, DelayTold};
 use pam_base::{Code, Func, NoMemory};
 use pam_handle::{Gear, GearTold, Handle, has_pass_flag};
@@ -25,7 +24,8 @@ use std::alloc::Global;
 // What a stack call is answered before a stack is run: SYSTEM_ERR for the flags of the two passes of a change of token, and
 // then the call that is pending, where it is another one.
 fn refusal(handle: &Handle, func: Func, flags: u32) -> Option<Answer>
-    ensures { result ≡ stack_refusal (plain_handle ⟦<Room as RoomTold>⟧.plain handle.now).pending func flags }
+    ensures { result ≡ stack_refusal (plain_handle ⟦<Room as RoomTold>⟧.plain handle.now).pending
+        func flags }
 {
     if func == Func::ChAuthTok && has_pass_flag(flags) {
         return Some(Answer::Code(Code::SystemErr));
@@ -37,7 +37,7 @@ fn refusal(handle: &Handle, func: Func, flags: u32) -> Option<Answer>
 }
 
 // Runs the stack of a call that isn't refused.
-fn run(
+fn call_handle(
     alloc: Global,
     gear: &Gear,
     world: &mut World,
@@ -45,16 +45,31 @@ fn run(
     func: Func,
     flags: u32,
 ) -> Result<Code, NoMemory>
-    requires names { (plain_handle ⟦<Room as RoomTold>⟧.plain handle.old).names ≡ names_of (⟦<Gear as GearTold>⟧.players gear.now) }
-    requires few { length (⟦<Gear as GearTold>⟧.players gear.now) < 2 ^ 32 }
-    requires ready { IsReady (length (⟦<Gear as GearTold>⟧.players gear.now)) (plain_handle ⟦<Room as RoomTold>⟧.plain handle.old).room.transaction (⟦<World as WorldTold>⟧.plain world.old).process }
-    ensures tells { ⟦<Room as RoomTold>⟧.tells (room_in handle.new) ≡ ⟦<Room as RoomTold>⟧.tells (room_in handle.old) }
-    ensures world_tells { ⟦<World as WorldTold>⟧.tells world.new ≡ ⟦<World as WorldTold>⟧.tells world.old }
-    ensures told { (number : Code → ℕ → ℕ) → ⟦<DelayFn as DelayTold>⟧.delay_is gear.now.delay number → IsTrue (⟦<Room as RoomTold>⟧.tells (room_in handle.old) && ⟦<World as WorldTold>⟧.tells world.old) →
-        IfOk result (λ code. CallsAs (stack_call (⟦<Gear as GearTold>⟧.players gear.now) number func flags (plain_handle ⟦<Room as RoomTold>⟧.plain handle.old) (⟦<World as WorldTold>⟧.plain world.old)) code (plain_handle ⟦<Room as RoomTold>⟧.plain handle.new) (⟦<World as WorldTold>⟧.plain world.new)) }
-    ensures err { OnErr result (FailsAs func (plain_handle ⟦<Room as RoomTold>⟧.plain handle.old) (plain_handle ⟦<Room as RoomTold>⟧.plain handle.new)) }
-    ensures sound { RunsSoundly (notes_of (⟦<Gear as GearTold>⟧.players gear.now)) (length (⟦<Gear as GearTold>⟧.players gear.now))
-        (plain_handle ⟦<Room as RoomTold>⟧.plain handle.old) (plain_handle ⟦<Room as RoomTold>⟧.plain handle.new) (⟦<World as WorldTold>⟧.plain world.old).process (⟦<World as WorldTold>⟧.plain world.new).process }
+    requires { IsReadyFor (⟦<Gear as GearTold>⟧.players gear.now)
+        (plain_handle ⟦<Room as RoomTold>⟧.plain handle.old)
+        (⟦<World as WorldTold>⟧.plain world.old).process }
+    ensures tells { ⟦<Room as RoomTold>⟧.tells (room_in handle.new)
+        ≡ ⟦<Room as RoomTold>⟧.tells (room_in handle.old) }
+    ensures world_tells { ⟦<World as WorldTold>⟧.tells world.new
+        ≡ ⟦<World as WorldTold>⟧.tells world.old }
+    ensures told { (number : Code → ℕ → ℕ) →
+        ⟦<DelayFn as DelayTold>⟧.delay_is gear.now.delay number →
+        IsTrue (⟦<Room as RoomTold>⟧.tells (room_in handle.old)
+        && ⟦<World as WorldTold>⟧.tells world.old) →
+        IfOk result (λ code. CallsAs
+        (stack_call (⟦<Gear as GearTold>⟧.players gear.now) number func flags
+        (plain_handle ⟦<Room as RoomTold>⟧.plain handle.old)
+        (⟦<World as WorldTold>⟧.plain world.old)) code
+        (plain_handle ⟦<Room as RoomTold>⟧.plain handle.new)
+        (⟦<World as WorldTold>⟧.plain world.new)) }
+    ensures err { OnErr result (FailsAs func (plain_handle ⟦<Room as RoomTold>⟧.plain handle.old)
+        (plain_handle ⟦<Room as RoomTold>⟧.plain handle.new)) }
+    ensures sound { RunsSoundly (notes_of (⟦<Gear as GearTold>⟧.players gear.now))
+        (length (⟦<Gear as GearTold>⟧.players gear.now))
+        (plain_handle ⟦<Room as RoomTold>⟧.plain handle.old)
+        (plain_handle ⟦<Room as RoomTold>⟧.plain handle.new)
+        (⟦<World as WorldTold>⟧.plain world.old).process
+        (⟦<World as WorldTold>⟧.plain world.new).process }
 {
     match func {
         Func::Authenticate => handle.authenticate(alloc, gear, world, flags),
@@ -75,23 +90,33 @@ pub(crate) fn call_stack(
     func: Func,
     flags: u32,
 ) -> Result<Outcome, NoMemory>
-    requires told { plain_handle ⟦<Room as RoomTold>⟧.plain handle.old ≡ all_told (plain_handle ⟦<Room as RoomTold>⟧.plain handle.old) }
-    requires names { (plain_handle ⟦<Room as RoomTold>⟧.plain handle.old).names ≡ names_of (⟦<Gear as GearTold>⟧.players gear.now) }
-    requires few { length (⟦<Gear as GearTold>⟧.players gear.now) < 2 ^ 32 }
-    requires ready { IsReady (length (⟦<Gear as GearTold>⟧.players gear.now)) (plain_handle ⟦<Room as RoomTold>⟧.plain handle.old).room.transaction (⟦<World as WorldTold>⟧.plain world.old).process }
-    ensures tells { ⟦<Room as RoomTold>⟧.tells (room_in handle.new) ≡ ⟦<Room as RoomTold>⟧.tells (room_in handle.old) }
-    ensures world_tells { ⟦<World as WorldTold>⟧.tells world.new ≡ ⟦<World as WorldTold>⟧.tells world.old }
-    ensures goes { GoesInPlace (⟦<Gear as GearTold>⟧.players gear.now) (⟦<DelayFn as DelayTold>⟧.delay_is gear.now.delay) (⟦<Room as RoomTold>⟧.tells (room_in handle.old)) (⟦<World as WorldTold>⟧.tells world.old)
-        (plain_handle ⟦<Room as RoomTold>⟧.plain handle.old).room.transaction.handle (stack_app_call func flags) (opened (plain_handle ⟦<Room as RoomTold>⟧.plain handle.old)) (⟦<World as WorldTold>⟧.plain world.old)
-        result (opened (plain_handle ⟦<Room as RoomTold>⟧.plain handle.new)) (⟦<World as WorldTold>⟧.plain world.new) }
-    ensures world { leaves_world (Some (opened (plain_handle ⟦<Room as RoomTold>⟧.plain handle.old))) (stack_app_call func flags) ≡ true → world.new ≡ world.old }
+    requires told { plain_handle ⟦<Room as RoomTold>⟧.plain handle.old
+        ≡ all_told (plain_handle ⟦<Room as RoomTold>⟧.plain handle.old) }
+    requires ready { IsReadyFor (⟦<Gear as GearTold>⟧.players gear.now)
+        (plain_handle ⟦<Room as RoomTold>⟧.plain handle.old)
+        (⟦<World as WorldTold>⟧.plain world.old).process }
+    ensures tells { ⟦<Room as RoomTold>⟧.tells (room_in handle.new)
+        ≡ ⟦<Room as RoomTold>⟧.tells (room_in handle.old) }
+    ensures world_tells { ⟦<World as WorldTold>⟧.tells world.new
+        ≡ ⟦<World as WorldTold>⟧.tells world.old }
+    ensures goes { GoesInPlace (⟦<Gear as GearTold>⟧.players gear.now)
+        (⟦<DelayFn as DelayTold>⟧.delay_is gear.now.delay)
+        (⟦<Room as RoomTold>⟧.tells (room_in handle.old)) (⟦<World as WorldTold>⟧.tells world.old)
+        (plain_handle ⟦<Room as RoomTold>⟧.plain handle.old).room.transaction.handle
+        (stack_app_call func flags) (opened (plain_handle ⟦<Room as RoomTold>⟧.plain handle.old))
+        (⟦<World as WorldTold>⟧.plain world.old)
+        result (opened (plain_handle ⟦<Room as RoomTold>⟧.plain handle.new))
+        (⟦<World as WorldTold>⟧.plain world.new) }
+    ensures world { leaves_world (Some (opened
+        (plain_handle ⟦<Room as RoomTold>⟧.plain handle.old))) (stack_app_call func flags) ≡ true →
+        world.new ≡ world.old }
 {
-    nothing_grows();
+    laws::nothing_grows();
     let filed_from = receipts_in(world);
     if let Some(refused) = refusal(handle, func, flags) {
         return Ok(Outcome::only(alloc, filed_from, refused));
     }
-    let code = run(alloc, gear, world, handle, func, flags)?;
+    let code = call_handle(alloc, gear, world, handle, func, flags)?;
     let told = handle.take_told(alloc);
     Ok(Outcome::telling(alloc, filed_from, told, Answer::Code(code)))
 }

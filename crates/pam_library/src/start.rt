@@ -1,8 +1,7 @@
 ghost use Rattle.std.specs.Prelude.{◌≡◌, ◌<◌, ◌^◌, [], IfOk, IsTrue, length};
 ghost use Rattle.pam_base.specs.ServiceName.{is_service_name};
-ghost use Rattle.dispatch_core.specs.Lines.{names_of};
-ghost use Rattle.pam_room.specs.Stays.{IsReady};
 ghost use Rattle.pam_handle.specs.Plain.{in_box, plain_handle, room_in};
+ghost use Rattle.pam_handle.specs.Ready.{IsReadyFor};
 ghost use Rattle.pam_library.specs.AnyWorld.{CountsRefusal};
 ghost use Rattle.pam_library.specs.InPlace.{GoesInPlace, IsOpened, IsRefused};
 ghost use Rattle.pam_library.specs.Slots.{closed};
@@ -21,11 +20,15 @@ use std::alloc::Global;
 // Opens a place for a transaction that was started, and tells which modules are missing; without memory for their names the
 // transaction, which has no data yet, is ended again.
 fn open(alloc: Global, gear: &Gear, world: &mut World, handle: Handle, filed_from: u64) -> Stepped
-    requires names { (plain_handle ⟦<Room as RoomTold>⟧.plain handle).names ≡ names_of (⟦<Gear as GearTold>⟧.players gear.now) }
-    requires ready { IsReady (length (⟦<Gear as GearTold>⟧.players gear.now)) (plain_handle ⟦<Room as RoomTold>⟧.plain handle).room.transaction (⟦<World as WorldTold>⟧.plain world.old).process }
-    requires no_data { (plain_handle ⟦<Room as RoomTold>⟧.plain handle).room.transaction.datums.live ≡ [] }
-    ensures tells { ⟦<Slot as SlotTold>⟧.tells result.slot ≡ ⟦<Room as RoomTold>⟧.tells (room_in handle) }
-    ensures opened { IsOpened filed_from (plain_handle ⟦<Room as RoomTold>⟧.plain handle) result.outcome (⟦<Slot as SlotTold>⟧.plain result.slot) }
+    requires ready { IsReadyFor (⟦<Gear as GearTold>⟧.players gear.now)
+        (plain_handle ⟦<Room as RoomTold>⟧.plain handle)
+        (⟦<World as WorldTold>⟧.plain world.old).process }
+    requires no_data { (plain_handle ⟦<Room as RoomTold>⟧.plain handle).room.transaction.datums.live
+        ≡ [] }
+    ensures tells { ⟦<Slot as SlotTold>⟧.tells result.slot
+        ≡ ⟦<Room as RoomTold>⟧.tells (room_in handle) }
+    ensures opened { IsOpened filed_from (plain_handle ⟦<Room as RoomTold>⟧.plain handle)
+        result.outcome (⟦<Slot as SlotTold>⟧.plain result.slot) }
     ensures world { world.new ≡ world.old }
 {
     match handle.missing(alloc) {
@@ -68,13 +71,19 @@ pub(crate) fn start(
     conv: Box<dyn Conv>,
 ) -> Stepped
     requires service { IsTrue (is_service_name service.now) }
-    requires few { length (⟦<Gear as GearTold>⟧.players gear.now) < 2 ^ 32 }
     ensures tells { ⟦<Slot as SlotTold>⟧.tells result.slot ≡ conv_tells conv }
-    ensures world_tells { ⟦<World as WorldTold>⟧.tells world.new ≡ ⟦<World as WorldTold>⟧.tells world.old }
-    ensures goes { GoesInPlace (⟦<Gear as GearTold>⟧.players gear.now) (⟦<DelayFn as DelayTold>⟧.delay_is gear.now.delay) (conv_tells conv) (⟦<World as WorldTold>⟧.tells world.old)
-        number (AppCall.Start service.now user.now) (closed (conv_holds conv)) (⟦<World as WorldTold>⟧.plain world.old)
-        result.outcome (⟦<Slot as SlotTold>⟧.plain result.slot) (⟦<World as WorldTold>⟧.plain world.new) }
-    ensures faults { IfOk result.outcome (λ outcome. CountsRefusal outcome.answer (vault_faults (in_box world.old.vault)) (vault_faults (in_box world.new.vault))) }
+    ensures world_tells { ⟦<World as WorldTold>⟧.tells world.new
+        ≡ ⟦<World as WorldTold>⟧.tells world.old }
+    ensures goes { GoesInPlace (⟦<Gear as GearTold>⟧.players gear.now)
+        (⟦<DelayFn as DelayTold>⟧.delay_is gear.now.delay) (conv_tells conv)
+        (⟦<World as WorldTold>⟧.tells world.old)
+        number (AppCall.Start service.now user.now) (closed (conv_holds conv))
+        (⟦<World as WorldTold>⟧.plain world.old)
+        result.outcome (⟦<Slot as SlotTold>⟧.plain result.slot)
+        (⟦<World as WorldTold>⟧.plain world.new) }
+    ensures faults { IfOk result.outcome (λ outcome.
+        CountsRefusal outcome.answer (vault_faults (in_box world.old.vault))
+        (vault_faults (in_box world.new.vault))) }
 {
     let filed_from = receipts_in(world);
     match Handle::start(

@@ -25,17 +25,26 @@ use std::alloc::Global;
 impl Slot {
     // A step on the place of its number.
     pub(crate) fn step(self, alloc: Global, gear: &Gear, world: &mut World, step: &Step) -> Stepped
-        requires placed { IsAtPlace (names_of (⟦<Gear as GearTold>⟧.players gear.now)) step.now.number (⟦<Slot as SlotTold>⟧.plain self) }
-        requires ready { IsReadyAt (length (⟦<Gear as GearTold>⟧.players gear.now)) (⟦<Slot as SlotTold>⟧.plain self) (⟦<World as WorldTold>⟧.plain world.old).process }
-        requires few { length (⟦<Gear as GearTold>⟧.players gear.now) < 2 ^ 32 }
+        requires placed { IsAtPlace (names_of (⟦<Gear as GearTold>⟧.players gear.now))
+            step.now.number (⟦<Slot as SlotTold>⟧.plain self) }
+        requires ready { IsReadyAt (length (⟦<Gear as GearTold>⟧.players gear.now))
+            (⟦<Slot as SlotTold>⟧.plain self) (⟦<World as WorldTold>⟧.plain world.old).process }
         requires fit { IsTrue (is_fit step.now.call) }
         ensures tells { ⟦<Slot as SlotTold>⟧.tells result.slot ≡ ⟦<Slot as SlotTold>⟧.tells self }
-        ensures world_tells { ⟦<World as WorldTold>⟧.tells world.new ≡ ⟦<World as WorldTold>⟧.tells world.old }
-        ensures goes { GoesInPlace (⟦<Gear as GearTold>⟧.players gear.now) (⟦<DelayFn as DelayTold>⟧.delay_is gear.now.delay) (⟦<Slot as SlotTold>⟧.tells self) (⟦<World as WorldTold>⟧.tells world.old)
-            step.now.number step.now.call (⟦<Slot as SlotTold>⟧.plain self) (⟦<World as WorldTold>⟧.plain world.old)
-            result.outcome (⟦<Slot as SlotTold>⟧.plain result.slot) (⟦<World as WorldTold>⟧.plain world.new) }
-        ensures world { leaves_world (Some (⟦<Slot as SlotTold>⟧.plain self)) step.now.call ≡ true → world.new ≡ world.old }
-        ensures faults { IfOk result.outcome (λ outcome. CountsRefusal outcome.answer (vault_faults (in_box world.old.vault)) (vault_faults (in_box world.new.vault))) }
+        ensures world_tells { ⟦<World as WorldTold>⟧.tells world.new
+            ≡ ⟦<World as WorldTold>⟧.tells world.old }
+        ensures goes { GoesInPlace (⟦<Gear as GearTold>⟧.players gear.now)
+            (⟦<DelayFn as DelayTold>⟧.delay_is gear.now.delay) (⟦<Slot as SlotTold>⟧.tells self)
+            (⟦<World as WorldTold>⟧.tells world.old)
+            step.now.number step.now.call (⟦<Slot as SlotTold>⟧.plain self)
+            (⟦<World as WorldTold>⟧.plain world.old)
+            result.outcome (⟦<Slot as SlotTold>⟧.plain result.slot)
+            (⟦<World as WorldTold>⟧.plain world.new) }
+        ensures world { leaves_world (Some (⟦<Slot as SlotTold>⟧.plain self)) step.now.call ≡ true →
+            world.new ≡ world.old }
+        ensures faults { IfOk result.outcome (λ outcome.
+            CountsRefusal outcome.answer (vault_faults (in_box world.old.vault))
+            (vault_faults (in_box world.new.vault))) }
     {
         match self {
             Slot::Closed(conv) => step_closed(alloc, gear, world, conv, step),
@@ -52,15 +61,22 @@ fn step_closed(
     conv: Box<dyn Conv>,
     step: &Step,
 ) -> Stepped
-    requires few { length (⟦<Gear as GearTold>⟧.players gear.now) < 2 ^ 32 }
     requires fit { IsTrue (is_fit step.now.call) }
     ensures tells { ⟦<Slot as SlotTold>⟧.tells result.slot ≡ conv_tells conv }
-    ensures world_tells { ⟦<World as WorldTold>⟧.tells world.new ≡ ⟦<World as WorldTold>⟧.tells world.old }
-    ensures goes { GoesInPlace (⟦<Gear as GearTold>⟧.players gear.now) (⟦<DelayFn as DelayTold>⟧.delay_is gear.now.delay) (conv_tells conv) (⟦<World as WorldTold>⟧.tells world.old)
-        step.now.number step.now.call (closed (conv_holds conv)) (⟦<World as WorldTold>⟧.plain world.old)
-        result.outcome (⟦<Slot as SlotTold>⟧.plain result.slot) (⟦<World as WorldTold>⟧.plain world.new) }
-    ensures world { leaves_world (Some (closed (conv_holds conv))) step.now.call ≡ true → world.new ≡ world.old }
-    ensures faults { IfOk result.outcome (λ outcome. CountsRefusal outcome.answer (vault_faults (in_box world.old.vault)) (vault_faults (in_box world.new.vault))) }
+    ensures world_tells { ⟦<World as WorldTold>⟧.tells world.new
+        ≡ ⟦<World as WorldTold>⟧.tells world.old }
+    ensures goes { GoesInPlace (⟦<Gear as GearTold>⟧.players gear.now)
+        (⟦<DelayFn as DelayTold>⟧.delay_is gear.now.delay) (conv_tells conv)
+        (⟦<World as WorldTold>⟧.tells world.old)
+        step.now.number step.now.call (closed (conv_holds conv))
+        (⟦<World as WorldTold>⟧.plain world.old)
+        result.outcome (⟦<Slot as SlotTold>⟧.plain result.slot)
+        (⟦<World as WorldTold>⟧.plain world.new) }
+    ensures world { leaves_world (Some (closed (conv_holds conv))) step.now.call ≡ true →
+        world.new ≡ world.old }
+    ensures faults { IfOk result.outcome (λ outcome.
+        CountsRefusal outcome.answer (vault_faults (in_box world.old.vault))
+        (vault_faults (in_box world.new.vault))) }
 {
     match &step.call {
         AppCall::Start { service, user } => {
@@ -83,19 +99,31 @@ fn step_closed(
 
 // A step on an open place. What its transaction had told before is thrown away.
 fn step_open(alloc: Global, gear: &Gear, world: &mut World, handle: Handle, step: &Step) -> Stepped
-    requires placed { IsPlaced (names_of (⟦<Gear as GearTold>⟧.players gear.now)) step.now.number (plain_handle ⟦<Room as RoomTold>⟧.plain handle) }
-    requires ready { IsReady (length (⟦<Gear as GearTold>⟧.players gear.now)) (plain_handle ⟦<Room as RoomTold>⟧.plain handle).room.transaction (⟦<World as WorldTold>⟧.plain world.old).process }
-    requires few { length (⟦<Gear as GearTold>⟧.players gear.now) < 2 ^ 32 }
+    requires placed { IsPlaced (names_of (⟦<Gear as GearTold>⟧.players gear.now)) step.now.number
+        (plain_handle ⟦<Room as RoomTold>⟧.plain handle) }
+    requires ready { IsReady (length (⟦<Gear as GearTold>⟧.players gear.now))
+        (plain_handle ⟦<Room as RoomTold>⟧.plain handle).room.transaction
+        (⟦<World as WorldTold>⟧.plain world.old).process }
     requires fit { IsTrue (is_fit step.now.call) }
-    ensures tells { ⟦<Slot as SlotTold>⟧.tells result.slot ≡ ⟦<Room as RoomTold>⟧.tells (room_in handle) }
-    ensures world_tells { ⟦<World as WorldTold>⟧.tells world.new ≡ ⟦<World as WorldTold>⟧.tells world.old }
-    ensures goes { GoesInPlace (⟦<Gear as GearTold>⟧.players gear.now) (⟦<DelayFn as DelayTold>⟧.delay_is gear.now.delay) (⟦<Room as RoomTold>⟧.tells (room_in handle)) (⟦<World as WorldTold>⟧.tells world.old)
-        step.now.number step.now.call (opened (plain_handle ⟦<Room as RoomTold>⟧.plain handle)) (⟦<World as WorldTold>⟧.plain world.old)
-        result.outcome (⟦<Slot as SlotTold>⟧.plain result.slot) (⟦<World as WorldTold>⟧.plain world.new) }
-    ensures world { leaves_world (Some (opened (plain_handle ⟦<Room as RoomTold>⟧.plain handle))) step.now.call ≡ true → world.new ≡ world.old }
-    ensures faults { IfOk result.outcome (λ outcome. CountsRefusal outcome.answer (vault_faults (in_box world.old.vault)) (vault_faults (in_box world.new.vault))) }
+    ensures tells { ⟦<Slot as SlotTold>⟧.tells result.slot
+        ≡ ⟦<Room as RoomTold>⟧.tells (room_in handle) }
+    ensures world_tells { ⟦<World as WorldTold>⟧.tells world.new
+        ≡ ⟦<World as WorldTold>⟧.tells world.old }
+    ensures goes { GoesInPlace (⟦<Gear as GearTold>⟧.players gear.now)
+        (⟦<DelayFn as DelayTold>⟧.delay_is gear.now.delay)
+        (⟦<Room as RoomTold>⟧.tells (room_in handle)) (⟦<World as WorldTold>⟧.tells world.old)
+        step.now.number step.now.call (opened (plain_handle ⟦<Room as RoomTold>⟧.plain handle))
+        (⟦<World as WorldTold>⟧.plain world.old)
+        result.outcome (⟦<Slot as SlotTold>⟧.plain result.slot)
+        (⟦<World as WorldTold>⟧.plain world.new) }
+    ensures world { leaves_world (Some (opened (plain_handle ⟦<Room as RoomTold>⟧.plain handle)))
+        step.now.call ≡ true → world.new ≡ world.old }
+    ensures faults { IfOk result.outcome (λ outcome.
+        CountsRefusal outcome.answer (vault_faults (in_box world.old.vault))
+        (vault_faults (in_box world.new.vault))) }
 {
     let mut handle = handle;
+    // What a call on the handle alone told before is dropped.
     let _before = handle.take_told(alloc);
     if let AppCall::End { status } = &step.call {
         return end(alloc, gear, world, handle, *status);

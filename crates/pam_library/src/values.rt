@@ -19,9 +19,13 @@ pub(crate) fn set_item(
     item: ItemName,
     value: &Option<Text>,
 ) -> Result<Outcome, NoMemory>
-    requires { plain_handle ⟦<Room as RoomTold>⟧.plain handle.old ≡ all_told (plain_handle ⟦<Room as RoomTold>⟧.plain handle.old) }
-    ensures goes { GoesInside (AppCall.SetItem item value.now) filed_from (plain_handle ⟦<Room as RoomTold>⟧.plain handle.old) result (plain_handle ⟦<Room as RoomTold>⟧.plain handle.new) }
-    ensures tells { ⟦<Room as RoomTold>⟧.tells (room_in handle.new) ≡ ⟦<Room as RoomTold>⟧.tells (room_in handle.old) }
+    requires { plain_handle ⟦<Room as RoomTold>⟧.plain handle.old
+        ≡ all_told (plain_handle ⟦<Room as RoomTold>⟧.plain handle.old) }
+    ensures goes { GoesInside (AppCall.SetItem item value.now) filed_from
+        (plain_handle ⟦<Room as RoomTold>⟧.plain handle.old) result
+        (plain_handle ⟦<Room as RoomTold>⟧.plain handle.new) }
+    ensures tells { ⟦<Room as RoomTold>⟧.tells (room_in handle.new)
+        ≡ ⟦<Room as RoomTold>⟧.tells (room_in handle.old) }
 {
     match handle.set_item(item, bytes_of(value)) {
         Ok(()) => Ok(Outcome::only(alloc, filed_from, Answer::Code(Code::Success))),
@@ -40,8 +44,11 @@ pub(crate) fn get_item(
     filed_from: u64,
     item: ItemName,
 ) -> Result<Outcome, NoMemory>
-    requires { plain_handle ⟦<Room as RoomTold>⟧.plain handle.now ≡ all_told (plain_handle ⟦<Room as RoomTold>⟧.plain handle.now) }
-    ensures { GoesInside (AppCall.GetItem item) filed_from (plain_handle ⟦<Room as RoomTold>⟧.plain handle.now) result (plain_handle ⟦<Room as RoomTold>⟧.plain handle.now) }
+    requires { plain_handle ⟦<Room as RoomTold>⟧.plain handle.now
+        ≡ all_told (plain_handle ⟦<Room as RoomTold>⟧.plain handle.now) }
+    ensures { GoesInside (AppCall.GetItem item) filed_from
+        (plain_handle ⟦<Room as RoomTold>⟧.plain handle.now) result
+        (plain_handle ⟦<Room as RoomTold>⟧.plain handle.now) }
 {
     match handle.get_item(item) {
         Ok(value) => {
@@ -58,9 +65,13 @@ pub(crate) fn put_env(
     filed_from: u64,
     text: &Text,
 ) -> Result<Outcome, NoMemory>
-    requires { plain_handle ⟦<Room as RoomTold>⟧.plain handle.old ≡ all_told (plain_handle ⟦<Room as RoomTold>⟧.plain handle.old) }
-    ensures goes { GoesInside (AppCall.PutEnv text.now) filed_from (plain_handle ⟦<Room as RoomTold>⟧.plain handle.old) result (plain_handle ⟦<Room as RoomTold>⟧.plain handle.new) }
-    ensures tells { ⟦<Room as RoomTold>⟧.tells (room_in handle.new) ≡ ⟦<Room as RoomTold>⟧.tells (room_in handle.old) }
+    requires { plain_handle ⟦<Room as RoomTold>⟧.plain handle.old
+        ≡ all_told (plain_handle ⟦<Room as RoomTold>⟧.plain handle.old) }
+    ensures goes { GoesInside (AppCall.PutEnv text.now) filed_from
+        (plain_handle ⟦<Room as RoomTold>⟧.plain handle.old) result
+        (plain_handle ⟦<Room as RoomTold>⟧.plain handle.new) }
+    ensures tells { ⟦<Room as RoomTold>⟧.tells (room_in handle.new)
+        ≡ ⟦<Room as RoomTold>⟧.tells (room_in handle.old) }
 {
     match handle.putenv(text.bytes()) {
         Ok(()) => Ok(Outcome::only(alloc, filed_from, Answer::Code(Code::Success))),
@@ -79,16 +90,22 @@ pub(crate) fn get_env(
     filed_from: u64,
     name: &Text,
 ) -> Result<Outcome, NoMemory>
-    requires { plain_handle ⟦<Room as RoomTold>⟧.plain handle.now ≡ all_told (plain_handle ⟦<Room as RoomTold>⟧.plain handle.now) }
-    ensures { GoesInside (AppCall.GetEnv name.now) filed_from (plain_handle ⟦<Room as RoomTold>⟧.plain handle.now) result (plain_handle ⟦<Room as RoomTold>⟧.plain handle.now) }
+    requires { plain_handle ⟦<Room as RoomTold>⟧.plain handle.now
+        ≡ all_told (plain_handle ⟦<Room as RoomTold>⟧.plain handle.now) }
+    ensures { GoesInside (AppCall.GetEnv name.now) filed_from
+        (plain_handle ⟦<Room as RoomTold>⟧.plain handle.now) result
+        (plain_handle ⟦<Room as RoomTold>⟧.plain handle.now) }
 {
     let text = copy_of(alloc, handle.getenv(name.bytes()))?;
     Ok(Outcome::only(alloc, filed_from, Answer::Value(text)))
 }
 
 pub(crate) fn list_env(alloc: Global, handle: &Handle, filed_from: u64) -> Result<Outcome, NoMemory>
-    requires { plain_handle ⟦<Room as RoomTold>⟧.plain handle.now ≡ all_told (plain_handle ⟦<Room as RoomTold>⟧.plain handle.now) }
-    ensures { GoesInside AppCall.EnvList filed_from (plain_handle ⟦<Room as RoomTold>⟧.plain handle.now) result (plain_handle ⟦<Room as RoomTold>⟧.plain handle.now) }
+    requires { plain_handle ⟦<Room as RoomTold>⟧.plain handle.now
+        ≡ all_told (plain_handle ⟦<Room as RoomTold>⟧.plain handle.now) }
+    ensures { GoesInside AppCall.EnvList filed_from
+        (plain_handle ⟦<Room as RoomTold>⟧.plain handle.now) result
+        (plain_handle ⟦<Room as RoomTold>⟧.plain handle.now) }
 {
     let texts = handle.getenvlist(alloc)?;
     Ok(Outcome::only(alloc, filed_from, Answer::List(texts)))
@@ -100,9 +117,13 @@ pub(crate) fn request_delay(
     filed_from: u64,
     micros: u32,
 ) -> Result<Outcome, NoMemory>
-    requires { plain_handle ⟦<Room as RoomTold>⟧.plain handle.old ≡ all_told (plain_handle ⟦<Room as RoomTold>⟧.plain handle.old) }
-    ensures goes { GoesInside (AppCall.FailDelay micros) filed_from (plain_handle ⟦<Room as RoomTold>⟧.plain handle.old) result (plain_handle ⟦<Room as RoomTold>⟧.plain handle.new) }
-    ensures tells { ⟦<Room as RoomTold>⟧.tells (room_in handle.new) ≡ ⟦<Room as RoomTold>⟧.tells (room_in handle.old) }
+    requires { plain_handle ⟦<Room as RoomTold>⟧.plain handle.old
+        ≡ all_told (plain_handle ⟦<Room as RoomTold>⟧.plain handle.old) }
+    ensures goes { GoesInside (AppCall.FailDelay micros) filed_from
+        (plain_handle ⟦<Room as RoomTold>⟧.plain handle.old) result
+        (plain_handle ⟦<Room as RoomTold>⟧.plain handle.new) }
+    ensures tells { ⟦<Room as RoomTold>⟧.tells (room_in handle.new)
+        ≡ ⟦<Room as RoomTold>⟧.tells (room_in handle.old) }
 {
     handle.fail_delay(micros);
     Ok(Outcome::only(alloc, filed_from, Answer::Code(Code::Success)))
@@ -114,9 +135,13 @@ pub(crate) fn turn_delay(
     filed_from: u64,
     on: bool,
 ) -> Result<Outcome, NoMemory>
-    requires { plain_handle ⟦<Room as RoomTold>⟧.plain handle.old ≡ all_told (plain_handle ⟦<Room as RoomTold>⟧.plain handle.old) }
-    ensures goes { GoesInside (AppCall.DelayFn on) filed_from (plain_handle ⟦<Room as RoomTold>⟧.plain handle.old) result (plain_handle ⟦<Room as RoomTold>⟧.plain handle.new) }
-    ensures tells { ⟦<Room as RoomTold>⟧.tells (room_in handle.new) ≡ ⟦<Room as RoomTold>⟧.tells (room_in handle.old) }
+    requires { plain_handle ⟦<Room as RoomTold>⟧.plain handle.old
+        ≡ all_told (plain_handle ⟦<Room as RoomTold>⟧.plain handle.old) }
+    ensures goes { GoesInside (AppCall.DelayFn on) filed_from
+        (plain_handle ⟦<Room as RoomTold>⟧.plain handle.old) result
+        (plain_handle ⟦<Room as RoomTold>⟧.plain handle.new) }
+    ensures tells { ⟦<Room as RoomTold>⟧.tells (room_in handle.new)
+        ≡ ⟦<Room as RoomTold>⟧.tells (room_in handle.old) }
 {
     handle.set_delay(on);
     Ok(Outcome::only(alloc, filed_from, Answer::Code(Code::Success)))

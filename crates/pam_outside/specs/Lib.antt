@@ -4,3 +4,4 @@ pub mod Files
 pub mod Memory
 pub mod Time
 pub mod Adapter
+pub mod Paths

@@ -13,7 +13,7 @@ use crate::saying::send;
 use crate::transaction::Transaction;
 use conv_port::Conv;
 use item_store::Items;
-use pam_base::{ConvErr, ItemName, NoMemory, Refuse, Style, Text};
+use pam_base::{ConvErr, ItemName, MAX_TEXT, NoMemory, Refuse, Style, Text};
 use std::alloc::Global;
 
 /// Sees to it that USER is set (`pam_get_user(3)`). Where it is, nothing else happens. Else one EchoOn message is
@@ -27,16 +27,30 @@ pub fn get_user(
 ) -> Result<(), Refuse<ConvErr>>
     ensures tells { conv_tells conv.new ≡ conv_tells conv.old }
     ensures told { IsTrue (conv_tells conv.old) →
-        Asks result (user_asked (seen_of (room_of (plain_transaction transaction.old) (conv_holds conv.old))))
+        Asks result
+        (user_asked (seen_of (room_of (plain_transaction transaction.old) (conv_holds conv.old))))
         (seen_of (room_of (plain_transaction transaction.new) (conv_holds conv.new))) }
-    ensures shows { Shows result (signs (conv_faults conv.old) (conv_deferrals conv.old) transaction.old.put_off) (signs (conv_faults conv.new) (conv_deferrals conv.new) transaction.new.put_off) }
+    ensures shows { Shows result (signs (conv_faults conv.old)
+        (conv_deferrals conv.old) transaction.old.put_off)
+        (signs (conv_faults conv.new) (conv_deferrals conv.new) transaction.new.put_off) }
     ensures set { OnOk result (transaction.new.items.user ≢ None) }
-    ensures was_set { transaction.old.items.user ≢ None → IsOk result × (transaction.new ≡ transaction.old) }
+    ensures was_set { transaction.old.items.user ≢ None →
+        IsOk result × (transaction.new ≡ transaction.old) }
     ensures refused { OnErr result (transaction.new.items ≡ transaction.old.items) }
-    ensures items { transaction.new.items ≡ record transaction.old.items { user = transaction.new.items.user } }
+    ensures items { transaction.new.items ≡ record transaction.old.items {
+      user
+          = transaction.new.items.user;
+    } }
     ensures said { (transaction.new.said ≡ transaction.old.said)
-        ⊎ (transaction.new.said ≡ transaction.old.said ++ record { style = Style.EchoOn; text = login_prompt transaction.old.items.user_prompt } ∷ []) }
-    ensures others { transaction.new ≡ record transaction.old { items = transaction.new.items; said = transaction.new.said; put_off = transaction.new.put_off } }
+        ⊎ (transaction.new.said ≡ transaction.old.said
+        ++ record { style = Style.EchoOn; text = login_prompt transaction.old.items.user_prompt }
+        ∷ []) }
+    ensures others { transaction.new ≡ record transaction.old {
+      items = transaction.new.items;
+      said
+          = transaction.new.said;
+      put_off = transaction.new.put_off;
+    } }
 {
     if get_item(&transaction.items, ItemName::User).is_some() {
         return Ok(());
@@ -64,18 +78,29 @@ pub fn ask_token(
     old: bool,
     prompt: &[u8],
 ) -> Result<(), Refuse<ConvErr>>
-    requires { length prompt.now ≤ 512 }
+    requires { length prompt.now ≤ MAX_TEXT }
     ensures tells { conv_tells conv.new ≡ conv_tells conv.old }
     ensures told { IsTrue (conv_tells conv.old) →
-        Asks result (token_asked old prompt.now (seen_of (room_of (plain_transaction transaction.old) (conv_holds conv.old))))
+        Asks result
+        (token_asked old prompt.now
+        (seen_of (room_of (plain_transaction transaction.old) (conv_holds conv.old))))
         (seen_of (room_of (plain_transaction transaction.new) (conv_holds conv.new))) }
-    ensures shows { Shows result (signs (conv_faults conv.old) (conv_deferrals conv.old) transaction.old.put_off) (signs (conv_faults conv.new) (conv_deferrals conv.new) transaction.new.put_off) }
+    ensures shows { Shows result (signs (conv_faults conv.old)
+        (conv_deferrals conv.old) transaction.old.put_off)
+        (signs (conv_faults conv.new) (conv_deferrals conv.new) transaction.new.put_off) }
     ensures set { OnOk result (text_of transaction.new.items (token_of old) ≢ None) }
     ensures refused { OnErr result (transaction.new.items ≡ transaction.old.items) }
-    ensures items { transaction.new.items ≡ with_text transaction.old.items (token_of old) (text_of transaction.new.items (token_of old)) }
+    ensures items { transaction.new.items ≡ with_text transaction.old.items (token_of old)
+        (text_of transaction.new.items (token_of old)) }
     ensures said { (transaction.new.said ≡ transaction.old.said)
-        ⊎ (transaction.new.said ≡ transaction.old.said ++ record { style = Style.EchoOff; text = prompt.now } ∷ []) }
-    ensures others { transaction.new ≡ record transaction.old { items = transaction.new.items; said = transaction.new.said; put_off = transaction.new.put_off } }
+        ⊎ (transaction.new.said ≡ transaction.old.said
+        ++ record { style = Style.EchoOff; text = prompt.now } ∷ []) }
+    ensures others { transaction.new ≡ record transaction.old {
+      items = transaction.new.items;
+      said
+          = transaction.new.said;
+      put_off = transaction.new.put_off;
+    } }
 {
     let token = if old {
         ItemName::OldAuthTok
@@ -95,19 +120,30 @@ fn ask(
     prompt: Text,
     item: ItemName,
 ) -> Result<(), Refuse<ConvErr>>
-    requires short { length prompt ≤ 512 }
+    requires short { length prompt ≤ MAX_TEXT }
     requires settable { is_refused ModuleSets item ≡ false }
     ensures tells { conv_tells conv.new ≡ conv_tells conv.old }
     ensures told { IsTrue (conv_tells conv.old) →
-        Asks result (ask_item item style prompt (seen_of (room_of (plain_transaction transaction.old) (conv_holds conv.old))))
+        Asks result
+        (ask_item item style prompt
+        (seen_of (room_of (plain_transaction transaction.old) (conv_holds conv.old))))
         (seen_of (room_of (plain_transaction transaction.new) (conv_holds conv.new))) }
-    ensures shows { Shows result (signs (conv_faults conv.old) (conv_deferrals conv.old) transaction.old.put_off) (signs (conv_faults conv.new) (conv_deferrals conv.new) transaction.new.put_off) }
+    ensures shows { Shows result (signs (conv_faults conv.old)
+        (conv_deferrals conv.old) transaction.old.put_off)
+        (signs (conv_faults conv.new) (conv_deferrals conv.new) transaction.new.put_off) }
     ensures set { OnOk result (text_of transaction.new.items item ≢ None) }
     ensures refused { OnErr result (transaction.new.items ≡ transaction.old.items) }
-    ensures items { transaction.new.items ≡ with_text transaction.old.items item (text_of transaction.new.items item) }
+    ensures items { transaction.new.items ≡ with_text transaction.old.items item
+        (text_of transaction.new.items item) }
     ensures said { (transaction.new.said ≡ transaction.old.said)
-        ⊎ (transaction.new.said ≡ transaction.old.said ++ record { style = style; text = prompt } ∷ []) }
-    ensures others { transaction.new ≡ record transaction.old { items = transaction.new.items; said = transaction.new.said; put_off = transaction.new.put_off } }
+        ⊎ (transaction.new.said ≡ transaction.old.said ++ record { style = style; text = prompt }
+        ∷ []) }
+    ensures others { transaction.new ≡ record transaction.old {
+      items = transaction.new.items;
+      said
+          = transaction.new.said;
+      put_off = transaction.new.put_off;
+    } }
 {
     let reply = send(alloc, transaction, conv, style, prompt)?;
     set_item(&mut transaction.items, item, reply.text.bytes())?;
@@ -119,7 +155,7 @@ fn prompt_for_login(alloc: Global, items: &Items) -> Result<Text, NoMemory>
     ensures { IfOk result (λ prompt. prompt ≡ login_prompt items.now.user_prompt) }
 {
     match get_item(items, ItemName::UserPrompt) {
-        Some(prompt) => Text::from_bytes(alloc, first_bytes(prompt, 512)),
+        Some(prompt) => Text::from_bytes(alloc, first_bytes(prompt, MAX_TEXT)),
         None => Text::from_bytes(alloc, b"login: "),
     }
 }

@@ -19,10 +19,12 @@ pub fn end_room(
     process: &mut Process,
     status: u32,
 ) -> Box<dyn Conv>
-    requires { IsReady (length mods.now) (plain_transaction room.transaction) (plain_process process.old) }
+    requires { IsReady (length mods.now) (plain_transaction room.transaction)
+        (plain_process process.old) }
     ensures conv { result ≡ room.conv }
     ensures process { process.new ≡ record process.old {
-      ledger = ledger_after (notes_of (map (player_of label plays note) mods.now)) status (reverse room.transaction.datums.live) process.old.ledger;
+      ledger = ledger_after (notes_of (map (player_of label plays note) mods.now)) status
+          (reverse room.transaction.datums.live) process.old.ledger;
     } }
 {
     let Room { transaction, conv } = room;

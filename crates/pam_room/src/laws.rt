@@ -10,28 +10,35 @@ ghost use Rattle.pam_room.specs.Module.{HasSet, LeavesAs, NamedData, Played, wit
 
 /// Where no data were set, nothing changed.
 pub fn nothing_is_set()
-    ensures { (owner : ℕ) (list : PlainDataList) (ledger : PlainLedger) → HasSet owner [] list ledger list ledger }
+    ensures { (owner : ℕ) (list : PlainDataList) (ledger : PlainLedger) →
+        HasSet owner [] list ledger list ledger }
 {}
 
 /// Some data that were set, and others behind them.
 pub fn setting_goes_on()
-    ensures { (owner : ℕ) (first next : List NamedData) (x y z : PlainDataList) (a b c : PlainLedger) →
-        HasSet owner first x a y b → HasSet owner next y b z c → HasSet owner (first ++ next) x a z c }
+    ensures { (owner : ℕ) (first next : List NamedData) (x y z : PlainDataList)
+        (a b c : PlainLedger) →
+        HasSet owner first x a y b → HasSet owner next y b z c →
+        HasSet owner (first ++ next) x a z c }
 {}
 
 /// Data that were set are those of their owner, and nothing else happened to the list and the ledger.
 pub fn set_data_are_sets()
-    ensures sets { (owner : ℕ) (ds : List NamedData) (x y : PlainDataList) (a b : PlainLedger) → HasSet owner ds x a y b → Sets owner x a y b }
-    ensures handle { (owner : ℕ) (ds : List NamedData) (x y : PlainDataList) (a b : PlainLedger) → HasSet owner ds x a y b → y.handle ≡ x.handle }
+    ensures sets { (owner : ℕ) (ds : List NamedData) (x y : PlainDataList) (a b : PlainLedger) →
+        HasSet owner ds x a y b → Sets owner x a y b }
+    ensures handle { (owner : ℕ) (ds : List NamedData) (x y : PlainDataList) (a b : PlainLedger) →
+        HasSet owner ds x a y b → y.handle ≡ x.handle }
 {}
 
 /// What a module leaves is what it played, if each part of it is.
 pub fn parts_are_played()
-    ensures { (p : Played) (old new : Scene) → old.room.transaction.datums.handle ≡ old.room.transaction.handle →
+    ensures { (p : Played) (old new : Scene) →
+        old.room.transaction.datums.handle ≡ old.room.transaction.handle →
         LeavesAs p old new → new ≡ with_played p old }
 {}
 
 /// What stays, and stays again, has stayed.
 pub fn staying_is_transitive()
-    ensures { (x y z : PlainTransaction) (a b c : PlainProcess) → Stays x y a b → Stays y z b c → Stays x z a c }
+    ensures { (x y z : PlainTransaction) (a b c : PlainProcess) → Stays x y a b → Stays y z b c →
+        Stays x z a c }
 {}

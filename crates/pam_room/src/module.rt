@@ -49,19 +49,38 @@ pub trait Module: Drop {
         ensures conv_tells { conv_tells conv.new ≡ conv_tells conv.old }
         ensures vault_tells { vault_tells vault.new ≡ vault_tells vault.old }
         ensures clock_tells { clock_tells clock.new ≡ clock_tells clock.old }
-        ensures told { IsTrue (conv_tells conv.old && (vault_tells vault.old && clock_tells clock.old)) →
+        ensures told { IsTrue (conv_tells conv.old
+            && (vault_tells vault.old && clock_tells clock.old)) →
             IfOk result (λ code. PlaysIn (plays self.now) (plain_call call.now)
-            (scene_of (room_of (plain_transaction transaction.old) (conv_holds conv.old)) (vault_holds vault.old) (clock_holds clock.old) (plain_process process.old)) code
-            (scene_of (room_of (plain_transaction transaction.new) (conv_holds conv.new)) (vault_holds vault.new) (clock_holds clock.new) (plain_process process.new))) }
-        ensures time { IsTrue (clock_tells clock.old) → clock_holds clock.new ≡ clock_holds clock.old }
-        ensures stays { Stays (plain_transaction transaction.old) (plain_transaction transaction.new) (plain_process process.old) (plain_process process.new) }
+            (scene_of (room_of (plain_transaction transaction.old) (conv_holds conv.old))
+            (vault_holds vault.old) (clock_holds clock.old) (plain_process process.old)) code
+            (scene_of (room_of (plain_transaction transaction.new) (conv_holds conv.new))
+            (vault_holds vault.new) (clock_holds clock.new) (plain_process process.new))) }
+        ensures time { IsTrue (clock_tells clock.old) →
+            clock_holds clock.new ≡ clock_holds clock.old }
+        ensures stays { Stays (plain_transaction transaction.old)
+            (plain_transaction transaction.new) (plain_process process.old)
+            (plain_process process.new) }
         ensures serving { transaction.new.serving ≡ transaction.old.serving }
         ensures trail { transaction.new.trail.visits ≡ transaction.old.trail.visits }
         ensures spare { transaction.old.trail.spare ≤ transaction.new.trail.spare }
-        ensures sets { Sets transaction.old.serving transaction.old.datums process.old.ledger transaction.new.datums process.new.ledger };
+        ensures sets { Sets transaction.old.serving transaction.old.datums process.old.ledger
+            transaction.new.datums process.new.ledger };
 
     /// Cleans up a datum that the module set (the cleanup function of `pam_set_data(3)`), with the status of
     /// `pam_end(3)` or `DATA_REPLACE`. It can't fail and takes no memory.
     fn tidy(&self, datum: Datum, status: u32) -> Receipt
-        ensures { result ≡ record { id = datum.id; status = status; note = note self.now datum.payload status } };
+        ensures { result ≡ record {
+          id = datum.id;
+          status = status;
+          note = note self.now
+              datum.payload status;
+        } };
+}
+
+/// The name of a module that is owned as a `dyn`.
+pub fn name_of(handler: &Box<dyn Module>) -> &[u8]
+    ensures { result.now ≡ label handler.now }
+{
+    handler.name()
 }

@@ -5,7 +5,12 @@ use data_cleanup::{Datum, Receipt};
 
 /// The cleanup of most modules: nothing is to be done, and the note is the payload's length, modulo 2^32.
 pub fn spend_by_length(datum: Datum, status: u32) -> Receipt
-    ensures { result ≡ record { id = datum.id; status = status; note = length_note datum.payload status } }
+    ensures { result ≡ record {
+      id = datum.id;
+      status = status;
+      note = length_note datum.payload
+          status;
+    } }
 {
     let note = (datum.payload().len() % 0x1_0000_0000) as u32;
     datum.spend(status, note)

@@ -7,7 +7,7 @@ ghost use Rattle.pam_room.specs.Plain.{plain_transaction};
 
 use crate::transaction::Transaction;
 use conv_port::{Conv, ConvFault, Message, Messages, Replies, Reply, talk_with};
-use pam_base::{ConvErr, NoMemory, Refuse, Style, Text};
+use pam_base::{ConvErr, MAX_TEXT, NoMemory, Refuse, Style, Text};
 use std::alloc::Global;
 use std::mem;
 
@@ -26,14 +26,25 @@ pub fn say(
     requires { IsExchange messages.now }
     ensures tells { conv_tells conv.new ≡ conv_tells conv.old }
     ensures told { IsTrue (conv_tells conv.old) →
-        Says result (speak messages.now (seen_of (room_of (plain_transaction transaction.old) (conv_holds conv.old))))
+        Says result
+        (speak messages.now
+        (seen_of (room_of (plain_transaction transaction.old) (conv_holds conv.old))))
         (seen_of (room_of (plain_transaction transaction.new) (conv_holds conv.new))) }
-    ensures untaken { IsTrue (conv_tells conv.old) → result ≡ Err Refuse.NoMemory → conv_holds conv.new ≡ conv_holds conv.old }
-    ensures shows { Shows result (signs (conv_faults conv.old) (conv_deferrals conv.old) transaction.old.put_off) (signs (conv_faults conv.new) (conv_deferrals conv.new) transaction.new.put_off) }
+    ensures untaken { IsTrue (conv_tells conv.old) → result ≡ Err Refuse.NoMemory →
+        conv_holds conv.new ≡ conv_holds conv.old }
+    ensures shows { Shows result (signs (conv_faults conv.old)
+        (conv_deferrals conv.old) transaction.old.put_off)
+        (signs (conv_faults conv.new) (conv_deferrals conv.new) transaction.new.put_off) }
     ensures replies { IfOk result (λ replies. AreReplies messages.now replies) }
-    ensures said { result ≢ Err Refuse.NoMemory → transaction.new.said ≡ transaction.old.said ++ messages.now }
-    ensures all_or_none { (transaction.new.said ≡ transaction.old.said) ⊎ (transaction.new.said ≡ transaction.old.said ++ messages.now) }
-    ensures others { transaction.new ≡ record transaction.old { said = transaction.new.said; put_off = transaction.new.put_off } }
+    ensures said { result ≢ Err Refuse.NoMemory →
+        transaction.new.said ≡ transaction.old.said ++ messages.now }
+    ensures all_or_none { (transaction.new.said ≡ transaction.old.said) ⊎
+        (transaction.new.said ≡ transaction.old.said ++ messages.now) }
+    ensures others { transaction.new ≡ record transaction.old {
+      said = transaction.new.said;
+      put_off
+          = transaction.new.put_off;
+    } }
 {
     let copies = copies_of(alloc, messages)?;
     append(alloc, &mut transaction.said, copies)?;
@@ -56,18 +67,29 @@ pub fn send(
     style: Style,
     text: Text,
 ) -> Result<Reply, Refuse<ConvErr>>
-    requires { length text ≤ 512 }
+    requires { length text ≤ MAX_TEXT }
     ensures tells { conv_tells conv.new ≡ conv_tells conv.old }
     ensures told { IsTrue (conv_tells conv.old) →
-        Sends result (speak (record { style = style; text = text } ∷ []) (seen_of (room_of (plain_transaction transaction.old) (conv_holds conv.old))))
+        Sends result
+        (speak (record { style = style; text = text } ∷ [])
+        (seen_of (room_of (plain_transaction transaction.old) (conv_holds conv.old))))
         (seen_of (room_of (plain_transaction transaction.new) (conv_holds conv.new))) }
-    ensures untaken { IsTrue (conv_tells conv.old) → result ≡ Err Refuse.NoMemory → conv_holds conv.new ≡ conv_holds conv.old }
-    ensures shows { Shows result (signs (conv_faults conv.old) (conv_deferrals conv.old) transaction.old.put_off) (signs (conv_faults conv.new) (conv_deferrals conv.new) transaction.new.put_off) }
+    ensures untaken { IsTrue (conv_tells conv.old) → result ≡ Err Refuse.NoMemory →
+        conv_holds conv.new ≡ conv_holds conv.old }
+    ensures shows { Shows result (signs (conv_faults conv.old)
+        (conv_deferrals conv.old) transaction.old.put_off)
+        (signs (conv_faults conv.new) (conv_deferrals conv.new) transaction.new.put_off) }
     ensures reply { IfOk result (λ reply. IsReply (record { style = style; text = text }) reply) }
-    ensures said { result ≢ Err Refuse.NoMemory → transaction.new.said ≡ transaction.old.said ++ record { style = style; text = text } ∷ [] }
+    ensures said { result ≢ Err Refuse.NoMemory →
+        transaction.new.said ≡ transaction.old.said ++ record { style = style; text = text } ∷ [] }
     ensures all_or_none { (transaction.new.said ≡ transaction.old.said)
-        ⊎ (transaction.new.said ≡ transaction.old.said ++ record { style = style; text = text } ∷ []) }
-    ensures others { transaction.new ≡ record transaction.old { said = transaction.new.said; put_off = transaction.new.put_off } }
+        ⊎ (transaction.new.said ≡ transaction.old.said ++ record { style = style; text = text }
+        ∷ []) }
+    ensures others { transaction.new ≡ record transaction.old {
+      said = transaction.new.said;
+      put_off
+          = transaction.new.put_off;
+    } }
 {
     let mut messages = Messages::new(alloc);
     messages.push(Message { style, text })?;

@@ -13,7 +13,7 @@ use crate::room::{Room, RoomTold};
 use crate::sweep::sweep;
 use crate::visits::Visit;
 use crate::world::{World, WorldTold};
-use data_cleanup::{nothing_grows, set_data_await_cleanup, swept_setting_grows};
+use data_cleanup::laws;
 use pam_base::{Code, NoMemory, Text};
 use std::alloc::Global;
 
@@ -46,25 +46,41 @@ pub fn serve_line(
     requires there { IfSome line.module_number (λ number. number < length mods.now) }
     requires few { length mods.now < 2 ^ 32 }
     requires spare { 0 < room.old.transaction.trail.spare }
-    requires ready { IsReady (length mods.now) (plain_transaction room.old.transaction) (plain_process world.old.process) }
+    requires ready { IsReady (length mods.now) (plain_transaction room.old.transaction)
+        (plain_process world.old.process) }
     ensures room_tells { ⟦<Room as RoomTold>⟧.tells room.new ≡ ⟦<Room as RoomTold>⟧.tells room.old }
-    ensures world_tells { ⟦<World as WorldTold>⟧.tells world.new ≡ ⟦<World as WorldTold>⟧.tells world.old }
+    ensures world_tells { ⟦<World as WorldTold>⟧.tells world.new
+        ≡ ⟦<World as WorldTold>⟧.tells world.old }
     ensures nap { world.new.nap ≡ world.old.nap }
-    ensures told { IsTrue (⟦<Room as RoomTold>⟧.tells room.old && ⟦<World as WorldTold>⟧.tells world.old) →
-        IfOk result (λ code. AnswersAs (serve_line (map (player_of label plays note) mods.now) line.module_number line.place line.path (plain_call call.now)
+    ensures told { IsTrue (⟦<Room as RoomTold>⟧.tells room.old
+        && ⟦<World as WorldTold>⟧.tells world.old) →
+        IfOk result (λ code. AnswersAs
+        (serve_line
+        (map (player_of label plays note) mods.now) line.module_number line.place line.path
+        (plain_call call.now)
         (state_of (⟦<Room as RoomTold>⟧.plain room.old) (⟦<World as WorldTold>⟧.plain world.old)))
-        code (state_of (⟦<Room as RoomTold>⟧.plain room.new) (⟦<World as WorldTold>⟧.plain world.new))) }
-    ensures unknown { line.module_number ≡ None → (result ≡ Ok Code.ModuleUnknown) × (world.new ≡ world.old) × (room.new.conv ≡ room.old.conv)
-        × (room.new.transaction ≡ record room.old.transaction { trail = room.new.transaction.trail }) }
-    ensures visited { IfOk result (λ code. room.new.transaction.trail.visits ≡ room.old.transaction.trail.visits ++ record { place = line.place; path = line.path; answer = code } ∷ []) }
-    ensures not_visited { OnErr result (room.new.transaction.trail.visits ≡ room.old.transaction.trail.visits) }
+        code (state_of (⟦<Room as RoomTold>⟧.plain room.new)
+        (⟦<World as WorldTold>⟧.plain world.new))) }
+    ensures unknown { line.module_number ≡ None →
+        (result ≡ Ok Code.ModuleUnknown) × (world.new ≡ world.old) × (room.new.conv ≡ room.old.conv)
+        × (room.new.transaction
+        ≡ record room.old.transaction { trail = room.new.transaction.trail }) }
+    ensures visited { IfOk result (λ code. room.new.transaction.trail.visits
+        ≡ room.old.transaction.trail.visits
+        ++ record { place = line.place; path = line.path; answer = code } ∷ []) }
+    ensures not_visited { OnErr result (room.new.transaction.trail.visits
+        ≡ room.old.transaction.trail.visits) }
     ensures spare { room.old.transaction.trail.spare ≤ room.new.transaction.trail.spare + 1 }
-    ensures stays { Stays (plain_transaction room.old.transaction) (plain_transaction room.new.transaction) (plain_process world.old.process) (plain_process world.new.process) }
+    ensures stays { Stays (plain_transaction room.old.transaction)
+        (plain_transaction room.new.transaction) (plain_process world.old.process)
+        (plain_process world.new.process) }
     ensures grows { Grows (notes_of (map (player_of label plays note) mods.now)) (length mods.now)
-        room.old.transaction.datums world.old.process.ledger room.new.transaction.datums world.new.process.ledger }
-    ensures ready { IsReady (length mods.now) (plain_transaction room.new.transaction) (plain_process world.new.process) }
+        room.old.transaction.datums world.old.process.ledger room.new.transaction.datums
+        world.new.process.ledger }
+    ensures ready { IsReady (length mods.now) (plain_transaction room.new.transaction)
+        (plain_process world.new.process) }
 {
-    nothing_grows();
+    laws::nothing_grows();
     let answer = match line.module_number {
         None => Code::ModuleUnknown,
         Some(number) => serve_by(alloc, mods, number, call, room, world)?,
@@ -88,28 +104,37 @@ fn serve_by(
     world: &mut World,
 ) -> Result<Code, NoMemory>
     requires there { number < length mods.now }
-    requires ready { IsReady (length mods.now) (plain_transaction room.old.transaction) (plain_process world.old.process) }
+    requires ready { IsReady (length mods.now) (plain_transaction room.old.transaction)
+        (plain_process world.old.process) }
     ensures room_tells { ⟦<Room as RoomTold>⟧.tells room.new ≡ ⟦<Room as RoomTold>⟧.tells room.old }
-    ensures world_tells { ⟦<World as WorldTold>⟧.tells world.new ≡ ⟦<World as WorldTold>⟧.tells world.old }
+    ensures world_tells { ⟦<World as WorldTold>⟧.tells world.new
+        ≡ ⟦<World as WorldTold>⟧.tells world.old }
     ensures nap { world.new.nap ≡ world.old.nap }
-    ensures told { IsTrue (⟦<Room as RoomTold>⟧.tells room.old && ⟦<World as WorldTold>⟧.tells world.old) →
-        IfOk result (λ code. AnswersAs (served (map (player_of label plays note) mods.now) (Some number) (plain_call call.now)
+    ensures told { IsTrue (⟦<Room as RoomTold>⟧.tells room.old
+        && ⟦<World as WorldTold>⟧.tells world.old) →
+        IfOk result (λ code. AnswersAs
+        (served (map (player_of label plays note) mods.now) (Some number) (plain_call call.now)
         (state_of (⟦<Room as RoomTold>⟧.plain room.old) (⟦<World as WorldTold>⟧.plain world.old)))
-        code (state_of (⟦<Room as RoomTold>⟧.plain room.new) (⟦<World as WorldTold>⟧.plain world.new))) }
+        code (state_of (⟦<Room as RoomTold>⟧.plain room.new)
+        (⟦<World as WorldTold>⟧.plain world.new))) }
     ensures trail { room.new.transaction.trail.visits ≡ room.old.transaction.trail.visits }
     ensures spare { room.old.transaction.trail.spare ≤ room.new.transaction.trail.spare }
-    ensures stays { Stays (plain_transaction room.old.transaction) (plain_transaction room.new.transaction) (plain_process world.old.process) (plain_process world.new.process) }
+    ensures stays { Stays (plain_transaction room.old.transaction)
+        (plain_transaction room.new.transaction) (plain_process world.old.process)
+        (plain_process world.new.process) }
     ensures grows { Grows (notes_of (map (player_of label plays note) mods.now)) (length mods.now)
-        room.old.transaction.datums world.old.process.ledger room.new.transaction.datums world.new.process.ledger }
-    ensures ready { IsReady (length mods.now) (plain_transaction room.new.transaction) (plain_process world.new.process) }
+        room.old.transaction.datums world.old.process.ledger room.new.transaction.datums
+        world.new.process.ledger }
+    ensures ready { IsReady (length mods.now) (plain_transaction room.new.transaction)
+        (plain_process world.new.process) }
 {
     room.transaction.put_off = false;
     room.transaction.serving = number;
-    world.process.ledger.sound();
+    laws::ledger_is_sound(&world.process.ledger);
     let answer = play(&mods[number as usize], alloc, call, room, world);
-    world.process.ledger.sound();
-    set_data_await_cleanup();
-    swept_setting_grows();
+    laws::ledger_is_sound(&world.process.ledger);
+    laws::set_data_await_cleanup();
+    laws::swept_setting_grows();
     sweep(
         mods,
         &mut room.transaction.datums,
@@ -136,18 +161,28 @@ fn play(
 ) -> Result<Code, NoMemory>
     requires { room.old.transaction.datums.handle ≡ room.old.transaction.handle }
     ensures room_tells { ⟦<Room as RoomTold>⟧.tells room.new ≡ ⟦<Room as RoomTold>⟧.tells room.old }
-    ensures world_tells { ⟦<World as WorldTold>⟧.tells world.new ≡ ⟦<World as WorldTold>⟧.tells world.old }
-    ensures told { IsTrue (⟦<Room as RoomTold>⟧.tells room.old && ⟦<World as WorldTold>⟧.lent_tells world.old) →
+    ensures world_tells { ⟦<World as WorldTold>⟧.tells world.new
+        ≡ ⟦<World as WorldTold>⟧.tells world.old }
+    ensures told { IsTrue (⟦<Room as RoomTold>⟧.tells room.old
+        && ⟦<World as WorldTold>⟧.lent_tells world.old) →
         IfOk result (λ code. PlaysIn (plays handler.now) (plain_call call.now)
-        (scene_in (state_of (⟦<Room as RoomTold>⟧.plain room.old) (⟦<World as WorldTold>⟧.plain world.old))) code
-        (scene_in (state_of (⟦<Room as RoomTold>⟧.plain room.new) (⟦<World as WorldTold>⟧.plain world.new)))) }
+        (scene_in
+        (state_of (⟦<Room as RoomTold>⟧.plain room.old) (⟦<World as WorldTold>⟧.plain world.old)))
+        code
+        (scene_in
+        (state_of (⟦<Room as RoomTold>⟧.plain room.new)
+        (⟦<World as WorldTold>⟧.plain world.new)))) }
     ensures no_nap { world.new.nap ≡ world.old.nap }
-    ensures nap { (⟦<World as WorldTold>⟧.plain world.new).nap ≡ (⟦<World as WorldTold>⟧.plain world.old).nap }
-    ensures stays { Stays (plain_transaction room.old.transaction) (plain_transaction room.new.transaction) (plain_process world.old.process) (plain_process world.new.process) }
+    ensures nap { (⟦<World as WorldTold>⟧.plain world.new).nap
+        ≡ (⟦<World as WorldTold>⟧.plain world.old).nap }
+    ensures stays { Stays (plain_transaction room.old.transaction)
+        (plain_transaction room.new.transaction) (plain_process world.old.process)
+        (plain_process world.new.process) }
     ensures serving { room.new.transaction.serving ≡ room.old.transaction.serving }
     ensures trail { room.new.transaction.trail.visits ≡ room.old.transaction.trail.visits }
     ensures spare { room.old.transaction.trail.spare ≤ room.new.transaction.trail.spare }
-    ensures sets { Sets room.old.transaction.serving room.old.transaction.datums world.old.process.ledger room.new.transaction.datums world.new.process.ledger }
+    ensures sets { Sets room.old.transaction.serving room.old.transaction.datums
+        world.old.process.ledger room.new.transaction.datums world.new.process.ledger }
 {
     handler.serve(
         alloc,

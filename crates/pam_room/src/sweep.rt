@@ -3,26 +3,22 @@ ghost use Rattle.data_cleanup.specs.Cleanup.{AwaitCleanup, swept_list, swept_led
 ghost use Rattle.pam_room.specs.Module.{notes_of, player_of};
 
 use crate::module::Module;
-use data_cleanup::{
-    DataList, Datum, Ledger, Receipt, cleanup_begins, cleanup_ends, cleanup_goes_on,
-    next_awaits_cleanup, reversed_await_cleanup,
-};
-
-/// PAM_DATA_REPLACE, the status of a datum that was replaced (`pam_set_data(3)`).
-pub const DATA_REPLACE: u32 = 0x2000_0000;
+use data_cleanup::{DataList, Datum, Ledger, Receipt, laws};
+use pam_base::DATA_REPLACE;
 
 // Has the owner of each datum that was replaced clean it up, the oldest first, and files the receipts. It takes
 // no memory.
 pub(crate) fn sweep(mods: &[Box<dyn Module>], datums: &mut DataList, ledger: &mut Ledger)
     requires { AwaitCleanup (length mods.now) ledger.old (datums.old.gone ++ datums.old.live) }
     ensures datums { datums.new ≡ swept_list datums.old }
-    ensures ledger { ledger.new ≡ swept_ledger (notes_of (map (player_of label plays note) mods.now)) datums.old ledger.old }
+    ensures ledger { ledger.new ≡ swept_ledger
+        (notes_of (map (player_of label plays note) mods.now)) datums.old ledger.old }
     ensures awaiting { AwaitCleanup (length mods.now) ledger.new datums.new.live }
 {
-    cleanup_begins();
-    cleanup_goes_on();
-    cleanup_ends();
-    next_awaits_cleanup();
+    laws::cleanup_begins();
+    laws::cleanup_goes_on();
+    laws::cleanup_ends();
+    laws::next_awaits_cleanup();
     while let Some(datum) = datums.take_gone() {
         let owner = datum.owner() as usize;
         ledger.file(tidy_by(&mods[owner], datum, DATA_REPLACE));
@@ -34,13 +30,15 @@ pub(crate) fn sweep(mods: &[Box<dyn Module>], datums: &mut DataList, ledger: &mu
 pub(crate) fn end_data(mods: &[Box<dyn Module>], datums: DataList, ledger: &mut Ledger, status: u32)
     requires none_gone { datums.gone ≡ [] }
     requires awaiting { AwaitCleanup (length mods.now) ledger.old datums.live }
-    ensures { ledger.new ≡ ledger_after (notes_of (map (player_of label plays note) mods.now)) status (reverse datums.live) ledger.old }
+    ensures { ledger.new ≡ ledger_after
+        (notes_of (map (player_of label plays note) mods.now)) status
+        (reverse datums.live) ledger.old }
 {
-    cleanup_begins();
-    cleanup_goes_on();
-    cleanup_ends();
-    next_awaits_cleanup();
-    reversed_await_cleanup();
+    laws::cleanup_begins();
+    laws::cleanup_goes_on();
+    laws::cleanup_ends();
+    laws::next_awaits_cleanup();
+    laws::reversed_await_cleanup();
     let mut datums = datums;
     while let Some(datum) = datums.take_newest() {
         let owner = datum.owner() as usize;
@@ -50,7 +48,12 @@ pub(crate) fn end_data(mods: &[Box<dyn Module>], datums: DataList, ledger: &mut 
 }
 
 fn tidy_by(owner: &Box<dyn Module>, datum: Datum, status: u32) -> Receipt
-    ensures { result ≡ record { id = datum.id; status = status; note = note owner.now datum.payload status } }
+    ensures { result ≡ record {
+      id = datum.id;
+      status = status;
+      note = note owner.now datum.payload
+          status;
+    } }
 {
     owner.tidy(datum, status)
 }

@@ -59,9 +59,11 @@ impl Transaction {
         name: &[u8],
         payload: &[u8],
     ) -> Result<(), NoMemory>
-        ensures ok { OnOk result (HasSet self.old.serving (record { name = name.now; payload = payload.now } ∷ [])
+        ensures ok { OnOk result (HasSet self.old.serving
+            (record { name = name.now; payload = payload.now } ∷ [])
             self.old.datums ledger.old self.new.datums ledger.new) }
-        ensures err { OnErr result ((self.new.datums ≡ self.old.datums) × (ledger.new ≡ ledger.old)) }
+        ensures err { OnErr result ((self.new.datums ≡ self.old.datums)
+            × (ledger.new ≡ ledger.old)) }
         ensures others { self.new ≡ record self.old { datums = self.new.datums } }
     {
         self.datums.set(alloc, ledger, self.serving, name, payload)

@@ -9,7 +9,7 @@ use Rattle.pam_base.specs.declared.fault.ScriptKind.{ScriptKind}
 use Rattle.pam_outside.specs.Streams.{SourceState, SinkState}
 use Rattle.pam_room.specs.Module.{notes_of}
 use Rattle.pam_room.specs.State.{PlainWorld}
-use Rattle.pam_library.specs.Slots.{PlainSlot, lists_of, slot_at}
+use Rattle.pam_library.specs.Slots.{PlainSlot, handle_limit, lists_of, slot_at}
 use Rattle.script_stream.specs.Turns.{Ending}
 use Rattle.item_stream.specs.declared.ending.Ending.TheVariants.{Done, ReadFault, Refused}
 use Rattle.item_stream.specs.declared.ending.Stop.{Stop}
@@ -111,7 +111,7 @@ pub record IsBegun (setting : Setting) (status : ℕ) (start : RunState) (world 
   pub end : RunState
   pub world_is : world ≡ end.world
   pub runs : RunsScript setting result start end x y p q
-  pub none_yet : StandFor (notes_of setting.players) 17 start.world.process.ledger (lists_of start.slots) []
+  pub none_yet : StandFor (notes_of setting.players) handle_limit start.world.process.ledger (lists_of start.slots) []
   pub side_by_side : (bytes : List ℕ) (ended : Bool) → StandsSideBySide setting start bytes ended
 
 -- a told run, by its status

@@ -7,7 +7,7 @@ ghost use Rattle.item_stream.specs.Turns.{has_write_fault};
 ghost use Rattle.pam_session_cli.specs.Check.{Checks, IsCheck, check_of, file_text, files_text};
 
 use item_stream::Stop;
-use pam_base::{Failed, NoMemory, Refuse};
+use pam_base::{Failed, NoMemory, Refuse, lowercase};
 use pam_outside::{Sink, Vault, write_all};
 use service_load::{Trees, load};
 use service_print::{File, print};
@@ -43,9 +43,12 @@ pub fn check<K: Sink>(
     ensures sink_tells { K.sink_tells out.new ≡ K.sink_tells out.old }
     ensures vault_tells { vault_tells vault.new ≡ vault_tells vault.old }
     ensures told { IsTrue (K.sink_tells out.old) → IsTrue (vault_tells vault.old) →
-        Checks result (check_of (vault_holds vault.old) root.now service.now) (K.sink_holds out.old) (K.sink_holds out.new) (vault_holds vault.new) }
-    ensures stays { IsTrue (vault_tells vault.old) → OnlyCalls (vault_holds vault.old) (vault_holds vault.new) }
-    ensures faults { RisesIf (has_write_fault result) (K.sink_faults out.old) (K.sink_faults out.new) }
+        Checks result (check_of (vault_holds vault.old) root.now service.now) (K.sink_holds out.old)
+        (K.sink_holds out.new) (vault_holds vault.new) }
+    ensures stays { IsTrue (vault_tells vault.old) →
+        OnlyCalls (vault_holds vault.old) (vault_holds vault.new) }
+    ensures faults { RisesIf (has_write_fault result) (K.sink_faults out.old)
+        (K.sink_faults out.new) }
 {
     match find(alloc, root, service, vault) {
         Err(NoMemory) => Err(Stop::NoMemory),
@@ -64,8 +67,10 @@ fn find(
 ) -> Result<Finding, NoMemory>
     ensures tells { vault_tells vault.new ≡ vault_tells vault.old }
     ensures told { IsTrue (vault_tells vault.old) →
-        IfOk result (λ c. IsCheck c (check_of (vault_holds vault.old) root.now service.now) (vault_holds vault.new)) }
-    ensures stays { IsTrue (vault_tells vault.old) → OnlyCalls (vault_holds vault.old) (vault_holds vault.new) }
+        IfOk result (λ c. IsCheck c (check_of (vault_holds vault.old) root.now service.now)
+        (vault_holds vault.new)) }
+    ensures stays { IsTrue (vault_tells vault.old) →
+        OnlyCalls (vault_holds vault.old) (vault_holds vault.new) }
 {
     match load(alloc, vault, root, service) {
         Ok(trees) => Ok(Finding {
@@ -82,11 +87,11 @@ fn find(
 
 // The files of a configuration, each behind its name. The service is named in lower case.
 fn configuration(alloc: Global, trees: &Trees, service: &[u8]) -> Result<Vec<u8>, NoMemory>
-    ensures { IfOk result (λ text. text.items ≡ files_text (printed (stacks_in trees.now) (str_to_ascii_lowercase service.now))) }
+    ensures { IfOk result (λ text. text.items
+        ≡ files_text (printed (stacks_in trees.now) (str_to_ascii_lowercase service.now))) }
 {
-    let mut name = Vec::from_slice(alloc, service)?;
-    name.as_mut_slice().make_ascii_lowercase();
-    let files = print(alloc, trees, &name)?;
+    let name = lowercase(alloc, service)?;
+    let files = print(alloc, trees, name.bytes())?;
     text_of(alloc, files.items())
 }
 

@@ -6,7 +6,7 @@ ghost use Rattle.session_run.specs.Reading.{WritesScript};
 ghost use Rattle.session_run.specs.State.{setting_of};
 ghost use Rattle.data_due.specs.Stands.{StandFor};
 ghost use Rattle.pam_room.specs.Module.{notes_of};
-ghost use Rattle.pam_library.specs.Slots.{lists_of};
+ghost use Rattle.pam_library.specs.Slots.{handle_limit, lists_of};
 ghost use Rattle.pam_handle.specs.Plain.{in_box};
 ghost use Rattle.pam_library.specs.Plain.{gear_in};
 ghost use Rattle.pam_library.specs.Sound.{IsSoundFor};
@@ -19,14 +19,14 @@ ghost use Rattle.pam_session_cli.specs.Status.{ChecksBy, IsCheckStatus, WritesUs
 use crate::check::{Found, check};
 use crate::command::{Request, request_in};
 use crate::desk::{Desk, DeskTold};
-use fail_delay::{DelayFn, DelayRule, DelayTold};
+use fail_delay::{DelayFn, DelayRule, DelayTold, LONGEST_ASKED};
 use item_stream::{Ending, Stop};
 use pam_base::{Code, Failed, ScriptKind, Text};
 use pam_handle::{Gear, GearTold};
-use pam_library::{Library, LibraryTold, closed_places_stand_for_none};
+use pam_library::{Library, LibraryTold};
 use pam_outside::{Sink, Source, set_moment, set_word, write_all};
 use pam_room::{World, WorldTold};
-use session_run::{numbers_stand_side_by_side, proceeding_stands, run_script};
+use session_run::run_script;
 use std::alloc::Global;
 
 const USAGE: &str = "usage: pamsess run ROOT | check ROOT SERVICE\n";
@@ -56,79 +56,124 @@ pub fn pamsess<S: Source, K: Sink>(
 ) -> u8
     requires sixteen { length desk.convs.items ≡ 16 }
     requires few { length desk.mods.items < 2 ^ 32 }
-    requires callable { (code : Code) (asked : ℕ) → asked ≤ 90000000 → DelayRule.pre desk.delay code asked }
+    requires callable { (code : Code) (asked : ℕ) → asked ≤ LONGEST_ASKED →
+        DelayRule.pre desk.delay code asked }
     requires one_number { GivesOneNumber (DelayRule.post desk.delay) }
     requires no_births { world.old.process.ledger.births ≡ [] }
     requires no_receipts { world.old.process.ledger.filed ≡ [] }
 
     // Where the words are run ROOT, and all objects tell: with status 0 the whole script was read, its report is written,
     // and the world is the one behind it.
-    ensures done { (root : List ℕ) (number : Code → ℕ → ℕ) → request_of words.now ≡ Some (runs root) → IsNumberGiven (DelayRule.post desk.delay) number →
-        IsTrue (S.source_tells script.old) → IsTrue (K.sink_tells out.old) → IsTrue (⟦<World as WorldTold>⟧.tells world.old && ⟦<Desk as DeskTold>⟧.tells desk) → result ≡ 0 →
-        IsDone (setting_of (⟦<Desk as DeskTold>⟧.players desk) number) (opening (⟦<Desk as DeskTold>⟧.slots desk) root (⟦<World as WorldTold>⟧.plain world.old)) (⟦<World as WorldTold>⟧.plain world.new)
-        (S.source_holds script.old) (S.source_holds script.new) (K.sink_holds out.old) (K.sink_holds out.new) }
+    ensures done { (root : List ℕ) (number : Code → ℕ → ℕ) →
+        request_of words.now ≡ Some (runs root) → IsNumberGiven (DelayRule.post desk.delay) number →
+        IsTrue (S.source_tells script.old) → IsTrue (K.sink_tells out.old) →
+        IsTrue (⟦<World as WorldTold>⟧.tells world.old && ⟦<Desk as DeskTold>⟧.tells desk) →
+        result ≡ 0 →
+        IsDone (setting_of (⟦<Desk as DeskTold>⟧.players desk) number)
+        (opening (⟦<Desk as DeskTold>⟧.slots desk) root (⟦<World as WorldTold>⟧.plain world.old))
+        (⟦<World as WorldTold>⟧.plain world.new)
+        (S.source_holds script.old) (S.source_holds script.new) (K.sink_holds out.old)
+        (K.sink_holds out.new) }
     // With status 7 the whole script is refused for the line that the report ends with. At most a buffer was taken with
     // that line: the bytes taken before it hold no line that is refused.
-    ensures refused { (root : List ℕ) (number : Code → ℕ → ℕ) → request_of words.now ≡ Some (runs root) → IsNumberGiven (DelayRule.post desk.delay) number →
-        IsTrue (S.source_tells script.old) → IsTrue (K.sink_tells out.old) → IsTrue (⟦<World as WorldTold>⟧.tells world.old && ⟦<Desk as DeskTold>⟧.tells desk) → result ≡ 7 →
-        IsRefused (setting_of (⟦<Desk as DeskTold>⟧.players desk) number) (opening (⟦<Desk as DeskTold>⟧.slots desk) root (⟦<World as WorldTold>⟧.plain world.old)) (⟦<World as WorldTold>⟧.plain world.new)
-        (S.source_holds script.old) (S.source_holds script.new) (K.sink_holds out.old) (K.sink_holds out.new) }
+    ensures refused { (root : List ℕ) (number : Code → ℕ → ℕ) →
+        request_of words.now ≡ Some (runs root) → IsNumberGiven (DelayRule.post desk.delay) number →
+        IsTrue (S.source_tells script.old) → IsTrue (K.sink_tells out.old) →
+        IsTrue (⟦<World as WorldTold>⟧.tells world.old && ⟦<Desk as DeskTold>⟧.tells desk) →
+        result ≡ 7 →
+        IsRefused (setting_of (⟦<Desk as DeskTold>⟧.players desk) number)
+        (opening (⟦<Desk as DeskTold>⟧.slots desk) root (⟦<World as WorldTold>⟧.plain world.old))
+        (⟦<World as WorldTold>⟧.plain world.new)
+        (S.source_holds script.old) (S.source_holds script.new) (K.sink_holds out.old)
+        (K.sink_holds out.new) }
     // With status 5 the lines that were read whole are reported.
-    ensures unread { (root : List ℕ) (number : Code → ℕ → ℕ) → request_of words.now ≡ Some (runs root) → IsNumberGiven (DelayRule.post desk.delay) number →
-        IsTrue (S.source_tells script.old) → IsTrue (K.sink_tells out.old) → IsTrue (⟦<World as WorldTold>⟧.tells world.old && ⟦<Desk as DeskTold>⟧.tells desk) → result ≡ 5 →
-        IsUnread (setting_of (⟦<Desk as DeskTold>⟧.players desk) number) (opening (⟦<Desk as DeskTold>⟧.slots desk) root (⟦<World as WorldTold>⟧.plain world.old)) (⟦<World as WorldTold>⟧.plain world.new)
-        (S.source_holds script.old) (S.source_holds script.new) (K.sink_holds out.old) (K.sink_holds out.new) }
+    ensures unread { (root : List ℕ) (number : Code → ℕ → ℕ) →
+        request_of words.now ≡ Some (runs root) → IsNumberGiven (DelayRule.post desk.delay) number →
+        IsTrue (S.source_tells script.old) → IsTrue (K.sink_tells out.old) →
+        IsTrue (⟦<World as WorldTold>⟧.tells world.old && ⟦<Desk as DeskTold>⟧.tells desk) →
+        result ≡ 5 →
+        IsUnread (setting_of (⟦<Desk as DeskTold>⟧.players desk) number)
+        (opening (⟦<Desk as DeskTold>⟧.slots desk) root (⟦<World as WorldTold>⟧.plain world.old))
+        (⟦<World as WorldTold>⟧.plain world.new)
+        (S.source_holds script.old) (S.source_holds script.new) (K.sink_holds out.old)
+        (K.sink_holds out.new) }
     // By any status, 4 and 6 too: what was read and written, how often, and the world behind it.
-    ensures told { (root : List ℕ) (number : Code → ℕ → ℕ) → request_of words.now ≡ Some (runs root) → IsNumberGiven (DelayRule.post desk.delay) number →
-        IsTrue (S.source_tells script.old) → IsTrue (K.sink_tells out.old) → IsTrue (⟦<World as WorldTold>⟧.tells world.old && ⟦<Desk as DeskTold>⟧.tells desk) →
-        Runs (setting_of (⟦<Desk as DeskTold>⟧.players desk) number) result (⟦<Desk as DeskTold>⟧.slots desk) root (⟦<World as WorldTold>⟧.plain world.old) (⟦<World as WorldTold>⟧.plain world.new)
-        (S.source_holds script.old) (S.source_holds script.new) (K.sink_holds out.old) (K.sink_holds out.new) }
+    ensures told { (root : List ℕ) (number : Code → ℕ → ℕ) →
+        request_of words.now ≡ Some (runs root) → IsNumberGiven (DelayRule.post desk.delay) number →
+        IsTrue (S.source_tells script.old) → IsTrue (K.sink_tells out.old) →
+        IsTrue (⟦<World as WorldTold>⟧.tells world.old && ⟦<Desk as DeskTold>⟧.tells desk) →
+        Runs (setting_of (⟦<Desk as DeskTold>⟧.players desk) number) result
+        (⟦<Desk as DeskTold>⟧.slots desk) root (⟦<World as WorldTold>⟧.plain world.old)
+        (⟦<World as WorldTold>⟧.plain world.new)
+        (S.source_holds script.old) (S.source_holds script.new) (K.sink_holds out.old)
+        (K.sink_holds out.new) }
     ensures statuses { (root : List ℕ) → request_of words.now ≡ Some (runs root) → IsStatus result }
     // No run gives up by itself.
-    ensures complete { (root : List ℕ) (number : Code → ℕ → ℕ) → request_of words.now ≡ Some (runs root) → IsNumberGiven (DelayRule.post desk.delay) number →
-        IsTrue (S.source_tells script.old) → IsTrue (K.sink_tells out.old) → IsTrue (⟦<World as WorldTold>⟧.tells world.old && ⟦<Desk as DeskTold>⟧.tells desk) →
-        Completes result (Rose (S.source_faults script.old) (S.source_faults script.new)) (Rose (K.sink_faults out.old) (K.sink_faults out.new))
-        (setting_of (⟦<Desk as DeskTold>⟧.players desk) number) (opening (⟦<Desk as DeskTold>⟧.slots desk) root (⟦<World as WorldTold>⟧.plain world.old)) (S.source_holds script.old) }
+    ensures complete { (root : List ℕ) (number : Code → ℕ → ℕ) →
+        request_of words.now ≡ Some (runs root) → IsNumberGiven (DelayRule.post desk.delay) number →
+        IsTrue (S.source_tells script.old) → IsTrue (K.sink_tells out.old) →
+        IsTrue (⟦<World as WorldTold>⟧.tells world.old && ⟦<Desk as DeskTold>⟧.tells desk) →
+        Completes result (Rose (S.source_faults script.old) (S.source_faults script.new))
+        (Rose (K.sink_faults out.old) (K.sink_faults out.new))
+        (setting_of (⟦<Desk as DeskTold>⟧.players desk) number)
+        (opening (⟦<Desk as DeskTold>⟧.slots desk) root (⟦<World as WorldTold>⟧.plain world.old))
+        (S.source_holds script.old) }
 
     // Where the source alone tells, by any world: at most as many reads as bytes taken, and one more; and what the status says of the
     // script's bytes. Where the sink alone does: at most as many writes as bytes written, and one more.
-    ensures reads { (root : List ℕ) → request_of words.now ≡ Some (runs root) → IsTrue (S.source_tells script.old) →
+    ensures reads { (root : List ℕ) → request_of words.now ≡ Some (runs root) →
+        IsTrue (S.source_tells script.old) →
         ReadsBy result (S.source_holds script.old) (S.source_holds script.new) }
-    ensures accepted { (root : List ℕ) → request_of words.now ≡ Some (runs root) → IsTrue (S.source_tells script.old) → result ≡ 0 →
+    ensures accepted { (root : List ℕ) → request_of words.now ≡ Some (runs root) →
+        IsTrue (S.source_tells script.old) → result ≡ 0 →
         IsAccepted (S.source_holds script.old).left (S.source_holds script.new).left }
-    ensures has_refused { (root : List ℕ) → request_of words.now ≡ Some (runs root) → IsTrue (S.source_tells script.old) → result ≡ 7 →
+    ensures has_refused { (root : List ℕ) → request_of words.now ≡ Some (runs root) →
+        IsTrue (S.source_tells script.old) → result ≡ 7 →
         HasRefused (S.source_holds script.old).left }
-    ensures writes { (root : List ℕ) → request_of words.now ≡ Some (runs root) → IsTrue (K.sink_tells out.old) →
+    ensures writes { (root : List ℕ) → request_of words.now ≡ Some (runs root) →
+        IsTrue (K.sink_tells out.old) →
         WritesScript (K.sink_holds out.old) (K.sink_holds out.new) }
 
     // Where the words are check ROOT SERVICE, the configuration is written, or its first fault.
-    ensures checked { (root service : List ℕ) → request_of words.now ≡ Some (checks root service) → IsTrue (K.sink_tells out.old) → IsTrue (vault_tells (in_box world.old.vault)) →
-        ChecksBy result (check_of (vault_holds (in_box world.old.vault)) root service) (K.sink_holds out.old) (K.sink_holds out.new) (vault_holds (in_box world.new.vault)) }
-    ensures check_statuses { (root service : List ℕ) → request_of words.now ≡ Some (checks root service) → IsCheckStatus result }
-    ensures check_stays { (root service : List ℕ) → request_of words.now ≡ Some (checks root service) →
+    ensures checked { (root service : List ℕ) → request_of words.now ≡ Some (checks root service) →
+        IsTrue (K.sink_tells out.old) → IsTrue (vault_tells (in_box world.old.vault)) →
+        ChecksBy result (check_of (vault_holds (in_box world.old.vault)) root service)
+        (K.sink_holds out.old) (K.sink_holds out.new) (vault_holds (in_box world.new.vault)) }
+    ensures check_statuses { (root service : List ℕ) →
+        request_of words.now ≡ Some (checks root service) → IsCheckStatus result }
+    ensures check_stays { (root service : List ℕ) →
+        request_of words.now ≡ Some (checks root service) →
         (world.new ≡ record world.old { vault = world.new.vault }) × (script.new ≡ script.old) }
-    ensures check_calls { (root service : List ℕ) → request_of words.now ≡ Some (checks root service) → IsTrue (vault_tells (in_box world.old.vault)) →
+    ensures check_calls { (root service : List ℕ) →
+        request_of words.now ≡ Some (checks root service) →
+        IsTrue (vault_tells (in_box world.old.vault)) →
         OnlyCalls (vault_holds (in_box world.old.vault)) (vault_holds (in_box world.new.vault)) }
 
     // Where they are neither, the usage line is written.
-    ensures usage { request_of words.now ≡ None → IsTrue (K.sink_tells out.old) → WritesUsage result (K.sink_holds out.old) (K.sink_holds out.new) }
+    ensures usage { request_of words.now ≡ None → IsTrue (K.sink_tells out.old) →
+        WritesUsage result (K.sink_holds out.old) (K.sink_holds out.new) }
     ensures usage_status { request_of words.now ≡ None → (result ≡ 2) ⊎ (result ≡ 6) }
-    ensures usage_stays { request_of words.now ≡ None → (script.new ≡ script.old) × (world.new ≡ world.old) }
+    ensures usage_stays { request_of words.now ≡ None →
+        (script.new ≡ script.old) × (world.new ≡ world.old) }
 
     // The causes, in any world.
     ensures words_only { result ≡ 2 → request_of words.now ≡ None }
-    ensures read_fault { result ≡ 5 → Rose (S.source_faults script.old) (S.source_faults script.new) }
-    ensures no_read_fault { (result ≡ 0) ⊎ (result ≡ 7) → S.source_faults script.new ≡ S.source_faults script.old }
+    ensures read_fault { result ≡ 5 → Rose (S.source_faults script.old)
+        (S.source_faults script.new) }
+    ensures no_read_fault { (result ≡ 0) ⊎ (result ≡ 7) →
+        S.source_faults script.new ≡ S.source_faults script.old }
     ensures write_fault { result ≡ 6 → Rose (K.sink_faults out.old) (K.sink_faults out.new) }
     ensures no_write_fault { result ≢ 6 → K.sink_faults out.new ≡ K.sink_faults out.old }
 
     // In any world, whatever the status: every module datum that was set was cleaned up exactly once, with its due status.
-    ensures cleaned_up { IsCleanedUp (S.source_tells script.old) (S.source_holds script.old).left (notes_of (⟦<Desk as DeskTold>⟧.players desk)) world.new.process.ledger }
+    ensures cleaned_up { IsCleanedUp (S.source_tells script.old) (S.source_holds script.old).left
+        (notes_of (⟦<Desk as DeskTold>⟧.players desk)) world.new.process.ledger }
 
     // What tells before the run tells after it.
     ensures source_tells { S.source_tells script.new ≡ S.source_tells script.old }
     ensures sink_tells { K.sink_tells out.new ≡ K.sink_tells out.old }
-    ensures world_tells { ⟦<World as WorldTold>⟧.tells world.new ≡ ⟦<World as WorldTold>⟧.tells world.old }
+    ensures world_tells { ⟦<World as WorldTold>⟧.tells world.new
+        ≡ ⟦<World as WorldTold>⟧.tells world.old }
 {
     match request_in(words) {
         None => usage(out),
@@ -157,27 +202,38 @@ fn run<S: Source, K: Sink>(
 ) -> u8
     requires sixteen { length desk.convs.items ≡ 16 }
     requires few { length desk.mods.items < 2 ^ 32 }
-    requires callable { (code : Code) (asked : ℕ) → asked ≤ 90000000 → DelayRule.pre desk.delay code asked }
+    requires callable { (code : Code) (asked : ℕ) → asked ≤ LONGEST_ASKED →
+        DelayRule.pre desk.delay code asked }
     requires one_number { GivesOneNumber (DelayRule.post desk.delay) }
     requires no_births { world.old.process.ledger.births ≡ [] }
     requires no_receipts { world.old.process.ledger.filed ≡ [] }
     ensures told { (number : Code → ℕ → ℕ) → IsNumberGiven (DelayRule.post desk.delay) number →
-        IsTrue (S.source_tells script.old) → IsTrue (K.sink_tells out.old) → IsTrue (⟦<World as WorldTold>⟧.tells world.old && ⟦<Desk as DeskTold>⟧.tells desk) →
-        Runs (setting_of (⟦<Desk as DeskTold>⟧.players desk) number) result (⟦<Desk as DeskTold>⟧.slots desk) root.now (⟦<World as WorldTold>⟧.plain world.old) (⟦<World as WorldTold>⟧.plain world.new)
-        (S.source_holds script.old) (S.source_holds script.new) (K.sink_holds out.old) (K.sink_holds out.new) }
+        IsTrue (S.source_tells script.old) → IsTrue (K.sink_tells out.old) →
+        IsTrue (⟦<World as WorldTold>⟧.tells world.old && ⟦<Desk as DeskTold>⟧.tells desk) →
+        Runs (setting_of (⟦<Desk as DeskTold>⟧.players desk) number) result
+        (⟦<Desk as DeskTold>⟧.slots desk) root.now (⟦<World as WorldTold>⟧.plain world.old)
+        (⟦<World as WorldTold>⟧.plain world.new)
+        (S.source_holds script.old) (S.source_holds script.new) (K.sink_holds out.old)
+        (K.sink_holds out.new) }
     ensures statuses { IsStatus result }
-    ensures reads { IsTrue (S.source_tells script.old) → ReadsBy result (S.source_holds script.old) (S.source_holds script.new) }
-    ensures writes { IsTrue (K.sink_tells out.old) → WritesScript (K.sink_holds out.old) (K.sink_holds out.new) }
-    ensures cleaned_up { IsCleanedUp (S.source_tells script.old) (S.source_holds script.old).left (notes_of (⟦<Desk as DeskTold>⟧.players desk)) world.new.process.ledger }
-    ensures read_fault { result ≡ 5 → Rose (S.source_faults script.old) (S.source_faults script.new) }
-    ensures no_read_fault { (result ≡ 0) ⊎ (result ≡ 7) → S.source_faults script.new ≡ S.source_faults script.old }
+    ensures reads { IsTrue (S.source_tells script.old) →
+        ReadsBy result (S.source_holds script.old) (S.source_holds script.new) }
+    ensures writes { IsTrue (K.sink_tells out.old) →
+        WritesScript (K.sink_holds out.old) (K.sink_holds out.new) }
+    ensures cleaned_up { IsCleanedUp (S.source_tells script.old) (S.source_holds script.old).left
+        (notes_of (⟦<Desk as DeskTold>⟧.players desk)) world.new.process.ledger }
+    ensures read_fault { result ≡ 5 → Rose (S.source_faults script.old)
+        (S.source_faults script.new) }
+    ensures no_read_fault { (result ≡ 0) ⊎ (result ≡ 7) →
+        S.source_faults script.new ≡ S.source_faults script.old }
     ensures write_fault { result ≡ 6 → Rose (K.sink_faults out.old) (K.sink_faults out.new) }
     ensures no_write_fault { result ≢ 6 → K.sink_faults out.new ≡ K.sink_faults out.old }
     ensures source_tells { S.source_tells script.new ≡ S.source_tells script.old }
     ensures sink_tells { K.sink_tells out.new ≡ K.sink_tells out.old }
-    ensures world_tells { ⟦<World as WorldTold>⟧.tells world.new ≡ ⟦<World as WorldTold>⟧.tells world.old }
+    ensures world_tells { ⟦<World as WorldTold>⟧.tells world.new
+        ≡ ⟦<World as WorldTold>⟧.tells world.old }
 {
-    closed_places_stand_for_none();
+    pam_library::laws::closed_places_stand_for_none();
     let Ok(root) = Text::from_bytes(alloc, root) else {
         return status_of(Err(Stop::NoMemory));
     };
@@ -201,26 +257,41 @@ fn run_over<S: Source, K: Sink>(
     out: &mut K,
     world: &mut World,
 ) -> u8
-    requires first { StandFor (notes_of (⟦<Gear as GearTold>⟧.players (gear_in library))) 17 world.old.process.ledger (lists_of (⟦<Library as LibraryTold>⟧.slots library)) [] }
-    requires sound { IsSoundFor (⟦<Gear as GearTold>⟧.players (gear_in library)) (⟦<Library as LibraryTold>⟧.slots library) world.old.process.ledger }
-    ensures told { (number : Code → ℕ → ℕ) → ⟦<DelayFn as DelayTold>⟧.delay_is (gear_in library).delay number →
-        IsTrue (S.source_tells script.old) → IsTrue (K.sink_tells out.old) → IsTrue (⟦<World as WorldTold>⟧.tells world.old && ⟦<Library as LibraryTold>⟧.tells library) →
-        IsBegun (setting_of (⟦<Gear as GearTold>⟧.players (gear_in library)) number) result (opening (⟦<Library as LibraryTold>⟧.slots library) root (⟦<World as WorldTold>⟧.plain world.old)) (⟦<World as WorldTold>⟧.plain world.new)
-        (S.source_holds script.old) (S.source_holds script.new) (K.sink_holds out.old) (K.sink_holds out.new) }
+    requires first { StandFor (notes_of (⟦<Gear as GearTold>⟧.players (gear_in library)))
+        handle_limit world.old.process.ledger
+        (lists_of (⟦<Library as LibraryTold>⟧.slots library)) [] }
+    requires sound { IsSoundFor (⟦<Gear as GearTold>⟧.players (gear_in library))
+        (⟦<Library as LibraryTold>⟧.slots library) world.old.process.ledger }
+    ensures told { (number : Code → ℕ → ℕ) →
+        ⟦<DelayFn as DelayTold>⟧.delay_is (gear_in library).delay number →
+        IsTrue (S.source_tells script.old) → IsTrue (K.sink_tells out.old) →
+        IsTrue (⟦<World as WorldTold>⟧.tells world.old
+        && ⟦<Library as LibraryTold>⟧.tells library) →
+        IsBegun (setting_of (⟦<Gear as GearTold>⟧.players (gear_in library)) number) result
+        (opening (⟦<Library as LibraryTold>⟧.slots library) root
+        (⟦<World as WorldTold>⟧.plain world.old)) (⟦<World as WorldTold>⟧.plain world.new)
+        (S.source_holds script.old) (S.source_holds script.new) (K.sink_holds out.old)
+        (K.sink_holds out.new) }
     ensures statuses { IsStatus result }
-    ensures reads { IsTrue (S.source_tells script.old) → ReadsBy result (S.source_holds script.old) (S.source_holds script.new) }
-    ensures writes { IsTrue (K.sink_tells out.old) → WritesScript (K.sink_holds out.old) (K.sink_holds out.new) }
-    ensures cleaned_up { IsCleanedUp (S.source_tells script.old) (S.source_holds script.old).left (notes_of (⟦<Gear as GearTold>⟧.players (gear_in library))) world.new.process.ledger }
-    ensures read_fault { result ≡ 5 → Rose (S.source_faults script.old) (S.source_faults script.new) }
-    ensures no_read_fault { (result ≡ 0) ⊎ (result ≡ 7) → S.source_faults script.new ≡ S.source_faults script.old }
+    ensures reads { IsTrue (S.source_tells script.old) →
+        ReadsBy result (S.source_holds script.old) (S.source_holds script.new) }
+    ensures writes { IsTrue (K.sink_tells out.old) →
+        WritesScript (K.sink_holds out.old) (K.sink_holds out.new) }
+    ensures cleaned_up { IsCleanedUp (S.source_tells script.old) (S.source_holds script.old).left
+        (notes_of (⟦<Gear as GearTold>⟧.players (gear_in library))) world.new.process.ledger }
+    ensures read_fault { result ≡ 5 → Rose (S.source_faults script.old)
+        (S.source_faults script.new) }
+    ensures no_read_fault { (result ≡ 0) ⊎ (result ≡ 7) →
+        S.source_faults script.new ≡ S.source_faults script.old }
     ensures write_fault { result ≡ 6 → Rose (K.sink_faults out.old) (K.sink_faults out.new) }
     ensures no_write_fault { result ≢ 6 → K.sink_faults out.new ≡ K.sink_faults out.old }
     ensures source_tells { S.source_tells script.new ≡ S.source_tells script.old }
     ensures sink_tells { K.sink_tells out.new ≡ K.sink_tells out.old }
-    ensures world_tells { ⟦<World as WorldTold>⟧.tells world.new ≡ ⟦<World as WorldTold>⟧.tells world.old }
+    ensures world_tells { ⟦<World as WorldTold>⟧.tells world.new
+        ≡ ⟦<World as WorldTold>⟧.tells world.old }
 {
-    proceeding_stands();
-    numbers_stand_side_by_side();
+    session_run::laws::proceeding_stands();
+    session_run::laws::numbers_stand_side_by_side();
     go_under(world, root);
     let mut library = library;
     let result = run_script(alloc, &mut library, script, out, world);
@@ -230,8 +301,11 @@ fn run_over<S: Source, K: Sink>(
 
 // Puts the world under a root, at the moment 0 and with the random word 0.
 fn go_under(world: &mut World, root: Text)
-    ensures tells { ⟦<World as WorldTold>⟧.tells world.new ≡ ⟦<World as WorldTold>⟧.tells world.old }
-    ensures told { IsTrue (⟦<World as WorldTold>⟧.tells world.old) → IsUnder root (⟦<World as WorldTold>⟧.plain world.old) (⟦<World as WorldTold>⟧.plain world.new) }
+    ensures tells { ⟦<World as WorldTold>⟧.tells world.new
+        ≡ ⟦<World as WorldTold>⟧.tells world.old }
+    ensures told { IsTrue (⟦<World as WorldTold>⟧.tells world.old) →
+        IsUnder root (⟦<World as WorldTold>⟧.plain world.old)
+        (⟦<World as WorldTold>⟧.plain world.new) }
     ensures ledger { world.new.process.ledger ≡ world.old.process.ledger }
 {
     world.process.root = root;
@@ -253,7 +327,8 @@ fn status_of(run: Result<Ending<ScriptKind>, Stop>) -> u8
 
 // Writes the line on the usage.
 fn usage<K: Sink>(out: &mut K) -> u8
-    ensures told { IsTrue (K.sink_tells out.old) → WritesUsage result (K.sink_holds out.old) (K.sink_holds out.new) }
+    ensures told { IsTrue (K.sink_tells out.old) →
+        WritesUsage result (K.sink_holds out.old) (K.sink_holds out.new) }
     ensures status { (result ≡ 2) ⊎ (result ≡ 6) }
     ensures tells { K.sink_tells out.new ≡ K.sink_tells out.old }
     ensures write_fault { result ≡ 6 → Rose (K.sink_faults out.old) (K.sink_faults out.new) }

@@ -6,7 +6,7 @@ mod frame;
 mod frames;
 mod front;
 mod kind;
-mod laws;
+pub mod laws;
 mod next;
 mod step;
 
@@ -14,9 +14,5 @@ pub use conv_port::WireConv;
 pub use frame::{answer_of, frame_of};
 pub use frames::{BadFrame, Frames};
 pub use front::{Front, front_of};
-pub use laws::{
-    frame_is_read, frame_of_a_step_is_one, front_settles, no_frame_begins_another,
-    steps_are_those_of_the_bytes,
-};
 pub use next::Next;
 pub use step::step_of;

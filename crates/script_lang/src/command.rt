@@ -8,7 +8,7 @@ use pam_base::{AppCall, Func};
 
 /// A command of the script.
 #[derive(Clone, Copy, Debug, PartialEq, Eq)]
-pub(crate) enum Command {
+pub enum Command {
     Start,
     End,
     Authenticate,
@@ -60,6 +60,13 @@ pub(crate) struct Row {
 }
 
 impl Command {
+    /// The word by which scripts and reports name it.
+    pub fn word(self) -> &'static str
+        ensures { result.now ≡ (row_of self).word }
+    {
+        self.row().word
+    }
+
     pub(crate) fn row(self) -> Row
         ensures word { result.word.now ≡ (row_of self).word }
         ensures places { result.places ≡ (row_of self).places }
@@ -131,14 +138,14 @@ fn is_word_of(command: Command, word: &[u8]) -> bool
 pub fn call_word(call: &AppCall) -> &'static str
     ensures { result.now ≡ word_of_call call.now }
 {
-    command_of_call(call).row().word
+    command_of_call(call).word()
 }
 
 /// The word of the call that runs this function of the modules.
 pub fn func_word(func: Func) -> &'static str
     ensures { result.now ≡ word_of_func func }
 {
-    command_of_func(func).row().word
+    command_of_func(func).word()
 }
 
 fn command_of_call(call: &AppCall) -> Command

@@ -4,12 +4,11 @@
 mod call;
 mod command;
 mod cut;
-mod law;
+pub mod laws;
 mod line;
 mod number;
 mod place;
 mod value;
 
-pub use command::{call_word, func_word};
-pub use law::{numbers_are_short, written_is_read};
+pub use command::{Command, call_word, func_word};
 pub use line::{Line, parse};

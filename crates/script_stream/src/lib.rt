@@ -3,11 +3,10 @@
 #![tactic(auto)]
 
 mod front;
-mod laws;
+pub mod laws;
 mod limit;
 mod lines;
 
 pub use front::front_of_lines;
-pub use laws::whole_input_is_looked_at;
 pub use limit::{MAX_LINES, limit_of};
 pub use lines::{LineStepping, Lines};

@@ -1,5 +1,4 @@
 mod Rows
-pub mod Roots
 pub mod CheckingLemmas
 pub mod KindLemmas
 pub mod Opening

@@ -16,7 +16,7 @@ use Rattle.service_load.specs.Files.{held, is_absent}
 use Rattle.service_load.specs.FirstFault.{Counts, look}
 use Rattle.service_load.specs.Entry.{folder_name}
 use Rattle.service_load.specs.Load.{LoadsBy, LoadsFrom, Loads, loaded_from, has_folder}
-use Rattle.service_load.specs.Names.{path_of}
+use Rattle.pam_outside.specs.Paths.{path_of}
 use Rattle.service_load.specs.Loading.{texts_of, counts_of, Looks, OnlyCalls, Brings, Grows, IsBounded, Makes, items_at, nodes_at}
 use Rattle.std.specs.List.{flat_map}
 use Rattle.service_load.specs.declared.rule_type.RuleType.TheVariants.{Auth, Account, Password, Session}

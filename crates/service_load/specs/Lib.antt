@@ -10,3 +10,5 @@ pub mod Checking
 pub mod Kinds
 pub mod Loading
 pub mod Load
+pub mod Trees
+pub mod Stacks

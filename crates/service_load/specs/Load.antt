@@ -13,7 +13,7 @@ use Rattle.service_load.specs.declared.trees.Trees.{Trees}
 use Rattle.service_load.specs.Entry.{folder_name}
 use Rattle.service_load.specs.FirstFault.{Counts, Stop, fault_at, look}
 use Rattle.service_load.specs.Loading.{texts_of, IsBounded}
-use Rattle.service_load.specs.Names.{path_of}
+use Rattle.pam_outside.specs.Paths.{path_of}
 use Rattle.service_load.specs.Order.{order}
 use Rattle.service_load.specs.Tree.{tree}
 

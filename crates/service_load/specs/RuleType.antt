@@ -1,5 +1,6 @@
 -- The types of rules (pam.conf(5): account, auth, password, session).
 use Rattle.std.specs.Prelude.{ℕ, Bool, true, false, List, [], ◌∷◌, Option, Some, None, codes, not, ◌&&◌, ◌==◌, if◌then◌else◌, option_map}
+use Rattle.std.specs.List.{find}
 use Rattle.std.specs.Str.{str_eq_ignore_ascii_case}
 use Rattle.conf_lex.specs.declared.token.Token.{Token}
 use Rattle.service_load.specs.declared.rule_type.RuleType.{RuleType}
@@ -22,14 +23,16 @@ same_type a b = false
 abbrev pub is_word : List ℕ → Token → Bool
 is_word word token = not token.bracketed && str_eq_ignore_ascii_case token.text word
 
+-- the word of a type (pam.conf(5))
+abbrev pub type_word : RuleType → List ℕ
+type_word Auth = codes "auth"
+type_word Account = codes "account"
+type_word Password = codes "password"
+type_word Session = codes "session"
+
 -- the type that a word names, in any case (pam.conf(5))
 abbrev pub type_of_word : List ℕ → Option RuleType
-type_of_word word =
-    if str_eq_ignore_ascii_case word (codes "auth") then Some Auth
-    else if str_eq_ignore_ascii_case word (codes "account") then Some Account
-    else if str_eq_ignore_ascii_case word (codes "password") then Some Password
-    else if str_eq_ignore_ascii_case word (codes "session") then Some Session
-    else None
+type_of_word word = find (λ type. str_eq_ignore_ascii_case word (type_word type)) all_types
 
 -- the type field that a word is: a type, and before it a `-` where a module that is missing is passed over in silence (pam.conf(5))
 abbrev pub type_field_of_word : List ℕ → Option TypeField

@@ -4,7 +4,7 @@ ghost use Rattle.service_load.specs.Entry.{entry_of_tokens, behind_type, file_fi
 ghost use Rattle.service_load.specs.Kinds.{IfNamed, is_read_failed};
 ghost use Rattle.service_load.specs.Tree.{serves};
 
-use crate::names::joined;
+use crate::names::{IN_FOLDER, joined};
 use crate::rule_type::RuleType;
 use crate::type_field::{TypeField, is_word};
 use conf_lex::Token;
@@ -161,7 +161,7 @@ fn named_file(alloc: Global, name: &[u8]) -> Result<Text, NoMemory>
 {
     match name {
         [b'/', ..] => Text::from_bytes(alloc, name),
-        _ => joined(alloc, b"/etc/pam.d/", name),
+        _ => joined(alloc, IN_FOLDER, name),
     }
 }
 

@@ -6,7 +6,7 @@ mod entry;
 mod file_rules;
 mod inclusion;
 mod kept;
-mod laws;
+pub mod laws;
 mod load_fault;
 mod loader;
 mod loading;
@@ -18,8 +18,7 @@ mod rule_type;
 mod trees;
 mod type_field;
 
-pub use laws::each_opening_is_a_call;
 pub use load_fault::LoadFault;
 pub use loading::load;
-pub use rule_type::RuleType;
+pub use rule_type::{ALL_TYPES, RuleType};
 pub use trees::Trees;

@@ -16,7 +16,6 @@ use crate::entry::{Content, Entries, Entry};
 use crate::inclusion::Inclusion;
 use crate::kept::Kept;
 use crate::load_fault::{LoadFault, refused};
-use crate::names::path_of;
 use crate::opener::Opener;
 use crate::position::Position;
 use crate::rule_file::RuleFile;
@@ -24,7 +23,7 @@ use crate::rule_type::RuleType;
 use crate::trees::Trees;
 use control_words::{Node, Nodes, Rule};
 use pam_base::{FaultKind, Refuse};
-use pam_outside::{Vault, VaultFault, read_file};
+use pam_outside::{Vault, VaultFault, path_of, read_file};
 use std::alloc::Global;
 
 /// The most bytes of a file.

@@ -6,15 +6,12 @@ ghost use Rattle.service_load.specs.Loading.{CountsFaults, OnlyCalls};
 use crate::kept::Kept;
 use crate::load_fault::{LoadFault, refused};
 use crate::loader::Loader;
-use crate::names::path_of;
+use crate::names::FOLDER;
 use crate::rule_file::RuleFile;
 use crate::trees::Trees;
 use pam_base::{FaultKind, Refuse};
-use pam_outside::{ReplaceFault, Vault, is_folder};
+use pam_outside::{ReplaceFault, Vault, is_folder, path_of};
 use std::alloc::Global;
-
-/// The folder of the service files.
-const FOLDER: &[u8; 10] = b"/etc/pam.d";
 
 /// The stacks of a service (`pam.conf(5)`, `pam.d(5)`), under a root whose slashes at its end don't count.
 ///

@@ -1,9 +1,16 @@
-ghost use Rattle.std.specs.Prelude.{◌≡◌, ◌++◌, ◌<◌, length, IfOk, IfSome, IfNone};
-ghost use Rattle.std.specs.Str.{str_to_ascii_lowercase};
-ghost use Rattle.service_load.specs.Names.{path_of, root_before};
+ghost use Rattle.std.specs.Prelude.{◌≡◌, ◌++◌, IfOk};
 
 use pam_base::{NoMemory, Text};
 use std::alloc::Global;
+
+/// The folder of the service files (`pam.d(5)`).
+pub(crate) const FOLDER: &[u8; 10] = b"/etc/pam.d";
+
+/// What the names of its files begin with.
+pub(crate) const IN_FOLDER: &[u8; 11] = b"/etc/pam.d/";
+
+/// The file that is read where there is no such folder (`pam.conf(5)`).
+pub(crate) const PAM_CONF: &[u8; 13] = b"/etc/pam.conf";
 
 /// One text behind another.
 pub(crate) fn joined(alloc: Global, front: &[u8], back: &[u8]) -> Result<Text, NoMemory>
@@ -12,42 +19,4 @@ pub(crate) fn joined(alloc: Global, front: &[u8], back: &[u8]) -> Result<Text, N
     let mut text = Vec::from_slice(alloc, front)?;
     text.extend_from_slice(back)?;
     Ok(Text::from_vec(text))
-}
-
-pub(crate) fn lowercase(alloc: Global, word: &[u8]) -> Result<Text, NoMemory>
-    ensures { IfOk result (λ text. text ≡ str_to_ascii_lowercase word.now) }
-{
-    let mut text = Vec::from_slice(alloc, word)?;
-    text.as_mut_slice().make_ascii_lowercase();
-    Ok(Text::from_vec(text))
-}
-
-/// The path of the file with this name under a root.
-pub(crate) fn path_of(alloc: Global, root: &[u8], name: &[u8]) -> Result<Text, NoMemory>
-    ensures { IfOk result (λ path. path ≡ path_of root.now name.now) }
-{
-    joined(alloc, root_before(root), name)
-}
-
-// A root without the slashes at its end.
-fn root_before(root: &[u8]) -> &[u8]
-    ensures { result.now ≡ root_before root.now }
-{
-    let mut rest = root;
-    while let Some(front) = before_slash(rest) {
-        rest = front;
-    }
-    rest
-}
-
-// What stands before a slash at the end.
-fn before_slash(root: &[u8]) -> Option<&[u8]>
-    ensures shorter { IfSome result (λ front. length front.now < length root.now) }
-    ensures same { IfSome result (λ front. root_before root.now ≡ root_before front.now) }
-    ensures none { IfNone result (root_before root.now ≡ root.now) }
-{
-    match root.strip_suffix(b"/") {
-        Some(front) => Some(front),
-        None => None,
-    }
 }

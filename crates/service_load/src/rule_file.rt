@@ -1,8 +1,8 @@
 ghost use Rattle.std.specs.Prelude.{◌≡◌, IfOk};
 ghost use Rattle.service_load.specs.Files.{service_file, plain_file, is_in_folder};
 
-use crate::names::{joined, lowercase};
-use pam_base::{NoMemory, Text};
+use crate::names::{IN_FOLDER, PAM_CONF, joined};
+use pam_base::{NoMemory, Text, lowercase};
 use std::alloc::Global;
 
 /// A file of rules.
@@ -36,12 +36,12 @@ impl RuleFile {
         let service = lowercase(alloc, service)?;
         if is_folder {
             return Ok(RuleFile {
-                name: joined(alloc, b"/etc/pam.d/", service.bytes())?,
+                name: joined(alloc, IN_FOLDER, service.bytes())?,
                 service: None,
             });
         }
         Ok(RuleFile {
-            name: Text::from_bytes(alloc, b"/etc/pam.conf")?,
+            name: Text::from_bytes(alloc, PAM_CONF)?,
             service: Some(service),
         })
     }

@@ -1,5 +1,5 @@
 ghost use Rattle.std.specs.Prelude.{◌≡◌};
-ghost use Rattle.service_load.specs.RuleType.{is_word, type_field_of, type_field_of_word, type_of_word};
+ghost use Rattle.service_load.specs.RuleType.{is_word, type_field_of, type_field_of_word};
 
 use crate::rule_type::RuleType;
 use conf_lex::Token;
@@ -37,27 +37,11 @@ fn type_field_in(word: &[u8]) -> Option<TypeField>
     match word {
         [b'-', name @ ..] => Some(TypeField {
             silent: true,
-            rule_type: type_named(name)?,
+            rule_type: RuleType::named(name)?,
         }),
         _ => Some(TypeField {
             silent: false,
-            rule_type: type_named(word)?,
+            rule_type: RuleType::named(word)?,
         }),
-    }
-}
-
-fn type_named(word: &[u8]) -> Option<RuleType>
-    ensures { result ≡ type_of_word word.now }
-{
-    if word.eq_ignore_ascii_case(b"auth") {
-        Some(RuleType::Auth)
-    } else if word.eq_ignore_ascii_case(b"account") {
-        Some(RuleType::Account)
-    } else if word.eq_ignore_ascii_case(b"password") {
-        Some(RuleType::Password)
-    } else if word.eq_ignore_ascii_case(b"session") {
-        Some(RuleType::Session)
-    } else {
-        None
     }
 }

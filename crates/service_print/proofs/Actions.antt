@@ -4,7 +4,7 @@ use Rattle.std.specs.Fmt.{digits}
 use Rattle.std.specs.List.{list_all}
 use Rattle.std.proofs.lemmas.Bool.{agree_below_at, and_parts, leb-true, eqb-true, lt-leb}
 use Rattle.pam_base.specs.White.{is_white}
-use Rattle.pam_base.specs.Code.{all_codes, code_of_word, number_of}
+use Rattle.pam_base.specs.Code.{all_codes, code_of_word, code_word, number_of}
 use Rattle.pam_base.specs.declared.code.Code.{Code}
 use Rattle.pam_base.specs.declared.code.Code.TheVariants.{Success}
 use Rattle.control_words.specs.declared.control.Action.{Action}
@@ -12,7 +12,7 @@ use Rattle.control_words.specs.declared.control.Action.TheVariants as actions
 use Rattle.control_words.specs.declared.bracket.ControlFault.{ControlFault}
 use Rattle.control_words.specs.Bracket.{action_of_word, is_default}
 use Rattle.control_words.specs.Entries.{ends_name}
-use Rattle.service_print.specs.Controls.{action_word, same_action, code_word}
+use Rattle.service_print.specs.Controls.{action_word, same_action}
 
 pub same_action-equal : (a b : Action) → same_action a b ≡ true → a ≡ b
 same_action-equal actions.Ignore actions.Ignore is = refl

@@ -7,7 +7,7 @@ use Rattle.std.specs.Result.{result_ok}
 use Rattle.std.proofs.lemmas.Bool.{cases_Bool, ne_eqb, and_parts, and_from, not-true, not-false, eqb-true, or_parts}
 use Rattle.std.proofs.Math.Seq.{take-append_seam, drop-append_seam}
 use Rattle.pam_base.specs.White.{is_white}
-use Rattle.pam_base.specs.Code.{all_codes, number_of}
+use Rattle.pam_base.specs.Code.{all_codes, code_word, number_of}
 use Rattle.pam_base.specs.declared.code.Code.{Code}
 use Rattle.pam_base.specs.declared.code.Code.TheVariants.{Success}
 use Rattle.control_words.specs.declared.control.Action.{Action}
@@ -18,7 +18,7 @@ use Rattle.control_words.specs.Bracket.{action_of_word, is_default, names, last_
 use Rattle.control_words.specs.Entries.{Entry, FirstEntry, ends_name, from_first, first_entry, with_name, with_action, entries_behind, entries_in}
 use Rattle.control_words.specs.Entries.{behind_space as behind_white}
 use Rattle.service_print.specs.Tokens.{behind_space, spaced}
-use Rattle.service_print.specs.Controls.{action_word, same_action, code_word, entry_text, has_entry, entries_among}
+use Rattle.service_print.specs.Controls.{action_word, same_action, entry_text, has_entry, entries_among}
 use Rattle.service_print.proofs.Actions.{same_action-equal, is_name, is_action, code_at, code_word-named, code_word-name, code_word-other, begins_some, code_word-some, is_fine, action_reads}
 
 -- ---- the front of a text, up to the first byte that passes a test

@@ -5,7 +5,7 @@ use Rattle.std.specs.List.{flat_map, filter, list_all, list_any}
 use Rattle.std.proofs.lemmas.Bool.{cases_Bool, and_parts, and_from, not-true, not_from_false, or_parts, or_from, eqb-true, both_ways, false≢true, true≢false}
 use Rattle.std.proofs.lemmas.List.Folds.{list_all-append}
 use Rattle.pam_base.specs.White.{is_white}
-use Rattle.pam_base.specs.Code.{all_codes}
+use Rattle.pam_base.specs.Code.{all_codes, code_word}
 use Rattle.pam_base.specs.declared.code.Code.{Code}
 use Rattle.conf_lex.specs.declared.token.Token.{Token}
 use Rattle.control_words.specs.declared.control.Action.{Action}
@@ -16,7 +16,7 @@ use Rattle.service_load.specs.declared.rule_type.RuleType.{RuleType}
 use Rattle.service_load.specs.declared.rule_type.RuleType.TheVariants.{Auth}
 use Rattle.service_load.specs.RuleType.{is_word, type_field_of}
 use Rattle.service_print.specs.Tokens.{behind_space, spaced, ends_token, wants_brackets, escaped_byte, token_text}
-use Rattle.service_print.specs.Controls.{same_action, same_control, keyword_of, entry_text, has_entry, entries_among, control_text, action_word, code_word}
+use Rattle.service_print.specs.Controls.{same_action, same_control, keyword_of, entry_text, has_entry, entries_among, control_text, action_word}
 use Rattle.service_print.specs.Printed.{type_field}
 use Rattle.service_print.proofs.Spelled.{last_is, is_plain, is_inner, is_plain_text, is_inner_text, is_sound, written}
 use Rattle.service_print.proofs.Lexed.{is_set}

@@ -8,7 +8,7 @@ use Rattle.std.proofs.lemmas.Fmt.{decimal_injective}
 use Rattle.pam_outside.specs.Files.{file_at}
 use Rattle.control_words.specs.Stack.{Stack, none, line, sub}
 use Rattle.service_load.specs.declared.rule_type.RuleType.{RuleType}
-use Rattle.service_load.specs.Names.{root_before, path_of}
+use Rattle.pam_outside.specs.Paths.{root_before, path_of}
 use Rattle.service_print.specs.declared.file.File.{File}
 use Rattle.service_print.specs.Printed.{numbered, subs_in, substack_files, all_substack_files}
 use Rattle.service_print.specs.Reload.{placed_file}
@@ -28,6 +28,7 @@ abbrev pub path_in : List ℕ → List ℕ → List ℕ
 path_in root name = path_of root (in_the_folder name)
 
 paths_apart : (root a b : List ℕ) → (a ≡ b → ⊥) → path_in root a ≡ path_in root b → ⊥
+unfolding path_of
 paths_apart root a b other same = other (front_same (codes "/etc/pam.d/") a b (front_same (root_before root) (in_the_folder a) (in_the_folder b) same))
 
 pub found_first : (root : List ℕ) (file : File) (files : List File) → file_at (path_in root file.name) (map (placed_file root) (file ∷ files)) ≡ Some file.text

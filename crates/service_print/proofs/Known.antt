@@ -1,6 +1,6 @@
 -- What a rule of a text means, and that the lines of a loaded stack can be printed.
 use Rattle.std.proofs.Common.{◌≡◌, ℕ, zero, suc, ◌≤◌, Bool, true, false, not, ◌&&◌, cond, eqb, nat_le, List, [], ◌∷◌, length, map, Option, Some, None, Result, Ok, Err, refl, sym, ap, ◌∙◌, subst, arith, inl, inr}
-use Rattle.std.specs.Prelude.{codes}
+use Rattle.std.specs.Prelude.{codes, option_map}
 use Rattle.std.specs.Char.{is_ascii_digit}
 use Rattle.std.specs.List.{filter_map, list_all, last_or, filter}
 use Rattle.std.specs.Option.{option_and_then, option_or, unwrap_or, ok_or}
@@ -23,7 +23,8 @@ use Rattle.control_words.specs.declared.control.Action.TheVariants as actions
 use Rattle.control_words.specs.Bracket.{fault, named_action, jump_of, action_of_word, is_default, names, last_action, action_among, fault_of_entry, control_unless, control_of}
 use Rattle.control_words.specs.Entries.{entries_in}
 use Rattle.control_words.specs.Entries.{Entry as ControlEntry}
-use Rattle.control_words.specs.Keyword.{required, requisite, sufficient, optional, control_of_word}
+use Rattle.control_words.specs.declared.keywords.Keyword.TheVariants.{Required, Requisite, Sufficient, Optional}
+use Rattle.control_words.specs.Keyword.{control_of_word, keyword_control as control_of_keyword}
 use Rattle.control_words.specs.Stack.{Stack, none, line, sub, joined}
 use Rattle.service_load.specs.declared.rule_type.RuleType.{RuleType}
 use Rattle.service_load.specs.Entry.{named_file, with_control, behind_type, entry_at, with_type, entry_of}
@@ -124,7 +125,7 @@ abbrev is_control : Option (List Action) → Bool
 is_control None = true
 is_control (Some control) = eqb (length control) 32 && list_all is_fine control
 
-four_controls : (a b c d : Bool) → is_control (cond a (Some required) (cond b (Some requisite) (cond c (Some sufficient) (cond d (Some optional) None)))) ≡ true
+four_controls : (a b c d : Bool) → is_control (option_map control_of_keyword (cond a (Some Required) (cond b (Some Requisite) (cond c (Some Sufficient) (cond d (Some Optional) None))))) ≡ true
 four_controls true b c d = refl
 four_controls false true c d = refl
 four_controls false false true d = refl

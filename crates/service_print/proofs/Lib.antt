@@ -1,3 +1,4 @@
+mod Keywords
 pub mod Entering
 pub mod Appending
 pub mod Adding

@@ -19,7 +19,7 @@ use Rattle.service_load.specs.Entry.{folder_name}
 use Rattle.service_load.specs.FirstFault.{Counts, look}
 use Rattle.service_load.specs.Load.{has_folder, loaded}
 use Rattle.service_load.specs.Loading.{texts_of}
-use Rattle.service_load.specs.Names.{root_before, path_of}
+use Rattle.pam_outside.specs.Paths.{root_before, path_of}
 use Rattle.service_load.specs.Order.{order}
 use Rattle.service_load.specs.RuleType.{all_types}
 use Rattle.service_load.specs.Tree.{tree}
@@ -119,6 +119,7 @@ below_by folder path rest is =
     ap (pointwise nat_eq needle) front ∙ pointwise_self needle
 
 folder_there : (root : List ℕ) (file : File) (files : List File) → is_folder (path_of root folder_name) (map (placed_file root) (file ∷ files)) ≡ true
+unfolding path_of
 folder_there root file files =
     let path : path_of root (in_the_folder file.name) ≡ (path_of root folder_name ++ codes "/") ++ file.name =
     sym (append_assoc (path_of root folder_name) (codes "/") file.name ∙ append_assoc (root_before root) folder_name (codes "/" ++ file.name)) in

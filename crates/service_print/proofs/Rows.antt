@@ -6,6 +6,7 @@ use Rattle.std.specs.Fmt.{digits}
 use Rattle.control_words.specs.declared.control.Action.{Action}
 use Rattle.control_words.specs.declared.nodes.Rule.{Rule}
 use Rattle.pam_base.specs.Lines.{cut, lines_of}
+use Rattle.pam_outside.specs.Paths.{path_of}
 use Rattle.pam_outside.specs.Files.{VaultState}
 use Rattle.conf_lex.specs.Answer.{answer_to}
 use Rattle.conf_lex.specs.Lexing.{answer_at}
@@ -142,20 +143,20 @@ as_printed = file (codes "t") (codes "auth required pam_permit.so a\nauth substa
 
 -- both load to that stack alone, with two openings for it and two for each empty one
 loads_by_hand : loaded (vault_of by_hand) (codes "/r") (codes "t") ≡ Ok (record { calls = 9; openings = 8; lines = 0 })
-unfolding vault_of by_hand file look items nodes answer_to answer_at pieces_behind first_piece units_behind entry_of entries_in entries_behind
+unfolding vault_of by_hand file look items nodes answer_to answer_at pieces_behind first_piece units_behind entry_of entries_in entries_behind path_of
 loads_by_hand = refl
 
 loads_as_printed : loaded (vault_of as_printed) (codes "/r/") (codes "t") ≡ Ok (record { calls = 9; openings = 8; lines = 0 })
-unfolding vault_of as_printed file look items nodes answer_to answer_at pieces_behind first_piece units_behind entry_of entries_in entries_behind
+unfolding vault_of as_printed file look items nodes answer_to answer_at pieces_behind first_piece units_behind entry_of entries_in entries_behind path_of
 loads_as_printed = refl
 
 stacks_by_hand : (type : RuleType) → tree (texts_of (codes "/r") (vault_of by_hand)) true (codes "t") type ≡ of_auth first_row type
-unfolding vault_of by_hand of_auth first_row rule control file items nodes answer_to answer_at pieces_behind first_piece units_behind entry_of entries_in entries_behind
+unfolding vault_of by_hand of_auth first_row rule control file items nodes answer_to answer_at pieces_behind first_piece units_behind entry_of entries_in entries_behind path_of
 stacks_by_hand Auth = refl
 stacks_by_hand type = refl
 
 stacks_as_printed : (type : RuleType) → tree (texts_of (codes "/r") (vault_of as_printed)) true (codes "t") type ≡ of_auth first_row type
-unfolding vault_of as_printed of_auth first_row rule control file items nodes answer_to answer_at pieces_behind first_piece units_behind entry_of entries_in entries_behind
+unfolding vault_of as_printed of_auth first_row rule control file items nodes answer_to answer_at pieces_behind first_piece units_behind entry_of entries_in entries_behind path_of
 stacks_as_printed Auth = refl
 stacks_as_printed type = refl
 

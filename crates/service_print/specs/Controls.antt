@@ -2,25 +2,18 @@
 use Rattle.std.specs.Prelude.{ℕ, Bool, true, false, List, [], ◌∷◌, ◌++◌, map, codes, decimal, Option, Some, None, ◌==◌, not}
 use Rattle.std.specs.List.{filter, find, list_all}
 use Rattle.std.specs.Option.{unwrap_or}
-use Rattle.std.specs.Str.{str_to_ascii_lowercase}
-use Rattle.pam_base.specs.Code.{all_codes, name_of}
+use Rattle.pam_base.specs.Code.{all_codes, code_word}
 use Rattle.pam_base.specs.declared.code.Code.{Code}
-use Rattle.pam_base.specs.declared.code.Code.TheVariants.{AuthtokRecoveryErr}
 use Rattle.control_words.specs.declared.control.Action.{Action}
 use Rattle.control_words.specs.declared.control.Action.TheVariants.{Ignore, Bad, Die, Ok, Done, Reset, Jump}
-use Rattle.control_words.specs.Control.{action_at}
-use Rattle.control_words.specs.Keyword.{control_of_word}
+use Rattle.control_words.specs.Control.{action_at, action_name}
+use Rattle.control_words.specs.Keyword.{all_keywords, control_of_word, keyword_word}
 use Rattle.service_print.specs.Tokens.{spaced}
 
 -- the word of an action (pam.conf(5)), of a jump its number
 abbrev pub action_word : Action → List ℕ
-action_word Ignore = codes "ignore"
-action_word Bad = codes "bad"
-action_word Die = codes "die"
-action_word Ok = codes "ok"
-action_word Done = codes "done"
-action_word Reset = codes "reset"
 action_word (Jump number) = decimal number
+action_word action = action_name action
 
 abbrev pub same_action : Action → Action → Bool
 same_action Ignore Ignore = true
@@ -42,12 +35,7 @@ stands_for word control = elim (control_of_word word) [ Some table ↦ same_cont
 
 -- the keyword that stands for a control, if one does
 abbrev pub keyword_of : List Action → Option (List ℕ)
-keyword_of control = find (λ word. stands_for word control) (codes "required" ∷ codes "requisite" ∷ codes "sufficient" ∷ codes "optional" ∷ [])
-
--- the word of a code (pam.conf(5)): its name in lower case; 21 is `authtok_recover_err` there
-abbrev pub code_word : Code → List ℕ
-code_word AuthtokRecoveryErr = codes "authtok_recover_err"
-code_word code = str_to_ascii_lowercase (name_of code)
+keyword_of control = find (λ word. stands_for word control) (map keyword_word all_keywords)
 
 -- the entry of a code (pam.conf(5))
 abbrev pub entry_text : List Action → Code → List ℕ

@@ -4,19 +4,12 @@ use Rattle.std.specs.Prelude.{ℕ, ◌+◌, Bool, List, [], ◌∷◌, ◌++◌,
 use Rattle.control_words.specs.declared.nodes.Rule.{Rule}
 use Rattle.control_words.specs.Stack.{Stack, none, line, sub, stack_of}
 use Rattle.service_load.specs.declared.rule_type.RuleType.{RuleType}
-use Rattle.service_load.specs.declared.rule_type.RuleType.TheVariants.{Auth, Account, Password, Session}
 use Rattle.service_load.specs.declared.trees.Trees.{Trees}
-use Rattle.service_load.specs.RuleType.{all_types}
+use Rattle.service_load.specs.RuleType.{all_types, type_word}
+use Rattle.service_load.specs.Trees.{nodes_in}
 use Rattle.service_print.specs.declared.file.File.{File}
 use Rattle.service_print.specs.Tokens.{spaced, token_text, text_of}
 use Rattle.service_print.specs.Controls.{control_text}
-
--- the word of a type (pam.conf(5))
-abbrev pub type_word : RuleType → List ℕ
-type_word Auth = codes "auth"
-type_word Account = codes "account"
-type_word Password = codes "password"
-type_word Session = codes "session"
 
 -- the type of a rule, with a `-` before it where a missing module is passed over in silence (pam.conf(5))
 abbrev pub type_field : Bool → RuleType → List ℕ
@@ -83,7 +76,4 @@ printed stack service = record { name = service; text = service_text stack servi
 
 -- the four stacks of a load
 abbrev pub stacks_in : Trees → RuleType → Stack
-stacks_in trees Auth = stack_of trees.auth.vec.items
-stacks_in trees Account = stack_of trees.account.vec.items
-stacks_in trees Password = stack_of trees.password.vec.items
-stacks_in trees Session = stack_of trees.session.vec.items
+stacks_in trees type = stack_of (nodes_in trees type).vec.items

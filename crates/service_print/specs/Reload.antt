@@ -15,7 +15,7 @@ use Rattle.service_load.specs.declared.trees.Trees.{Trees}
 use Rattle.service_load.specs.FirstFault.{Counts}
 use Rattle.service_load.specs.Load.{has_folder, loaded}
 use Rattle.service_load.specs.Loading.{texts_of}
-use Rattle.service_load.specs.Names.{path_of}
+use Rattle.pam_outside.specs.Paths.{path_of}
 use Rattle.service_load.specs.Tree.{tree}
 use Rattle.service_print.specs.declared.file.File.{File}
 use Rattle.service_print.specs.Printed.{stacks_in}

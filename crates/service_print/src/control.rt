@@ -1,55 +1,20 @@
-ghost use Rattle.std.specs.Prelude.{◌≡◌, ◌++◌, OnOk, IfSome, IfNone, Some, None};
-ghost use Rattle.std.specs.List.{list_all};
+ghost use Rattle.std.specs.Prelude.{◌≡◌, ◌++◌, OnOk, option_map};
+ghost use Rattle.std.specs.List.{find, list_all};
 ghost use Rattle.control_words.specs.Control.{action_at};
-ghost use Rattle.service_print.specs.Controls.{action_word, code_word, control_text, entries_among, entry_text, has_entry, keyword_of, same_action, same_control, stands_for};
+ghost use Rattle.control_words.specs.Keyword.{all_keywords, keyword_word};
+ghost use Rattle.service_print.specs.Controls.{action_word, control_text, entries_among, entry_text, has_entry, keyword_of, same_action, same_control, stands_for};
 ghost use Rattle.service_print.specs.Tokens.{spaced};
 
-use control_words::{Action, Control, keyword};
-use pam_base::{ALL_CODES, Code, NoMemory};
+use control_words::{ALL_KEYWORDS, Action, Control, Keyword, control_named};
+use pam_base::{ALL_CODES, Code, NoMemory, code_word};
 use std::alloc::Global;
-
-/// The words of the codes, in the order of their numbers.
-const CODE_WORDS: [&str; 32] = [
-    "success",
-    "open_err",
-    "symbol_err",
-    "service_err",
-    "system_err",
-    "buf_err",
-    "perm_denied",
-    "auth_err",
-    "cred_insufficient",
-    "authinfo_unavail",
-    "user_unknown",
-    "maxtries",
-    "new_authtok_reqd",
-    "acct_expired",
-    "session_err",
-    "cred_unavail",
-    "cred_expired",
-    "cred_err",
-    "no_module_data",
-    "conv_err",
-    "authtok_err",
-    "authtok_recover_err",
-    "authtok_lock_busy",
-    "authtok_disable_aging",
-    "try_again",
-    "ignore",
-    "abort",
-    "authtok_expired",
-    "module_unknown",
-    "bad_item",
-    "conv_again",
-    "incomplete",
-];
 
 /// Adds a control: the keyword that stands for it, or its entries in brackets.
 pub fn add_control(alloc: Global, control: &Control, line: &mut Vec<u8>) -> Result<(), NoMemory>
     ensures { OnOk result (line.new.items ≡ line.old.items ++ control_text control.now) }
 {
     match keyword_of(control) {
-        Some(word) => line.extend_from_slice(word.as_bytes())?,
+        Some(keyword) => line.extend_from_slice(keyword.word().as_bytes())?,
         None => {
             line.push(b'[')?;
             add_entries(alloc, &ALL_CODES, control, line)?;
@@ -60,27 +25,25 @@ pub fn add_control(alloc: Global, control: &Control, line: &mut Vec<u8>) -> Resu
 }
 
 // The keyword whose control has the same action for each code.
-fn keyword_of(control: &Control) -> Option<&'static str>
-    ensures none { IfNone result (keyword_of control.now ≡ None) }
-    ensures some { IfSome result (λ word. keyword_of control.now ≡ Some word.now) }
+fn keyword_of(control: &Control) -> Option<Keyword>
+    ensures { option_map keyword_word result ≡ keyword_of control.now }
 {
-    if stands_for(b"required", control) {
-        Some("required")
-    } else if stands_for(b"requisite", control) {
-        Some("requisite")
-    } else if stands_for(b"sufficient", control) {
-        Some("sufficient")
-    } else if stands_for(b"optional", control) {
-        Some("optional")
-    } else {
-        None
-    }
+    keyword_among(control)
 }
 
-fn stands_for(word: &[u8], control: &Control) -> bool
-    ensures { result ≡ stands_for word.now control.now }
+fn keyword_among(control: &Control) -> Option<Keyword>
+    ensures { result ≡ find (λ keyword. stands_for (keyword_word keyword) control.now) all_keywords }
 {
-    match keyword(word) {
+    ALL_KEYWORDS
+        .iter()
+        .copied()
+        .find(|keyword| stands_for(*keyword, control))
+}
+
+fn stands_for(keyword: Keyword, control: &Control) -> bool
+    ensures { result ≡ stands_for (keyword_word keyword) control.now }
+{
+    match control_named(keyword.word().as_bytes()) {
         Some(table) => same_control(control, &table),
         None => false,
     }
@@ -147,25 +110,14 @@ fn add_entry(
     add_action(alloc, control.action(code), line)
 }
 
-fn code_word(code: Code) -> &'static str
-    ensures { result.now ≡ code_word code }
-{
-    CODE_WORDS[code as usize]
-}
-
 fn add_action(alloc: Global, action: Action, line: &mut Vec<u8>) -> Result<(), NoMemory>
     ensures { OnOk result (line.new.items ≡ line.old.items ++ action_word action) }
 {
     match action {
-        Action::Ignore => line.extend_from_slice(b"ignore")?,
-        Action::Bad => line.extend_from_slice(b"bad")?,
-        Action::Die => line.extend_from_slice(b"die")?,
-        Action::Ok => line.extend_from_slice(b"ok")?,
-        Action::Done => line.extend_from_slice(b"done")?,
-        Action::Reset => line.extend_from_slice(b"reset")?,
         Action::Jump(number) => {
             line.extend_from_slice(format!(in alloc; "{number}")?.as_bytes())?;
         }
+        _ => line.extend_from_slice(action.word().as_bytes())?,
     }
     Ok(())
 }

@@ -10,8 +10,6 @@ ghost use Rattle.service_load.specs.Load.{Loads};
 ghost use Rattle.service_print.specs.Printed.{printed, stacks_in};
 ghost use Rattle.service_print.specs.Reload.{Gives, HoldsJust, IsLowerName, LoadsTo, is_short};
 
-use conf_lex::one_reading;
-
 /// What is printed loads to the same stacks: where four stacks are what some service comes to, somewhere, and
 /// they are printed for a service, then in a vault of just the printed files, none of whose calls is to fail,
 /// that service comes to the same four stacks, unless a printed file has more than 65,536 bytes or a line of
@@ -32,5 +30,5 @@ pub fn printed_is_loaded()
         list_all is_short (printed (stacks_in trees) service) ≡ true →
         Loads again vault after root service → Gives again (stacks_in trees) }
 {
-    one_reading();
+    conf_lex::laws::one_reading();
 }

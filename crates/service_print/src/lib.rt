@@ -4,12 +4,11 @@
 
 mod control;
 mod file;
-mod laws;
+pub mod laws;
 mod line;
 mod printing;
 mod substack;
 mod token;
 
 pub use file::{File, Files};
-pub use laws::printed_is_loaded;
 pub use printing::print;

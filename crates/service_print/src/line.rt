@@ -1,5 +1,5 @@
 ghost use Rattle.std.specs.Prelude.{◌≡◌, IfOk};
-ghost use Rattle.service_print.specs.Printed.{numbered, rule_line, substack_line, type_field, type_word};
+ghost use Rattle.service_print.specs.Printed.{numbered, rule_line, substack_line, type_field};
 
 use crate::control::add_control;
 use crate::token::add_token;
@@ -32,7 +32,7 @@ fn type_field(alloc: Global, silent: bool, rule_type: RuleType) -> Result<Vec<u8
     if silent {
         field.push(b'-')?;
     }
-    field.extend_from_slice(type_word(rule_type).as_bytes())?;
+    field.extend_from_slice(rule_type.word().as_bytes())?;
     Ok(field)
 }
 
@@ -40,21 +40,10 @@ fn type_field(alloc: Global, silent: bool, rule_type: RuleType) -> Result<Vec<u8
 pub fn substack_line(alloc: Global, rule_type: RuleType, name: &[u8]) -> Result<Vec<u8>, NoMemory>
     ensures { IfOk result (λ line. line.items ≡ substack_line rule_type name.now) }
 {
-    let mut line = Vec::from_slice(alloc, type_word(rule_type).as_bytes())?;
+    let mut line = Vec::from_slice(alloc, rule_type.word().as_bytes())?;
     line.extend_from_slice(b" substack ")?;
     line.extend_from_slice(name)?;
     Ok(line)
-}
-
-fn type_word(rule_type: RuleType) -> &'static str
-    ensures { result.now ≡ type_word rule_type }
-{
-    match rule_type {
-        RuleType::Auth => "auth",
-        RuleType::Account => "account",
-        RuleType::Password => "password",
-        RuleType::Session => "session",
-    }
 }
 
 /// The name of the file of a substack.

@@ -1,7 +1,8 @@
-ghost use Rattle.std.specs.Prelude.{◌≡◌, IfOk};
-ghost use Rattle.service_print.specs.Printed.{printed, stacks_in};
+ghost use Rattle.std.specs.Prelude.{◌≡◌, ◌++◌, length, IfOk, OnOk};
+ghost use Rattle.service_print.specs.Printed.{list_lines, printed, stacks_in, substack_files};
+ghost use Rattle.service_print.specs.Tokens.{text_of};
 
-use crate::file::Files;
+use crate::file::{File, Files};
 use crate::substack::{add_nodes, empty_file, fill};
 use pam_base::NoMemory;
 use service_load::{RuleType, Trees};
@@ -21,38 +22,48 @@ pub fn print(alloc: Global, trees: &Trees, service: &[u8]) -> Result<Files, NoMe
     let mut text = Vec::new(alloc);
     let mut files = Vec::new(alloc);
     files.push(empty_file(alloc))?;
-    add_nodes(
-        alloc,
-        service,
-        RuleType::Auth,
-        &trees.auth,
-        &mut text,
-        &mut files,
-    )?;
-    add_nodes(
+    add_stack(alloc, service, RuleType::Auth, trees, &mut text, &mut files)?;
+    add_stack(
         alloc,
         service,
         RuleType::Account,
-        &trees.account,
+        trees,
         &mut text,
         &mut files,
     )?;
-    add_nodes(
+    add_stack(
         alloc,
         service,
         RuleType::Password,
-        &trees.password,
+        trees,
         &mut text,
         &mut files,
     )?;
-    add_nodes(
+    add_stack(
         alloc,
         service,
         RuleType::Session,
-        &trees.session,
+        trees,
         &mut text,
         &mut files,
     )?;
     fill(0, Vec::from_slice(alloc, service)?, text, &mut files);
     Ok(Files::from_vec(files))
+}
+
+// Adds the lines of one stack, and the files of its substacks.
+fn add_stack(
+    alloc: Global,
+    service: &[u8],
+    rule_type: RuleType,
+    trees: &Trees,
+    text: &mut Vec<u8>,
+    files: &mut Vec<File>,
+) -> Result<(), NoMemory>
+    ensures lines { OnOk result (text.new.items ≡ text.old.items
+        ++ text_of (list_lines service.now rule_type (length files.old.items) (stacks_in trees.now rule_type))) }
+    ensures files { OnOk result (files.new.items ≡ files.old.items
+        ++ substack_files service.now rule_type (length files.old.items) (stacks_in trees.now rule_type)) }
+{
+    add_nodes(alloc, service, rule_type, trees.of(rule_type), text, files)
 }

@@ -20,10 +20,9 @@ use Rattle.pam_library.specs.declared.outcome.Answer.{Answer}
 use Rattle.pam_library.specs.declared.outcome.Answer.TheVariants as answers
 use Rattle.pam_library.specs.Outcome.{PlainOutcome, answers_only}
 use Rattle.session_report.specs.Fault.{refused_text}
-use Rattle.session_report.specs.Cleaned.{status_words}
+use Rattle.report_lines.specs.Line.{status_words, script_text}
 use Rattle.session_report.specs.Step.{step_text}
 use Rattle.session_report.specs.Closing.{closing_text}
-use Rattle.session_report.specs.Script.{script_text}
 
 -- ---- texts and statuses
 

@@ -1,25 +1,15 @@
 -- The data that were cleaned up (pam_set_data(3), pam_end(3); the lines are this project's own).
-use Rattle.std.specs.Prelude.{ℕ, ◌-◌, ◌%◌, ◌^◌, ◌<◌, false, List, [], ◌++◌, length, replicate, drop, codes, slice_get, unwrap_or, Option, Some, None}
+use Rattle.std.specs.Prelude.{ℕ, ◌<◌, List, [], drop, slice_get, unwrap_or, Option, Some, None}
 use Rattle.std.specs.List.{flat_map, AllByRecursion}
-use Rattle.std.specs.Fmt.{decimal, digits}
-use Rattle.pam_base.specs.Quote.{quoted_text}
 use Rattle.data_cleanup.specs.Ledger.{PlainLedger}
 use Rattle.data_cleanup.specs.declared.datum.Birth.{Birth}
 use Rattle.data_cleanup.specs.declared.receipt.Receipt.{Receipt}
 use Rattle.data_cleanup.specs.declared.receipt.Filed.{Filed}
-use Rattle.session_report.specs.Code.{number_words}
+use Rattle.report_lines.specs.Line as lines
 
--- a status of 32 bits in hexadecimal digits, with zeros before them up to eight
-abbrev pub status_words : ℕ → List ℕ
-status_words status = let numeral = digits 16 false (status % 2 ^ 32) in replicate (8 - length numeral) 48 ++ numeral
-
--- MODULE DATUM
-abbrev pub names_text : List ℕ → List ℕ → List ℕ
-names_text owner datum = quoted_text owner ++ (codes " " ++ (quoted_text datum ++ codes "\n"))
-
--- H clean ID STATUS NOTE MODULE DATUM: a receipt, the name of its datum's owner, and the datum's own name
+-- the line of a receipt, with the name of its datum's owner and the datum's own
 abbrev pub cleanup_text : ℕ → Receipt → List ℕ → List ℕ → List ℕ
-cleanup_text handle receipt owner datum = decimal handle ++ (codes " clean " ++ (number_words receipt.id ++ (codes " " ++ (status_words receipt.status ++ (codes " " ++ (number_words receipt.note ++ (codes " " ++ names_text owner datum)))))))
+cleanup_text handle receipt owner datum = lines.cleanup_text handle (record { id = receipt.id; status = receipt.status; note = receipt.note; owner = owner; datum = datum })
 
 module _ (handle : ℕ) (names : List (List ℕ)) where
   -- the line of a receipt and its datum's birth, whose owner has its name at its number, from 0

@@ -2,10 +2,9 @@
 use Rattle.std.specs.Prelude.{ℕ, List, ◌++◌, codes}
 use Rattle.pam_base.specs.declared.code.Code.{Code}
 use Rattle.data_cleanup.specs.Ledger.{PlainLedger}
-use Rattle.session_report.specs.Code.{code_words}
 use Rattle.session_report.specs.Cleaned.{cleanups_text}
-use Rattle.session_report.specs.Answered.{result_text}
+use Rattle.report_lines.specs.Line.{code_words, words_text}
 
 -- its receipts, those of the ledger behind the first so many, and H closed NAME NUMBER
 abbrev pub closing_text : List (List ℕ) → ℕ → Code → PlainLedger → ℕ → List ℕ
-closing_text names handle status ledger filed_from = cleanups_text handle names ledger filed_from ++ result_text handle (codes "closed") (code_words status)
+closing_text names handle status ledger filed_from = cleanups_text handle names ledger filed_from ++ words_text handle (codes "closed") (code_words status)

@@ -1,4 +1,3 @@
-pub mod Code
 pub mod Said
 pub mod Visited
 pub mod Cleaned

@@ -1,14 +1,12 @@
 -- What modules said and asked in a step (this project's own; the styles are those of pam_conv(3)).
-use Rattle.std.specs.Prelude.{ℕ, List, ◌++◌, codes}
+use Rattle.std.specs.Prelude.{ℕ, List}
 use Rattle.std.specs.List.{flat_map}
-use Rattle.std.specs.Fmt.{decimal}
-use Rattle.pam_base.specs.Quote.{quoted_text}
-use Rattle.pam_base.specs.Style.{style_number}
 use Rattle.conv_port.specs.declared.message.Message.{Message}
+use Rattle.report_lines.specs.Line as lines
 
--- H say STYLE TEXT
+-- the line of a message
 abbrev pub message_text : ℕ → Message → List ℕ
-message_text handle message = decimal handle ++ (codes " say " ++ (decimal (style_number message.style) ++ (codes " " ++ (quoted_text message.text ++ codes "\n"))))
+message_text handle message = lines.message_text handle message.style message.text
 
 -- a line for each message
 abbrev pub messages_text : ℕ → List Message → List ℕ

@@ -1,14 +1,14 @@
-ghost use Rattle.std.specs.Prelude.{◌≡◌, ◌++◌, Some, OnOk, string_bytes};
+ghost use Rattle.std.specs.Prelude.{◌≡◌, ◌++◌, OnOk, string_bytes};
 ghost use Rattle.std.specs.List.{flat_map};
-ghost use Rattle.session_report.specs.Answered.{result_text, value_words, pending_words, variable_text, environment_text, answer_text};
-ghost use Rattle.session_report.specs.Code.{code_words};
-ghost use Rattle.session_report.specs.Fault.{refused_words};
+ghost use Rattle.report_lines.specs.Line.{variable_text};
+ghost use Rattle.session_report.specs.Answered.{environment_text, answer_text};
 
-use crate::fault::write_refused;
-use pam_base::{Code, Func, NoMemory, Text, code_name, code_number, push_quoted};
+use pam_base::{NoMemory, Text};
 use pam_library::Answer;
-use script_lang::func_word;
-use service_load::LoadFault;
+use report_lines::{
+    write_code_result, write_count_result, write_pending_result, write_refused_result,
+    write_result, write_value_result,
+};
 
 /// Adds the lines of an answer to a command.
 pub(crate) fn write_answer(
@@ -32,85 +32,6 @@ pub(crate) fn write_answer(
     }
 }
 
-fn write_result(text: &mut String, handle: u32, command: &str, words: &str) -> Result<(), NoMemory>
-    ensures { OnOk result (string_bytes text.new ≡ string_bytes text.old ++ result_text handle command.now words.now) }
-{
-    write!(text, "{handle} {command} {words}\n")?;
-    Ok(())
-}
-
-/// Adds the line of a result, as `1 authenticate SUCCESS 0`.
-pub(crate) fn write_code_result(
-    text: &mut String,
-    handle: u32,
-    command: &str,
-    code: Code,
-) -> Result<(), NoMemory>
-    ensures { OnOk result (string_bytes text.new ≡ string_bytes text.old ++ result_text handle command.now (code_words code)) }
-{
-    let name = code_name(code);
-    let number = code_number(code);
-    write!(text, "{handle} {command} {name} {number}\n")?;
-    Ok(())
-}
-
-fn write_refused_result(
-    text: &mut String,
-    handle: u32,
-    command: &str,
-    fault: &LoadFault,
-) -> Result<(), NoMemory>
-    ensures { OnOk result (string_bytes text.new ≡ string_bytes text.old ++ result_text handle command.now (refused_words fault.now)) }
-{
-    write!(text, "{handle} {command} ")?;
-    write_refused(text, fault)?;
-    text.push_str("\n")?;
-    Ok(())
-}
-
-fn write_value_result(
-    text: &mut String,
-    handle: u32,
-    command: &str,
-    value: &Option<Text>,
-) -> Result<(), NoMemory>
-    ensures { OnOk result (string_bytes text.new ≡ string_bytes text.old ++ result_text handle command.now (value_words value.now)) }
-{
-    match value {
-        Some(set) => write_set_result(text, handle, command, set),
-        None => write_result(text, handle, command, "unset"),
-    }
-}
-
-fn write_set_result(
-    text: &mut String,
-    handle: u32,
-    command: &str,
-    set: &Text,
-) -> Result<(), NoMemory>
-    ensures { OnOk result (string_bytes text.new ≡ string_bytes text.old ++ result_text handle command.now (value_words (Some set.now))) }
-{
-    write!(text, "{handle} {command} set ")?;
-    push_quoted(text, set.bytes())?;
-    text.push_str("\n")?;
-    Ok(())
-}
-
-fn write_pending_result(
-    text: &mut String,
-    handle: u32,
-    command: &str,
-    func: Func,
-) -> Result<(), NoMemory>
-    ensures { OnOk result (string_bytes text.new ≡ string_bytes text.old ++ result_text handle command.now (pending_words func)) }
-{
-    let name = code_name(Code::Abort);
-    let number = code_number(Code::Abort);
-    let call = func_word(func);
-    write!(text, "{handle} {command} {name} {number} pending {call}\n")?;
-    Ok(())
-}
-
 // A line for each variable, in order, and the line of their number.
 fn write_environment(
     text: &mut String,
@@ -121,9 +42,7 @@ fn write_environment(
     ensures { OnOk result (string_bytes text.new ≡ string_bytes text.old ++ environment_text handle command.now variables.now) }
 {
     write_variables(text, handle, variables)?;
-    let count = variables.len();
-    write!(text, "{handle} {command} {count}\n")?;
-    Ok(())
+    write_count_result(text, handle, command, variables.len())
 }
 
 fn write_variables(text: &mut String, handle: u32, variables: &[Text]) -> Result<(), NoMemory>
@@ -138,8 +57,5 @@ fn write_variables(text: &mut String, handle: u32, variables: &[Text]) -> Result
 fn write_variable(text: &mut String, handle: u32, variable: &Text) -> Result<(), NoMemory>
     ensures { OnOk result (string_bytes text.new ≡ string_bytes text.old ++ variable_text handle variable.now) }
 {
-    write!(text, "{handle} env ")?;
-    push_quoted(text, variable.bytes())?;
-    text.push_str("\n")?;
-    Ok(())
+    report_lines::write_variable(text, handle, variable.bytes())
 }

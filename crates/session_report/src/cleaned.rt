@@ -1,13 +1,13 @@
 ghost use Rattle.std.specs.Prelude.{◌≡◌, ◌++◌, ◌<◌, ◌≤◌, length, OnOk, string_bytes};
 ghost use Rattle.dispatch_core.specs.Lines.{names_of};
 ghost use Rattle.pam_library.specs.Plain.{gear_in};
-ghost use Rattle.session_report.specs.Cleaned.{status_words, names_text, cleanup_text, filed_text, cleanups_text, AreOwned};
+ghost use Rattle.session_report.specs.Cleaned.{cleanup_text, filed_text, cleanups_text, AreOwned};
 
 use data_cleanup::{Births, Filed, Ledger, Receipt};
-use pam_base::{NoMemory, push_quoted};
+use pam_base::NoMemory;
 use pam_handle::{Gear, GearTold};
 use pam_library::Library;
-use std::alloc::AllocError;
+use report_lines::write_cleaned;
 
 /// Adds a line for each receipt of the ledger behind the first so many, in order. Each birth's owner is one of the
 /// library's modules.
@@ -22,7 +22,7 @@ pub(crate) fn write_cleanups(
     requires from { filed_from ≤ length ledger.now.filed }
     ensures { OnOk result (string_bytes text.new ≡ string_bytes text.old ++ cleanups_text handle (names_of (⟦<Gear as GearTold>⟧.players (gear_in library.now))) ledger.now filed_from) }
 {
-    ledger.sound();
+    data_cleanup::laws::ledger_is_sound(ledger);
     let births = ledger.births();
     for filed in &ledger.filed()[filed_from as usize..] {
         write_filed(text, handle, library, births, filed)?;
@@ -56,27 +56,13 @@ fn write_cleanup(
 ) -> Result<(), NoMemory>
     ensures { OnOk result (string_bytes text.new ≡ string_bytes text.old ++ cleanup_text handle receipt.now owner.now datum.now) }
 {
-    let id = receipt.id;
-    let note = receipt.note;
-    write!(text, "{handle} clean {id} ")?;
-    write_status(text, receipt.status)?;
-    write!(text, " {note} ")?;
-    write_names(text, owner, datum)
-}
-
-// The end of a line: both names quoted.
-fn write_names(text: &mut String, owner: &[u8], datum: &[u8]) -> Result<(), NoMemory>
-    ensures { OnOk result (string_bytes text.new ≡ string_bytes text.old ++ names_text owner.now datum.now) }
-{
-    push_quoted(text, owner)?;
-    text.push_str(" ")?;
-    push_quoted(text, datum)?;
-    text.push_str("\n")?;
-    Ok(())
-}
-
-fn write_status(text: &mut String, status: u32) -> Result<(), AllocError>
-    ensures { OnOk result (string_bytes text.new ≡ string_bytes text.old ++ status_words status) }
-{
-    write!(text, "{status:08x}")
+    write_cleaned(
+        text,
+        handle,
+        receipt.id,
+        receipt.status,
+        receipt.note,
+        owner,
+        datum,
+    )
 }

@@ -4,12 +4,12 @@ ghost use Rattle.pam_library.specs.Plain.{gear_in};
 ghost use Rattle.session_report.specs.Cleaned.{AreOwned};
 ghost use Rattle.session_report.specs.Closing.{closing_text};
 
-use crate::answered::write_code_result;
 use crate::cleaned::write_cleanups;
 use data_cleanup::Ledger;
 use pam_base::{Code, NoMemory};
 use pam_handle::{Gear, GearTold};
 use pam_library::Library;
+use report_lines::write_code_result;
 use std::alloc::Global;
 
 /// The lines of a transaction that the program ended with this status, each with its newline: the cleanups behind the

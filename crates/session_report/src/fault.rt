@@ -1,7 +1,8 @@
-ghost use Rattle.std.specs.Prelude.{◌≡◌, ◌++◌, IfOk, OnOk, string_bytes};
-ghost use Rattle.session_report.specs.Fault.{refused_words, refused_text};
+ghost use Rattle.std.specs.Prelude.{◌≡◌, IfOk, string_bytes};
+ghost use Rattle.session_report.specs.Fault.{refused_text};
 
-use pam_base::{NoMemory, push_quoted};
+use pam_base::NoMemory;
+use report_lines::write_refused;
 use service_load::LoadFault;
 use std::alloc::Global;
 
@@ -14,16 +15,4 @@ pub fn refused_report(alloc: Global, fault: &LoadFault) -> Result<String, NoMemo
     write_refused(&mut text, fault)?;
     text.push_str("\n")?;
     Ok(text)
-}
-
-pub(crate) fn write_refused(text: &mut String, fault: &LoadFault) -> Result<(), NoMemory>
-    ensures { OnOk result (string_bytes text.new ≡ string_bytes text.old ++ refused_words fault.now) }
-{
-    text.push_str("refused ")?;
-    push_quoted(text, fault.file.bytes())?;
-    let line = fault.line;
-    let name = fault.kind.name();
-    let number = fault.kind.number();
-    write!(text, " {line} {name} {number}")?;
-    Ok(())
 }

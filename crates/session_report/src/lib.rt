@@ -5,10 +5,10 @@
 mod answered;
 mod cleaned;
 mod closing;
-mod code;
 mod fault;
-mod laws;
+pub mod laws;
 mod missing;
+mod result;
 mod said;
 mod script;
 mod step;
@@ -17,6 +17,6 @@ mod waited;
 
 pub use closing::closing_report;
 pub use fault::refused_report;
-pub use laws::offered_reply_is_silent;
+pub use result::result_report;
 pub use script::{read_fault_report, script_report};
 pub use step::step_report;

@@ -1,7 +1,8 @@
 ghost use Rattle.std.specs.Prelude.{◌≡◌, ◌++◌, OnOk, string_bytes};
-ghost use Rattle.session_report.specs.Missing.{missing_text, all_missing_text};
+ghost use Rattle.report_lines.specs.Line.{missing_text};
+ghost use Rattle.session_report.specs.Missing.{all_missing_text};
 
-use pam_base::{NoMemory, Text, push_quoted};
+use pam_base::{NoMemory, Text};
 
 /// Adds a line for each module that is missing, in order.
 pub(crate) fn write_all_missing(
@@ -20,8 +21,5 @@ pub(crate) fn write_all_missing(
 fn write_missing(text: &mut String, handle: u32, name: &Text) -> Result<(), NoMemory>
     ensures { OnOk result (string_bytes text.new ≡ string_bytes text.old ++ missing_text handle name.now) }
 {
-    write!(text, "{handle} note missing ")?;
-    push_quoted(text, name.bytes())?;
-    text.push_str("\n")?;
-    Ok(())
+    report_lines::write_missing(text, handle, name.bytes())
 }

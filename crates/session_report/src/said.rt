@@ -2,7 +2,8 @@ ghost use Rattle.std.specs.Prelude.{◌≡◌, ◌++◌, OnOk, string_bytes};
 ghost use Rattle.session_report.specs.Said.{message_text, messages_text};
 
 use conv_port::Message;
-use pam_base::{NoMemory, push_quoted};
+use pam_base::NoMemory;
+use report_lines::write_said;
 
 /// Adds a line for each message, in order.
 pub(crate) fn write_messages(
@@ -21,9 +22,5 @@ pub(crate) fn write_messages(
 fn write_message(text: &mut String, handle: u32, message: &Message) -> Result<(), NoMemory>
     ensures { OnOk result (string_bytes text.new ≡ string_bytes text.old ++ message_text handle message.now) }
 {
-    let style = message.style.number();
-    write!(text, "{handle} say {style} ")?;
-    push_quoted(text, message.text.bytes())?;
-    text.push_str("\n")?;
-    Ok(())
+    write_said(text, handle, message.style, message.text.bytes())
 }

@@ -1,10 +1,10 @@
 ghost use Rattle.std.specs.Prelude.{◌≡◌, ◌++◌, OnOk, string_bytes};
 ghost use Rattle.session_report.specs.Visited.{visit_text, visits_text};
 
-use crate::code::write_code;
 use control_words::module_name;
-use pam_base::{NoMemory, push_quoted};
+use pam_base::NoMemory;
 use pam_room::Visit;
+use report_lines::write_visited;
 
 /// Adds a line for each visit, in order.
 pub(crate) fn write_visits(text: &mut String, handle: u32, visits: &[Visit]) -> Result<(), NoMemory>
@@ -19,11 +19,6 @@ pub(crate) fn write_visits(text: &mut String, handle: u32, visits: &[Visit]) -> 
 fn write_visit(text: &mut String, handle: u32, visit: &Visit) -> Result<(), NoMemory>
     ensures { OnOk result (string_bytes text.new ≡ string_bytes text.old ++ visit_text handle visit.now) }
 {
-    let place = visit.place;
-    write!(text, "{handle} line {place} ")?;
-    push_quoted(text, module_name(visit.path.bytes()))?;
-    text.push_str(" ")?;
-    write_code(text, visit.answer)?;
-    text.push_str("\n")?;
-    Ok(())
+    let module = module_name(visit.path.bytes());
+    write_visited(text, handle, visit.place, module, visit.answer)
 }

@@ -1,7 +1,6 @@
 ghost use Rattle.std.specs.Prelude.{◌≡◌, ◌++◌, OnOk, string_bytes};
 ghost use Rattle.session_report.specs.Waited.{wait_text, waited_text};
 
-use crate::code::write_code;
 use pam_base::NoMemory;
 use pam_handle::Wait;
 
@@ -22,10 +21,5 @@ pub(crate) fn write_waited(
 fn write_wait(text: &mut String, handle: u32, waited: &Wait) -> Result<(), NoMemory>
     ensures { OnOk result (string_bytes text.new ≡ string_bytes text.old ++ wait_text handle waited.now) }
 {
-    write!(text, "{handle} wait ")?;
-    write_code(text, waited.code)?;
-    let asked = waited.asked;
-    let wait = waited.wait;
-    write!(text, " {asked} {wait}\n")?;
-    Ok(())
+    report_lines::write_waited(text, handle, waited.code, waited.asked, waited.wait)
 }

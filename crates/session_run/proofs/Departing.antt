@@ -13,13 +13,13 @@ use Rattle.pam_library.specs.Step.{Stepped, stepped, stepped_at}
 use Rattle.script_stream.specs.Run.{run_lines}
 use Rattle.session_run.specs.Closings.{all_closed, closings_behind, last_state, world_behind}
 use Rattle.session_run.specs.State.{RunState, Setting, state_of}
-use Rattle.session_run.specs.Isolation.{Came, GoesAsAlone, IsQuietStart, LeaveFiles, alone, came_among, state_behind}
+use Rattle.session_run.specs.Isolation.{world_left}
 use Rattle.session_run.specs.Step.{line_step}
 use Rattle.session_run.proofs.Isolating.{Alike, GoAlike, OtherCalls, OwnCalls, from_start, outcomes_seen, report_seen}
 
 -- ---- places in a list
 
-at_front : (front slots : List PlainSlot) (x : PlainSlot) → slice_get (front ++ x ∷ slots) (length front) ≡ Some x
+pub at_front : (front slots : List PlainSlot) (x : PlainSlot) → slice_get (front ++ x ∷ slots) (length front) ≡ Some x
 at_front [] slots x = refl
 at_front (y ∷ front) slots x = at_front front slots x
 
@@ -32,12 +32,12 @@ beyond [] i long = refl
 beyond (x ∷ slots) zero long = absurd (omega arith)
 beyond (x ∷ slots) (suc i) long = beyond slots i (omega arith)
 
-one_longer : (front : List PlainSlot) (x : PlainSlot) → length (front ++ x ∷ []) ≡ suc (length front)
+pub one_longer : (front : List PlainSlot) (x : PlainSlot) → length (front ++ x ∷ []) ≡ suc (length front)
 one_longer [] x = refl
 one_longer (y ∷ front) x = ap suc (one_longer front x)
 
 module _ (setting : Setting) (status : Code) where
-  abbrev end_step : ℕ → Step
+  abbrev pub end_step : ℕ → Step
   end_step number = record { number = number; call = End (number_of status) }
 
   -- a place is ended by a call
@@ -45,7 +45,7 @@ module _ (setting : Setting) (status : Code) where
   end_at number s = let t : Stepped = stepped setting.players setting.delay s.slots s.world (end_step number) in state_of t.slots t.world
 
   -- so many places are, one after another, behind the first i
-  ends_from : ℕ → ℕ → RunState → RunState
+  pub ends_from : ℕ → ℕ → RunState → RunState
   ends_from i zero s = s
   ends_from i (suc k) s = ends_from (suc i) k (end_at (suc i) s)
 
@@ -66,19 +66,15 @@ module _ (setting : Setting) (status : Code) where
       ap (ends_from (suc i) k) stays ∙ none_left k (suc i) s (omega arith)
 
   -- what a place is when it was ended
-  abbrev left_behind : PlainSlot → PlainSlot
+  abbrev pub left_behind : PlainSlot → PlainSlot
   left_behind (closed conv) = closed conv
   left_behind (opened h) = closed h.room.conv
 
-  abbrev world_left : PlainSlot → PlainWorld → PlainWorld
-  world_left (closed conv) w = w
-  world_left (opened h) w = world_behind setting.players status h w
-
-  ends_place : (x : PlainSlot) (front slots : List PlainSlot) (w : PlainWorld) → by_place (suc (length front)) (state_of (front ++ x ∷ slots) w) (Some x) ≡ state_of (front ++ left_behind x ∷ slots) (world_left x w)
+  ends_place : (x : PlainSlot) (front slots : List PlainSlot) (w : PlainWorld) → by_place (suc (length front)) (state_of (front ++ x ∷ slots) w) (Some x) ≡ state_of (front ++ left_behind x ∷ slots) (world_left setting.players status x w)
   ends_place (closed conv) front slots w = ap (λ (l : List PlainSlot). state_of l w) (set_at_front front slots (closed conv) (closed conv))
   ends_place (opened h) front slots w = ap (λ (l : List PlainSlot). state_of l (world_behind setting.players status h w)) (set_at_front front slots (opened h) (closed h.room.conv))
 
-  ends_next : (x : PlainSlot) (front slots : List PlainSlot) (i : ℕ) (w : PlainWorld) → i ≡ length front → end_at (suc i) (state_of (front ++ x ∷ slots) w) ≡ state_of (front ++ left_behind x ∷ slots) (world_left x w)
+  pub ends_next : (x : PlainSlot) (front slots : List PlainSlot) (i : ℕ) (w : PlainWorld) → i ≡ length front → end_at (suc i) (state_of (front ++ x ∷ slots) w) ≡ state_of (front ++ left_behind x ∷ slots) (world_left setting.players status x w)
   ends_next x front slots i w at =
       ap (λ (j : ℕ). end_at (suc j) (state_of (front ++ x ∷ slots) w)) at
       ∙ by_found (suc (length front)) (state_of (front ++ x ∷ slots) w) (Some x) (at_front front slots x)
@@ -86,7 +82,7 @@ module _ (setting : Setting) (status : Code) where
 
   behind_all : (x : PlainSlot) (front slots : List PlainSlot) (w : PlainWorld) →
       last_state (state_of (front ++ x ∷ slots) w) (closings_behind setting.players status front (x ∷ slots) w)
-      ≡ last_state (state_of ((front ++ left_behind x ∷ []) ++ slots) (world_left x w)) (closings_behind setting.players status (front ++ left_behind x ∷ []) slots (world_left x w))
+      ≡ last_state (state_of ((front ++ left_behind x ∷ []) ++ slots) (world_left setting.players status x w)) (closings_behind setting.players status (front ++ left_behind x ∷ []) slots (world_left setting.players status x w))
   unfolding closings_behind
   behind_all (closed conv) front slots w =
       ap (λ (l : List PlainSlot). last_state (state_of l w) (closings_behind setting.players status (front ++ closed conv ∷ []) slots w)) (sym (append_assoc front (closed conv ∷ []) slots))
@@ -103,7 +99,7 @@ module _ (setting : Setting) (status : Code) where
   closed_by_calls (x ∷ slots) front i zero w at fits = absurd (omega arith)
   closed_by_calls (x ∷ slots) front i (suc k) w at fits =
       let more : List PlainSlot = front ++ left_behind x ∷ [] in
-      let v : PlainWorld = world_left x w in
+      let v : PlainWorld = world_left setting.players status x w in
       let next : suc i ≡ length more = ap suc at ∙ sym (one_longer front (left_behind x)) in
       let rest : last_state (state_of (more ++ slots) v) (closings_behind setting.players status more slots v) ≡ ends_from (suc i) k (state_of (more ++ slots) v) = closed_by_calls slots more (suc i) k v next (omega arith) in
       behind_all x front slots w
@@ -145,7 +141,7 @@ module _ (setting : Setting) (status : Code) where
         turned (end_at m t) (end_at m s)
         (other setting.players setting.delay number (end_step m) t.slots (end_at m s).slots t.world (end_at m s).world is (turned (end_at m s) t one) (end_files m t))
 
-    ends_alike : (k i : ℕ) (s t : RunState) → Alike setting number s t → Alike setting number (ends_from i k s) (ends_from i k t)
+    pub ends_alike : (k i : ℕ) (s t : RunState) → Alike setting number s t → Alike setting number (ends_from i k s) (ends_from i k t)
     unfolding ends_from
     ends_alike zero i s t h = h
     ends_alike (suc k) i s t h = ends_alike k (suc i) (end_at (suc i) s) (end_at (suc i) t) (end_alike (suc i) s t (nat_eq (suc i) number) refl h)
@@ -155,24 +151,3 @@ module _ (setting : Setting) (status : Code) where
         let k : ℕ = length s.slots + length t.slots in
         subst (λ (x : RunState). Alike setting number x (all_closed setting.players status t)) (sym (all_by_calls s k (omega arith)))
         (subst (λ (x : RunState). Alike setting number (ends_from 0 k s) x) (sym (all_by_calls t k (omega arith))) (ends_alike k 0 s t h))
-
--- ---- all that both runs have in common
-
-pub goes_as_alone : OwnCalls → OtherCalls → (setting : Setting) (number n : ℕ) (s : RunState) (script : List (List ℕ)) → IsQuietStart s → LeaveFiles setting number n s script → GoesAsAlone setting number n s script
-goes_as_alone own other setting number n s script start stays =
-    let cs : List Came = came_among setting number n s script in
-    let ds : List Came = came_among setting number n s (alone number script) in
-    let x : RunState = state_behind setting n s script in
-    let y : RunState = state_behind setting n s (alone number script) in
-    let both : GoAlike setting number cs ds (run_lines (line_step setting) n s script) (run_lines (line_step setting) n s (alone number script)) = from_start setting number own other n s script start stays in
-    let ended : (status : Code) → Alike setting number (all_closed setting.players status x) (all_closed setting.players status y) = λ status. closed_alike setting status number own other x y both.last in
-    record {
-      outcomes = outcomes_seen cs ds both.came;
-      births = λ i. (both.last.shown i).births;
-      receipts = λ i. (both.last.shown i).receipts;
-      ended_births = λ status i. ((ended status).shown i).births;
-      ended_receipts = λ status i. ((ended status).shown i).receipts;
-      report = report_seen (names_of setting.players) cs ds both.came;
-      lines = both.lines;
-      refused = both.refused;
-    }

@@ -3,7 +3,7 @@ use Rattle.std.proofs.Common.{◌≡◌, ℕ, ◌+◌, Bool, true, false, not, n
 use Rattle.std.proofs.Math.Path.{fun_ext}
 use Rattle.std.proofs.lemmas.Bool.{ltb-true}
 use Rattle.std.proofs.lemmas.Bool.Decides.{nat_tests}
-use Rattle.session_report.specs.Code.{number_words}
+use Rattle.report_lines.specs.Line.{number_words}
 use Rattle.std.specs.List.{flat_map}
 use Rattle.std.specs.Prelude.{nat_le, nat_lt}
 use Rattle.pam_base.specs.declared.code.Code.{Code}
@@ -213,10 +213,10 @@ outcomes_seen cs ds same = by cs ∙ ap (map (λ (x : Seen). x.told)) same ∙ s
     by (c ∷ cs) = ap (λ (os : List PlainOutcome). told_in c.outcome ∷ os) (by cs)
 
 -- a cleanup's line, with its id left out
-abbrev cleaned_text : ℕ → List (List ℕ) → Cleaned → List ℕ
+abbrev pub cleaned_text : ℕ → List (List ℕ) → Cleaned → List ℕ
 cleaned_text handle names c = receipt_text_with (λ (id : ℕ). []) handle names (record { id = 0; status = c.status; note = c.note }) (Some c.birth)
 
-cleanups_seen : (handle : ℕ) (names : List (List ℕ)) (births : List Birth) (fs : List Filed) →
+pub cleanups_seen : (handle : ℕ) (names : List (List ℕ)) (births : List Birth) (fs : List Filed) →
     flat_map (filed_text_with (λ (id : ℕ). []) handle names births) fs ≡ flat_map (cleaned_text handle names) (flat_map (cleaned_as births) fs)
 cleanups_seen handle names births [] = refl
 cleanups_seen handle names births (f ∷ fs) = by (slice_get births f.receipt.id) (cleanups_seen handle names births fs)

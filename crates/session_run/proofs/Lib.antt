@@ -4,7 +4,8 @@ pub mod Serving
 pub mod Asking
 pub mod Reporting
 pub mod Telling
-pub mod Proceeding
+pub mod Parting
+mod Proceeding
 pub mod Wholly
 pub mod Filed
 pub mod Completing

@@ -1,10 +1,11 @@
 -- Worked rows of a run, computed: a call that finds nothing open, a moment, and a word that is no command; and two transactions.
-use Rattle.std.specs.Prelude.{◌≡◌, ℕ, true, false, List, [], ◌∷◌, Some, codes, refl, replicate}
+use Rattle.std.specs.Prelude.{◌≡◌, ℕ, true, false, nat_le, if◌then◌else◌, List, [], ◌∷◌, ◌++◌, length, Some, codes, refl, replicate}
 use Rattle.std.proofs.Common.{inl, sym, ◌∙◌}
 use Rattle.std.specs.Fmt.{digits}
 use Rattle.pam_base.specs.declared.fault.ScriptKind.TheVariants.{BadWord}
 use Rattle.pam_base.specs.Lines.{cut, lines_of}
 use Rattle.pam_base.specs.Words.{words_of}
+use Rattle.pam_outside.specs.Paths.{path_of}
 use Rattle.pam_outside.specs.Files.{File}
 use Rattle.conf_lex.specs.Answer.{answer_to}
 use Rattle.conf_lex.specs.Lexing.{answer_at}
@@ -98,17 +99,49 @@ interleaved = codes "start 1 t" ∷ codes "start 2 t" ∷ codes "authenticate 2"
 
 its_lines : texts_among with_module 1 0 with_service interleaved
     ≡ codes "1 start SUCCESS 0\n" ∷ codes "1 line 1 p SUCCESS 0\n1 authenticate SUCCESS 0\n" ∷ codes "1 clean 1 00000000 1 p a\n1 end SUCCESS 0\n" ∷ []
-unfolding step_at line_step words_of stepped digits look items answer_to answer_at pieces_behind first_piece entry_of nodes
+unfolding step_at line_step words_of stepped digits look items answer_to answer_at pieces_behind first_piece entry_of nodes path_of
 its_lines = refl
 
 its_lines_alone : texts_among with_module 1 0 with_service (alone 1 interleaved)
     ≡ codes "1 start SUCCESS 0\n" ∷ codes "1 line 1 p SUCCESS 0\n1 authenticate SUCCESS 0\n" ∷ codes "1 clean 0 00000000 1 p a\n1 end SUCCESS 0\n" ∷ []
-unfolding step_at line_step words_of stepped digits look items answer_to answer_at pieces_behind first_piece entry_of nodes
+unfolding step_at line_step words_of stepped digits look items answer_to answer_at pieces_behind first_piece entry_of nodes path_of
 its_lines_alone = refl
 
 by_these : {a c : List File} (b : List File) → a ≡ b → c ≡ b → a ≡ c
 by_these b first second = first ∙ sym second
 
 others_leave_files : LeaveFiles with_module 1 0 with_service interleaved
-unfolding step_at line_step words_of stepped digits look items answer_to answer_at pieces_behind first_piece entry_of nodes
+unfolding step_at line_step words_of stepped digits look items answer_to answer_at pieces_behind first_piece entry_of nodes path_of
 others_leave_files = (λ e. absurd cc, (λ e. by_these service_files refl refl, (λ e. by_these service_files refl refl, (λ e. absurd cc, (λ e. absurd cc, tt)))))
+
+-- ---- a step on another number that changes a file: the law's premise fails, and so does what it concludes
+
+-- it answers by whether it has been served before, which it writes into a file
+abbrev notes_in_file : Player
+notes_in_file = record {
+  name = codes "p";
+  plays = λ (call : PlainCall) (room : SeenRoom) (datums : List NamedData) (sight : Sight). record {
+    code = if nat_le 2 (length sight.files) then Code.AuthErr else Code.Success;
+    room = room;
+    births = [];
+    files = sight.files ++ record { path = codes "/r/f"; bytes = [] } ∷ [];
+    calls = 1;
+  };
+  note = length_note;
+}
+
+abbrev with_file : Setting
+with_file = record { players = notes_in_file ∷ []; delay = λ code asked. 0 }
+
+abbrev one_before_the_other : List (List ℕ)
+one_before_the_other = codes "start 1 t" ∷ codes "start 2 t" ∷ codes "authenticate 2" ∷ codes "authenticate 1" ∷ []
+
+its_lines_behind_the_file : texts_among with_file 1 0 with_service one_before_the_other
+    ≡ codes "1 start SUCCESS 0\n" ∷ codes "1 line 1 p AUTH_ERR 7\n1 authenticate AUTH_ERR 7\n" ∷ []
+unfolding step_at line_step words_of stepped digits look items answer_to answer_at pieces_behind first_piece entry_of nodes
+its_lines_behind_the_file = refl
+
+its_lines_without_the_file : texts_among with_file 1 0 with_service (alone 1 one_before_the_other)
+    ≡ codes "1 start SUCCESS 0\n" ∷ codes "1 line 1 p SUCCESS 0\n1 authenticate SUCCESS 0\n" ∷ []
+unfolding step_at line_step words_of stepped digits look items answer_to answer_at pieces_behind first_piece entry_of nodes
+its_lines_without_the_file = refl

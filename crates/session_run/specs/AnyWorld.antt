@@ -5,13 +5,13 @@ use Rattle.data_cleanup.specs.Cleanup.{Notes}
 use Rattle.data_due.specs.Stands.{Lists}
 use Rattle.pam_room.specs.Module.{Player, notes_of}
 use Rattle.pam_library.specs.Calls.{MoveOn, Moved, last_ledger, last_lists}
-use Rattle.pam_library.specs.Slots.{PlainSlot, lists_of}
+use Rattle.pam_library.specs.Slots.{PlainSlot, handle_limit, lists_of}
 use Rattle.session_run.specs.Ends.{EndsAre}
 
 -- Calls of a library were made, one after another: each moved on by the births that it added and the end that it was.
 pub record Proceeds (note : Notes) (before : PlainLedger) (lists : Lists) (after : PlainLedger) (next : Lists) : Type 0 where
   pub calls : List Moved
-  pub moves : MoveOn note 17 before lists calls
+  pub moves : MoveOn note handle_limit before lists calls
   pub ledger : last_ledger before calls ≡ after
   pub lists_are : last_lists lists calls ≡ next
 

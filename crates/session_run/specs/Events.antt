@@ -12,7 +12,7 @@ use Rattle.data_due.specs.Stands.{StandFor, births_of, receipts_in}
 use Rattle.pam_room.specs.Module.{notes_of}
 use Rattle.pam_library.specs.AnyWorld.{end_at}
 use Rattle.pam_library.specs.Calls.{Moved, events_of}
-use Rattle.pam_library.specs.Slots.{PlainSlot, closed, lists_of, opened, slot_at}
+use Rattle.pam_library.specs.Slots.{PlainSlot, closed, handle_limit, lists_of, opened, slot_at}
 use Rattle.script_lang.specs.declared.line.Line.{Line}
 use Rattle.script_lang.specs.declared.line.Line.TheVariants as lines
 use Rattle.script_lang.specs.Line.{parsed}
@@ -73,8 +73,8 @@ run_events setting status start script lines last =
 -- whatever ledger and data stood for, they stand for it and then these events
 abbrev pub StandOn : Notes → List Event → RunState → RunState → Type 0
 StandOn note added s t = (events : List Event)
-    → StandFor note 17 s.world.process.ledger (lists_of s.slots) events
-    → StandFor note 17 t.world.process.ledger (lists_of t.slots) (events ++ added)
+    → StandFor note handle_limit s.world.process.ledger (lists_of s.slots) events
+    → StandFor note handle_limit t.world.process.ledger (lists_of t.slots) (events ++ added)
 
 -- ---- while it goes on
 
@@ -83,7 +83,7 @@ abbrev pub LeadOn : Setting → ℕ → RunState → List (List ℕ) → ℕ →
 LeadOn setting n s [] m t text = (m ≡ n) × (t ≡ s) × (text ≡ [])
 LeadOn setting n s (line ∷ rest) m t text =
     (u : RunState) × (first : List ℕ) × (others : List ℕ) × (text ≡ first ++ others) × (step_at (line_step setting) n s line ≡ Ok (u, first))
-    × Moves (notes_of setting.players) 17 (end_by s.slots (parsed line)) s.world.process.ledger (lists_of s.slots) u.world.process.ledger (lists_of u.slots)
+    × Moves (notes_of setting.players) handle_limit (end_by s.slots (parsed line)) s.world.process.ledger (lists_of s.slots) u.world.process.ledger (lists_of u.slots)
     × LeadOn setting (n + 1) u rest m t others
 
 -- the first lines of a text were served, and their text is written; which lines stand behind them
@@ -114,7 +114,7 @@ pub record Broken (setting : Setting) (n : ℕ) (s t : RunState) (input : List �
 
 -- one line that was applied, for one who doesn't know the places before it
 abbrev pub MovesBy : Notes → List PlainSlot → List ℕ → PlainLedger → PlainLedger → List PlainSlot → Type 0
-MovesBy note slots line before after next = Moves note 17 (end_by slots (parsed line)) before (lists_of slots) after (lists_of next)
+MovesBy note slots line before after next = Moves note handle_limit (end_by slots (parsed line)) before (lists_of slots) after (lists_of next)
 
 -- what one turn served, by its result
 abbrev pub ServesTurn : Setting → Result (Option Ending) Stop → ℕ → ℕ → RunState → RunState → List ℕ → List ℕ → SinkState → SinkState → Type 0

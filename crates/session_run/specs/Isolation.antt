@@ -1,7 +1,7 @@
 -- A transaction goes as it would alone (this project's own): a script in which each step on another number is a blank line, and
 -- what the steps on a number come to in a run.
-use Rattle.std.specs.Prelude.{◌≡◌, ℕ, ◌+◌, Bool, true, false, not, nat_eq, if◌then◌else◌, List, [], ◌∷◌, ◌++◌, map, drop, codes, slice_get, unwrap_or, Option, Some, None, Result, Ok, Err}
-use Rattle.std.specs.List.{flat_map}
+use Rattle.std.specs.Prelude.{◌≡◌, ℕ, zero, suc, ◌+◌, Bool, true, false, not, nat_eq, if◌then◌else◌, List, [], ◌∷◌, ◌++◌, map, length, take, drop, codes, slice_get, unwrap_or, Option, Some, None, Result, Ok, Err}
+use Rattle.std.specs.List.{flat_map, range_with_len}
 use Rattle.std.specs.Fmt.{decimal}
 use Rattle.pam_base.specs.declared.code.Code.{Code}
 use Rattle.pam_base.specs.declared.call.Step.{Step}
@@ -15,6 +15,9 @@ use Rattle.data_cleanup.specs.declared.receipt.Receipt.{Receipt}
 use Rattle.dispatch_core.specs.Lines.{names_of}
 use Rattle.pam_library.specs.Alike.{AreInOrder, NoCallFails, births_on, receipts_on, told_in}
 use Rattle.pam_library.specs.Outcome.{PlainOutcome}
+use Rattle.pam_library.specs.Slots.{PlainSlot, closed, opened}
+use Rattle.pam_room.specs.Module.{Player}
+use Rattle.pam_room.specs.State.{PlainWorld}
 use Rattle.pam_library.specs.Step.{stepped}
 use Rattle.script_lang.specs.Command.{word_of_call}
 use Rattle.script_lang.specs.declared.line.Line.{Line}
@@ -22,14 +25,13 @@ use Rattle.script_lang.specs.declared.line.Line.TheVariants as lines
 use Rattle.script_lang.specs.Line.{parsed}
 use Rattle.script_stream.specs.Run.{run_lines, step_at}
 use Rattle.session_report.specs.Answered.{answer_text}
-use Rattle.session_report.specs.Code.{number_words}
-use Rattle.session_report.specs.Cleaned.{status_words}
+use Rattle.report_lines.specs.Line.{code_words, number_words, status_words, words_text}
 use Rattle.session_report.specs.Missing.{all_missing_text}
 use Rattle.session_report.specs.Said.{messages_text}
 use Rattle.session_report.specs.Step.{step_text}
 use Rattle.session_report.specs.Visited.{visits_text}
 use Rattle.session_report.specs.Waited.{waited_text}
-use Rattle.session_run.specs.Closings.{all_closed}
+use Rattle.session_run.specs.Closings.{all_closed, world_behind}
 use Rattle.session_run.specs.State.{Setting, RunState}
 use Rattle.session_run.specs.Step.{line_step}
 
@@ -137,6 +139,41 @@ text_without_ids names c = step_text_with (λ (id : ℕ). []) names c
 abbrev pub text_of : List (List ℕ) → Came → List ℕ
 text_of names c = step_text names c.step c.outcome c.ledger
 
+-- ---- the lines with which the program closes a number behind the lines of a script
+
+module _ (players : List Player) (status : Code) where
+  -- what the end of a place leaves, where it is open
+  abbrev pub world_left : PlainSlot → PlainWorld → PlainWorld
+  world_left (closed conv) w = w
+  world_left (opened h) w = world_behind players status h w
+
+  -- the world when some places are closed, one after another
+  unfoldable pub world_after_places : List PlainSlot → PlainWorld → PlainWorld
+  world_after_places [] w = w
+  world_after_places (slot ∷ slots) w = world_after_places slots (world_left slot w)
+
+  -- a closing writes what it cleaned up, and H closed NAME NUMBER; a closed place has none
+  abbrev pub closed_text_with : (ℕ → List ℕ) → ℕ → PlainWorld → Option PlainSlot → List ℕ
+  closed_text_with id_words number w None = []
+  closed_text_with id_words number w (Some (closed conv)) = []
+  closed_text_with id_words number w (Some (opened h)) =
+      let after = (world_behind players status h w).process.ledger in
+      flat_map (filed_text_with id_words number (names_of players) after.births) (drop (length w.process.ledger.filed) after.filed)
+      ++ words_text number (codes "closed") (code_words status)
+
+  -- of a number, when all lower ones are closed
+  abbrev pub closing_text_with : (ℕ → List ℕ) → RunState → ℕ → List ℕ
+  closing_text_with id_words s zero = []
+  closing_text_with id_words s (suc i) =
+      closed_text_with id_words (suc i) (world_after_places (take i s.slots) s.world) (slice_get s.slots i)
+
+  abbrev pub closing_without_ids : RunState → ℕ → List ℕ
+  closing_without_ids s number = closing_text_with (λ (id : ℕ). []) s number
+
+  -- of all places, from the first
+  abbrev pub all_closing_texts : RunState → List ℕ
+  all_closing_texts s = flat_map (closing_text_with number_words s) (range_with_len 1 (length s.slots))
+
 -- ---- a transaction goes as it would alone
 
 -- where the lines of a script lead, behind n lines
@@ -145,7 +182,8 @@ state_behind setting n s script = (run_lines (line_step setting) n s script).las
 
 -- A run and that of the script of one number alone, from the same start: the number's steps tell and answer the same, and its
 -- births and receipts are the same, in their order and but for ids and marks, behind the lines and when all is ended behind
--- them. Its lines of the report are the same but for ids. Both runs end at the same line, for the same fault if there is one.
+-- them. Its lines of the report are the same but for ids, also those with which the program closes it. Both runs end at the
+-- same line, for the same fault if there is one.
 pub record GoesAsAlone (setting : Setting) (number n : ℕ) (s : RunState) (script : List (List ℕ)) : Type 0 where
   pub outcomes : map (λ (c : Came). told_in c.outcome) (came_among setting number n s script) ≡ map (λ (c : Came). told_in c.outcome) (came_among setting number n s (alone number script))
   pub births : births_on number (state_behind setting n s script).world.process.ledger.births ≡ births_on number (state_behind setting n s (alone number script)).world.process.ledger.births
@@ -155,5 +193,7 @@ pub record GoesAsAlone (setting : Setting) (number n : ℕ) (s : RunState) (scri
   pub ended_receipts : (status : Code) → receipts_on number (all_closed setting.players status (state_behind setting n s script)).world.process.ledger
       ≡ receipts_on number (all_closed setting.players status (state_behind setting n s (alone number script))).world.process.ledger
   pub report : map (text_without_ids (names_of setting.players)) (came_among setting number n s script) ≡ map (text_without_ids (names_of setting.players)) (came_among setting number n s (alone number script))
+  pub closing : (status : Code) → closing_without_ids setting.players status (state_behind setting n s script) number
+      ≡ closing_without_ids setting.players status (state_behind setting n s (alone number script)) number
   pub lines : (run_lines (line_step setting) n s script).items ≡ (run_lines (line_step setting) n s (alone number script)).items
   pub refused : (run_lines (line_step setting) n s script).refused ≡ (run_lines (line_step setting) n s (alone number script)).refused

@@ -10,7 +10,8 @@ use Rattle.item_stream.specs.declared.ending.Stop.TheVariants.{NoMemory}
 use Rattle.script_stream.specs.Run.{run_of}
 use Rattle.script_stream.specs.Turns.{StopsBy, LastRead}
 use Rattle.script_stream.specs.Turns.{Reports}
-use Rattle.session_report.specs.Script.{script_text, read_fault_text}
+use Rattle.report_lines.specs.Line.{script_text}
+use Rattle.session_report.specs.Script.{read_fault_text}
 pub use Rattle.session_run.specs.Endings.{ending_status, stop_status}
 use Rattle.session_run.specs.State.{Setting, RunState}
 use Rattle.session_run.specs.Step.{line_step, Fails}

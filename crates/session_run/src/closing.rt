@@ -28,22 +28,30 @@ pub(crate) fn close_reported<K: Sink>(
     sink: &mut K,
     world: &mut World,
 ) -> Result<(), Stop>
-    requires { IsSoundFor (⟦<Gear as GearTold>⟧.players (gear_in library.old)) (⟦<Library as LibraryTold>⟧.slots library.old) world.old.process.ledger }
+    requires { IsSoundFor (⟦<Gear as GearTold>⟧.players (gear_in library.old))
+        (⟦<Library as LibraryTold>⟧.slots library.old) world.old.process.ledger }
     ensures gear { gear_in library.new ≡ gear_in library.old }
-    ensures tells { ⟦<Library as LibraryTold>⟧.tells library.new ≡ ⟦<Library as LibraryTold>⟧.tells library.old }
-    ensures world_tells { ⟦<World as WorldTold>⟧.tells world.new ≡ ⟦<World as WorldTold>⟧.tells world.old }
+    ensures tells { ⟦<Library as LibraryTold>⟧.tells library.new
+        ≡ ⟦<Library as LibraryTold>⟧.tells library.old }
+    ensures world_tells { ⟦<World as WorldTold>⟧.tells world.new
+        ≡ ⟦<World as WorldTold>⟧.tells world.old }
     ensures sink_tells { K.sink_tells sink.new ≡ K.sink_tells sink.old }
     ensures told { IsTrue (K.sink_tells sink.old) →
         Closes (⟦<Gear as GearTold>⟧.players (gear_in library.old)) status result
-        (state_of (⟦<Library as LibraryTold>⟧.slots library.old) (⟦<World as WorldTold>⟧.plain world.old))
-        (state_of (⟦<Library as LibraryTold>⟧.slots library.new) (⟦<World as WorldTold>⟧.plain world.new))
+        (state_of (⟦<Library as LibraryTold>⟧.slots library.old)
+        (⟦<World as WorldTold>⟧.plain world.old))
+        (state_of (⟦<Library as LibraryTold>⟧.slots library.new)
+        (⟦<World as WorldTold>⟧.plain world.new))
         (K.sink_holds sink.old) (K.sink_holds sink.new) }
     ensures none_open { OnOk result (NoneIsOpen (⟦<Library as LibraryTold>⟧.slots library.new)) }
-    ensures proceeds { ProceedsFor (HasStatus status) (⟦<Gear as GearTold>⟧.players (gear_in library.old))
+    ensures proceeds { ProceedsFor (HasStatus status)
+        (⟦<Gear as GearTold>⟧.players (gear_in library.old))
         world.old.process.ledger (⟦<Library as LibraryTold>⟧.slots library.old)
         world.new.process.ledger (⟦<Library as LibraryTold>⟧.slots library.new) }
-    ensures sound { IsSoundFor (⟦<Gear as GearTold>⟧.players (gear_in library.new)) (⟦<Library as LibraryTold>⟧.slots library.new) world.new.process.ledger }
-    ensures faults { RisesIf (has_write_fault result) (K.sink_faults sink.old) (K.sink_faults sink.new) }
+    ensures sound { IsSoundFor (⟦<Gear as GearTold>⟧.players (gear_in library.new))
+        (⟦<Library as LibraryTold>⟧.slots library.new) world.new.process.ledger }
+    ensures faults { RisesIf (has_write_fault result) (K.sink_faults sink.old)
+        (K.sink_faults sink.new) }
 {
     loop {
         match close_next(alloc, library, status, sink, world) {
@@ -62,23 +70,33 @@ fn close_next<K: Sink>(
     sink: &mut K,
     world: &mut World,
 ) -> Result<bool, Stop>
-    requires { IsSoundFor (⟦<Gear as GearTold>⟧.players (gear_in library.old)) (⟦<Library as LibraryTold>⟧.slots library.old) world.old.process.ledger }
+    requires { IsSoundFor (⟦<Gear as GearTold>⟧.players (gear_in library.old))
+        (⟦<Library as LibraryTold>⟧.slots library.old) world.old.process.ledger }
     ensures gear { gear_in library.new ≡ gear_in library.old }
-    ensures tells { ⟦<Library as LibraryTold>⟧.tells library.new ≡ ⟦<Library as LibraryTold>⟧.tells library.old }
-    ensures world_tells { ⟦<World as WorldTold>⟧.tells world.new ≡ ⟦<World as WorldTold>⟧.tells world.old }
+    ensures tells { ⟦<Library as LibraryTold>⟧.tells library.new
+        ≡ ⟦<Library as LibraryTold>⟧.tells library.old }
+    ensures world_tells { ⟦<World as WorldTold>⟧.tells world.new
+        ≡ ⟦<World as WorldTold>⟧.tells world.old }
     ensures sink_tells { K.sink_tells sink.new ≡ K.sink_tells sink.old }
     ensures told { IsTrue (K.sink_tells sink.old) →
         ClosesNext (⟦<Gear as GearTold>⟧.players (gear_in library.old)) status result
-        (state_of (⟦<Library as LibraryTold>⟧.slots library.old) (⟦<World as WorldTold>⟧.plain world.old))
-        (state_of (⟦<Library as LibraryTold>⟧.slots library.new) (⟦<World as WorldTold>⟧.plain world.new))
+        (state_of (⟦<Library as LibraryTold>⟧.slots library.old)
+        (⟦<World as WorldTold>⟧.plain world.old))
+        (state_of (⟦<Library as LibraryTold>⟧.slots library.new)
+        (⟦<World as WorldTold>⟧.plain world.new))
         (K.sink_holds sink.old) (K.sink_holds sink.new) }
-    ensures fewer { result ≡ Ok true → open_count (⟦<Library as LibraryTold>⟧.slots library.new) < open_count (⟦<Library as LibraryTold>⟧.slots library.old) }
-    ensures none_open { result ≡ Ok false → NoneIsOpen (⟦<Library as LibraryTold>⟧.slots library.new) }
-    ensures proceeds { ProceedsFor (HasStatus status) (⟦<Gear as GearTold>⟧.players (gear_in library.old))
+    ensures fewer { result ≡ Ok true → open_count (⟦<Library as LibraryTold>⟧.slots library.new)
+        < open_count (⟦<Library as LibraryTold>⟧.slots library.old) }
+    ensures none_open { result ≡ Ok false → NoneIsOpen
+        (⟦<Library as LibraryTold>⟧.slots library.new) }
+    ensures proceeds { ProceedsFor (HasStatus status)
+        (⟦<Gear as GearTold>⟧.players (gear_in library.old))
         world.old.process.ledger (⟦<Library as LibraryTold>⟧.slots library.old)
         world.new.process.ledger (⟦<Library as LibraryTold>⟧.slots library.new) }
-    ensures sound { IsSoundFor (⟦<Gear as GearTold>⟧.players (gear_in library.new)) (⟦<Library as LibraryTold>⟧.slots library.new) world.new.process.ledger }
-    ensures faults { RisesIf (has_write_fault result) (K.sink_faults sink.old) (K.sink_faults sink.new) }
+    ensures sound { IsSoundFor (⟦<Gear as GearTold>⟧.players (gear_in library.new))
+        (⟦<Library as LibraryTold>⟧.slots library.new) world.new.process.ledger }
+    ensures faults { RisesIf (has_write_fault result) (K.sink_faults sink.old)
+        (K.sink_faults sink.new) }
 {
     let before = world.process.ledger.filed().len() as u64;
     let Some(number) = end_next(library, status, world) else {
@@ -103,38 +121,56 @@ fn close_next<K: Sink>(
 
 /// Ends every open transaction with this status, the lowest number first, and writes nothing. It takes no memory.
 pub fn close_silently(library: &mut Library, status: Code, world: &mut World)
-    requires { IsSoundFor (⟦<Gear as GearTold>⟧.players (gear_in library.old)) (⟦<Library as LibraryTold>⟧.slots library.old) world.old.process.ledger }
+    requires { IsSoundFor (⟦<Gear as GearTold>⟧.players (gear_in library.old))
+        (⟦<Library as LibraryTold>⟧.slots library.old) world.old.process.ledger }
     ensures gear { gear_in library.new ≡ gear_in library.old }
-    ensures tells { ⟦<Library as LibraryTold>⟧.tells library.new ≡ ⟦<Library as LibraryTold>⟧.tells library.old }
-    ensures world_tells { ⟦<World as WorldTold>⟧.tells world.new ≡ ⟦<World as WorldTold>⟧.tells world.old }
-    ensures closed { state_of (⟦<Library as LibraryTold>⟧.slots library.new) (⟦<World as WorldTold>⟧.plain world.new)
-        ≡ all_closed (⟦<Gear as GearTold>⟧.players (gear_in library.old)) status (state_of (⟦<Library as LibraryTold>⟧.slots library.old) (⟦<World as WorldTold>⟧.plain world.old)) }
+    ensures tells { ⟦<Library as LibraryTold>⟧.tells library.new
+        ≡ ⟦<Library as LibraryTold>⟧.tells library.old }
+    ensures world_tells { ⟦<World as WorldTold>⟧.tells world.new
+        ≡ ⟦<World as WorldTold>⟧.tells world.old }
+    ensures closed { state_of (⟦<Library as LibraryTold>⟧.slots library.new)
+        (⟦<World as WorldTold>⟧.plain world.new)
+        ≡ all_closed (⟦<Gear as GearTold>⟧.players (gear_in library.old)) status
+        (state_of (⟦<Library as LibraryTold>⟧.slots library.old)
+        (⟦<World as WorldTold>⟧.plain world.old)) }
     ensures none_open { NoneIsOpen (⟦<Library as LibraryTold>⟧.slots library.new) }
-    ensures proceeds { ProceedsFor (HasStatus status) (⟦<Gear as GearTold>⟧.players (gear_in library.old))
+    ensures proceeds { ProceedsFor (HasStatus status)
+        (⟦<Gear as GearTold>⟧.players (gear_in library.old))
         world.old.process.ledger (⟦<Library as LibraryTold>⟧.slots library.old)
         world.new.process.ledger (⟦<Library as LibraryTold>⟧.slots library.new) }
-    ensures sound { IsSoundFor (⟦<Gear as GearTold>⟧.players (gear_in library.new)) (⟦<Library as LibraryTold>⟧.slots library.new) world.new.process.ledger }
+    ensures sound { IsSoundFor (⟦<Gear as GearTold>⟧.players (gear_in library.new))
+        (⟦<Library as LibraryTold>⟧.slots library.new) world.new.process.ledger }
 {
     while let Some(_number) = end_next(library, status, world) {}
 }
 
 /// Ends the open transaction with the lowest number. None exactly where none is open. It takes no memory.
 pub fn end_next(library: &mut Library, status: Code, world: &mut World) -> Option<u32>
-    requires { IsSoundFor (⟦<Gear as GearTold>⟧.players (gear_in library.old)) (⟦<Library as LibraryTold>⟧.slots library.old) world.old.process.ledger }
+    requires { IsSoundFor (⟦<Gear as GearTold>⟧.players (gear_in library.old))
+        (⟦<Library as LibraryTold>⟧.slots library.old) world.old.process.ledger }
     ensures gear { gear_in library.new ≡ gear_in library.old }
-    ensures tells { ⟦<Library as LibraryTold>⟧.tells library.new ≡ ⟦<Library as LibraryTold>⟧.tells library.old }
-    ensures world_tells { ⟦<World as WorldTold>⟧.tells world.new ≡ ⟦<World as WorldTold>⟧.tells world.old }
-    ensures some { IfSome result (λ number. EndsNext (⟦<Gear as GearTold>⟧.players (gear_in library.old)) status number
-        (state_of (⟦<Library as LibraryTold>⟧.slots library.old) (⟦<World as WorldTold>⟧.plain world.old))
-        (state_of (⟦<Library as LibraryTold>⟧.slots library.new) (⟦<World as WorldTold>⟧.plain world.new))) }
+    ensures tells { ⟦<Library as LibraryTold>⟧.tells library.new
+        ≡ ⟦<Library as LibraryTold>⟧.tells library.old }
+    ensures world_tells { ⟦<World as WorldTold>⟧.tells world.new
+        ≡ ⟦<World as WorldTold>⟧.tells world.old }
+    ensures some { IfSome result (λ number.
+        EndsNext (⟦<Gear as GearTold>⟧.players (gear_in library.old)) status number
+        (state_of (⟦<Library as LibraryTold>⟧.slots library.old)
+        (⟦<World as WorldTold>⟧.plain world.old))
+        (state_of (⟦<Library as LibraryTold>⟧.slots library.new)
+        (⟦<World as WorldTold>⟧.plain world.new))) }
     ensures none { IfNone result (NoneIsOpen (⟦<Library as LibraryTold>⟧.slots library.old)) }
     ensures filed { length world.old.process.ledger.filed ≤ length world.new.process.ledger.filed }
-    ensures stays { IfNone result (state_of (⟦<Library as LibraryTold>⟧.slots library.new) (⟦<World as WorldTold>⟧.plain world.new)
-        ≡ state_of (⟦<Library as LibraryTold>⟧.slots library.old) (⟦<World as WorldTold>⟧.plain world.old)) }
-    ensures proceeds { ProceedsFor (HasStatus status) (⟦<Gear as GearTold>⟧.players (gear_in library.old))
+    ensures stays { IfNone result (state_of (⟦<Library as LibraryTold>⟧.slots library.new)
+        (⟦<World as WorldTold>⟧.plain world.new)
+        ≡ state_of (⟦<Library as LibraryTold>⟧.slots library.old)
+        (⟦<World as WorldTold>⟧.plain world.old)) }
+    ensures proceeds { ProceedsFor (HasStatus status)
+        (⟦<Gear as GearTold>⟧.players (gear_in library.old))
         world.old.process.ledger (⟦<Library as LibraryTold>⟧.slots library.old)
         world.new.process.ledger (⟦<Library as LibraryTold>⟧.slots library.new) }
-    ensures sound { IsSoundFor (⟦<Gear as GearTold>⟧.players (gear_in library.new)) (⟦<Library as LibraryTold>⟧.slots library.new) world.new.process.ledger }
+    ensures sound { IsSoundFor (⟦<Gear as GearTold>⟧.players (gear_in library.new))
+        (⟦<Library as LibraryTold>⟧.slots library.new) world.new.process.ledger }
 {
     library.close_one(world, code_number(status))
 }

@@ -5,29 +5,28 @@ ghost use Rattle.data_cleanup.specs.Ledger.{PlainLedger};
 ghost use Rattle.data_due.specs.Stands.{Lists, StandFor};
 ghost use Rattle.pam_base.specs.Lines.{lines_of};
 ghost use Rattle.dispatch_core.specs.Lines.{names_of};
+ghost use Rattle.pam_base.specs.declared.code.Code.{Code};
 ghost use Rattle.pam_library.specs.Calls.{events_of};
 ghost use Rattle.pam_library.specs.Plays.{GoesOn};
-ghost use Rattle.pam_library.specs.Slots.{PlainSlot, slot_at};
+ghost use Rattle.pam_library.specs.Slots.{PlainSlot, handle_limit, slot_at};
 ghost use Rattle.script_stream.specs.Run.{run_lines};
-ghost use Rattle.session_report.specs.Code.{number_words};
+ghost use Rattle.report_lines.specs.Line.{number_words};
 ghost use Rattle.session_run.specs.AnyWorld.{Proceeds};
-ghost use Rattle.session_run.specs.Isolation.{Came, GoesAsAlone, IsQuietStart, LeaveFiles, alone, came_among, script_alone, step_text_with, text_of, texts_among};
+ghost use Rattle.session_run.specs.Closings.{closings, closings_text};
+ghost use Rattle.session_run.specs.Isolation.{Came, GoesAsAlone, IsQuietStart, LeaveFiles, all_closing_texts, alone, came_among, script_alone, step_text_with, text_of, texts_among};
 ghost use Rattle.session_run.specs.SideBySide.{ComesAlone, TellsSteps};
 ghost use Rattle.session_run.specs.State.{RunState, Setting};
 ghost use Rattle.session_run.specs.Step.{line_step};
 
-use pam_library::{
-    calls_keep_to_themselves, calls_stand_for_their_events, places_stand_side_by_side,
-    steps_change_files_by_plays,
-};
-
 /// Whatever events ledger and data stood for before a run, they stand for these and then the births and ends of its
 /// calls afterwards. It does nothing: its contract is a law about the definitions.
 pub fn proceeding_stands()
-    ensures { (note : Notes) (before after : PlainLedger) (lists next : Lists) (events : List Event) → (p : Proceeds note before lists after next) →
-        StandFor note 17 before lists events → StandFor note 17 after next (events ++ events_of before p.calls) }
+    ensures { (note : Notes) (before after : PlainLedger) (lists next : Lists)
+        (events : List Event) → (p : Proceeds note before lists after next) →
+        StandFor note handle_limit before lists events →
+        StandFor note handle_limit after next (events ++ events_of before p.calls) }
 {
-    calls_stand_for_their_events();
+    pam_library::laws::calls_stand_for_their_events();
 }
 
 /// A transaction goes as it would alone. In a run where no call of the vault is to fail, and where no step on another number
@@ -36,34 +35,45 @@ pub fn proceeding_stands()
 /// marks. It holds of whatever the modules play. It does nothing: its contract is a law about the definitions.
 pub fn transactions_go_as_alone()
     ensures goes { (setting : Setting) (number n : ℕ) (s : RunState) (script : List (List ℕ)) →
-        IsQuietStart s → LeaveFiles setting number n s script → GoesAsAlone setting number n s script }
+        IsQuietStart s → LeaveFiles setting number n s script →
+        GoesAsAlone setting number n s script }
 
     // What a run writes for the steps on a number, and how that is when ids are left out.
     ensures texts { (setting : Setting) (number n : ℕ) (s : RunState) (script : List (List ℕ)) →
-        texts_among setting number n s script ≡ map (text_of (names_of setting.players)) (came_among setting number n s script) }
-    ensures words { (names : List (List ℕ)) (c : Came) → step_text_with number_words names c ≡ text_of names c }
+        texts_among setting number n s script
+        ≡ map (text_of (names_of setting.players)) (came_among setting number n s script) }
+    ensures words { (names : List (List ℕ)) (c : Came) →
+        step_text_with number_words names c ≡ text_of names c }
+
+    // The lines of the closings are those of each number, in order.
+    ensures closings { (setting : Setting) (status : Code) (s : RunState) →
+        closings_text (closings setting.players status s) ≡ all_closing_texts setting.players status s }
 
     // The lines of the script of one number, as a text.
-    ensures script { (number : ℕ) (text : List ℕ) → lines_of (script_alone number text) ≡ alone number (lines_of text) }
+    ensures script { (number : ℕ) (text : List ℕ) →
+        lines_of (script_alone number text) ≡ alone number (lines_of text) }
 {
-    calls_keep_to_themselves();
+    pam_library::laws::calls_keep_to_themselves();
 }
 
 /// What the lines among some bytes come to, number by number. The place of a number behind them, and the outcomes of the
 /// steps on it, are what its own steps come to alone, each in the world as it stood before it (`alone`). What is reported of the
 /// lines is what is told of these steps and of the others, in order (`steps`). It does nothing: its contract is a law.
 pub fn numbers_stand_side_by_side()
-    ensures alone { (setting : Setting) (start : RunState) (bytes : List ℕ) (ended : Bool) (number : ℕ) (slot : PlainSlot) →
+    ensures alone { (setting : Setting) (start : RunState) (bytes : List ℕ) (ended : Bool)
+        (number : ℕ) (slot : PlainSlot) →
         slot_at start.slots number ≡ Some slot → ComesAlone setting start bytes ended number slot }
-    ensures steps { (setting : Setting) (start : RunState) (bytes : List ℕ) (ended : Bool) → TellsSteps setting start bytes ended }
+    ensures steps { (setting : Setting) (start : RunState) (bytes : List ℕ) (ended : Bool) →
+        TellsSteps setting start bytes ended }
 {
-    places_stand_side_by_side();
+    pam_library::laws::places_stand_side_by_side();
 }
 
 /// The lines of a script change files by what modules play, one after another, and by nothing else.
 pub fn runs_change_files_by_plays()
     ensures { (setting : Setting) (n : ℕ) (s : RunState) (script : List (List ℕ)) →
-        GoesOn setting.players s.world.vault.files (run_lines (line_step setting) n s script).last.world.vault.files }
+        GoesOn setting.players s.world.vault.files
+        (run_lines (line_step setting) n s script).last.world.vault.files }
 {
-    steps_change_files_by_plays();
+    pam_library::laws::steps_change_files_by_plays();
 }

@@ -1,11 +1,11 @@
 //! A run of a script over sixteen transactions: each line is applied and its report written before the next is looked
 //! at, and behind the last one every open transaction is ended.
 //!
-//! Begin at `run.rt`; `lines.rt` finds the lines one by one, `serve.rt` answers one, and `closing.rt` ends what is open.
+//! Begin at run.rt; lines.rt reads on line by line, serve.rt serves one, and closing.rt ends what is open.
 #![tactic(auto)]
 
 mod closing;
-mod laws;
+pub mod laws;
 mod lines;
 mod meaning;
 mod reading;
@@ -15,9 +15,5 @@ mod status;
 mod world;
 
 pub use closing::{close_silently, end_next};
-pub use laws::{
-    numbers_stand_side_by_side, proceeding_stands, runs_change_files_by_plays,
-    transactions_go_as_alone,
-};
 pub use run::run_script;
 pub use status::stop_status;

@@ -16,18 +16,15 @@ ghost use Rattle.session_run.specs.Step.{line_step, Fails};
 
 use crate::meaning::Meaning;
 use crate::reading::reading_is_turns;
-use crate::serve::serve_line;
+use crate::serve::answer_line;
 use fail_delay::{DelayFn, DelayTold};
-use item_stream::{
-    Ending, Found, Reader, Stop, first_turn, found_item_is_a_turn, nothing_found_is_a_turn,
-    turns_are_a_run, turns_go_on,
-};
+use item_stream::{Ending, Found, Reader, Stop};
 use pam_base::{Failed, NoMemory, ScriptKind};
 use pam_handle::{Gear, GearTold};
 use pam_library::{Library, LibraryTold};
 use pam_outside::{Sink, Source};
 use pam_room::{World, WorldTold};
-use script_stream::{Lines, whole_input_is_looked_at};
+use script_stream::{Lines, MAX_LINES};
 use std::alloc::Global;
 
 /// Serves the lines of a script one by one, until they end or one is refused, and counts those that were applied.
@@ -40,41 +37,59 @@ pub(crate) fn serve_lines<S: Source, K: Sink>(
     world: &mut World,
 ) -> Result<Ending<ScriptKind>, Stop>
     requires first { lines.old ≡ 0 }
-    requires sound { IsSoundFor (⟦<Gear as GearTold>⟧.players (gear_in library.old)) (⟦<Library as LibraryTold>⟧.slots library.old) world.old.process.ledger }
+    requires sound { IsSoundFor (⟦<Gear as GearTold>⟧.players (gear_in library.old))
+        (⟦<Library as LibraryTold>⟧.slots library.old) world.old.process.ledger }
     ensures gear { gear_in library.new ≡ gear_in library.old }
-    ensures tells { ⟦<Library as LibraryTold>⟧.tells library.new ≡ ⟦<Library as LibraryTold>⟧.tells library.old }
-    ensures world_tells { ⟦<World as WorldTold>⟧.tells world.new ≡ ⟦<World as WorldTold>⟧.tells world.old }
+    ensures tells { ⟦<Library as LibraryTold>⟧.tells library.new
+        ≡ ⟦<Library as LibraryTold>⟧.tells library.old }
+    ensures world_tells { ⟦<World as WorldTold>⟧.tells world.new
+        ≡ ⟦<World as WorldTold>⟧.tells world.old }
     ensures source_tells { S.source_tells source.new ≡ S.source_tells source.old }
     ensures sink_tells { K.sink_tells sink.new ≡ K.sink_tells sink.old }
-    ensures told { (delay : Code → ℕ → ℕ) → ⟦<DelayFn as DelayTold>⟧.delay_is (gear_in library.old).delay delay →
-        IsTrue (⟦<Library as LibraryTold>⟧.tells library.old && ⟦<World as WorldTold>⟧.tells world.old) →
+    ensures told { (delay : Code → ℕ → ℕ) →
+        ⟦<DelayFn as DelayTold>⟧.delay_is (gear_in library.old).delay delay →
+        IsTrue (⟦<Library as LibraryTold>⟧.tells library.old
+        && ⟦<World as WorldTold>⟧.tells world.old) →
         IsTrue (S.source_tells source.old) → IsTrue (K.sink_tells sink.old) →
         (let setting = setting_of (⟦<Gear as GearTold>⟧.players (gear_in library.old)) delay in
         Runs (line_step setting) (Fails setting) result lines.new
-        (state_of (⟦<Library as LibraryTold>⟧.slots library.old) (⟦<World as WorldTold>⟧.plain world.old))
-        (state_of (⟦<Library as LibraryTold>⟧.slots library.new) (⟦<World as WorldTold>⟧.plain world.new))
+        (state_of (⟦<Library as LibraryTold>⟧.slots library.old)
+        (⟦<World as WorldTold>⟧.plain world.old))
+        (state_of (⟦<Library as LibraryTold>⟧.slots library.new)
+        (⟦<World as WorldTold>⟧.plain world.new))
         (S.source_holds source.old) (S.source_holds source.new)
         (K.sink_holds sink.old) (K.sink_holds sink.new)) }
-    ensures served { (delay : Code → ℕ → ℕ) → ⟦<DelayFn as DelayTold>⟧.delay_is (gear_in library.old).delay delay →
-        IsTrue (⟦<Library as LibraryTold>⟧.tells library.old && ⟦<World as WorldTold>⟧.tells world.old) →
+    ensures served { (delay : Code → ℕ → ℕ) →
+        ⟦<DelayFn as DelayTold>⟧.delay_is (gear_in library.old).delay delay →
+        IsTrue (⟦<Library as LibraryTold>⟧.tells library.old
+        && ⟦<World as WorldTold>⟧.tells world.old) →
         IsTrue (S.source_tells source.old) → IsTrue (K.sink_tells sink.old) →
-        ServesAll (setting_of (⟦<Gear as GearTold>⟧.players (gear_in library.old)) delay) result lines.new
-        (state_of (⟦<Library as LibraryTold>⟧.slots library.old) (⟦<World as WorldTold>⟧.plain world.old))
-        (state_of (⟦<Library as LibraryTold>⟧.slots library.new) (⟦<World as WorldTold>⟧.plain world.new))
+        ServesAll
+        (setting_of (⟦<Gear as GearTold>⟧.players (gear_in library.old)) delay) result lines.new
+        (state_of (⟦<Library as LibraryTold>⟧.slots library.old)
+        (⟦<World as WorldTold>⟧.plain world.old))
+        (state_of (⟦<Library as LibraryTold>⟧.slots library.new)
+        (⟦<World as WorldTold>⟧.plain world.new))
         (S.source_holds source.old).left (K.sink_holds sink.old) (K.sink_holds sink.new) }
-    ensures reads { IsTrue (S.source_tells source.old) → ReadsAll result lines.new (S.source_holds source.old) (S.source_holds source.new) }
-    ensures writes { IsTrue (K.sink_tells sink.old) → WritesSome result (K.sink_holds sink.old) (K.sink_holds sink.new) }
-    ensures few { lines.new ≤ 65536 }
-    ensures proceeds { ProceedsFor (IsEndIn (S.source_tells source.old) (S.source_holds source.old).left) (⟦<Gear as GearTold>⟧.players (gear_in library.old))
+    ensures reads { IsTrue (S.source_tells source.old) →
+        ReadsAll result lines.new (S.source_holds source.old) (S.source_holds source.new) }
+    ensures writes { IsTrue (K.sink_tells sink.old) →
+        WritesSome result (K.sink_holds sink.old) (K.sink_holds sink.new) }
+    ensures few { lines.new ≤ MAX_LINES }
+    ensures proceeds { ProceedsFor (IsEndIn (S.source_tells source.old)
+        (S.source_holds source.old).left) (⟦<Gear as GearTold>⟧.players (gear_in library.old))
         world.old.process.ledger (⟦<Library as LibraryTold>⟧.slots library.old)
         world.new.process.ledger (⟦<Library as LibraryTold>⟧.slots library.new) }
-    ensures sound { IsSoundFor (⟦<Gear as GearTold>⟧.players (gear_in library.new)) (⟦<Library as LibraryTold>⟧.slots library.new) world.new.process.ledger }
-    ensures source_faults { RisesIf (has_read_fault (at_last result)) (S.source_faults source.old) (S.source_faults source.new) }
-    ensures sink_faults { RisesIf (has_write_fault result) (K.sink_faults sink.old) (K.sink_faults sink.new) }
+    ensures sound { IsSoundFor (⟦<Gear as GearTold>⟧.players (gear_in library.new))
+        (⟦<Library as LibraryTold>⟧.slots library.new) world.new.process.ledger }
+    ensures source_faults { RisesIf (has_read_fault (at_last result)) (S.source_faults source.old)
+        (S.source_faults source.new) }
+    ensures sink_faults { RisesIf (has_write_fault result) (K.sink_faults sink.old)
+        (K.sink_faults sink.new) }
 {
-    first_turn::<Lines<Meaning>>();
-    turns_go_on::<Lines<Meaning>>();
-    turns_are_a_run::<Lines<Meaning>>();
+    item_stream::laws::first_turn::<Lines<Meaning>>();
+    item_stream::laws::turns_go_on::<Lines<Meaning>>();
+    item_stream::laws::turns_are_a_run::<Lines<Meaning>>();
     reading_is_turns();
     let mut reader = match Reader::new(alloc) {
         Ok(reader) => reader,
@@ -99,52 +114,77 @@ fn take_turn<S: Source, K: Sink>(
     sink: &mut K,
     world: &mut World,
 ) -> Result<Option<Ending<ScriptKind>>, Stop>
-    requires few { lines.old ≤ 65536 }
-    requires sound { IsSoundFor (⟦<Gear as GearTold>⟧.players (gear_in library.old)) (⟦<Library as LibraryTold>⟧.slots library.old) world.old.process.ledger }
+    requires few { lines.old ≤ MAX_LINES }
+    requires sound { IsSoundFor (⟦<Gear as GearTold>⟧.players (gear_in library.old))
+        (⟦<Library as LibraryTold>⟧.slots library.old) world.old.process.ledger }
     ensures gear { gear_in library.new ≡ gear_in library.old }
-    ensures tells { ⟦<Library as LibraryTold>⟧.tells library.new ≡ ⟦<Library as LibraryTold>⟧.tells library.old }
-    ensures world_tells { ⟦<World as WorldTold>⟧.tells world.new ≡ ⟦<World as WorldTold>⟧.tells world.old }
+    ensures tells { ⟦<Library as LibraryTold>⟧.tells library.new
+        ≡ ⟦<Library as LibraryTold>⟧.tells library.old }
+    ensures world_tells { ⟦<World as WorldTold>⟧.tells world.new
+        ≡ ⟦<World as WorldTold>⟧.tells world.old }
     ensures source_tells { S.source_tells source.new ≡ S.source_tells source.old }
     ensures sink_tells { K.sink_tells sink.new ≡ K.sink_tells sink.old }
-    ensures told { (delay : Code → ℕ → ℕ) → ⟦<DelayFn as DelayTold>⟧.delay_is (gear_in library.old).delay delay →
-        IsTrue (⟦<Library as LibraryTold>⟧.tells library.old && ⟦<World as WorldTold>⟧.tells world.old) →
+    ensures told { (delay : Code → ℕ → ℕ) →
+        ⟦<DelayFn as DelayTold>⟧.delay_is (gear_in library.old).delay delay →
+        IsTrue (⟦<Library as LibraryTold>⟧.tells library.old
+        && ⟦<World as WorldTold>⟧.tells world.old) →
         IsTrue (S.source_tells source.old) → IsTrue (K.sink_tells sink.old) →
         (let setting = setting_of (⟦<Gear as GearTold>⟧.players (gear_in library.old)) delay in
         Turns (line_step setting) (Fails setting) result lines.old lines.new
-        (state_of (⟦<Library as LibraryTold>⟧.slots library.old) (⟦<World as WorldTold>⟧.plain world.old))
-        (state_of (⟦<Library as LibraryTold>⟧.slots library.new) (⟦<World as WorldTold>⟧.plain world.new))
+        (state_of (⟦<Library as LibraryTold>⟧.slots library.old)
+        (⟦<World as WorldTold>⟧.plain world.old))
+        (state_of (⟦<Library as LibraryTold>⟧.slots library.new)
+        (⟦<World as WorldTold>⟧.plain world.new))
         reader.old reader.new
         (S.source_holds source.old) (S.source_holds source.new)
         (K.sink_holds sink.old) (K.sink_holds sink.new)) }
-    ensures served { (delay : Code → ℕ → ℕ) → ⟦<DelayFn as DelayTold>⟧.delay_is (gear_in library.old).delay delay →
-        IsTrue (⟦<Library as LibraryTold>⟧.tells library.old && ⟦<World as WorldTold>⟧.tells world.old) →
+    ensures served { (delay : Code → ℕ → ℕ) →
+        ⟦<DelayFn as DelayTold>⟧.delay_is (gear_in library.old).delay delay →
+        IsTrue (⟦<Library as LibraryTold>⟧.tells library.old
+        && ⟦<World as WorldTold>⟧.tells world.old) →
         IsTrue (S.source_tells source.old) → IsTrue (K.sink_tells sink.old) →
-        ServesTurn (setting_of (⟦<Gear as GearTold>⟧.players (gear_in library.old)) delay) result lines.old lines.new
-        (state_of (⟦<Library as LibraryTold>⟧.slots library.old) (⟦<World as WorldTold>⟧.plain world.old))
-        (state_of (⟦<Library as LibraryTold>⟧.slots library.new) (⟦<World as WorldTold>⟧.plain world.new))
-        (reader.old ++ (S.source_holds source.old).left) (reader.new ++ (S.source_holds source.new).left) (K.sink_holds sink.old) (K.sink_holds sink.new) }
-    ensures reads { IsTrue (S.source_tells source.old) → ReadsTurn result lines.old lines.new reader.old reader.new (S.source_holds source.old) (S.source_holds source.new) }
-    ensures writes { IsTrue (K.sink_tells sink.old) → WritesSome result (K.sink_holds sink.old) (K.sink_holds sink.new) }
-    ensures few { lines.new ≤ 65536 }
+        ServesTurn
+        (setting_of (⟦<Gear as GearTold>⟧.players (gear_in library.old)) delay) result lines.old
+        lines.new
+        (state_of (⟦<Library as LibraryTold>⟧.slots library.old)
+        (⟦<World as WorldTold>⟧.plain world.old))
+        (state_of (⟦<Library as LibraryTold>⟧.slots library.new)
+        (⟦<World as WorldTold>⟧.plain world.new))
+        (reader.old ++ (S.source_holds source.old).left)
+        (reader.new ++ (S.source_holds source.new).left) (K.sink_holds sink.old)
+        (K.sink_holds sink.new) }
+    ensures reads { IsTrue (S.source_tells source.old) →
+        ReadsTurn result lines.old lines.new reader.old reader.new (S.source_holds source.old)
+        (S.source_holds source.new) }
+    ensures writes { IsTrue (K.sink_tells sink.old) →
+        WritesSome result (K.sink_holds sink.old) (K.sink_holds sink.new) }
+    ensures few { lines.new ≤ MAX_LINES }
     ensures next { result ≡ Ok None → lines.new ≡ lines.old + 1 }
-    ensures leads { result ≡ Ok None → IsTrue (S.source_tells source.old) → LeadsTo (reader.old ++ (S.source_holds source.old).left) (reader.new ++ (S.source_holds source.new).left) }
-    ensures proceeds { ProceedsFor (IsEndIn (S.source_tells source.old) (reader.old ++ (S.source_holds source.old).left)) (⟦<Gear as GearTold>⟧.players (gear_in library.old))
+    ensures leads { result ≡ Ok None → IsTrue (S.source_tells source.old) →
+        LeadsTo (reader.old ++ (S.source_holds source.old).left)
+        (reader.new ++ (S.source_holds source.new).left) }
+    ensures proceeds { ProceedsFor (IsEndIn (S.source_tells source.old)
+        (reader.old ++ (S.source_holds source.old).left))
+        (⟦<Gear as GearTold>⟧.players (gear_in library.old))
         world.old.process.ledger (⟦<Library as LibraryTold>⟧.slots library.old)
         world.new.process.ledger (⟦<Library as LibraryTold>⟧.slots library.new) }
-    ensures sound { IsSoundFor (⟦<Gear as GearTold>⟧.players (gear_in library.new)) (⟦<Library as LibraryTold>⟧.slots library.new) world.new.process.ledger }
-    ensures source_faults { RisesIf (has_read_fault result) (S.source_faults source.old) (S.source_faults source.new) }
-    ensures sink_faults { RisesIf (has_write_fault result) (K.sink_faults sink.old) (K.sink_faults sink.new) }
+    ensures sound { IsSoundFor (⟦<Gear as GearTold>⟧.players (gear_in library.new))
+        (⟦<Library as LibraryTold>⟧.slots library.new) world.new.process.ledger }
+    ensures source_faults { RisesIf (has_read_fault result) (S.source_faults source.old)
+        (S.source_faults source.new) }
+    ensures sink_faults { RisesIf (has_write_fault result) (K.sink_faults sink.old)
+        (K.sink_faults sink.new) }
 {
-    nothing_found_is_a_turn::<Lines<Meaning>>();
-    found_item_is_a_turn::<Lines<Meaning>>();
-    whole_input_is_looked_at();
+    item_stream::laws::nothing_found_is_a_turn::<Lines<Meaning>>();
+    item_stream::laws::found_item_is_a_turn::<Lines<Meaning>>();
+    script_stream::laws::whole_input_is_looked_at();
     reading_is_turns();
     let before = *lines;
     match reader.find::<Lines<Meaning>, S>(source, before) {
         Err(Failed) => Ok(Some(Ending::ReadFault)),
         Ok(Found::End) => Ok(Some(Ending::Done)),
         Ok(Found::Item { length, size }) => {
-            match serve_line(
+            match answer_line(
                 alloc,
                 library,
                 before,
@@ -161,7 +201,7 @@ fn take_turn<S: Source, K: Sink>(
                 }
             }
         }
-        Ok(Found::Rest) => match serve_line(alloc, library, before, reader.bytes(), sink, world) {
+        Ok(Found::Rest) => match answer_line(alloc, library, before, reader.bytes(), sink, world) {
             Err(stop) => Err(stop),
             Ok(Some(kind)) => Ok(Some(Ending::Refused(kind))),
             Ok(None) => {

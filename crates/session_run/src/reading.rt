@@ -3,9 +3,7 @@ ghost use Rattle.script_stream.specs.Looked.{IsOver, looked};
 ghost use Rattle.script_stream.specs.Run.{step_at};
 ghost use Rattle.session_run.specs.Reading.{Whatever, line_read};
 
-use item_stream::{
-    first_turn, found_item_is_a_turn, nothing_found_is_a_turn, turns_are_a_run, turns_go_on,
-};
+use item_stream::laws;
 use script_stream::{LineStepping, Lines};
 
 /// What the bytes of a script alone say of its lines, for contracts: which of them are refused.
@@ -34,9 +32,9 @@ pub(crate) fn reading_is_turns()
     ensures on { TurnsGoOn looked (step_at line_read) Whatever }
     ensures run { TurnsAreRun looked (step_at line_read) Whatever }
 {
-    first_turn::<Lines<Reading>>();
-    nothing_found_is_a_turn::<Lines<Reading>>();
-    found_item_is_a_turn::<Lines<Reading>>();
-    turns_go_on::<Lines<Reading>>();
-    turns_are_a_run::<Lines<Reading>>();
+    laws::first_turn::<Lines<Reading>>();
+    laws::nothing_found_is_a_turn::<Lines<Reading>>();
+    laws::found_item_is_a_turn::<Lines<Reading>>();
+    laws::turns_go_on::<Lines<Reading>>();
+    laws::turns_are_a_run::<Lines<Reading>>();
 }

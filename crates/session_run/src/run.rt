@@ -15,14 +15,14 @@ ghost use Rattle.session_run.specs.Whole.{Completes, EndsWith, RunsScript, endin
 use crate::closing::{close_reported, close_silently};
 use crate::lines::serve_lines;
 use crate::status::{ending_status, stop_status};
-use data_due::{all_are_filed, end_stands};
 use fail_delay::{DelayFn, DelayTold};
 use item_stream::{Ending, Stop};
 use pam_base::{Failed, NoMemory, ScriptKind};
 use pam_handle::{Gear, GearTold};
-use pam_library::{Library, LibraryTold, calls_stand_for_their_events};
+use pam_library::{Library, LibraryTold};
 use pam_outside::{Sink, Source, write_all};
 use pam_room::{World, WorldTold};
+use script_stream::MAX_LINES;
 use session_report::{read_fault_report, script_report};
 use std::alloc::Global;
 
@@ -40,53 +40,71 @@ pub fn run_script<S: Source, K: Sink>(
     sink: &mut K,
     world: &mut World,
 ) -> Result<Ending<ScriptKind>, Stop>
-    requires { IsSoundFor (⟦<Gear as GearTold>⟧.players (gear_in library.old)) (⟦<Library as LibraryTold>⟧.slots library.old) world.old.process.ledger }
+    requires { IsSoundFor (⟦<Gear as GearTold>⟧.players (gear_in library.old))
+        (⟦<Library as LibraryTold>⟧.slots library.old) world.old.process.ledger }
 
     // Where all objects tell: what was read and written, and what library and world are afterwards.
-    ensures told { (delay : Code → ℕ → ℕ) → ⟦<DelayFn as DelayTold>⟧.delay_is (gear_in library.old).delay delay →
-        IsTrue (⟦<Library as LibraryTold>⟧.tells library.old && ⟦<World as WorldTold>⟧.tells world.old) →
+    ensures told { (delay : Code → ℕ → ℕ) →
+        ⟦<DelayFn as DelayTold>⟧.delay_is (gear_in library.old).delay delay →
+        IsTrue (⟦<Library as LibraryTold>⟧.tells library.old
+        && ⟦<World as WorldTold>⟧.tells world.old) →
         IsTrue (S.source_tells source.old) → IsTrue (K.sink_tells sink.old) →
         RunsScript (setting_of (⟦<Gear as GearTold>⟧.players (gear_in library.old)) delay) result
-        (state_of (⟦<Library as LibraryTold>⟧.slots library.old) (⟦<World as WorldTold>⟧.plain world.old))
-        (state_of (⟦<Library as LibraryTold>⟧.slots library.new) (⟦<World as WorldTold>⟧.plain world.new))
+        (state_of (⟦<Library as LibraryTold>⟧.slots library.old)
+        (⟦<World as WorldTold>⟧.plain world.old))
+        (state_of (⟦<Library as LibraryTold>⟧.slots library.new)
+        (⟦<World as WorldTold>⟧.plain world.new))
         (S.source_holds source.old) (S.source_holds source.new)
         (K.sink_holds sink.old) (K.sink_holds sink.new) }
 
     // No run gives up by itself.
-    ensures complete { (delay : Code → ℕ → ℕ) → ⟦<DelayFn as DelayTold>⟧.delay_is (gear_in library.old).delay delay →
-        IsTrue (⟦<Library as LibraryTold>⟧.tells library.old && ⟦<World as WorldTold>⟧.tells world.old) →
+    ensures complete { (delay : Code → ℕ → ℕ) →
+        ⟦<DelayFn as DelayTold>⟧.delay_is (gear_in library.old).delay delay →
+        IsTrue (⟦<Library as LibraryTold>⟧.tells library.old
+        && ⟦<World as WorldTold>⟧.tells world.old) →
         IsTrue (S.source_tells source.old) → IsTrue (K.sink_tells sink.old) →
         Completes (setting_of (⟦<Gear as GearTold>⟧.players (gear_in library.old)) delay) result
-        (state_of (⟦<Library as LibraryTold>⟧.slots library.old) (⟦<World as WorldTold>⟧.plain world.old)) (S.source_holds source.old).left
-        (Rose (S.source_faults source.old) (S.source_faults source.new)) (Rose (K.sink_faults sink.old) (K.sink_faults sink.new)) }
+        (state_of (⟦<Library as LibraryTold>⟧.slots library.old)
+        (⟦<World as WorldTold>⟧.plain world.old)) (S.source_holds source.old).left
+        (Rose (S.source_faults source.old) (S.source_faults source.new))
+        (Rose (K.sink_faults sink.old) (K.sink_faults sink.new)) }
 
     // Where the source alone tells: how often it was read, and how the run ends by the bytes of the script. Where the sink alone does:
     // how often it was written.
-    ensures reads { IsTrue (S.source_tells source.old) → ReadsScript result (S.source_holds source.old) (S.source_holds source.new) }
-    ensures writes { IsTrue (K.sink_tells sink.old) → WritesScript (K.sink_holds sink.old) (K.sink_holds sink.new) }
+    ensures reads { IsTrue (S.source_tells source.old) →
+        ReadsScript result (S.source_holds source.old) (S.source_holds source.new) }
+    ensures writes { IsTrue (K.sink_tells sink.old) →
+        WritesScript (K.sink_holds sink.old) (K.sink_holds sink.new) }
 
     // In any world: what is due for cleanup was cleaned up, and no transaction is open.
     ensures none_open { NoneIsOpen (⟦<Library as LibraryTold>⟧.slots library.new) }
-    ensures filed { (id : ℕ) → id < length world.new.process.ledger.births → is_filed world.new.process.ledger id ≡ true }
-    ensures proceeds { ProceedsFor (IsEndOfRun (S.source_tells source.old) (S.source_holds source.old).left) (⟦<Gear as GearTold>⟧.players (gear_in library.old))
+    ensures filed { (id : ℕ) → id < length world.new.process.ledger.births →
+        is_filed world.new.process.ledger id ≡ true }
+    ensures proceeds { ProceedsFor (IsEndOfRun (S.source_tells source.old)
+        (S.source_holds source.old).left) (⟦<Gear as GearTold>⟧.players (gear_in library.old))
         world.old.process.ledger (⟦<Library as LibraryTold>⟧.slots library.old)
         world.new.process.ledger (⟦<Library as LibraryTold>⟧.slots library.new) }
-    ensures sound { IsSoundFor (⟦<Gear as GearTold>⟧.players (gear_in library.new)) (⟦<Library as LibraryTold>⟧.slots library.new) world.new.process.ledger }
+    ensures sound { IsSoundFor (⟦<Gear as GearTold>⟧.players (gear_in library.new))
+        (⟦<Library as LibraryTold>⟧.slots library.new) world.new.process.ledger }
     ensures gear { gear_in library.new ≡ gear_in library.old }
 
     // The causes, in any world.
-    ensures source_faults { IfOk result (λ ending. RisesIf (has_read_fault (Ok (Some ending))) (S.source_faults source.old) (S.source_faults source.new)) }
-    ensures sink_faults { RisesIf (has_write_fault result) (K.sink_faults sink.old) (K.sink_faults sink.new) }
+    ensures source_faults { IfOk result (λ ending. RisesIf (has_read_fault (Ok (Some ending)))
+        (S.source_faults source.old) (S.source_faults source.new)) }
+    ensures sink_faults { RisesIf (has_write_fault result) (K.sink_faults sink.old)
+        (K.sink_faults sink.new) }
 
     // What tells before the run tells after it.
-    ensures tells { ⟦<Library as LibraryTold>⟧.tells library.new ≡ ⟦<Library as LibraryTold>⟧.tells library.old }
-    ensures world_tells { ⟦<World as WorldTold>⟧.tells world.new ≡ ⟦<World as WorldTold>⟧.tells world.old }
+    ensures tells { ⟦<Library as LibraryTold>⟧.tells library.new
+        ≡ ⟦<Library as LibraryTold>⟧.tells library.old }
+    ensures world_tells { ⟦<World as WorldTold>⟧.tells world.new
+        ≡ ⟦<World as WorldTold>⟧.tells world.old }
     ensures source_tells { S.source_tells source.new ≡ S.source_tells source.old }
     ensures sink_tells { K.sink_tells sink.new ≡ K.sink_tells sink.old }
 {
-    all_are_filed();
-    calls_stand_for_their_events();
-    end_stands();
+    data_due::laws::all_are_filed();
+    pam_library::laws::calls_stand_for_their_events();
+    data_due::laws::end_stands();
     let mut lines = 0;
     match serve_lines(alloc, library, &mut lines, source, sink, world) {
         Err(stop) => {
@@ -112,23 +130,31 @@ fn finish<K: Sink>(
     sink: &mut K,
     world: &mut World,
 ) -> Result<(), Stop>
-    requires few { lines ≤ 65536 }
-    requires sound { IsSoundFor (⟦<Gear as GearTold>⟧.players (gear_in library.old)) (⟦<Library as LibraryTold>⟧.slots library.old) world.old.process.ledger }
+    requires few { lines ≤ MAX_LINES }
+    requires sound { IsSoundFor (⟦<Gear as GearTold>⟧.players (gear_in library.old))
+        (⟦<Library as LibraryTold>⟧.slots library.old) world.old.process.ledger }
     ensures gear { gear_in library.new ≡ gear_in library.old }
-    ensures tells { ⟦<Library as LibraryTold>⟧.tells library.new ≡ ⟦<Library as LibraryTold>⟧.tells library.old }
-    ensures world_tells { ⟦<World as WorldTold>⟧.tells world.new ≡ ⟦<World as WorldTold>⟧.tells world.old }
+    ensures tells { ⟦<Library as LibraryTold>⟧.tells library.new
+        ≡ ⟦<Library as LibraryTold>⟧.tells library.old }
+    ensures world_tells { ⟦<World as WorldTold>⟧.tells world.new
+        ≡ ⟦<World as WorldTold>⟧.tells world.old }
     ensures sink_tells { K.sink_tells sink.new ≡ K.sink_tells sink.old }
     ensures told { IsTrue (K.sink_tells sink.old) →
         EndsWith (⟦<Gear as GearTold>⟧.players (gear_in library.old)) ending lines result
-        (state_of (⟦<Library as LibraryTold>⟧.slots library.old) (⟦<World as WorldTold>⟧.plain world.old))
-        (state_of (⟦<Library as LibraryTold>⟧.slots library.new) (⟦<World as WorldTold>⟧.plain world.new))
+        (state_of (⟦<Library as LibraryTold>⟧.slots library.old)
+        (⟦<World as WorldTold>⟧.plain world.old))
+        (state_of (⟦<Library as LibraryTold>⟧.slots library.new)
+        (⟦<World as WorldTold>⟧.plain world.new))
         (K.sink_holds sink.old) (K.sink_holds sink.new) }
     ensures none_open { OnOk result (NoneIsOpen (⟦<Library as LibraryTold>⟧.slots library.new)) }
-    ensures proceeds { ProceedsFor (HasStatus (ending_status ending)) (⟦<Gear as GearTold>⟧.players (gear_in library.old))
+    ensures proceeds { ProceedsFor (HasStatus (ending_status ending))
+        (⟦<Gear as GearTold>⟧.players (gear_in library.old))
         world.old.process.ledger (⟦<Library as LibraryTold>⟧.slots library.old)
         world.new.process.ledger (⟦<Library as LibraryTold>⟧.slots library.new) }
-    ensures sound { IsSoundFor (⟦<Gear as GearTold>⟧.players (gear_in library.new)) (⟦<Library as LibraryTold>⟧.slots library.new) world.new.process.ledger }
-    ensures faults { RisesIf (has_write_fault result) (K.sink_faults sink.old) (K.sink_faults sink.new) }
+    ensures sound { IsSoundFor (⟦<Gear as GearTold>⟧.players (gear_in library.new))
+        (⟦<Library as LibraryTold>⟧.slots library.new) world.new.process.ledger }
+    ensures faults { RisesIf (has_write_fault result) (K.sink_faults sink.old)
+        (K.sink_faults sink.new) }
 {
     match close_reported(alloc, library, ending_status(ending), sink, world) {
         Err(stop) => Err(stop),
@@ -144,7 +170,7 @@ fn finish<K: Sink>(
 
 // The last line of the report, where there is one.
 fn last_report(alloc: Global, ending: Ending<ScriptKind>, lines: u32) -> Result<String, NoMemory>
-    requires { lines ≤ 65536 }
+    requires { lines ≤ MAX_LINES }
     ensures { IfOk result (λ text. string_bytes text ≡ last_line ending lines) }
 {
     match ending {

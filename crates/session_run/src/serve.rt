@@ -7,7 +7,7 @@ ghost use Rattle.data_due.specs.Moves.{Moves};
 ghost use Rattle.pam_room.specs.Module.{notes_of};
 ghost use Rattle.pam_library.specs.AnyWorld.{end_at};
 ghost use Rattle.pam_library.specs.Plain.{gear_in};
-ghost use Rattle.pam_library.specs.Slots.{lists_of, slot_at};
+ghost use Rattle.pam_library.specs.Slots.{handle_limit, lists_of, slot_at};
 ghost use Rattle.pam_base.specs.Call.{is_fit};
 ghost use Rattle.pam_library.specs.Sound.{IsSoundFor};
 ghost use Rattle.session_run.specs.AnyWorld.{ProceedsFor};
@@ -21,9 +21,8 @@ ghost use Rattle.session_run.specs.Step.{line_step, unrefused, Fails};
 
 use crate::meaning::Meaning;
 use crate::world::{set_caller, set_world_moment, set_world_word};
-use data_due::nothing_moves;
 use fail_delay::{DelayFn, DelayTold};
-use item_stream::{Stop, item_is_served};
+use item_stream::Stop;
 use pam_base::{Failed, NoMemory, Refuse, ScriptKind, Step};
 use pam_handle::{Gear, GearTold};
 use pam_library::{Library, LibraryTold};
@@ -36,7 +35,7 @@ use std::alloc::Global;
 
 /// Serves one line that has so many before it: it is applied, and then its report is written. Answers why it was
 /// refused, if it was; then nothing happened.
-pub(crate) fn serve_line<K: Sink>(
+pub(crate) fn answer_line<K: Sink>(
     alloc: Global,
     library: &mut Library,
     lines: u32,
@@ -44,31 +43,45 @@ pub(crate) fn serve_line<K: Sink>(
     sink: &mut K,
     world: &mut World,
 ) -> Result<Option<ScriptKind>, Stop>
-    requires { IsSoundFor (⟦<Gear as GearTold>⟧.players (gear_in library.old)) (⟦<Library as LibraryTold>⟧.slots library.old) world.old.process.ledger }
+    requires { IsSoundFor (⟦<Gear as GearTold>⟧.players (gear_in library.old))
+        (⟦<Library as LibraryTold>⟧.slots library.old) world.old.process.ledger }
     ensures gear { gear_in library.new ≡ gear_in library.old }
-    ensures tells { ⟦<Library as LibraryTold>⟧.tells library.new ≡ ⟦<Library as LibraryTold>⟧.tells library.old }
-    ensures world_tells { ⟦<World as WorldTold>⟧.tells world.new ≡ ⟦<World as WorldTold>⟧.tells world.old }
+    ensures tells { ⟦<Library as LibraryTold>⟧.tells library.new
+        ≡ ⟦<Library as LibraryTold>⟧.tells library.old }
+    ensures world_tells { ⟦<World as WorldTold>⟧.tells world.new
+        ≡ ⟦<World as WorldTold>⟧.tells world.old }
     ensures sink_tells { K.sink_tells sink.new ≡ K.sink_tells sink.old }
-    ensures told { (delay : Code → ℕ → ℕ) → ⟦<DelayFn as DelayTold>⟧.delay_is (gear_in library.old).delay delay →
-        IsTrue (⟦<Library as LibraryTold>⟧.tells library.old && ⟦<World as WorldTold>⟧.tells world.old) → IsTrue (K.sink_tells sink.old) →
+    ensures told { (delay : Code → ℕ → ℕ) →
+        ⟦<DelayFn as DelayTold>⟧.delay_is (gear_in library.old).delay delay →
+        IsTrue (⟦<Library as LibraryTold>⟧.tells library.old
+        && ⟦<World as WorldTold>⟧.tells world.old) → IsTrue (K.sink_tells sink.old) →
         (let setting = setting_of (⟦<Gear as GearTold>⟧.players (gear_in library.old)) delay in
         ServesTold (line_step setting) (Fails setting) result lines line.now
-        (state_of (⟦<Library as LibraryTold>⟧.slots library.old) (⟦<World as WorldTold>⟧.plain world.old))
-        (state_of (⟦<Library as LibraryTold>⟧.slots library.new) (⟦<World as WorldTold>⟧.plain world.new))
+        (state_of (⟦<Library as LibraryTold>⟧.slots library.old)
+        (⟦<World as WorldTold>⟧.plain world.old))
+        (state_of (⟦<Library as LibraryTold>⟧.slots library.new)
+        (⟦<World as WorldTold>⟧.plain world.new))
         (K.sink_holds sink.old) (K.sink_holds sink.new)) }
-    ensures proceeds { ProceedsFor (AsksEndAt lines line.now) (⟦<Gear as GearTold>⟧.players (gear_in library.old))
+    ensures proceeds { ProceedsFor (AsksEndAt lines line.now)
+        (⟦<Gear as GearTold>⟧.players (gear_in library.old))
         world.old.process.ledger (⟦<Library as LibraryTold>⟧.slots library.old)
         world.new.process.ledger (⟦<Library as LibraryTold>⟧.slots library.new) }
-    ensures sound { IsSoundFor (⟦<Gear as GearTold>⟧.players (gear_in library.new)) (⟦<Library as LibraryTold>⟧.slots library.new) world.new.process.ledger }
-    ensures moves { result ≡ Ok None → MovesBy (notes_of (⟦<Gear as GearTold>⟧.players (gear_in library.old))) (⟦<Library as LibraryTold>⟧.slots library.old) line.now
-        world.old.process.ledger world.new.process.ledger (⟦<Library as LibraryTold>⟧.slots library.new) }
-    ensures few { result ≡ Ok None → lines < 65536 }
+    ensures sound { IsSoundFor (⟦<Gear as GearTold>⟧.players (gear_in library.new))
+        (⟦<Library as LibraryTold>⟧.slots library.new) world.new.process.ledger }
+    ensures moves { result ≡ Ok None → MovesBy
+        (notes_of (⟦<Gear as GearTold>⟧.players (gear_in library.old)))
+        (⟦<Library as LibraryTold>⟧.slots library.old) line.now
+        world.old.process.ledger world.new.process.ledger
+        (⟦<Library as LibraryTold>⟧.slots library.new) }
+    ensures few { result ≡ Ok None → lines < MAX_LINES }
     ensures reads { ReadsLine result lines line.now }
-    ensures writes { IsTrue (K.sink_tells sink.old) → WritesSome result (K.sink_holds sink.old) (K.sink_holds sink.new) }
-    ensures faults { RisesIf (has_write_fault result) (K.sink_faults sink.old) (K.sink_faults sink.new) }
+    ensures writes { IsTrue (K.sink_tells sink.old) →
+        WritesSome result (K.sink_holds sink.old) (K.sink_holds sink.new) }
+    ensures faults { RisesIf (has_write_fault result) (K.sink_faults sink.old)
+        (K.sink_faults sink.new) }
 {
-    item_is_served::<Lines<Meaning>>();
-    nothing_moves();
+    item_stream::laws::item_is_served::<Lines<Meaning>>();
+    data_due::laws::nothing_moves();
     if lines >= MAX_LINES {
         return Ok(Some(ScriptKind::TooManyLines));
     }
@@ -104,31 +117,45 @@ fn serve_step<K: Sink>(
     world: &mut World,
 ) -> Result<(), Stop>
     requires fit { IsTrue (is_fit step.now.call) }
-    requires sound { IsSoundFor (⟦<Gear as GearTold>⟧.players (gear_in library.old)) (⟦<Library as LibraryTold>⟧.slots library.old) world.old.process.ledger }
+    requires sound { IsSoundFor (⟦<Gear as GearTold>⟧.players (gear_in library.old))
+        (⟦<Library as LibraryTold>⟧.slots library.old) world.old.process.ledger }
     ensures gear { gear_in library.new ≡ gear_in library.old }
-    ensures tells { ⟦<Library as LibraryTold>⟧.tells library.new ≡ ⟦<Library as LibraryTold>⟧.tells library.old }
-    ensures world_tells { ⟦<World as WorldTold>⟧.tells world.new ≡ ⟦<World as WorldTold>⟧.tells world.old }
+    ensures tells { ⟦<Library as LibraryTold>⟧.tells library.new
+        ≡ ⟦<Library as LibraryTold>⟧.tells library.old }
+    ensures world_tells { ⟦<World as WorldTold>⟧.tells world.new
+        ≡ ⟦<World as WorldTold>⟧.tells world.old }
     ensures sink_tells { K.sink_tells sink.new ≡ K.sink_tells sink.old }
-    ensures told { (delay : Code → ℕ → ℕ) → ⟦<DelayFn as DelayTold>⟧.delay_is (gear_in library.old).delay delay →
-        IsTrue (⟦<Library as LibraryTold>⟧.tells library.old && ⟦<World as WorldTold>⟧.tells world.old) → IsTrue (K.sink_tells sink.old) →
-        (lines : ℕ) (line : List ℕ) → lines < 65536 → parsed line ≡ Ok (script_lines.Step step.now) →
+    ensures told { (delay : Code → ℕ → ℕ) →
+        ⟦<DelayFn as DelayTold>⟧.delay_is (gear_in library.old).delay delay →
+        IsTrue (⟦<Library as LibraryTold>⟧.tells library.old
+        && ⟦<World as WorldTold>⟧.tells world.old) → IsTrue (K.sink_tells sink.old) →
+        (lines : ℕ) (line : List ℕ) → lines < MAX_LINES →
+        parsed line ≡ Ok (script_lines.Step step.now) →
         (let setting = setting_of (⟦<Gear as GearTold>⟧.players (gear_in library.old)) delay in
         ServesTold (line_step setting) (Fails setting) (unrefused result) lines line
-        (state_of (⟦<Library as LibraryTold>⟧.slots library.old) (⟦<World as WorldTold>⟧.plain world.old))
-        (state_of (⟦<Library as LibraryTold>⟧.slots library.new) (⟦<World as WorldTold>⟧.plain world.new))
+        (state_of (⟦<Library as LibraryTold>⟧.slots library.old)
+        (⟦<World as WorldTold>⟧.plain world.old))
+        (state_of (⟦<Library as LibraryTold>⟧.slots library.new)
+        (⟦<World as WorldTold>⟧.plain world.new))
         (K.sink_holds sink.old) (K.sink_holds sink.new)) }
-    ensures moves { Moves (notes_of (⟦<Gear as GearTold>⟧.players (gear_in library.old))) 17
-        (end_at (slot_at (⟦<Library as LibraryTold>⟧.slots library.old) step.now.number) step.now.number step.now.call)
+    ensures moves { Moves (notes_of (⟦<Gear as GearTold>⟧.players (gear_in library.old)))
+        handle_limit
+        (end_at (slot_at (⟦<Library as LibraryTold>⟧.slots library.old) step.now.number)
+        step.now.number step.now.call)
         world.old.process.ledger (lists_of (⟦<Library as LibraryTold>⟧.slots library.old))
         world.new.process.ledger (lists_of (⟦<Library as LibraryTold>⟧.slots library.new)) }
-    ensures proceeds { ProceedsFor (IsEndStep step.now) (⟦<Gear as GearTold>⟧.players (gear_in library.old))
+    ensures proceeds { ProceedsFor (IsEndStep step.now)
+        (⟦<Gear as GearTold>⟧.players (gear_in library.old))
         world.old.process.ledger (⟦<Library as LibraryTold>⟧.slots library.old)
         world.new.process.ledger (⟦<Library as LibraryTold>⟧.slots library.new) }
-    ensures sound { IsSoundFor (⟦<Gear as GearTold>⟧.players (gear_in library.new)) (⟦<Library as LibraryTold>⟧.slots library.new) world.new.process.ledger }
-    ensures writes { IsTrue (K.sink_tells sink.old) → WritesSome result (K.sink_holds sink.old) (K.sink_holds sink.new) }
-    ensures faults { RisesIf (has_write_fault result) (K.sink_faults sink.old) (K.sink_faults sink.new) }
+    ensures sound { IsSoundFor (⟦<Gear as GearTold>⟧.players (gear_in library.new))
+        (⟦<Library as LibraryTold>⟧.slots library.new) world.new.process.ledger }
+    ensures writes { IsTrue (K.sink_tells sink.old) →
+        WritesSome result (K.sink_holds sink.old) (K.sink_holds sink.new) }
+    ensures faults { RisesIf (has_write_fault result) (K.sink_faults sink.old)
+        (K.sink_faults sink.new) }
 {
-    item_is_served::<Lines<Meaning>>();
+    item_stream::laws::item_is_served::<Lines<Meaning>>();
     let outcome = match library.apply(alloc, world, step) {
         Ok(outcome) => outcome,
         Err(NoMemory) => return Err(Stop::NoMemory),

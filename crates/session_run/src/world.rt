@@ -7,9 +7,11 @@ use pam_room::{World, WorldTold};
 /// Sets the moment of the world's clock, where it tells.
 pub(crate) fn set_world_moment(world: &mut World, moment: u64)
     requires { moment ≤ MAX_MOMENT }
-    ensures tells { ⟦<World as WorldTold>⟧.tells world.new ≡ ⟦<World as WorldTold>⟧.tells world.old }
+    ensures tells { ⟦<World as WorldTold>⟧.tells world.new
+        ≡ ⟦<World as WorldTold>⟧.tells world.old }
     ensures told { IsTrue (⟦<World as WorldTold>⟧.tells world.old) →
-        ⟦<World as WorldTold>⟧.plain world.new ≡ at_moment moment (⟦<World as WorldTold>⟧.plain world.old) }
+        ⟦<World as WorldTold>⟧.plain world.new
+        ≡ at_moment moment (⟦<World as WorldTold>⟧.plain world.old) }
     ensures process { world.new.process ≡ world.old.process }
 {
     set_moment(&mut *world.clock, moment);
@@ -17,9 +19,11 @@ pub(crate) fn set_world_moment(world: &mut World, moment: u64)
 
 /// Sets the random word of the world's clock, where it tells.
 pub(crate) fn set_world_word(world: &mut World, word: u64)
-    ensures tells { ⟦<World as WorldTold>⟧.tells world.new ≡ ⟦<World as WorldTold>⟧.tells world.old }
+    ensures tells { ⟦<World as WorldTold>⟧.tells world.new
+        ≡ ⟦<World as WorldTold>⟧.tells world.old }
     ensures told { IsTrue (⟦<World as WorldTold>⟧.tells world.old) →
-        ⟦<World as WorldTold>⟧.plain world.new ≡ with_word word (⟦<World as WorldTold>⟧.plain world.old) }
+        ⟦<World as WorldTold>⟧.plain world.new
+        ≡ with_word word (⟦<World as WorldTold>⟧.plain world.old) }
     ensures process { world.new.process ≡ world.old.process }
 {
     set_word(&mut *world.clock, word);
@@ -27,8 +31,10 @@ pub(crate) fn set_world_word(world: &mut World, word: u64)
 
 /// Sets the user id of the calling process.
 pub(crate) fn set_caller(world: &mut World, caller: u32)
-    ensures tells { ⟦<World as WorldTold>⟧.tells world.new ≡ ⟦<World as WorldTold>⟧.tells world.old }
-    ensures plain { ⟦<World as WorldTold>⟧.plain world.new ≡ with_caller caller (⟦<World as WorldTold>⟧.plain world.old) }
+    ensures tells { ⟦<World as WorldTold>⟧.tells world.new
+        ≡ ⟦<World as WorldTold>⟧.tells world.old }
+    ensures plain { ⟦<World as WorldTold>⟧.plain world.new
+        ≡ with_caller caller (⟦<World as WorldTold>⟧.plain world.old) }
     ensures ledger { world.new.process.ledger ≡ world.old.process.ledger }
 {
     world.process.caller = caller;

@@ -13,11 +13,8 @@ ghost use Rattle.session_wire.specs.Step.{answers, Fails};
 use crate::meaning::Meaning;
 use crate::serve::serve_frame;
 use fail_delay::{DelayFn, DelayTold};
-use frame_stream::{FrameFault, FramesOf};
-use item_stream::{
-    Ending, Found, Reader, Stop, first_turn, found_item_is_a_turn, nothing_found_is_a_turn,
-    turns_are_a_run, turns_go_on,
-};
+use frame_stream::{FrameFault, FramesOf, MAX_FRAMES};
+use item_stream::{Ending, Found, Reader, Stop, laws};
 use pam_base::{Failed, NoMemory};
 use pam_handle::{Gear, GearTold};
 use pam_library::{Library, LibraryTold};
@@ -35,29 +32,39 @@ pub(crate) fn serve_frames<S: Source, K: Sink>(
     world: &mut World,
 ) -> Result<Ending<FrameFault>, Stop>
     requires first { frames.old ≡ 0 }
-    requires sound { IsSoundFor (⟦<Gear as GearTold>⟧.players (gear_in library.old)) (⟦<Library as LibraryTold>⟧.slots library.old) world.old.process.ledger }
+    requires sound { IsSoundFor (⟦<Gear as GearTold>⟧.players (gear_in library.old))
+        (⟦<Library as LibraryTold>⟧.slots library.old) world.old.process.ledger }
     ensures gear { gear_in library.new ≡ gear_in library.old }
-    ensures tells { ⟦<Library as LibraryTold>⟧.tells library.new ≡ ⟦<Library as LibraryTold>⟧.tells library.old }
-    ensures world_tells { ⟦<World as WorldTold>⟧.tells world.new ≡ ⟦<World as WorldTold>⟧.tells world.old }
+    ensures tells { ⟦<Library as LibraryTold>⟧.tells library.new
+        ≡ ⟦<Library as LibraryTold>⟧.tells library.old }
+    ensures world_tells { ⟦<World as WorldTold>⟧.tells world.new
+        ≡ ⟦<World as WorldTold>⟧.tells world.old }
     ensures source_tells { S.source_tells source.new ≡ S.source_tells source.old }
     ensures sink_tells { K.sink_tells sink.new ≡ K.sink_tells sink.old }
-    ensures told { (delay : Code → ℕ → ℕ) → ⟦<DelayFn as DelayTold>⟧.delay_is (gear_in library.old).delay delay →
-        IsTrue (⟦<Library as LibraryTold>⟧.tells library.old && ⟦<World as WorldTold>⟧.tells world.old) →
+    ensures told { (delay : Code → ℕ → ℕ) →
+        ⟦<DelayFn as DelayTold>⟧.delay_is (gear_in library.old).delay delay →
+        IsTrue (⟦<Library as LibraryTold>⟧.tells library.old
+        && ⟦<World as WorldTold>⟧.tells world.old) →
         IsTrue (S.source_tells source.old) → IsTrue (K.sink_tells sink.old) →
         (let setting = setting_of (⟦<Gear as GearTold>⟧.players (gear_in library.old)) delay in
         Runs looked (step_at (answers setting)) (Fails setting) result frames.new
-        (state_of (⟦<Library as LibraryTold>⟧.slots library.old) (⟦<World as WorldTold>⟧.plain world.old))
-        (state_of (⟦<Library as LibraryTold>⟧.slots library.new) (⟦<World as WorldTold>⟧.plain world.new))
+        (state_of (⟦<Library as LibraryTold>⟧.slots library.old)
+        (⟦<World as WorldTold>⟧.plain world.old))
+        (state_of (⟦<Library as LibraryTold>⟧.slots library.new)
+        (⟦<World as WorldTold>⟧.plain world.new))
         (S.source_holds source.old) (S.source_holds source.new)
         (K.sink_holds sink.old) (K.sink_holds sink.new)) }
-    ensures few { frames.new ≤ 65536 }
-    ensures sound { IsSoundFor (⟦<Gear as GearTold>⟧.players (gear_in library.new)) (⟦<Library as LibraryTold>⟧.slots library.new) world.new.process.ledger }
-    ensures source_faults { RisesIf (has_read_fault (at_last result)) (S.source_faults source.old) (S.source_faults source.new) }
-    ensures sink_faults { RisesIf (has_write_fault result) (K.sink_faults sink.old) (K.sink_faults sink.new) }
+    ensures few { frames.new ≤ MAX_FRAMES }
+    ensures sound { IsSoundFor (⟦<Gear as GearTold>⟧.players (gear_in library.new))
+        (⟦<Library as LibraryTold>⟧.slots library.new) world.new.process.ledger }
+    ensures source_faults { RisesIf (has_read_fault (at_last result)) (S.source_faults source.old)
+        (S.source_faults source.new) }
+    ensures sink_faults { RisesIf (has_write_fault result) (K.sink_faults sink.old)
+        (K.sink_faults sink.new) }
 {
-    first_turn::<FramesOf<Meaning>>();
-    turns_go_on::<FramesOf<Meaning>>();
-    turns_are_a_run::<FramesOf<Meaning>>();
+    laws::first_turn::<FramesOf<Meaning>>();
+    laws::turns_go_on::<FramesOf<Meaning>>();
+    laws::turns_are_a_run::<FramesOf<Meaning>>();
     let mut reader = match Reader::new(alloc) {
         Ok(reader) => reader,
         Err(NoMemory) => return Err(Stop::NoMemory),
@@ -81,31 +88,41 @@ fn take_turn<S: Source, K: Sink>(
     sink: &mut K,
     world: &mut World,
 ) -> Result<Option<Ending<FrameFault>>, Stop>
-    requires few { frames.old ≤ 65536 }
-    requires sound { IsSoundFor (⟦<Gear as GearTold>⟧.players (gear_in library.old)) (⟦<Library as LibraryTold>⟧.slots library.old) world.old.process.ledger }
+    requires few { frames.old ≤ MAX_FRAMES }
+    requires sound { IsSoundFor (⟦<Gear as GearTold>⟧.players (gear_in library.old))
+        (⟦<Library as LibraryTold>⟧.slots library.old) world.old.process.ledger }
     ensures gear { gear_in library.new ≡ gear_in library.old }
-    ensures tells { ⟦<Library as LibraryTold>⟧.tells library.new ≡ ⟦<Library as LibraryTold>⟧.tells library.old }
-    ensures world_tells { ⟦<World as WorldTold>⟧.tells world.new ≡ ⟦<World as WorldTold>⟧.tells world.old }
+    ensures tells { ⟦<Library as LibraryTold>⟧.tells library.new
+        ≡ ⟦<Library as LibraryTold>⟧.tells library.old }
+    ensures world_tells { ⟦<World as WorldTold>⟧.tells world.new
+        ≡ ⟦<World as WorldTold>⟧.tells world.old }
     ensures source_tells { S.source_tells source.new ≡ S.source_tells source.old }
     ensures sink_tells { K.sink_tells sink.new ≡ K.sink_tells sink.old }
-    ensures told { (delay : Code → ℕ → ℕ) → ⟦<DelayFn as DelayTold>⟧.delay_is (gear_in library.old).delay delay →
-        IsTrue (⟦<Library as LibraryTold>⟧.tells library.old && ⟦<World as WorldTold>⟧.tells world.old) →
+    ensures told { (delay : Code → ℕ → ℕ) →
+        ⟦<DelayFn as DelayTold>⟧.delay_is (gear_in library.old).delay delay →
+        IsTrue (⟦<Library as LibraryTold>⟧.tells library.old
+        && ⟦<World as WorldTold>⟧.tells world.old) →
         IsTrue (S.source_tells source.old) → IsTrue (K.sink_tells sink.old) →
         (let setting = setting_of (⟦<Gear as GearTold>⟧.players (gear_in library.old)) delay in
         Turns looked (step_at (answers setting)) (Fails setting) result frames.old frames.new
-        (state_of (⟦<Library as LibraryTold>⟧.slots library.old) (⟦<World as WorldTold>⟧.plain world.old))
-        (state_of (⟦<Library as LibraryTold>⟧.slots library.new) (⟦<World as WorldTold>⟧.plain world.new))
+        (state_of (⟦<Library as LibraryTold>⟧.slots library.old)
+        (⟦<World as WorldTold>⟧.plain world.old))
+        (state_of (⟦<Library as LibraryTold>⟧.slots library.new)
+        (⟦<World as WorldTold>⟧.plain world.new))
         reader.old reader.new
         (S.source_holds source.old) (S.source_holds source.new)
         (K.sink_holds sink.old) (K.sink_holds sink.new)) }
-    ensures few { frames.new ≤ 65536 }
+    ensures few { frames.new ≤ MAX_FRAMES }
     ensures next { result ≡ Ok None → frames.new ≡ frames.old + 1 }
-    ensures sound { IsSoundFor (⟦<Gear as GearTold>⟧.players (gear_in library.new)) (⟦<Library as LibraryTold>⟧.slots library.new) world.new.process.ledger }
-    ensures source_faults { RisesIf (has_read_fault result) (S.source_faults source.old) (S.source_faults source.new) }
-    ensures sink_faults { RisesIf (has_write_fault result) (K.sink_faults sink.old) (K.sink_faults sink.new) }
+    ensures sound { IsSoundFor (⟦<Gear as GearTold>⟧.players (gear_in library.new))
+        (⟦<Library as LibraryTold>⟧.slots library.new) world.new.process.ledger }
+    ensures source_faults { RisesIf (has_read_fault result) (S.source_faults source.old)
+        (S.source_faults source.new) }
+    ensures sink_faults { RisesIf (has_write_fault result) (K.sink_faults sink.old)
+        (K.sink_faults sink.new) }
 {
-    nothing_found_is_a_turn::<FramesOf<Meaning>>();
-    found_item_is_a_turn::<FramesOf<Meaning>>();
+    laws::nothing_found_is_a_turn::<FramesOf<Meaning>>();
+    laws::found_item_is_a_turn::<FramesOf<Meaning>>();
     let before = *frames;
     match reader.find::<FramesOf<Meaning>, S>(source, before) {
         Err(Failed) => Ok(Some(Ending::ReadFault)),

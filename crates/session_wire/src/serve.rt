@@ -13,7 +13,7 @@ ghost use Rattle.session_wire.specs.Step.{answers, served, Fails};
 use crate::meaning::Meaning;
 use fail_delay::{DelayFn, DelayTold};
 use frame_stream::{FrameFault, FramesOf, MAX_FRAMES};
-use item_stream::{Stop, item_is_served};
+use item_stream::{Stop, laws};
 use pam_base::{Failed, NoMemory, Step};
 use pam_handle::{Gear, GearTold};
 use pam_library::{Library, LibraryTold};
@@ -33,23 +33,32 @@ pub(crate) fn serve_frame<K: Sink>(
     sink: &mut K,
     world: &mut World,
 ) -> Result<Option<FrameFault>, Stop>
-    requires { IsSoundFor (⟦<Gear as GearTold>⟧.players (gear_in library.old)) (⟦<Library as LibraryTold>⟧.slots library.old) world.old.process.ledger }
+    requires { IsSoundFor (⟦<Gear as GearTold>⟧.players (gear_in library.old))
+        (⟦<Library as LibraryTold>⟧.slots library.old) world.old.process.ledger }
     ensures gear { gear_in library.new ≡ gear_in library.old }
-    ensures tells { ⟦<Library as LibraryTold>⟧.tells library.new ≡ ⟦<Library as LibraryTold>⟧.tells library.old }
-    ensures world_tells { ⟦<World as WorldTold>⟧.tells world.new ≡ ⟦<World as WorldTold>⟧.tells world.old }
+    ensures tells { ⟦<Library as LibraryTold>⟧.tells library.new
+        ≡ ⟦<Library as LibraryTold>⟧.tells library.old }
+    ensures world_tells { ⟦<World as WorldTold>⟧.tells world.new
+        ≡ ⟦<World as WorldTold>⟧.tells world.old }
     ensures sink_tells { K.sink_tells sink.new ≡ K.sink_tells sink.old }
-    ensures told { (delay : Code → ℕ → ℕ) → ⟦<DelayFn as DelayTold>⟧.delay_is (gear_in library.old).delay delay →
-        IsTrue (⟦<Library as LibraryTold>⟧.tells library.old && ⟦<World as WorldTold>⟧.tells world.old) → IsTrue (K.sink_tells sink.old) →
+    ensures told { (delay : Code → ℕ → ℕ) →
+        ⟦<DelayFn as DelayTold>⟧.delay_is (gear_in library.old).delay delay →
+        IsTrue (⟦<Library as LibraryTold>⟧.tells library.old
+        && ⟦<World as WorldTold>⟧.tells world.old) → IsTrue (K.sink_tells sink.old) →
         (let setting = setting_of (⟦<Gear as GearTold>⟧.players (gear_in library.old)) delay in
         ServesTold (step_at (answers setting)) (Fails setting) result frames frame.now
-        (state_of (⟦<Library as LibraryTold>⟧.slots library.old) (⟦<World as WorldTold>⟧.plain world.old))
-        (state_of (⟦<Library as LibraryTold>⟧.slots library.new) (⟦<World as WorldTold>⟧.plain world.new))
+        (state_of (⟦<Library as LibraryTold>⟧.slots library.old)
+        (⟦<World as WorldTold>⟧.plain world.old))
+        (state_of (⟦<Library as LibraryTold>⟧.slots library.new)
+        (⟦<World as WorldTold>⟧.plain world.new))
         (K.sink_holds sink.old) (K.sink_holds sink.new)) }
-    ensures sound { IsSoundFor (⟦<Gear as GearTold>⟧.players (gear_in library.new)) (⟦<Library as LibraryTold>⟧.slots library.new) world.new.process.ledger }
-    ensures few { result ≡ Ok None → frames < 65536 }
-    ensures faults { RisesIf (has_write_fault result) (K.sink_faults sink.old) (K.sink_faults sink.new) }
+    ensures sound { IsSoundFor (⟦<Gear as GearTold>⟧.players (gear_in library.new))
+        (⟦<Library as LibraryTold>⟧.slots library.new) world.new.process.ledger }
+    ensures few { result ≡ Ok None → frames < MAX_FRAMES }
+    ensures faults { RisesIf (has_write_fault result) (K.sink_faults sink.old)
+        (K.sink_faults sink.new) }
 {
-    item_is_served::<FramesOf<Meaning>>();
+    laws::item_is_served::<FramesOf<Meaning>>();
     if frames >= MAX_FRAMES {
         return Ok(Some(FrameFault::TooManyFrames));
     }
@@ -72,23 +81,32 @@ fn serve_call<K: Sink>(
     world: &mut World,
 ) -> Result<(), Stop>
     requires fit { IsTrue (is_fit step.now.call) }
-    requires sound { IsSoundFor (⟦<Gear as GearTold>⟧.players (gear_in library.old)) (⟦<Library as LibraryTold>⟧.slots library.old) world.old.process.ledger }
+    requires sound { IsSoundFor (⟦<Gear as GearTold>⟧.players (gear_in library.old))
+        (⟦<Library as LibraryTold>⟧.slots library.old) world.old.process.ledger }
     ensures gear { gear_in library.new ≡ gear_in library.old }
-    ensures tells { ⟦<Library as LibraryTold>⟧.tells library.new ≡ ⟦<Library as LibraryTold>⟧.tells library.old }
-    ensures world_tells { ⟦<World as WorldTold>⟧.tells world.new ≡ ⟦<World as WorldTold>⟧.tells world.old }
+    ensures tells { ⟦<Library as LibraryTold>⟧.tells library.new
+        ≡ ⟦<Library as LibraryTold>⟧.tells library.old }
+    ensures world_tells { ⟦<World as WorldTold>⟧.tells world.new
+        ≡ ⟦<World as WorldTold>⟧.tells world.old }
     ensures sink_tells { K.sink_tells sink.new ≡ K.sink_tells sink.old }
-    ensures told { (delay : Code → ℕ → ℕ) → ⟦<DelayFn as DelayTold>⟧.delay_is (gear_in library.old).delay delay →
-        IsTrue (⟦<Library as LibraryTold>⟧.tells library.old && ⟦<World as WorldTold>⟧.tells world.old) → IsTrue (K.sink_tells sink.old) →
-        (frames : ℕ) (frame : List ℕ) → frames < 65536 → step_of frame ≡ Some step.now →
+    ensures told { (delay : Code → ℕ → ℕ) →
+        ⟦<DelayFn as DelayTold>⟧.delay_is (gear_in library.old).delay delay →
+        IsTrue (⟦<Library as LibraryTold>⟧.tells library.old
+        && ⟦<World as WorldTold>⟧.tells world.old) → IsTrue (K.sink_tells sink.old) →
+        (frames : ℕ) (frame : List ℕ) → frames < MAX_FRAMES → step_of frame ≡ Some step.now →
         (let setting = setting_of (⟦<Gear as GearTold>⟧.players (gear_in library.old)) delay in
         ServesTold (step_at (answers setting)) (Fails setting) (served result) frames frame
-        (state_of (⟦<Library as LibraryTold>⟧.slots library.old) (⟦<World as WorldTold>⟧.plain world.old))
-        (state_of (⟦<Library as LibraryTold>⟧.slots library.new) (⟦<World as WorldTold>⟧.plain world.new))
+        (state_of (⟦<Library as LibraryTold>⟧.slots library.old)
+        (⟦<World as WorldTold>⟧.plain world.old))
+        (state_of (⟦<Library as LibraryTold>⟧.slots library.new)
+        (⟦<World as WorldTold>⟧.plain world.new))
         (K.sink_holds sink.old) (K.sink_holds sink.new)) }
-    ensures sound { IsSoundFor (⟦<Gear as GearTold>⟧.players (gear_in library.new)) (⟦<Library as LibraryTold>⟧.slots library.new) world.new.process.ledger }
-    ensures faults { RisesIf (has_write_fault result) (K.sink_faults sink.old) (K.sink_faults sink.new) }
+    ensures sound { IsSoundFor (⟦<Gear as GearTold>⟧.players (gear_in library.new))
+        (⟦<Library as LibraryTold>⟧.slots library.new) world.new.process.ledger }
+    ensures faults { RisesIf (has_write_fault result) (K.sink_faults sink.old)
+        (K.sink_faults sink.new) }
 {
-    item_is_served::<FramesOf<Meaning>>();
+    laws::item_is_served::<FramesOf<Meaning>>();
     let outcome = match library.apply(alloc, world, step) {
         Ok(outcome) => outcome,
         Err(NoMemory) => return Err(Stop::NoMemory),

@@ -5,4 +5,6 @@ pub mod Keeping
 pub mod Complete
 pub mod Serving
 pub mod Resuming
-pub mod Laws
+pub mod PathLaws
+pub mod Retelling
+pub mod Straying

@@ -3,3 +3,4 @@ pub mod Walk
 pub mod Route
 pub mod Pass
 pub mod PathLaw
+pub mod Retell

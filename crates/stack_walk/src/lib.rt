@@ -4,11 +4,10 @@
 #![tactic(auto)]
 
 mod impression;
+pub mod laws;
 mod opinion;
 mod pass_kind;
-mod path_law;
 
 pub use impression::Impression;
 pub use opinion::Opinion;
 pub use pass_kind::PassKind;
-pub use path_law::{follows_keep, follows_route, goes_on, keeps_complete};

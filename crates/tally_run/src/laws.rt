@@ -4,9 +4,6 @@ ghost use Rattle.session_run.specs.State.{RunState, Setting};
 ghost use Rattle.session_run.specs.Step.{line_step};
 ghost use Rattle.tally_run.specs.Tallied.{FaillockAloneWrites, Tallies};
 
-use mod_tally::recorded_failures_stand;
-use session_run::runs_change_files_by_plays;
-
 /// However the steps of a run fall on its transactions, no failure that was recorded is lost from a user's file but by one
 /// that is recorded later and against which it doesn't count, or by a clearing. It does nothing: its contract is a law
 /// about the definitions.
@@ -15,6 +12,6 @@ pub fn runs_keep_recorded_failures()
         FaillockAloneWrites path setting.players →
         Tallies path s.world.vault.files (run_lines (line_step setting) n s script).last.world.vault.files }
 {
-    recorded_failures_stand();
-    runs_change_files_by_plays();
+    mod_tally::laws::recorded_failures_stand();
+    session_run::laws::runs_change_files_by_plays();
 }

@@ -6,9 +6,7 @@ use conv_port::Conv;
 use data_cleanup::{Datum, Receipt};
 use pam_base::{Code, NoMemory};
 use pam_outside::{Clock, Vault};
-use pam_room::{
-    Call, Module, Process, Transaction, nothing_is_set, set_data_are_sets, spend_by_length,
-};
+use pam_room::{Call, Module, Process, Transaction, laws, spend_by_length};
 use std::alloc::Global;
 use std::test::Fail;
 
@@ -76,8 +74,8 @@ impl Module for Forgetful {
         _vault: &mut dyn Vault,
         _clock: &mut dyn Clock,
     ) -> Result<Code, NoMemory> {
-        nothing_is_set();
-        set_data_are_sets();
+        laws::nothing_is_set();
+        laws::set_data_are_sets();
         transaction.set_data(alloc, &mut process.ledger, b"a", b"xyz")?;
         Err(NoMemory)
     }

@@ -1,7 +1,5 @@
-ghost use Rattle.std.specs.Prelude.{◌≡◌, ◌<◌, ◌^◌, length};
-ghost use Rattle.dispatch_core.specs.Lines.{names_of};
-ghost use Rattle.pam_room.specs.Stays.{IsReady};
 ghost use Rattle.pam_handle.specs.Plain.{plain_handle};
+ghost use Rattle.pam_handle.specs.Ready.{IsReadyFor};
 
 use conv_port::QueueConv;
 use data_cleanup::Ledger;
@@ -48,9 +46,6 @@ fn world(alloc: Global, file: &[u8]) -> Result<World, Fail> {
 
 /// Plays a scene in a new transaction, which is ended with the status 9.
 pub fn play(alloc: Global, gear: &Gear, scene: &Scene) -> Result<Outcome, Fail> {
-    if gear.mods.len() > 9 {
-        return Err("too many modules")?;
-    }
     let mut world = world(alloc, scene.file)?;
     let conv = Box::new(alloc, QueueConv::new(alloc))?;
     let Ok(mut handle) = Handle::start(alloc, gear, &mut world, 1, b"t", Some(b"joe"), conv) else {
@@ -90,11 +85,12 @@ fn call_all(
     handle: &mut Handle,
     calls: &[(Func, u32)],
 ) -> Result<Vec<Result<Code, NoMemory>>, NoMemory>
-    requires names { (plain_handle ⟦<Room as RoomTold>⟧.plain handle.old).names ≡ names_of (⟦<Gear as GearTold>⟧.players gear.now) }
-    requires few { length (⟦<Gear as GearTold>⟧.players gear.now) < 2 ^ 32 }
-    requires ready { IsReady (length (⟦<Gear as GearTold>⟧.players gear.now)) (plain_handle ⟦<Room as RoomTold>⟧.plain handle.old).room.transaction (⟦<World as WorldTold>⟧.plain world.old).process }
-    ensures names { (plain_handle ⟦<Room as RoomTold>⟧.plain handle.new).names ≡ names_of (⟦<Gear as GearTold>⟧.players gear.now) }
-    ensures ready { IsReady (length (⟦<Gear as GearTold>⟧.players gear.now)) (plain_handle ⟦<Room as RoomTold>⟧.plain handle.new).room.transaction (⟦<World as WorldTold>⟧.plain world.new).process }
+    requires { IsReadyFor (⟦<Gear as GearTold>⟧.players gear.now)
+        (plain_handle ⟦<Room as RoomTold>⟧.plain handle.old)
+        (⟦<World as WorldTold>⟧.plain world.old).process }
+    ensures { IsReadyFor (⟦<Gear as GearTold>⟧.players gear.now)
+        (plain_handle ⟦<Room as RoomTold>⟧.plain handle.new)
+        (⟦<World as WorldTold>⟧.plain world.new).process }
 {
     let mut answers = Vec::new(alloc);
     for (func, flags) in calls {
@@ -112,11 +108,12 @@ fn call(
     func: Func,
     flags: u32,
 ) -> Result<Code, NoMemory>
-    requires names { (plain_handle ⟦<Room as RoomTold>⟧.plain handle.old).names ≡ names_of (⟦<Gear as GearTold>⟧.players gear.now) }
-    requires few { length (⟦<Gear as GearTold>⟧.players gear.now) < 2 ^ 32 }
-    requires ready { IsReady (length (⟦<Gear as GearTold>⟧.players gear.now)) (plain_handle ⟦<Room as RoomTold>⟧.plain handle.old).room.transaction (⟦<World as WorldTold>⟧.plain world.old).process }
-    ensures names { (plain_handle ⟦<Room as RoomTold>⟧.plain handle.new).names ≡ names_of (⟦<Gear as GearTold>⟧.players gear.now) }
-    ensures ready { IsReady (length (⟦<Gear as GearTold>⟧.players gear.now)) (plain_handle ⟦<Room as RoomTold>⟧.plain handle.new).room.transaction (⟦<World as WorldTold>⟧.plain world.new).process }
+    requires { IsReadyFor (⟦<Gear as GearTold>⟧.players gear.now)
+        (plain_handle ⟦<Room as RoomTold>⟧.plain handle.old)
+        (⟦<World as WorldTold>⟧.plain world.old).process }
+    ensures { IsReadyFor (⟦<Gear as GearTold>⟧.players gear.now)
+        (plain_handle ⟦<Room as RoomTold>⟧.plain handle.new)
+        (⟦<World as WorldTold>⟧.plain world.new).process }
 {
     match func {
         Func::Authenticate => handle.authenticate(alloc, gear, world, flags),

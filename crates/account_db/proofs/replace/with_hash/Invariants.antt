@@ -1,5 +1,5 @@
 use Rattle.std.proofs.Common.{◌≡◌, cond, ◌++◌, length}
-use Rattle.account_db.specs.Parts.{parts_of}
+use Rattle.pam_base.specs.Parts.{parts_of}
 use Rattle.account_db.specs.Replace.{changed_lines}
 use Rattle.account_db.proofs.replace.with_hash.Given as goal
 

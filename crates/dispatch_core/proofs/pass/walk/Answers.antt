@@ -47,21 +47,21 @@ returns-in_default-clause-told g c = λ told.
     let visits : List Visit = c.loop-walker.invariant.0 in
     let answers : Answering State = answers_by (map (player_of (λ b. (goal.Module-dyn g (b.vtable, b.value)).label b.value) (λ b. (goal.Module-dyn g (b.vtable, b.value)).plays b.value) (λ b. (goal.Module-dyn g (b.vtable, b.value)).note b.value)) c.args.mods.now) c.args.request.func c.args.request.flags in
     let serve = serving c.args.request.kind (by_place c.args.follows.now) answers in
-    let later : State = state_of (plain_room (λ b. (goal.Conv-dyn g (b.vtable, b.value)).conv_holds b.value) c.take_turn.new.room) (plain_world (λ b. (goal.Vault-dyn g (b.vtable, b.value)).vault_holds b.value) (λ b. (goal.Clock-dyn g (b.vtable, b.value)).clock_holds b.value) (λ b. (goal.Nap-dyn g (b.vtable, b.value)).nap_holds b.value) c.take_turn.new.world) in
+    let later : State = state_of (plain_room (λ b. (goal.Conv-dyn g (b.vtable, b.value)).conv_holds b.value) c.walk_line.new.room) (plain_world (λ b. (goal.Vault-dyn g (b.vtable, b.value)).vault_holds b.value) (λ b. (goal.Clock-dyn g (b.vtable, b.value)).clock_holds b.value) (λ b. (goal.Nap-dyn g (b.vtable, b.value)).nap_holds b.value) c.walk_line.new.world) in
     let now = both_tell _ _ _ _ sofar.room_tells sofar.world_tells told in
-    let kept : c.take_turn.new.keeps ≡ c.loop-walker.keeps = c.in_ok-_answer.ensures.keeps ∙ ap (kept_with c.loop-walker.keeps c.loop-walker.walker.at) c.in_default.is in
-    walks_off _ c.loop-walker.walker.opinion c.take_turn.new.supplies.given.past visits later c.take_turn.new.keeps c.take_turn.new.supplies.given
+    let kept : c.walk_line.new.keeps ≡ c.loop-walker.keeps = c.in_ok-_answer.ensures.keeps ∙ ap (kept_with c.loop-walker.keeps c.loop-walker.walker.at) c.in_default.is in
+    walks_off _ c.loop-walker.walker.opinion c.walk_line.new.supplies.given.past visits later c.walk_line.new.keeps c.walk_line.new.supplies.given
     (c.in_ok-_answer.ensures.taken ∙ ap (taken_with c.loop-walker.supplies.given.taken) c.in_default.is ∙ sofar.progress.taken_is)
     (subst (λ (k : Answers). is_some k ≡ true → Keeps k visits) (sym kept) sofar.progress.kept_is)
     (turn_more c.args.request.kind serve c.loop-walker.chain.nodes c.args.chain.now.nodes c.loop-walker.walker _ _ c.in_ok-_answer.field-0 None
-    (λ stack o. turned c.args.request.kind serve stack o c.loop-walker.walker.opinion c.take_turn.new.walker (pass_state c.take_turn.new.supplies.given.past (visits_with visits (c.loop-walker.walker.at + 1) o) later))
+    (λ stack o. turned c.args.request.kind serve stack o c.loop-walker.walker.opinion c.walk_line.new.walker (pass_state c.walk_line.new.supplies.given.past (visits_with visits (c.loop-walker.walker.at + 1) o) later))
     sofar.nodes (c.in_ok-_answer.ensures.told now visits) c.in_default.is (sofar.goes told))
 
 pub returns-in_default-clause-sound : goal.returns-in_default-clause-sound
-returns-in_default-clause-sound g c = c.soundness_is_transitive.ensures _ _ _ _ _ _ _ _ c.loop-walker.invariant.1.sound c.take_turn.ensures.sound
+returns-in_default-clause-sound g c = c.soundness_is_transitive.ensures _ _ _ _ _ _ _ _ c.loop-walker.invariant.1.sound c.walk_line.ensures.sound
 
 pub returns-in_err-_answer-clause-sound : goal.returns-in_err-_answer-clause-sound
-returns-in_err-_answer-clause-sound g c = c.soundness_is_transitive.ensures _ _ _ _ _ _ _ _ c.loop-walker.invariant.1.sound c.take_turn.ensures.sound
+returns-in_err-_answer-clause-sound g c = c.soundness_is_transitive.ensures _ _ _ _ _ _ _ _ c.loop-walker.invariant.1.sound c.walk_line.ensures.sound
 
 pub loop-walker-preserved : goal.loop-walker-preserved
 loop-walker-preserved g c =
@@ -71,35 +71,35 @@ loop-walker-preserved g c =
     let at = c.loop-walker.walker.at in
     let answers : Answering State = answers_by (map (player_of (λ b. (goal.Module-dyn g (b.vtable, b.value)).label b.value) (λ b. (goal.Module-dyn g (b.vtable, b.value)).plays b.value) (λ b. (goal.Module-dyn g (b.vtable, b.value)).note b.value)) c.args.mods.now) c.args.request.func c.args.request.flags in
     let serve = serving c.args.request.kind (by_place c.args.follows.now) answers in
-    let later : State = state_of (plain_room (λ b. (goal.Conv-dyn g (b.vtable, b.value)).conv_holds b.value) c.take_turn.new.room) (plain_world (λ b. (goal.Vault-dyn g (b.vtable, b.value)).vault_holds b.value) (λ b. (goal.Clock-dyn g (b.vtable, b.value)).clock_holds b.value) (λ b. (goal.Nap-dyn g (b.vtable, b.value)).nap_holds b.value) c.take_turn.new.world) in
-    let kept : c.take_turn.new.keeps ≡ kept_at c.loop-walker.keeps at answer = c.in_ok-_answer.ensures.keeps ∙ ap (kept_with c.loop-walker.keeps at) c.in-Some.is in
-    let held : is_some c.take_turn.new.keeps ≡ is_some c.loop-walker.keeps = ap is_some kept ∙ held-more c.loop-walker.keeps at answer in
-    let taken : c.take_turn.new.supplies.given.taken ≡ c.loop-walker.supplies.given.taken ++ answer ∷ [] = c.in_ok-_answer.ensures.taken ∙ ap (taken_with c.loop-walker.supplies.given.taken) c.in-Some.is in
-    let ahead : at < c.take_turn.new.walker.at = subst (λ (o : Option Code). IsAhead o c.loop-walker.walker c.take_turn.new.walker) c.in-Some.is c.in_ok-_answer.ensures.ahead in
+    let later : State = state_of (plain_room (λ b. (goal.Conv-dyn g (b.vtable, b.value)).conv_holds b.value) c.walk_line.new.room) (plain_world (λ b. (goal.Vault-dyn g (b.vtable, b.value)).vault_holds b.value) (λ b. (goal.Clock-dyn g (b.vtable, b.value)).clock_holds b.value) (λ b. (goal.Nap-dyn g (b.vtable, b.value)).nap_holds b.value) c.walk_line.new.world) in
+    let kept : c.walk_line.new.keeps ≡ kept_at c.loop-walker.keeps at answer = c.in_ok-_answer.ensures.keeps ∙ ap (kept_with c.loop-walker.keeps at) c.in-Some.is in
+    let held : is_some c.walk_line.new.keeps ≡ is_some c.loop-walker.keeps = ap is_some kept ∙ held-more c.loop-walker.keeps at answer in
+    let taken : c.walk_line.new.supplies.given.taken ≡ c.loop-walker.supplies.given.taken ++ answer ∷ [] = c.in_ok-_answer.ensures.taken ∙ ap (taken_with c.loop-walker.supplies.given.taken) c.in-Some.is in
+    let ahead : at < c.walk_line.new.walker.at = subst (λ (o : Option Code). IsAhead o c.loop-walker.walker c.walk_line.new.walker) c.in-Some.is c.in_ok-_answer.ensures.ahead in
     let within : at < lines_in c.loop-walker.chain.nodes = omega (arith, c.loop-walker-test.true, c.len.ensures.counted) in (
       visits ++ visit (at + 1) answer ∷ [],
       record {
         goes = λ told.
             let now = both_tell _ _ _ _ sofar.room_tells sofar.world_tells told in
             turn_more c.args.request.kind serve c.loop-walker.chain.nodes c.args.chain.now.nodes c.loop-walker.walker _ _ c.in_ok-_answer.field-0 (Some answer)
-            (λ stack o. turned c.args.request.kind serve stack o c.loop-walker.walker.opinion c.take_turn.new.walker (pass_state c.take_turn.new.supplies.given.past (visits_with visits (at + 1) o) later))
+            (λ stack o. turned c.args.request.kind serve stack o c.loop-walker.walker.opinion c.walk_line.new.walker (pass_state c.walk_line.new.supplies.given.past (visits_with visits (at + 1) o) later))
             sofar.nodes (c.in_ok-_answer.ensures.told now visits) c.in-Some.is (sofar.goes told);
-        progress = one_more c.loop-walker.keeps c.take_turn.new.keeps c.loop-walker.supplies.given.taken c.take_turn.new.supplies.given.taken at c.take_turn.new.walker.at visits answer sofar.progress
+        progress = one_more c.loop-walker.keeps c.walk_line.new.keeps c.loop-walker.supplies.given.taken c.walk_line.new.supplies.given.taken at c.walk_line.new.walker.at visits answer sofar.progress
             (λ there. omega (arith, sofar.cells there, within, ap lines_in sofar.nodes)) held kept taken ahead;
         few = omega (arith, ap length taken, length-append c.loop-walker.supplies.given.taken (answer ∷ []), sofar.few, ahead);
         answers_fit = omega (arith, c.in_ok-_answer.ensures.answers, sofar.answers_fit);
-        spare = omega (arith, c.take_turn.ensures.spare, sofar.spare, ahead);
-        paths = paths_ahead _ _ (at + 1) _ (omega (arith, ahead)) (subst (λ (t : Stack). HasPaths t (at + 1) c.take_turn.new.supplies.paths) sofar.nodes c.take_turn.ensures.paths);
+        spare = omega (arith, c.walk_line.ensures.spare, sofar.spare, ahead);
+        paths = paths_ahead _ _ (at + 1) _ (omega (arith, ahead)) (subst (λ (t : Stack). HasPaths t (at + 1) c.walk_line.new.supplies.paths) sofar.nodes c.walk_line.ensures.paths);
         cells = λ there. ap lines_kept kept ∙ lines_kept-more c.loop-walker.keeps at answer ∙ sofar.cells (sym held ∙ there);
         held = held ∙ sofar.held;
-        room_tells = c.take_turn.ensures.room_tells ∙ sofar.room_tells;
-        world_tells = c.take_turn.ensures.world_tells ∙ sofar.world_tells;
-        nap = c.take_turn.ensures.nap ∙ sofar.nap;
-        nodes = c.take_turn.ensures.nodes ∙ sofar.nodes;
-        names = c.take_turn.ensures.names ∙ sofar.names;
+        room_tells = c.walk_line.ensures.room_tells ∙ sofar.room_tells;
+        world_tells = c.walk_line.ensures.world_tells ∙ sofar.world_tells;
+        nap = c.walk_line.ensures.nap ∙ sofar.nap;
+        nodes = c.walk_line.ensures.nodes ∙ sofar.nodes;
+        names = c.walk_line.ensures.names ∙ sofar.names;
         looks = omega (arith, c.in_ok-_answer.ensures.looks, sofar.looks);
-        sound = c.soundness_is_transitive.ensures _ _ _ _ _ _ _ _ sofar.sound c.take_turn.ensures.sound;
-        ready = c.take_turn.ensures.ready;
+        sound = c.soundness_is_transitive.ensures _ _ _ _ _ _ _ _ sofar.sound c.walk_line.ensures.sound;
+        ready = c.walk_line.ensures.ready;
       },
     )
 

@@ -3,22 +3,22 @@ use Rattle.pam_library.proofs.Within.{inside_goes}
 use Rattle.pam_library.proofs.calls.call_open.Goals as goal
 
 pub returns-in-SetItem-clause-goes : goal.returns-in-SetItem-clause-goes
-returns-in-SetItem-clause-goes g c = rw c.in-SetItem.is (inside_goes _ _ _ _ _ _ _ _ _ _ refl c.nothing_grows.ensures c.requires.told c.requires.names c.requires.ready.none_gone c.receipts_in-filed.ensures c.set_item.ensures.goes)
+returns-in-SetItem-clause-goes g c = rw c.in-SetItem.is (inside_goes _ _ _ _ _ _ _ _ _ _ refl c.nothing_grows.ensures c.requires.told c.requires.ready.0 c.requires.ready.1.none_gone c.receipts_in-filed.ensures c.set_item.ensures.goes)
 
 pub returns-in-GetItem-clause-goes : goal.returns-in-GetItem-clause-goes
-returns-in-GetItem-clause-goes g c = rw c.in-GetItem.is (inside_goes _ _ _ _ _ _ _ _ _ _ refl c.nothing_grows.ensures c.requires.told c.requires.names c.requires.ready.none_gone c.receipts_in-filed.ensures c.get_item.ensures)
+returns-in-GetItem-clause-goes g c = rw c.in-GetItem.is (inside_goes _ _ _ _ _ _ _ _ _ _ refl c.nothing_grows.ensures c.requires.told c.requires.ready.0 c.requires.ready.1.none_gone c.receipts_in-filed.ensures c.get_item.ensures)
 
 pub returns-in-PutEnv-clause-goes : goal.returns-in-PutEnv-clause-goes
-returns-in-PutEnv-clause-goes g c = rw c.in-PutEnv.is (inside_goes _ _ _ _ _ _ _ _ _ _ refl c.nothing_grows.ensures c.requires.told c.requires.names c.requires.ready.none_gone c.receipts_in-filed.ensures c.put_env.ensures.goes)
+returns-in-PutEnv-clause-goes g c = rw c.in-PutEnv.is (inside_goes _ _ _ _ _ _ _ _ _ _ refl c.nothing_grows.ensures c.requires.told c.requires.ready.0 c.requires.ready.1.none_gone c.receipts_in-filed.ensures c.put_env.ensures.goes)
 
 pub returns-in-GetEnv-clause-goes : goal.returns-in-GetEnv-clause-goes
-returns-in-GetEnv-clause-goes g c = rw c.in-GetEnv.is (inside_goes _ _ _ _ _ _ _ _ _ _ refl c.nothing_grows.ensures c.requires.told c.requires.names c.requires.ready.none_gone c.receipts_in-filed.ensures c.get_env.ensures)
+returns-in-GetEnv-clause-goes g c = rw c.in-GetEnv.is (inside_goes _ _ _ _ _ _ _ _ _ _ refl c.nothing_grows.ensures c.requires.told c.requires.ready.0 c.requires.ready.1.none_gone c.receipts_in-filed.ensures c.get_env.ensures)
 
 pub returns-in-EnvList-clause-goes : goal.returns-in-EnvList-clause-goes
-returns-in-EnvList-clause-goes g c = rw c.in-EnvList.is (inside_goes _ _ _ _ _ _ _ _ _ _ refl c.nothing_grows.ensures c.requires.told c.requires.names c.requires.ready.none_gone c.receipts_in-filed.ensures c.list_env.ensures)
+returns-in-EnvList-clause-goes g c = rw c.in-EnvList.is (inside_goes _ _ _ _ _ _ _ _ _ _ refl c.nothing_grows.ensures c.requires.told c.requires.ready.0 c.requires.ready.1.none_gone c.receipts_in-filed.ensures c.list_env.ensures)
 
 pub returns-in-FailDelay-clause-goes : goal.returns-in-FailDelay-clause-goes
-returns-in-FailDelay-clause-goes g c = rw c.in-FailDelay.is (inside_goes _ _ _ _ _ _ _ _ _ _ refl c.nothing_grows.ensures c.requires.told c.requires.names c.requires.ready.none_gone c.receipts_in-filed.ensures c.request_delay.ensures.goes)
+returns-in-FailDelay-clause-goes g c = rw c.in-FailDelay.is (inside_goes _ _ _ _ _ _ _ _ _ _ refl c.nothing_grows.ensures c.requires.told c.requires.ready.0 c.requires.ready.1.none_gone c.receipts_in-filed.ensures c.request_delay.ensures.goes)
 
 pub returns-in-DelayFn-clause-goes : goal.returns-in-DelayFn-clause-goes
-returns-in-DelayFn-clause-goes g c = rw c.in-DelayFn.is (inside_goes _ _ _ _ _ _ _ _ _ _ refl c.nothing_grows.ensures c.requires.told c.requires.names c.requires.ready.none_gone c.receipts_in-filed.ensures c.turn_delay.ensures.goes)
+returns-in-DelayFn-clause-goes g c = rw c.in-DelayFn.is (inside_goes _ _ _ _ _ _ _ _ _ _ refl c.nothing_grows.ensures c.requires.told c.requires.ready.0 c.requires.ready.1.none_gone c.receipts_in-filed.ensures c.turn_delay.ensures.goes)

@@ -5,7 +5,7 @@ use Rattle.pam_room.proofs.serve.serve_by.Goals as goal
 
 pub sweep-requires : goal.sweep-requires
 sweep-requires g c =
-    c.set_data_await_cleanup.ensures _ _ _ _ _ _ c.sound.ensures.sound c.sound-2.ensures.numbered c.requires.there
+    c.set_data_await_cleanup.ensures _ _ _ _ _ _ c.ledger_is_sound.ensures.sound c.ledger_is_sound-2.ensures.numbered c.requires.there
     (all_await _ _ c.args.room.now.transaction.datums c.requires.ready.none_gone c.requires.ready.awaiting) c.play-answer.ensures.sets
 
 pub returns-clause-told : goal.returns-clause-told
@@ -23,8 +23,8 @@ returns-clause-told g c = λ told.
 
 pub returns-clause-grows : goal.returns-clause-grows
 returns-clause-grows g c =
-    rw (c.sweep.ensures.datums, c.sweep.ensures.ledger) (c.swept_setting_grows.ensures _ _ _ _ _ _ _ c.sound-2.ensures.numbered c.requires.there c.requires.ready.none_gone c.play-answer.ensures.sets)
+    rw (c.sweep.ensures.datums, c.sweep.ensures.ledger) (c.swept_setting_grows.ensures _ _ _ _ _ _ _ c.ledger_is_sound-2.ensures.numbered c.requires.there c.requires.ready.none_gone c.play-answer.ensures.sets)
 
 pub returns-in_err-code-clause-grows : goal.returns-in_err-code-clause-grows
 returns-in_err-code-clause-grows g c =
-    rw (c.sweep.ensures.datums, c.sweep.ensures.ledger) (c.swept_setting_grows.ensures _ _ _ _ _ _ _ c.sound-2.ensures.numbered c.requires.there c.requires.ready.none_gone c.play-answer.ensures.sets)
+    rw (c.sweep.ensures.datums, c.sweep.ensures.ledger) (c.swept_setting_grows.ensures _ _ _ _ _ _ _ c.ledger_is_sound-2.ensures.numbered c.requires.there c.requires.ready.none_gone c.play-answer.ensures.sets)

@@ -1,6 +1,6 @@
 use Rattle.std.proofs.Common.{◌≡◌, ◌++◌, take, string_bytes}
 use Rattle.std.specs.List.{flat_map}
-use Rattle.session_report.specs.Answered.{variable_text}
+use Rattle.report_lines.specs.Line.{variable_text}
 use Rattle.session_report.proofs.answered.write_variables.Given as goal
 
 abbrev pub invariant-loop-variable : goal.invariant-loop-variable

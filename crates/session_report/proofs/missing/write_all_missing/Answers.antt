@@ -1,4 +1,4 @@
-use Rattle.session_report.specs.Missing.{missing_text}
+use Rattle.report_lines.specs.Line.{missing_text}
 use Rattle.session_report.proofs.Lining.{line_joined}
 use Rattle.session_report.proofs.missing.write_all_missing.Goals as goal
 

@@ -1,6 +1,6 @@
 use Rattle.std.proofs.Common.{◌≡◌, ◌++◌, take, string_bytes}
 use Rattle.std.specs.List.{flat_map}
-use Rattle.session_report.specs.Missing.{missing_text}
+use Rattle.report_lines.specs.Line.{missing_text}
 use Rattle.session_report.proofs.missing.write_all_missing.Given as goal
 
 abbrev pub invariant-loop-name : goal.invariant-loop-name

@@ -1,4 +1,4 @@
-use Rattle.session_run.proofs.Departing.{goes_as_alone}
+use Rattle.session_run.proofs.Parting.{closings_are, goes_as_alone}
 use Rattle.session_run.proofs.Isolating.{texts_are, words_are}
 use Rattle.session_run.proofs.Joining.{script_lines}
 use Rattle.session_run.proofs.laws.transactions_go_as_alone.Goals as goal
@@ -14,3 +14,6 @@ returns-clause-words c = words_are
 
 pub returns-clause-script : goal.returns-clause-script
 returns-clause-script c = script_lines
+
+pub returns-clause-closings : goal.returns-clause-closings
+returns-clause-closings c setting status = closings_are setting status

@@ -1,9 +1,8 @@
-use Rattle.std.proofs.Common.{◌≡◌, map, length}
-use Rattle.dispatch_core.specs.Lines.{names_of}
+use Rattle.std.proofs.Common.{map}
 use Rattle.pam_room.specs.Module.{player_of}
 use Rattle.pam_room.specs.Plain.{plain_room, plain_world}
-use Rattle.pam_room.specs.Stays.{IsReady}
 use Rattle.pam_handle.specs.Plain.{plain_handle}
+use Rattle.pam_handle.specs.Ready.{IsReadyFor}
 use Rattle.handle_tests.proofs.tests.scene.call_all.Given as goal
 
 abbrev pub invariant-loop-func : goal.invariant-loop-func
@@ -11,4 +10,4 @@ invariant-loop-func g l =
     let players = map (player_of (λ b. (goal.Module-dyn g (b.vtable, b.value)).label b.value) (λ b. (goal.Module-dyn g (b.vtable, b.value)).plays b.value) (λ b. (goal.Module-dyn g (b.vtable, b.value)).note b.value)) l.gear.mods.items in
     let h = plain_handle (plain_room (λ b. (goal.Conv-dyn g (b.vtable, b.value)).conv_holds b.value)) l.handle in
     let w = plain_world (λ b. (goal.Vault-dyn g (b.vtable, b.value)).vault_holds b.value) (λ b. (goal.Clock-dyn g (b.vtable, b.value)).clock_holds b.value) (λ b. (goal.Nap-dyn g (b.vtable, b.value)).nap_holds b.value) l.world in
-    record { names : h.names ≡ names_of players; ready : IsReady (length players) h.room.transaction w.process }
+    IsReadyFor players h w.process

@@ -4,7 +4,7 @@ use Rattle.pam_base.specs.declared.call.Func.TheVariants.{AcctMgmt}
 use Rattle.pam_room.specs.Module.{player_of}
 use Rattle.pam_room.specs.Plain.{plain_room, plain_world}
 use Rattle.pam_room.specs.State.{state_of}
-use Rattle.pam_handle.specs.Call.{past_in}
+use Rattle.dispatch_core.specs.Pending.{past_in}
 use Rattle.pam_handle.specs.Handle.{PlainHandle}
 use Rattle.pam_handle.specs.Pass.{kept_answers, passed}
 use Rattle.pam_handle.specs.Plain.{pending_of, plain_handle}

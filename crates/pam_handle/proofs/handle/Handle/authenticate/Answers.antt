@@ -3,7 +3,7 @@ use Rattle.std.specs.Option.{option_map}
 use Rattle.pam_base.specs.declared.call.Func.TheVariants.{Authenticate}
 use Rattle.pam_room.specs.Module.{notes_of, player_of}
 use Rattle.pam_room.specs.Plain.{plain_room, plain_world}
-use Rattle.pam_handle.specs.Call.{past_in, pending_behind}
+use Rattle.dispatch_core.specs.Pending.{past_in, pending_behind}
 use Rattle.pam_handle.specs.Handle.{PlainHandle}
 use Rattle.pam_handle.specs.Pass.{kept_answers}
 use Rattle.pam_handle.specs.Plain.{pending_of, plain_handle}

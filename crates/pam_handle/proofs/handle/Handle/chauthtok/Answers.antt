@@ -3,7 +3,7 @@ use Rattle.std.specs.Option.{option_map}
 use Rattle.pam_base.specs.declared.call.Func.TheVariants.{ChAuthTok}
 use Rattle.pam_room.specs.Module.{notes_of, player_of}
 use Rattle.pam_room.specs.Plain.{plain_room, plain_world}
-use Rattle.pam_handle.specs.Call.{first_in, past_in, pending_behind}
+use Rattle.dispatch_core.specs.Pending.{first_in, past_in, pending_behind}
 use Rattle.pam_handle.specs.Handle.{PlainHandle}
 use Rattle.pam_handle.specs.Items.{with_items}
 use Rattle.pam_handle.specs.Pass.{kept_answers}

@@ -4,9 +4,10 @@ use Rattle.pam_base.specs.declared.call.Func.TheVariants.{SetCred}
 use Rattle.pam_room.specs.Module.{player_of}
 use Rattle.pam_room.specs.Plain.{plain_room, plain_world}
 use Rattle.pam_room.specs.State.{state_of}
-use Rattle.pam_handle.specs.Call.{past_in}
+use Rattle.dispatch_core.specs.Pending.{past_in}
 use Rattle.pam_handle.specs.Handle.{PlainHandle}
-use Rattle.pam_handle.specs.Pass.{following, kept_answers, passed}
+use Rattle.dispatch_core.specs.Calls.{following}
+use Rattle.pam_handle.specs.Pass.{kept_answers, passed}
 use Rattle.pam_handle.specs.Plain.{pending_of, plain_handle}
 use Rattle.pam_handle.specs.declared.put_off.PutOff.{PutOff}
 use Rattle.pam_handle.proofs.Calling.{failed, followed_failed, on_err, ran_once}

@@ -41,7 +41,7 @@ step-slot-requires-clause-ready g c = ready_at _ _ _ _ c.args.step.now.number _ 
     (omega (arith, c.if-number-eq0.false)) (omega (arith, c.if-number-eq0.false, c.if-len-number.false, c.len.ensures)) c.remove-slot.ensures.value)
 
 -- the slot was taken out, and what became of it stands in its place
-stepped_in : (g : given.Over) (c : goal.After-sound g) → IsReplaced c.args.self.now.slots.items c.insert.new.self.items c.args.step.now.number c.remove-slot.result c.step-slot.result.slot
+stepped_in : (g : given.Over) (c : goal.After-ledger_is_sound g) → IsReplaced c.args.self.now.slots.items c.insert.new.self.items c.args.step.now.number c.remove-slot.result c.step-slot.result.slot
 stepped_in g c =
     let ok : is_ok c.insert.result ≡ true = search rules in
     replaced c.args.self.now.slots.items c.remove-slot.new.self.items c.insert.new.self.items c.args.step.now.number c.remove-slot.result c.step-slot.result.slot c.insert.result
@@ -57,7 +57,7 @@ returns-clause-others g c = others_stay _ _ _ _ _ _ _ _ _ _ _ _ _
 pub returns-clause-sound : goal.returns-clause-sound
 returns-clause-sound g c = sound_after _ _ _ _ _ _ _ _ _ _ _ _ _
     (put (plain_slot (λ b. (goal.Conv-dyn g (b.vtable, b.value)).conv_holds b.value)) _ _ _ _ _ (omega (arith, c.if-number-eq0.false)) (stepped_in g c)) c.step-slot.ensures.goes
-    c.one_place_moves.ensures.sound c.requires.sound c.sound.ensures.numbered
+    c.one_place_moves.ensures.sound c.requires.sound c.ledger_is_sound.ensures.numbered
 
 pub returns-clause-spends : goal.returns-clause-spends
 returns-clause-spends g c = spends_after _ _ _ _ _ _ _ _ _ _ _ _ _
@@ -66,7 +66,7 @@ returns-clause-spends g c = spends_after _ _ _ _ _ _ _ _ _ _ _ _ _
 pub returns-clause-moves : goal.returns-clause-moves
 returns-clause-moves g c = moves_after _ _ _ _ _ _ _ _ _ _ _ _ _
     (put (plain_slot (λ b. (goal.Conv-dyn g (b.vtable, b.value)).conv_holds b.value)) _ _ _ _ _ (omega (arith, c.if-number-eq0.false)) (stepped_in g c)) c.step-slot.ensures.goes
-    c.one_place_moves.ensures.moves c.requires.sound c.sound.ensures.numbered
+    c.one_place_moves.ensures.moves c.requires.sound c.ledger_is_sound.ensures.numbered
 
 pub returns-clause-world : goal.returns-clause-world
 returns-clause-world g c = λ leaves. c.step-slot.ensures.world (subst (λ (o : Option PlainSlot). leaves_world o c.args.step.now.call ≡ true)

@@ -22,19 +22,14 @@ remove-requires g c =
     let found = found_at _ _ c.in_ok-place.place (subst (λ t. IsFirstOpen c.place_of_first_open.result (first_open 1 (map (plain_slot (λ b. (goal.Conv-dyn g (b.vtable, b.value)).conv_holds b.value)) t))) c.deref.ensures.value c.place_of_first_open.ensures) c.in_ok-place.was in
     omega (arith, place_within (plain_slot (λ b. (goal.Conv-dyn g (b.vtable, b.value)).conv_holds b.value)) c.args.self.now.slots.items c.in_ok-place.place found.0 found.1)
 
-pub end-conv-requires-clause-names : goal.end-conv-requires-clause-names
-end-conv-requires-clause-names g c =
+pub end-conv-requires : goal.end-conv-requires
+end-conv-requires g c =
     let found = found_at _ _ c.in_ok-place.place (subst (λ t. IsFirstOpen c.place_of_first_open.result (first_open 1 (map (plain_slot (λ b. (goal.Conv-dyn g (b.vtable, b.value)).conv_holds b.value)) t))) c.deref.ensures.value c.place_of_first_open.ensures) c.in_ok-place.was in
     let stands = place_is (plain_slot (λ b. (goal.Conv-dyn g (b.vtable, b.value)).conv_holds b.value)) c.args.self.now.slots.items c.in_ok-place.place found.0 found.1 c.remove.result c.remove.ensures.value in
-    let mine = found_as ((plain_slot (λ b. (goal.Conv-dyn g (b.vtable, b.value)).conv_holds b.value)) c.remove.result) _ (c.in_ok-place.place + 1) found.0 (plain_handle (plain_room (λ b. (goal.Conv-dyn g (b.vtable, b.value)).conv_holds b.value)) c.in-Open.handle) stands (ap (plain_slot (λ b. (goal.Conv-dyn g (b.vtable, b.value)).conv_holds b.value)) c.in-Open.is) found.1 in
-    (c.requires.placed.each (c.in_ok-place.place + 1) (opened (plain_handle (plain_room (λ b. (goal.Conv-dyn g (b.vtable, b.value)).conv_holds b.value)) c.in-Open.handle)) (place_there (plain_slot (λ b. (goal.Conv-dyn g (b.vtable, b.value)).conv_holds b.value)) c.args.self.now.slots.items c.in_ok-place.place (plain_handle (plain_room (λ b. (goal.Conv-dyn g (b.vtable, b.value)).conv_holds b.value)) c.in-Open.handle) mine)).started_with
-
-pub end-conv-requires-clause-ready : goal.end-conv-requires-clause-ready
-end-conv-requires-clause-ready g c =
-    let found = found_at _ _ c.in_ok-place.place (subst (λ t. IsFirstOpen c.place_of_first_open.result (first_open 1 (map (plain_slot (λ b. (goal.Conv-dyn g (b.vtable, b.value)).conv_holds b.value)) t))) c.deref.ensures.value c.place_of_first_open.ensures) c.in_ok-place.was in
-    let stands = place_is (plain_slot (λ b. (goal.Conv-dyn g (b.vtable, b.value)).conv_holds b.value)) c.args.self.now.slots.items c.in_ok-place.place found.0 found.1 c.remove.result c.remove.ensures.value in
-    let mine = found_as ((plain_slot (λ b. (goal.Conv-dyn g (b.vtable, b.value)).conv_holds b.value)) c.remove.result) _ (c.in_ok-place.place + 1) found.0 (plain_handle (plain_room (λ b. (goal.Conv-dyn g (b.vtable, b.value)).conv_holds b.value)) c.in-Open.handle) stands (ap (plain_slot (λ b. (goal.Conv-dyn g (b.vtable, b.value)).conv_holds b.value)) c.in-Open.is) found.1 in
-    ready_at _ _ _ _ (c.in_ok-place.place + 1) (opened (plain_handle (plain_room (λ b. (goal.Conv-dyn g (b.vtable, b.value)).conv_holds b.value)) c.in-Open.handle)) c.held_data_await_cleanup.ensures c.requires (place_there (plain_slot (λ b. (goal.Conv-dyn g (b.vtable, b.value)).conv_holds b.value)) c.args.self.now.slots.items c.in_ok-place.place (plain_handle (plain_room (λ b. (goal.Conv-dyn g (b.vtable, b.value)).conv_holds b.value)) c.in-Open.handle) mine)
+    let mine = found_as ((plain_slot (λ b. (goal.Conv-dyn g (b.vtable, b.value)).conv_holds b.value)) c.remove.result) _ (c.in_ok-place.place + 1) found.0 (plain_handle (plain_room (λ b. (goal.Conv-dyn g (b.vtable, b.value)).conv_holds b.value)) c.in-Open.handle) stands (ap (plain_slot (λ b. (goal.Conv-dyn g (b.vtable, b.value)).conv_holds b.value)) c.in-Open.is) found.1 in (
+      (c.requires.placed.each (c.in_ok-place.place + 1) (opened (plain_handle (plain_room (λ b. (goal.Conv-dyn g (b.vtable, b.value)).conv_holds b.value)) c.in-Open.handle)) (place_there (plain_slot (λ b. (goal.Conv-dyn g (b.vtable, b.value)).conv_holds b.value)) c.args.self.now.slots.items c.in_ok-place.place (plain_handle (plain_room (λ b. (goal.Conv-dyn g (b.vtable, b.value)).conv_holds b.value)) c.in-Open.handle) mine)).started_with,
+      ready_at _ _ _ _ (c.in_ok-place.place + 1) (opened (plain_handle (plain_room (λ b. (goal.Conv-dyn g (b.vtable, b.value)).conv_holds b.value)) c.in-Open.handle)) c.held_data_await_cleanup.ensures c.requires (place_there (plain_slot (λ b. (goal.Conv-dyn g (b.vtable, b.value)).conv_holds b.value)) c.args.self.now.slots.items c.in_ok-place.place (plain_handle (plain_room (λ b. (goal.Conv-dyn g (b.vtable, b.value)).conv_holds b.value)) c.in-Open.handle) mine),
+    )
 
 pub unreachable-requires : goal.unreachable-requires
 unreachable-requires g c =
@@ -44,23 +39,23 @@ unreachable-requires g c =
     absurd (cc)
 
 -- the transaction that was found, and its place now
-found_here : (g : given.Over) (c : goal.After-sound g) → first_open 1 (map (plain_slot (λ b. (goal.Conv-dyn g (b.vtable, b.value)).conv_holds b.value)) c.args.self.now.slots.items) ≡ Some (c.in_ok-place.place + 1, (plain_handle (plain_room (λ b. (goal.Conv-dyn g (b.vtable, b.value)).conv_holds b.value)) c.in-Open.handle))
+found_here : (g : given.Over) (c : goal.After-ledger_is_sound g) → first_open 1 (map (plain_slot (λ b. (goal.Conv-dyn g (b.vtable, b.value)).conv_holds b.value)) c.args.self.now.slots.items) ≡ Some (c.in_ok-place.place + 1, (plain_handle (plain_room (λ b. (goal.Conv-dyn g (b.vtable, b.value)).conv_holds b.value)) c.in-Open.handle))
 found_here g c =
     let found = found_at _ _ c.in_ok-place.place (subst (λ t. IsFirstOpen c.place_of_first_open.result (first_open 1 (map (plain_slot (λ b. (goal.Conv-dyn g (b.vtable, b.value)).conv_holds b.value)) t))) c.deref.ensures.value c.place_of_first_open.ensures) c.in_ok-place.was in
     let stands = place_is (plain_slot (λ b. (goal.Conv-dyn g (b.vtable, b.value)).conv_holds b.value)) c.args.self.now.slots.items c.in_ok-place.place found.0 found.1 c.remove.result c.remove.ensures.value in
     found_as ((plain_slot (λ b. (goal.Conv-dyn g (b.vtable, b.value)).conv_holds b.value)) c.remove.result) _ (c.in_ok-place.place + 1) found.0 (plain_handle (plain_room (λ b. (goal.Conv-dyn g (b.vtable, b.value)).conv_holds b.value)) c.in-Open.handle) stands (ap (plain_slot (λ b. (goal.Conv-dyn g (b.vtable, b.value)).conv_holds b.value)) c.in-Open.is) found.1
 
-replaced_here : (g : given.Over) (c : goal.After-sound g) → IsReplaced c.args.self.now.slots.items c.insert.new.self.items (c.in_ok-place.place + 1) c.remove.result (Closed c.end-conv.result)
+replaced_here : (g : given.Over) (c : goal.After-ledger_is_sound g) → IsReplaced c.args.self.now.slots.items c.insert.new.self.items (c.in_ok-place.place + 1) c.remove.result (Closed c.end-conv.result)
 replaced_here g c =
     let ok : is_ok c.insert.result ≡ true = search rules in
     put_there (plain_slot (λ b. (goal.Conv-dyn g (b.vtable, b.value)).conv_holds b.value)) c.args.self.now.slots.items c.in_ok-place.place (plain_handle (plain_room (λ b. (goal.Conv-dyn g (b.vtable, b.value)).conv_holds b.value)) c.in-Open.handle) (found_here g c) c.remove.new.self.items c.insert.new.self.items c.remove.result (Closed c.end-conv.result) c.insert.result
     c.remove.ensures.value c.remove.ensures.items c.insert.ensures.items ok
 
-put_here : (g : given.Over) (c : goal.After-sound g) → IsPut (map (plain_slot (λ b. (goal.Conv-dyn g (b.vtable, b.value)).conv_holds b.value)) c.args.self.now.slots.items) (map (plain_slot (λ b. (goal.Conv-dyn g (b.vtable, b.value)).conv_holds b.value)) c.insert.new.self.items) (c.in_ok-place.place + 1) (opened (plain_handle (plain_room (λ b. (goal.Conv-dyn g (b.vtable, b.value)).conv_holds b.value)) c.in-Open.handle)) (closed ((plain_handle (plain_room (λ b. (goal.Conv-dyn g (b.vtable, b.value)).conv_holds b.value)) c.in-Open.handle)).room.conv)
+put_here : (g : given.Over) (c : goal.After-ledger_is_sound g) → IsPut (map (plain_slot (λ b. (goal.Conv-dyn g (b.vtable, b.value)).conv_holds b.value)) c.args.self.now.slots.items) (map (plain_slot (λ b. (goal.Conv-dyn g (b.vtable, b.value)).conv_holds b.value)) c.insert.new.self.items) (c.in_ok-place.place + 1) (opened (plain_handle (plain_room (λ b. (goal.Conv-dyn g (b.vtable, b.value)).conv_holds b.value)) c.in-Open.handle)) (closed ((plain_handle (plain_room (λ b. (goal.Conv-dyn g (b.vtable, b.value)).conv_holds b.value)) c.in-Open.handle)).room.conv)
 put_here g c = put_as _ _ _ _ _ _ _ (put (plain_slot (λ b. (goal.Conv-dyn g (b.vtable, b.value)).conv_holds b.value)) _ _ _ _ _ (omega arith) (replaced_here g c)) (ap (plain_slot (λ b. (goal.Conv-dyn g (b.vtable, b.value)).conv_holds b.value)) c.in-Open.is) (ap (λ b. closed ((goal.Conv-dyn g (b.vtable, b.value)).conv_holds b.value)) c.end-conv.ensures.conv)
 
 pub returns-clause-sound : goal.returns-clause-sound
-returns-clause-sound g c = end_sound (notes_of (map (player_of (λ b. (goal.Module-dyn g (b.vtable, b.value)).label b.value) (λ b. (goal.Module-dyn g (b.vtable, b.value)).plays b.value) (λ b. (goal.Module-dyn g (b.vtable, b.value)).note b.value)) c.args.self.now.gear.mods.items)) _ _ _ _ _ (plain_handle (plain_room (λ b. (goal.Conv-dyn g (b.vtable, b.value)).conv_holds b.value)) c.in-Open.handle) c.args.status _ _ (put_here g c) c.requires c.end-conv.ensures.world c.sound.ensures.numbered c.one_place_moves.ensures.sound
+returns-clause-sound g c = end_sound (notes_of (map (player_of (λ b. (goal.Module-dyn g (b.vtable, b.value)).label b.value) (λ b. (goal.Module-dyn g (b.vtable, b.value)).plays b.value) (λ b. (goal.Module-dyn g (b.vtable, b.value)).note b.value)) c.args.self.now.gear.mods.items)) _ _ _ _ _ (plain_handle (plain_room (λ b. (goal.Conv-dyn g (b.vtable, b.value)).conv_holds b.value)) c.in-Open.handle) c.args.status _ _ (put_here g c) c.requires c.end-conv.ensures.world c.ledger_is_sound.ensures.numbered c.one_place_moves.ensures.sound
 
 pub returns-clause-tells : goal.returns-clause-tells
 returns-clause-tells g c = tell_as (slot_tells (λ b. (goal.Conv-dyn g (b.vtable, b.value)).conv_tells b.value)) _ _ _ _ _ (replaced_here g c)
@@ -73,4 +68,4 @@ pub returns-clause-none : goal.returns-clause-none
 returns-clause-none g c = some_is_open _ c.in_ok-place.place (plain_handle (plain_room (λ b. (goal.Conv-dyn g (b.vtable, b.value)).conv_holds b.value)) c.in-Open.handle) (c.in_ok-place.place + 1) (found_here g c)
 
 pub returns-clause-moves : goal.returns-clause-moves
-returns-clause-moves g c = end_moves _ _ _ _ _ _ (plain_handle (plain_room (λ b. (goal.Conv-dyn g (b.vtable, b.value)).conv_holds b.value)) c.in-Open.handle) c.args.status _ _ (put_here g c) c.requires c.end-conv.ensures.world c.sound.ensures.numbered c.one_place_moves.ensures.moves
+returns-clause-moves g c = end_moves _ _ _ _ _ _ (plain_handle (plain_room (λ b. (goal.Conv-dyn g (b.vtable, b.value)).conv_holds b.value)) c.in-Open.handle) c.args.status _ _ (put_here g c) c.requires c.end-conv.ensures.world c.ledger_is_sound.ensures.numbered c.one_place_moves.ensures.moves

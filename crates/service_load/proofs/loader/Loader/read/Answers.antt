@@ -1,5 +1,5 @@
 use Rattle.std.proofs.Common.{ℕ, List, ap, ◌∙◌}
-use Rattle.service_load.specs.Names.{path_of}
+use Rattle.pam_outside.specs.Paths.{path_of}
 use Rattle.service_load.proofs.Opening.{long_answers}
 use Rattle.service_load.proofs.loader.Loader.read.Goals as goal
 

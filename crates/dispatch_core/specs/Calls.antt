@@ -1,0 +1,129 @@
+-- The passes of the six calls that run a stack, whatever its lines answer by: which stacks they go over, what they keep and
+-- follow, how they are put off and go on (the Module Writers' Guide; putting off is this project's own).
+use Rattle.std.specs.Prelude.{Bool, true, false, List, [], Option, Some, None}
+use Rattle.pam_base.specs.declared.code.Code.{Code}
+use Rattle.pam_base.specs.declared.code.Code.TheVariants as codes
+use Rattle.pam_base.specs.declared.call.Func.{Func}
+use Rattle.pam_base.specs.declared.call.Func.TheVariants.{Authenticate, SetCred, AcctMgmt, OpenSession, CloseSession, ChAuthTok}
+use Rattle.control_words.specs.Stack.{Stack}
+use Rattle.stack_walk.specs.declared.pass_kind.PassKind.{PassKind}
+use Rattle.stack_walk.specs.declared.pass_kind.PassKind.TheVariants as kinds
+use Rattle.stack_walk.specs.Walk.{Walked, code_of}
+use Rattle.stack_walk.specs.Route.{KeptAnswers}
+use Rattle.stack_walk.specs.Pass.{PassState, Visit, Answering, kept_in, pass_after}
+use Rattle.service_load.specs.Stacks.{Stacks}
+use Rattle.dispatch_core.specs.Passes.{paused_after}
+use Rattle.dispatch_core.specs.Pending.{Pending, pending_behind, past_in, first_in}
+
+-- the answer that is kept for a place; where nothing is held there is none
+abbrev pub answers_held : Option KeptAnswers → KeptAnswers
+answers_held None place = None
+answers_held (Some kept) place = kept place
+
+-- what is kept behind a pass: its own answers, what was kept before, nothing
+abbrev pub kept_behind : PassKind → List Visit → Option KeptAnswers → Option KeptAnswers
+kept_behind kinds.Keep visits kept = Some (kept_in visits)
+kept_behind kinds.Follow visits kept = kept
+kept_behind kinds.Loose visits kept = None
+
+-- a pass that goes by kept answers, where any are held
+abbrev pub following : Option KeptAnswers → PassKind
+following None = kinds.Loose
+following (Some kept) = kinds.Follow
+
+-- what a transaction holds between its calls: what the last authentication and the last opening of a session kept, and the
+-- call that is pending
+pub record Held : Type 0 where
+  pub authenticated : Option KeptAnswers
+  pub opened : Option KeptAnswers
+  pub pending : Option Pending
+
+abbrev pub held : Option KeptAnswers → Option KeptAnswers → Option Pending → Held
+held authenticated opened pending = record { authenticated = authenticated; opened = opened; pending = pending }
+
+abbrev pub nothing_held : Held
+nothing_held = held None None None
+
+-- a pass's code, what is kept behind it, the answers that it was given where it was put off, and the state after it
+pub record Passed (State : Type 0) : Type 0 where
+  pub code : Code
+  pub kept : Option KeptAnswers
+  pub paused : Option (List Code)
+  pub state : State
+
+abbrev pub passed_by : {State : Type 0} → PassKind → Option KeptAnswers → Walked (PassState State) → Passed State
+passed_by kind kept w = record { code = code_of w; kept = kept_behind kind w.state.visits kept; paused = paused_after w; state = w.state.state }
+
+-- what is held behind a pass of a call: what an authentication and an opening of a session keep, and those that follow them leave, and
+-- the call, where it was put off; `first` is what the first pass of a change of token kept, where this is its second
+abbrev pub held_behind : {State : Type 0} → Func → Option KeptAnswers → Passed State → Held → Held
+held_behind Authenticate first p h = held p.kept h.opened (pending_behind Authenticate first p.paused)
+held_behind SetCred first p h = held p.kept h.opened (pending_behind SetCred first p.paused)
+held_behind OpenSession first p h = held h.authenticated p.kept (pending_behind OpenSession first p.paused)
+held_behind CloseSession first p h = held h.authenticated p.kept (pending_behind CloseSession first p.paused)
+held_behind func first p h = held h.authenticated h.opened (pending_behind func first p.paused)
+
+-- what a call came to
+pub record Went (State : Type 0) : Type 0 where
+  pub code : Code
+  pub held : Held
+  pub state : State
+
+abbrev pub went : {State : Type 0} → Code → Held → State → Went State
+went code h s = record { code = code; held = h; state = s }
+
+-- how lines answer a function of the modules; in a change of token, whether in its second pass
+abbrev pub Asking : Type 0 → Type 0
+Asking State = Func → Bool → Answering State
+
+module _ {State : Type 0} (asking : Asking State) (stacks : Stacks) where
+  abbrev pub passes : Func → Bool → PassKind → Option KeptAnswers → Stack → List Code → State → Passed State
+  passes func second kind kept stack past s = passed_by kind kept (pass_after kind (answers_held kept) (asking func second) stack past s)
+
+  -- the first pass of a call, after the answers that it was given in its earlier calls: over which stack, of which kind, and by
+  -- which kept answers
+  abbrev pub first_pass : Func → List Code → Held → State → Passed State
+  first_pass Authenticate past h s = passes Authenticate false kinds.Keep h.authenticated stacks.auth past s
+  first_pass SetCred past h s = passes SetCred false (following h.authenticated) h.authenticated stacks.auth past s
+  first_pass AcctMgmt past h s = passes AcctMgmt false kinds.Keep None stacks.account past s
+  first_pass OpenSession past h s = passes OpenSession false kinds.Keep h.opened stacks.session past s
+  first_pass CloseSession past h s = passes CloseSession false (following h.opened) h.opened stacks.session past s
+  first_pass ChAuthTok past h s = passes ChAuthTok false kinds.Keep None stacks.password past s
+
+  -- the second pass of a change of token, which follows the first
+  abbrev pub second_pass : Option KeptAnswers → List Code → State → Passed State
+  second_pass first past s = passes ChAuthTok true kinds.Follow first stacks.password past s
+
+  -- a call that is one pass
+  abbrev pub one_pass : Func → List Code → Held → State → Went State
+  one_pass func past h s =
+      let p = first_pass func past h s in
+      went p.code (held_behind func None p h) p.state
+
+  abbrev pub update : Option KeptAnswers → List Code → Held → State → Went State
+  update first past h s =
+      let p = second_pass first past s in
+      went p.code (held_behind ChAuthTok first p h) p.state
+
+  -- the second pass follows where the first gave SUCCESS
+  abbrev pub behind_check : Code → Option KeptAnswers → Held → State → Went State
+  behind_check codes.Success kept h s = update kept [] h s
+  behind_check code kept h s = went code h s
+
+  abbrev pub check : List Code → Held → State → Went State
+  check past h s =
+      let p = first_pass ChAuthTok past h s in
+      behind_check p.code p.kept (held_behind ChAuthTok None p h) p.state
+
+  abbrev pub change : List Code → Option KeptAnswers → Held → State → Went State
+  change past None h s = check past h s
+  change past (Some first) h s = update (Some first) past h s
+
+  -- after the answers that it was given in its earlier calls
+  abbrev pub call_after : Func → List Code → Option KeptAnswers → Held → State → Went State
+  call_after ChAuthTok past first h s = change past first h s
+  call_after func past first h s = one_pass func past h s
+
+  -- a call while no other one is pending
+  abbrev pub goes : Func → Held → State → Went State
+  goes func h s = call_after func (past_in h.pending) (first_in h.pending) h s

@@ -1,0 +1,52 @@
+ghost use Rattle.std.specs.Prelude.{◌≡◌, ◌<◌, ◌≤◌, ◌+◌};
+ghost use Rattle.control_words.specs.Stack.{lines_in};
+ghost use Rattle.handler_chain.specs.FlatLines.{FlatLine};
+ghost use Rattle.dispatch_core.specs.Index.{LeadsTo, Stands};
+
+use control_words::Action;
+use handler_chain::Chain;
+use stack_walk::Opinion;
+
+/// Where a list goes on behind a line, and with what opinion.
+#[derive(Clone, Copy)]
+pub struct Onward {
+    pub opinion: Opinion,
+    pub next: usize,
+}
+
+/// Where the list of a line goes on behind it, after an action that came to an opinion.
+pub fn onward_from(chain: &mut Chain, i: usize, action: Action, new: Opinion) -> Onward
+    requires within { i < lines_in chain.old.nodes }
+    requires few { i < 4096 }
+    ensures leads { (line : FlatLine) → Stands chain.old.nodes i line →
+        LeadsTo action line.rest new i result.opinion result.next }
+    ensures ahead { i < result.next }
+    ensures nodes { chain.new.nodes ≡ chain.old.nodes }
+    ensures names { chain.new.names ≡ chain.old.names }
+    ensures looks { chain.new.looks ≤ chain.old.looks + 2 }
+{
+    if let Action::Jump(n) = action {
+        return match chain.target(i, n) {
+            Some(next) => Onward { opinion: new, next },
+            None => {
+                let denied = Opinion::overrun();
+                let end = chain.end(i);
+                Onward {
+                    opinion: denied,
+                    next: end,
+                }
+            }
+        };
+    }
+    if new.ends(action) {
+        let behind = chain.end(i);
+        return Onward {
+            opinion: new,
+            next: behind,
+        };
+    }
+    Onward {
+        opinion: new,
+        next: i + 1,
+    }
+}

@@ -1,0 +1,119 @@
+ghost use Rattle.std.specs.Prelude.{◌≡◌, ◌≤◌, ℕ, false, Some, IfNone, IfSome, IsTrue};
+ghost use Rattle.fail_delay.specs.Delay.{asked_delay};
+ghost use Rattle.fail_delay.specs.Wait.{wait_of};
+ghost use Rattle.pam_base.specs.declared.code.Code.{Code};
+ghost use Rattle.pam_handle.specs.AnyWorld.{WaitsFor, WaitsOnlyAtEnd};
+ghost use Rattle.pam_handle.specs.Call.{WaitsBehind, rested_by, waited_by};
+
+use crate::gear::Gear;
+use crate::wait::Wait;
+use fail_delay::{DelayFn, DelayTold, LONGEST_ASKED, LONGEST_REQUEST, asked, wait_after};
+use pam_base::Code;
+use pam_outside::{random_word, rest};
+use pam_room::{World, WorldTold};
+
+// Waits behind the code of an authentication (`pam_fail_delay(3)`), by the longest request in microseconds and by the
+// delay function, where it is on. A wait takes the place of what was to be told of an earlier one.
+fn wait(
+    gear: &Gear,
+    world: &mut World,
+    delay_on: bool,
+    longest: u32,
+    code: Code,
+    waited: &mut Option<Wait>,
+)
+    requires { longest ≤ LONGEST_REQUEST }
+    ensures tells { ⟦<World as WorldTold>⟧.tells world.new
+        ≡ ⟦<World as WorldTold>⟧.tells world.old }
+    ensures told { (number : Code → ℕ → ℕ) →
+        ⟦<DelayFn as DelayTold>⟧.delay_is gear.now.delay number →
+        IsTrue (⟦<World as WorldTold>⟧.tells world.old) →
+        (let asked = asked_delay longest (⟦<World as WorldTold>⟧.plain world.old).clock.word in
+        (waited.new ≡ waited_by code asked (wait_of delay_on number code asked) waited.old)
+        × (⟦<World as WorldTold>⟧.plain world.new
+        ≡ rested_by (wait_of delay_on number code asked)
+        (⟦<World as WorldTold>⟧.plain world.old))) }
+    ensures sound { WaitsFor code delay_on waited.old waited.new }
+    ensures process { world.new.process ≡ world.old.process }
+{
+    let asked = asked_of(longest, world);
+    if let Some(wait) = wait_by(gear, delay_on, code, asked) {
+        rest_for(world, wait);
+        *waited = Some(Wait { code, asked, wait });
+    }
+}
+
+/// Waits behind an authentication that has ended with this code, and not behind one that hasn't.
+pub(crate) fn wait_behind(
+    gear: &Gear,
+    world: &mut World,
+    delay_on: bool,
+    longest: u32,
+    code: Option<Code>,
+    waited: &mut Option<Wait>,
+)
+    requires { longest ≤ LONGEST_REQUEST }
+    ensures tells { ⟦<World as WorldTold>⟧.tells world.new
+        ≡ ⟦<World as WorldTold>⟧.tells world.old }
+    ensures told { (number : Code → ℕ → ℕ) →
+        ⟦<DelayFn as DelayTold>⟧.delay_is gear.now.delay number →
+        IsTrue (⟦<World as WorldTold>⟧.tells world.old) →
+        WaitsBehind number code longest delay_on waited.old
+        (⟦<World as WorldTold>⟧.plain world.old) waited.new
+        (⟦<World as WorldTold>⟧.plain world.new) }
+    ensures sound { WaitsOnlyAtEnd code delay_on waited.old waited.new }
+    ensures nap { IfNone code (world.new.nap ≡ world.old.nap) }
+    ensures process { world.new.process ≡ world.old.process }
+{
+    if let Some(code) = code {
+        wait(gear, world, delay_on, longest, code, waited);
+    }
+}
+
+// The delay that is asked for; a word is drawn only where a delay was requested.
+fn asked_of(longest: u32, world: &mut World) -> u32
+    requires { longest ≤ LONGEST_REQUEST }
+    ensures tells { ⟦<World as WorldTold>⟧.tells world.new
+        ≡ ⟦<World as WorldTold>⟧.tells world.old }
+    ensures told { IsTrue (⟦<World as WorldTold>⟧.tells world.old) →
+        result ≡ asked_delay longest (⟦<World as WorldTold>⟧.plain world.old).clock.word }
+    ensures stays { IsTrue (⟦<World as WorldTold>⟧.tells world.old) →
+        ⟦<World as WorldTold>⟧.plain world.new ≡ ⟦<World as WorldTold>⟧.plain world.old }
+    ensures bound { result ≤ LONGEST_ASKED }
+    ensures process { world.new.process ≡ world.old.process }
+{
+    if longest == 0 {
+        return 0;
+    }
+    asked(longest, random_word(&mut *world.clock))
+}
+
+// The wait; the delay function is asked wherever it is on.
+fn wait_by(gear: &Gear, delay_on: bool, code: Code, asked: u32) -> Option<u32>
+    requires { asked ≤ LONGEST_ASKED }
+    ensures wait { (number : Code → ℕ → ℕ) →
+        ⟦<DelayFn as DelayTold>⟧.delay_is gear.now.delay number →
+        result ≡ wait_of delay_on number code asked }
+    ensures off { (number : Code → ℕ → ℕ) → delay_on ≡ false →
+        result ≡ wait_of false number code asked }
+    ensures within { IfSome result (λ wait. wait ≤ LONGEST_ASKED) }
+{
+    if delay_on {
+        wait_after(Some(&gear.delay), code, asked)
+    } else {
+        wait_after(None, code, asked)
+    }
+}
+
+fn rest_for(world: &mut World, wait: u32)
+    ensures tells { ⟦<World as WorldTold>⟧.tells world.new
+        ≡ ⟦<World as WorldTold>⟧.tells world.old }
+    ensures told { IsTrue (⟦<World as WorldTold>⟧.tells world.old) →
+        ⟦<World as WorldTold>⟧.plain world.new
+        ≡ rested_by (Some wait) (⟦<World as WorldTold>⟧.plain world.old) }
+    ensures process { world.new.process ≡ world.old.process }
+{
+    if wait > 0 {
+        rest(&mut *world.nap, wait);
+    }
+}

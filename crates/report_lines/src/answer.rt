@@ -1,0 +1,120 @@
+ghost use Rattle.std.specs.Prelude.{◌≡◌, ◌++◌, Some, OnOk, string_bytes};
+ghost use Rattle.report_lines.specs.Line.{code_words, number_words, pending_words, refused_words, value_words, words_text};
+
+use pam_base::{Code, Func, NoMemory, Text, code_name, code_number, push_quoted};
+use script_lang::func_word;
+use service_load::LoadFault;
+
+/// Adds the line of a result, `H COMMAND WORDS`.
+pub fn write_result(
+    text: &mut String,
+    handle: u32,
+    command: &str,
+    words: &str,
+) -> Result<(), NoMemory>
+    ensures { OnOk result (string_bytes text.new ≡ string_bytes text.old ++ words_text handle command.now words.now) }
+{
+    write!(text, "{handle} {command} {words}\n")?;
+    Ok(())
+}
+
+/// Adds the line of a result, as `1 authenticate SUCCESS 0`.
+pub fn write_code_result(
+    text: &mut String,
+    handle: u32,
+    command: &str,
+    code: Code,
+) -> Result<(), NoMemory>
+    ensures { OnOk result (string_bytes text.new ≡ string_bytes text.old ++ words_text handle command.now (code_words code)) }
+{
+    let name = code_name(code);
+    let number = code_number(code);
+    write!(text, "{handle} {command} {name} {number}\n")?;
+    Ok(())
+}
+
+/// Adds the result of a start that the configuration refused, `refused FILE LINE NAME NUMBER`.
+pub fn write_refused_result(
+    text: &mut String,
+    handle: u32,
+    command: &str,
+    fault: &LoadFault,
+) -> Result<(), NoMemory>
+    ensures { OnOk result (string_bytes text.new ≡ string_bytes text.old ++ words_text handle command.now (refused_words fault.now)) }
+{
+    write!(text, "{handle} {command} ")?;
+    write_refused(text, fault)?;
+    text.push_str("\n")?;
+    Ok(())
+}
+
+/// Adds the result of a call that asks for a value: `set TEXT`, or `unset`.
+pub fn write_value_result(
+    text: &mut String,
+    handle: u32,
+    command: &str,
+    value: &Option<Text>,
+) -> Result<(), NoMemory>
+    ensures { OnOk result (string_bytes text.new ≡ string_bytes text.old ++ words_text handle command.now (value_words value.now)) }
+{
+    match value {
+        Some(set) => write_set_result(text, handle, command, set),
+        None => write_result(text, handle, command, "unset"),
+    }
+}
+
+fn write_set_result(
+    text: &mut String,
+    handle: u32,
+    command: &str,
+    set: &Text,
+) -> Result<(), NoMemory>
+    ensures { OnOk result (string_bytes text.new ≡ string_bytes text.old ++ words_text handle command.now (value_words (Some set.now))) }
+{
+    write!(text, "{handle} {command} set ")?;
+    push_quoted(text, set.bytes())?;
+    text.push_str("\n")?;
+    Ok(())
+}
+
+/// Adds the result of a call that waits for another one: `ABORT 26 pending NAME`.
+pub fn write_pending_result(
+    text: &mut String,
+    handle: u32,
+    command: &str,
+    func: Func,
+) -> Result<(), NoMemory>
+    ensures { OnOk result (string_bytes text.new ≡ string_bytes text.old ++ words_text handle command.now (pending_words func)) }
+{
+    let name = code_name(Code::Abort);
+    let number = code_number(Code::Abort);
+    let call = func_word(func);
+    write!(text, "{handle} {command} {name} {number} pending {call}\n")?;
+    Ok(())
+}
+
+/// Adds the result of a call that lists: how many there are.
+pub fn write_count_result(
+    text: &mut String,
+    handle: u32,
+    command: &str,
+    count: usize,
+) -> Result<(), NoMemory>
+    ensures { OnOk result (string_bytes text.new ≡ string_bytes text.old ++ words_text handle command.now (number_words count)) }
+{
+    write!(text, "{handle} {command} {count}\n")?;
+    Ok(())
+}
+
+/// Adds why a configuration is refused, `refused FILE LINE NAME NUMBER`, the file's name quoted; without a newline.
+pub fn write_refused(text: &mut String, fault: &LoadFault) -> Result<(), NoMemory>
+    ensures { OnOk result (string_bytes text.new ≡ string_bytes text.old ++ refused_words fault.now) }
+{
+    text.push_str("refused ")?;
+    push_quoted(text, fault.file.bytes())?;
+    let line = fault.line;
+    let name = fault.kind.name();
+    let number = fault.kind.number();
+    write!(text, " {line} {name} {number}")?;
+    Ok(())
+}

@@ -1,0 +1,14 @@
+ghost use Rattle.std.specs.Prelude.{◌≡◌, ◌++◌, OnOk, string_bytes};
+ghost use Rattle.report_lines.specs.Line.{code_words};
+
+use pam_base::{Code, code_name, code_number};
+use std::alloc::AllocError;
+
+/// Adds the name and the number of a code, as `AUTH_ERR 7`.
+pub(crate) fn write_code(text: &mut String, code: Code) -> Result<(), AllocError>
+    ensures { OnOk result (string_bytes text.new ≡ string_bytes text.old ++ code_words code) }
+{
+    let name = code_name(code);
+    let number = code_number(code);
+    write!(text, "{name} {number}")
+}

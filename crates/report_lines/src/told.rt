@@ -1,0 +1,113 @@
+ghost use Rattle.std.specs.Prelude.{◌≡◌, ◌++◌, OnOk, string_bytes};
+ghost use Rattle.stack_walk.specs.Retell.{seen_at};
+ghost use Rattle.report_lines.specs.Line.{cleanup_text, message_text, missing_text, names_text, status_words, variable_text, visit_text, wait_text};
+
+use crate::code::write_code;
+use pam_base::{Code, NoMemory, Style, push_quoted};
+use std::alloc::AllocError;
+
+/// Adds the line of a message, `H say STYLE TEXT`.
+pub fn write_said(
+    text: &mut String,
+    handle: u32,
+    style: Style,
+    message: &[u8],
+) -> Result<(), NoMemory>
+    ensures { OnOk result (string_bytes text.new ≡ string_bytes text.old ++ message_text handle style message.now) }
+{
+    let style = style.number();
+    write!(text, "{handle} say {style} ")?;
+    push_quoted(text, message)?;
+    text.push_str("\n")?;
+    Ok(())
+}
+
+/// Adds the line of a visit, `H line PLACE MODULE NAME NUMBER`.
+pub fn write_visited(
+    text: &mut String,
+    handle: u32,
+    place: u32,
+    module: &[u8],
+    answer: Code,
+) -> Result<(), NoMemory>
+    ensures { OnOk result (string_bytes text.new ≡ string_bytes text.old ++ visit_text handle (seen_at place module.now answer)) }
+{
+    write!(text, "{handle} line {place} ")?;
+    push_quoted(text, module)?;
+    text.push_str(" ")?;
+    write_code(text, answer)?;
+    text.push_str("\n")?;
+    Ok(())
+}
+
+/// Adds the line of a datum that was cleaned up, `H clean ID STATUS NOTE MODULE DATUM`.
+pub fn write_cleaned(
+    text: &mut String,
+    handle: u32,
+    id: u64,
+    status: u32,
+    note: u32,
+    owner: &[u8],
+    datum: &[u8],
+) -> Result<(), NoMemory>
+    ensures { OnOk result (string_bytes text.new ≡ string_bytes text.old
+        ++ cleanup_text handle (record { id = id; status = status; note = note; owner = owner.now; datum = datum.now })) }
+{
+    write!(text, "{handle} clean {id} ")?;
+    write_status(text, status)?;
+    write!(text, " {note} ")?;
+    write_names(text, owner, datum)
+}
+
+// The end of a line: both names quoted.
+fn write_names(text: &mut String, owner: &[u8], datum: &[u8]) -> Result<(), NoMemory>
+    ensures { OnOk result (string_bytes text.new ≡ string_bytes text.old ++ names_text owner.now datum.now) }
+{
+    push_quoted(text, owner)?;
+    text.push_str(" ")?;
+    push_quoted(text, datum)?;
+    text.push_str("\n")?;
+    Ok(())
+}
+
+fn write_status(text: &mut String, status: u32) -> Result<(), AllocError>
+    ensures { OnOk result (string_bytes text.new ≡ string_bytes text.old ++ status_words status) }
+{
+    write!(text, "{status:08x}")
+}
+
+/// Adds the line of a wait, `H wait NAME NUMBER ASKED WAIT`, both in microseconds.
+pub fn write_waited(
+    text: &mut String,
+    handle: u32,
+    code: Code,
+    asked: u32,
+    wait: u32,
+) -> Result<(), NoMemory>
+    ensures { OnOk result (string_bytes text.new ≡ string_bytes text.old ++ wait_text handle code asked wait) }
+{
+    write!(text, "{handle} wait ")?;
+    write_code(text, code)?;
+    write!(text, " {asked} {wait}\n")?;
+    Ok(())
+}
+
+/// Adds the line of a module that is missing, `H note missing MODULE`.
+pub fn write_missing(text: &mut String, handle: u32, module: &[u8]) -> Result<(), NoMemory>
+    ensures { OnOk result (string_bytes text.new ≡ string_bytes text.old ++ missing_text handle module.now) }
+{
+    write!(text, "{handle} note missing ")?;
+    push_quoted(text, module)?;
+    text.push_str("\n")?;
+    Ok(())
+}
+
+/// Adds the line of a variable, `H env NAME=VALUE`.
+pub fn write_variable(text: &mut String, handle: u32, variable: &[u8]) -> Result<(), NoMemory>
+    ensures { OnOk result (string_bytes text.new ≡ string_bytes text.old ++ variable_text handle variable.now) }
+{
+    write!(text, "{handle} env ")?;
+    push_quoted(text, variable)?;
+    text.push_str("\n")?;
+    Ok(())
+}

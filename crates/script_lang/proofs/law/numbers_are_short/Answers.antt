@@ -1,5 +1,0 @@
-use Rattle.script_lang.proofs.Numbering.{reads_numbers}
-use Rattle.script_lang.proofs.law.numbers_are_short.Goals as goal
-
-pub returns : goal.returns
-returns c = reads_numbers

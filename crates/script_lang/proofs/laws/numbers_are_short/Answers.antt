@@ -1,0 +1,5 @@
+use Rattle.script_lang.proofs.Numbering.{reads_numbers}
+use Rattle.script_lang.proofs.laws.numbers_are_short.Goals as goal
+
+pub returns : goal.returns
+returns c = reads_numbers

@@ -1,0 +1,5 @@
+use Rattle.script_lang.proofs.Reading.{written_is_read}
+use Rattle.script_lang.proofs.laws.written_is_read.Goals as goal
+
+pub returns : goal.returns
+returns c = written_is_read

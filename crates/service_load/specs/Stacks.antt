@@ -1,0 +1,14 @@
+-- The four stacks of a service (pam.conf(5)).
+use Rattle.control_words.specs.Stack.{Stack}
+use Rattle.service_load.specs.declared.rule_type.RuleType.{RuleType}
+use Rattle.service_load.specs.declared.rule_type.RuleType.TheVariants.{Auth, Account, Password, Session}
+
+-- the stacks of a service, one for each type of rule (pam.conf(5))
+pub record Stacks : Type 0 where
+  pub auth : Stack
+  pub account : Stack
+  pub password : Stack
+  pub session : Stack
+
+abbrev pub stacks_of : (RuleType → Stack) → Stacks
+stacks_of stack = record { auth = stack Auth; account = stack Account; password = stack Password; session = stack Session }

@@ -1,0 +1,162 @@
+use Rattle.std.proofs.Common.{Ok, refl, ap, ◌∙◌}
+use Rattle.std.proofs.lemmas.Bool.{and_parts}
+use Rattle.script_lang.specs.declared.line.Line.TheVariants as script_lines
+use Rattle.pam_base.specs.declared.call.Step.{Step}
+use Rattle.pam_room.specs.declared.process.Process.{Process}
+use Rattle.session_run.proofs.Proceeding.{nothing_done, proceeds_so}
+use Rattle.session_run.proofs.Consuming.{err_as, err_unwritten, ok_as, ok_unwritten, reads_accepted, reads_refused, reads_stopped, reads_too_many, reads_unbegun}
+use Rattle.session_run.proofs.Serving.{too_many, refused, accepted}
+use Rattle.session_run.proofs.serve.answer_line.Goals as goal
+
+pub returns-then-lines-ge-MAX_LINES-clause-told : goal.returns-then-lines-ge-MAX_LINES-clause-told
+returns-then-lines-ge-MAX_LINES-clause-told g c = λ delay is told sink.
+    c.item_is_served.ensures.refused _ _ _ _ _ _ (too_many _ _ _ _ c.if-lines-ge-MAX_LINES.true)
+
+pub returns-in-Err-Named-clause-told : goal.returns-in-Err-Named-clause-told
+returns-in-Err-Named-clause-told g c = λ delay is told sink.
+    let e = rw c.in-Err-Named.field-0-is at c.in-Err-Named.ensures.err in
+    rw c.in-Err-Named.kind-is (c.item_is_served.ensures.refused _ _ _ _ _ _ (refused _ _ _ _ _ c.if-lines-ge-MAX_LINES.false e))
+
+pub returns-in-Ok-Blank-clause-told : goal.returns-in-Ok-Blank-clause-told
+returns-in-Ok-Blank-clause-told g c = λ delay is told sink.
+    let e = rw c.in-Ok-Blank.field-0-is at c.in-Ok-Blank.ensures.ok in
+    c.item_is_served.ensures.silent _ _ _ _ _ _ (accepted _ _ _ _ _ c.if-lines-ge-MAX_LINES.false e)
+
+pub returns-in-Ok-At-clause-told : goal.returns-in-Ok-At-clause-told
+returns-in-Ok-At-clause-told g c = λ delay is told sink.
+    let e = rw c.in-Ok-At.field-0-is at c.in-Ok-At.ensures.ok in
+    let world = c.set_world_moment.ensures.told (and_parts _ _ told).1 in
+    rw (world, c.in-Ok-At.moment-is) (c.item_is_served.ensures.silent _ _ _ _ _ _ (accepted _ _ _ _ _ c.if-lines-ge-MAX_LINES.false e))
+
+pub returns-in-Ok-Random-clause-told : goal.returns-in-Ok-Random-clause-told
+returns-in-Ok-Random-clause-told g c = λ delay is told sink.
+    let e = rw c.in-Ok-Random.field-0-is at c.in-Ok-Random.ensures.ok in
+    let world = c.set_world_word.ensures.told (and_parts _ _ told).1 in
+    rw (world, c.in-Ok-Random.word-is) (c.item_is_served.ensures.silent _ _ _ _ _ _ (accepted _ _ _ _ _ c.if-lines-ge-MAX_LINES.false e))
+
+pub returns-in-Ok-Caller-clause-told : goal.returns-in-Ok-Caller-clause-told
+returns-in-Ok-Caller-clause-told g c = λ delay is told sink.
+    let e = rw c.in-Ok-Caller.field-0-is at c.in-Ok-Caller.ensures.ok in
+    rw (c.set_caller.ensures.plain, c.in-Ok-Caller.caller-is) (c.item_is_served.ensures.silent _ _ _ _ _ _ (accepted _ _ _ _ _ c.if-lines-ge-MAX_LINES.false e))
+
+pub returns-in-Ok-clause-told : goal.returns-in-Ok-clause-told
+returns-in-Ok-clause-told g c = λ delay is told sink.
+    let e = rw c.in-Ok-Step.field-0-is at c.in-Ok-Step.ensures.ok in
+    c.in-Ok.ensures.told delay is told sink _ _ c.if-lines-ge-MAX_LINES.false e
+
+pub returns-clause-told : goal.returns-clause-told
+returns-clause-told g c = λ delay is told sink.
+    let e = rw c.in-Ok-Step.field-0-is at c.in-Ok-Step.ensures.ok in
+    c.in-Err.ensures.told delay is told sink _ _ c.if-lines-ge-MAX_LINES.false e
+
+pub returns-in-Ok-clause-proceeds : goal.returns-in-Ok-clause-proceeds
+returns-in-Ok-clause-proceeds g c =
+    let e = rw c.in-Ok-Step.field-0-is at c.in-Ok-Step.ensures.ok in
+    proceeds_so _ _ (λ number status is. (c.if-lines-ge-MAX_LINES.false, e ∙ ap (λ (s : Step). Ok (script_lines.Step s)) is)) _ _ _ _ _ c.serve_step.ensures.proceeds
+
+pub returns-clause-proceeds : goal.returns-clause-proceeds
+returns-clause-proceeds g c =
+    let e = rw c.in-Ok-Step.field-0-is at c.in-Ok-Step.ensures.ok in
+    proceeds_so _ _ (λ number status is. (c.if-lines-ge-MAX_LINES.false, e ∙ ap (λ (s : Step). Ok (script_lines.Step s)) is)) _ _ _ _ _ c.serve_step.ensures.proceeds
+
+pub returns-then-lines-ge-MAX_LINES-clause-proceeds : goal.returns-then-lines-ge-MAX_LINES-clause-proceeds
+returns-then-lines-ge-MAX_LINES-clause-proceeds g c = nothing_done _ _ _ _ _ _ refl refl
+
+pub returns-in-Err-NoMemory-clause-proceeds : goal.returns-in-Err-NoMemory-clause-proceeds
+returns-in-Err-NoMemory-clause-proceeds g c = nothing_done _ _ _ _ _ _ refl refl
+
+pub returns-in-Err-Named-clause-proceeds : goal.returns-in-Err-Named-clause-proceeds
+returns-in-Err-Named-clause-proceeds g c = nothing_done _ _ _ _ _ _ refl refl
+
+pub returns-in-Ok-Blank-clause-proceeds : goal.returns-in-Ok-Blank-clause-proceeds
+returns-in-Ok-Blank-clause-proceeds g c = nothing_done _ _ _ _ _ _ refl refl
+
+pub returns-in-Ok-At-clause-proceeds : goal.returns-in-Ok-At-clause-proceeds
+returns-in-Ok-At-clause-proceeds g c = nothing_done _ _ _ _ _ _ (ap (λ (p : Process). p.ledger) c.set_world_moment.ensures.process) refl
+
+pub returns-in-Ok-Random-clause-proceeds : goal.returns-in-Ok-Random-clause-proceeds
+returns-in-Ok-Random-clause-proceeds g c = nothing_done _ _ _ _ _ _ (ap (λ (p : Process). p.ledger) c.set_world_word.ensures.process) refl
+
+pub returns-in-Ok-Caller-clause-proceeds : goal.returns-in-Ok-Caller-clause-proceeds
+returns-in-Ok-Caller-clause-proceeds g c = nothing_done _ _ _ _ _ _ c.set_caller.ensures.ledger refl
+
+pub returns-in-Ok-Blank-clause-moves : goal.returns-in-Ok-Blank-clause-moves
+returns-in-Ok-Blank-clause-moves g c = λ none.
+    let e = rw c.in-Ok-Blank.field-0-is at c.in-Ok-Blank.ensures.ok in
+    rw e (c.nothing_moves.ensures _ _ _ _ _ _ refl (λ h. refl))
+
+pub returns-in-Ok-At-clause-moves : goal.returns-in-Ok-At-clause-moves
+returns-in-Ok-At-clause-moves g c = λ none.
+    let e = rw c.in-Ok-At.field-0-is at c.in-Ok-At.ensures.ok in
+    rw e (c.nothing_moves.ensures _ _ _ _ _ _ (ap (λ (p : Process). p.ledger) c.set_world_moment.ensures.process) (λ h. refl))
+
+pub returns-in-Ok-Random-clause-moves : goal.returns-in-Ok-Random-clause-moves
+returns-in-Ok-Random-clause-moves g c = λ none.
+    let e = rw c.in-Ok-Random.field-0-is at c.in-Ok-Random.ensures.ok in
+    rw e (c.nothing_moves.ensures _ _ _ _ _ _ (ap (λ (p : Process). p.ledger) c.set_world_word.ensures.process) (λ h. refl))
+
+pub returns-in-Ok-Caller-clause-moves : goal.returns-in-Ok-Caller-clause-moves
+returns-in-Ok-Caller-clause-moves g c = λ none.
+    let e = rw c.in-Ok-Caller.field-0-is at c.in-Ok-Caller.ensures.ok in
+    rw e (c.nothing_moves.ensures _ _ _ _ _ _ c.set_caller.ensures.ledger (λ h. refl))
+
+pub returns-in-Ok-clause-moves : goal.returns-in-Ok-clause-moves
+returns-in-Ok-clause-moves g c = λ none.
+    let e = rw c.in-Ok-Step.field-0-is at c.in-Ok-Step.ensures.ok in
+    rw e c.serve_step.ensures.moves
+
+pub returns-then-lines-ge-MAX_LINES-clause-reads : goal.returns-then-lines-ge-MAX_LINES-clause-reads
+returns-then-lines-ge-MAX_LINES-clause-reads g c = reads_too_many _ _ c.if-lines-ge-MAX_LINES.true
+
+pub returns-in-Err-NoMemory-clause-reads : goal.returns-in-Err-NoMemory-clause-reads
+returns-in-Err-NoMemory-clause-reads g c = reads_unbegun _ _
+
+pub returns-in-Err-Named-clause-reads : goal.returns-in-Err-Named-clause-reads
+returns-in-Err-Named-clause-reads g c =
+    let e = rw c.in-Err-Named.field-0-is at c.in-Err-Named.ensures.err in
+    rw c.in-Err-Named.kind-is (reads_refused _ _ _ c.if-lines-ge-MAX_LINES.false e)
+
+pub returns-in-Ok-Blank-clause-reads : goal.returns-in-Ok-Blank-clause-reads
+returns-in-Ok-Blank-clause-reads g c = reads_accepted _ _ _ c.if-lines-ge-MAX_LINES.false (rw c.in-Ok-Blank.field-0-is at c.in-Ok-Blank.ensures.ok)
+
+pub returns-in-Ok-Blank-clause-writes : goal.returns-in-Ok-Blank-clause-writes
+returns-in-Ok-Blank-clause-writes g c = λ sink. ok_unwritten _ _
+
+pub returns-in-Ok-At-clause-reads : goal.returns-in-Ok-At-clause-reads
+returns-in-Ok-At-clause-reads g c = reads_accepted _ _ _ c.if-lines-ge-MAX_LINES.false (rw c.in-Ok-At.field-0-is at c.in-Ok-At.ensures.ok)
+
+pub returns-in-Ok-At-clause-writes : goal.returns-in-Ok-At-clause-writes
+returns-in-Ok-At-clause-writes g c = λ sink. ok_unwritten _ _
+
+pub returns-in-Ok-Random-clause-reads : goal.returns-in-Ok-Random-clause-reads
+returns-in-Ok-Random-clause-reads g c = reads_accepted _ _ _ c.if-lines-ge-MAX_LINES.false (rw c.in-Ok-Random.field-0-is at c.in-Ok-Random.ensures.ok)
+
+pub returns-in-Ok-Random-clause-writes : goal.returns-in-Ok-Random-clause-writes
+returns-in-Ok-Random-clause-writes g c = λ sink. ok_unwritten _ _
+
+pub returns-in-Ok-Caller-clause-reads : goal.returns-in-Ok-Caller-clause-reads
+returns-in-Ok-Caller-clause-reads g c = reads_accepted _ _ _ c.if-lines-ge-MAX_LINES.false (rw c.in-Ok-Caller.field-0-is at c.in-Ok-Caller.ensures.ok)
+
+pub returns-in-Ok-Caller-clause-writes : goal.returns-in-Ok-Caller-clause-writes
+returns-in-Ok-Caller-clause-writes g c = λ sink. ok_unwritten _ _
+
+pub returns-in-Ok-clause-reads : goal.returns-in-Ok-clause-reads
+returns-in-Ok-clause-reads g c = reads_accepted _ _ _ c.if-lines-ge-MAX_LINES.false (rw c.in-Ok-Step.field-0-is at c.in-Ok-Step.ensures.ok)
+
+pub returns-clause-reads : goal.returns-clause-reads
+returns-clause-reads g c = reads_stopped c.in-Err.stop _ _ _ c.if-lines-ge-MAX_LINES.false (rw c.in-Ok-Step.field-0-is at c.in-Ok-Step.ensures.ok)
+
+pub returns-then-lines-ge-MAX_LINES-clause-writes : goal.returns-then-lines-ge-MAX_LINES-clause-writes
+returns-then-lines-ge-MAX_LINES-clause-writes g c = λ sink. ok_unwritten _ _
+
+pub returns-in-Err-NoMemory-clause-writes : goal.returns-in-Err-NoMemory-clause-writes
+returns-in-Err-NoMemory-clause-writes g c = λ sink. err_unwritten _ _
+
+pub returns-in-Err-Named-clause-writes : goal.returns-in-Err-Named-clause-writes
+returns-in-Err-Named-clause-writes g c = λ sink. ok_unwritten _ _
+
+pub returns-in-Ok-clause-writes : goal.returns-in-Ok-clause-writes
+returns-in-Ok-clause-writes g c = λ sink. ok_as c.in-Ok.field-0 _ _ _ (c.in-Ok.ensures.writes sink)
+
+pub returns-clause-writes : goal.returns-clause-writes
+returns-clause-writes g c = λ sink. err_as c.in-Err.stop _ _ (c.in-Err.ensures.writes sink)
