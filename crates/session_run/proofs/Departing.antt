@@ -5,17 +5,14 @@ use Rattle.pam_base.specs.declared.call.AppCall.TheVariants.{End}
 use Rattle.pam_base.specs.declared.call.Step.{Step}
 use Rattle.pam_base.specs.declared.code.Code.{Code}
 use Rattle.pam_base.specs.Code.{number_of}
-use Rattle.dispatch_core.specs.Lines.{names_of}
 use Rattle.pam_room.specs.State.{PlainWorld}
 use Rattle.pam_library.specs.Alike.{AreAlike}
 use Rattle.pam_library.specs.Slots.{PlainSlot, closed, opened, slot_at}
 use Rattle.pam_library.specs.Step.{Stepped, stepped, stepped_at}
-use Rattle.script_stream.specs.Run.{run_lines}
 use Rattle.session_run.specs.Closings.{all_closed, closings_behind, last_state, world_behind}
 use Rattle.session_run.specs.State.{RunState, Setting, state_of}
 use Rattle.session_run.specs.Isolation.{world_left}
-use Rattle.session_run.specs.Step.{line_step}
-use Rattle.session_run.proofs.Isolating.{Alike, GoAlike, OtherCalls, OwnCalls, from_start, outcomes_seen, report_seen}
+use Rattle.session_run.proofs.Isolating.{Alike, OtherCalls, OwnCalls}
 
 -- ---- places in a list
 
@@ -45,7 +42,7 @@ module _ (setting : Setting) (status : Code) where
   end_at number s = let t : Stepped = stepped setting.players setting.delay s.slots s.world (end_step number) in state_of t.slots t.world
 
   -- so many places are, one after another, behind the first i
-  pub ends_from : ℕ → ℕ → RunState → RunState
+  unfoldable pub ends_from : ℕ → ℕ → RunState → RunState
   ends_from i zero s = s
   ends_from i (suc k) s = ends_from (suc i) k (end_at (suc i) s)
 

@@ -15,10 +15,10 @@ use Rattle.dispatch_core.specs.Lines.{names_of}
 use Rattle.pam_room.specs.State.{PlainWorld}
 use Rattle.pam_handle.specs.Handle.{PlainHandle}
 use Rattle.pam_library.specs.Alike.{Cleaned, ComeToSame, cleaned_behind, slot_without_ids}
-use Rattle.pam_library.specs.Slots.{PlainSlot, closed, opened, slot_at}
+use Rattle.pam_library.specs.Slots.{PlainSlot, closed, opened}
 use Rattle.pam_library.specs.Step.{Stepped, stepped, stepped_at}
 use Rattle.report_lines.specs.Line.{code_words, number_words, words_text}
-use Rattle.session_report.specs.Cleaned.{filed_text, receipt_text}
+use Rattle.session_report.specs.Cleaned.{receipt_text}
 use Rattle.session_report.specs.Closing.{closing_text}
 use Rattle.session_run.specs.Closings.{all_closed, closings, closings_behind, closings_text, world_behind}
 use Rattle.session_run.specs.Isolation.{Came, GoesAsAlone, IsQuietStart, LeaveFiles, all_closing_texts, alone, came_among, closed_text_with, closing_text_with, closing_without_ids, filed_text_with, receipt_text_with, state_behind, world_after_places, world_left}
@@ -196,7 +196,7 @@ module _ (setting : Setting) (status : Code) where
       ap (λ (l : List PlainSlot). closed_text_with setting.players status number_words (suc i) (world_after_places setting.players status l w) (slice_get all i)) taken
       ∙ ap (closed_text_with setting.players status number_words (suc i) now) found in
       let rest : closings_text (closings_behind setting.players status next slots (world_after_places setting.players status more w))
-          ≡ flat_map (closing_text_with setting.players status number_words (state_of (more ++ slots) w)) (range_with_len (suc (suc i)) (length slots)) =
+      ≡ flat_map (closing_text_with setting.players status number_words (state_of (more ++ slots) w)) (range_with_len (suc (suc i)) (length slots)) =
       texts_by_number slots next more (suc i) w (ap suc at ∙ sym (one_longer front (left_behind setting status x))) (ap suc behind ∙ sym (one_longer before x)) in
       let one_more : suc (suc i) ≡ suc i + 1 = omega arith in
       one_place i x front slots now at

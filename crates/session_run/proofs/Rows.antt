@@ -138,10 +138,10 @@ one_before_the_other = codes "start 1 t" ∷ codes "start 2 t" ∷ codes "authen
 
 its_lines_behind_the_file : texts_among with_file 1 0 with_service one_before_the_other
     ≡ codes "1 start SUCCESS 0\n" ∷ codes "1 line 1 p AUTH_ERR 7\n1 authenticate AUTH_ERR 7\n" ∷ []
-unfolding step_at line_step words_of stepped digits look items answer_to answer_at pieces_behind first_piece entry_of nodes
+unfolding step_at line_step words_of stepped digits look items answer_to answer_at pieces_behind first_piece entry_of nodes path_of
 its_lines_behind_the_file = refl
 
 its_lines_without_the_file : texts_among with_file 1 0 with_service (alone 1 one_before_the_other)
     ≡ codes "1 start SUCCESS 0\n" ∷ codes "1 line 1 p SUCCESS 0\n1 authenticate SUCCESS 0\n" ∷ []
-unfolding step_at line_step words_of stepped digits look items answer_to answer_at pieces_behind first_piece entry_of nodes
+unfolding step_at line_step words_of stepped digits look items answer_to answer_at pieces_behind first_piece entry_of nodes path_of
 its_lines_without_the_file = refl

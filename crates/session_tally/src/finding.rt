@@ -5,10 +5,9 @@ ghost use Rattle.pam_outside.specs.Files.{counted};
 ghost use Rattle.mod_tally.specs.Tally.{failure_line, failures_of};
 ghost use Rattle.session_tally.specs.Tally.{IsTally, by_text, damaged, listed, tally_of, tally_path, unread};
 
-use account_files::path_of;
 use mod_tally::{Failure, Failures, failures, write_failure};
 use pam_base::{NoMemory, Refuse, Text};
-use pam_outside::{Vault, VaultFault, read_file};
+use pam_outside::{Vault, VaultFault, path_of, read_file};
 use std::alloc::Global;
 
 /// What was found of a user's failures.
