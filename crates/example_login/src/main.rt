@@ -1,0 +1,80 @@
+//! An application in small: a door that asks PAM whether somebody may go through, with a module and a conversation of its
+//! own. It prints what PAM answered, and its status is that code's number.
+#![tactic(auto)]
+
+ghost use Rattle.pam_handle.specs.Plain.{plain_handle};
+ghost use Rattle.pam_handle.specs.Ready.{IsReadyFor};
+
+mod card;
+mod guest;
+
+use card::Card;
+use data_cleanup::Ledger;
+use fail_delay::DelayFn;
+use guest::Guest;
+use mod_basic::{Permit, Probe};
+use pam_base::{Code, ESTABLISH_CRED, NoMemory, Text, code_name, code_number};
+use pam_handle::{Gear, GearTold, Handle};
+use pam_outside::{FixedClock, FolderVault, NapSum};
+use pam_room::{Module, Process, Room, RoomTold, World, WorldTold};
+use std::alloc::Global;
+use std::io;
+use std::process::ExitCode;
+
+fn main(rt: HostRuntime) -> io::Result<ExitCode> {
+    let alloc = rt.alloc();
+    let mut mods: Vec<Box<dyn Module>> = Vec::new(alloc);
+    mods.push(Box::new(alloc, Permit::new())?)?;
+    mods.push(Box::new(alloc, Probe::new())?)?;
+    mods.push(Box::new(alloc, Guest)?)?;
+    let delay = |_code: Code, asked: u32| -> u32 { asked.min(3_000_000) };
+    let gear = Gear {
+        mods,
+        delay: DelayFn::new(Box::new(alloc, delay)?),
+    };
+    let mut world = World {
+        vault: Box::new(alloc, FolderVault::new(rt))?,
+        clock: Box::new(alloc, FixedClock::new(0, 0))?,
+        nap: Box::new(alloc, NapSum::new())?,
+        process: Process {
+            ledger: Ledger::new(alloc),
+            root: Text::from_vec(Vec::from_slice(alloc, b"r")?),
+            caller: 65534,
+        },
+    };
+    let conv = Box::new(alloc, Card::new())?;
+    let Ok(mut handle) = Handle::start(alloc, &gear, &mut world, 1, b"door", Some(b"guest"), conv)
+    else {
+        println!(rt; "refused")?;
+        return Ok(ExitCode::FAILURE);
+    };
+    let code = let_in(alloc, &gear, &mut world, &mut handle).unwrap_or(Code::BufErr);
+    let _card = handle.end(&gear, &mut world, code_number(code));
+    println!(rt; "{}", code_name(code))?;
+    Ok(ExitCode::from(code_number(code) as u8))
+}
+
+// The calls of a login program, up to the first that isn't SUCCESS.
+fn let_in(
+    alloc: Global,
+    gear: &Gear,
+    world: &mut World,
+    handle: &mut Handle,
+) -> Result<Code, NoMemory>
+    requires ready { IsReadyFor (⟦<Gear as GearTold>⟧.players gear.now)
+        (plain_handle ⟦<Room as RoomTold>⟧.plain handle.old)
+        (⟦<World as WorldTold>⟧.plain world.old).process }
+    ensures ready { IsReadyFor (⟦<Gear as GearTold>⟧.players gear.now)
+        (plain_handle ⟦<Room as RoomTold>⟧.plain handle.new)
+        (⟦<World as WorldTold>⟧.plain world.new).process }
+{
+    let code = handle.authenticate(alloc, gear, world, 0)?;
+    if code != Code::Success {
+        return Ok(code);
+    }
+    let code = handle.acct_mgmt(alloc, gear, world, 0)?;
+    if code != Code::Success {
+        return Ok(code);
+    }
+    handle.setcred(alloc, gear, world, ESTABLISH_CRED)
+}
