@@ -4,4 +4,3 @@ mod Trimming
 mod Rows
 mod Placing
 mod Renewing
-pub mod Splitting

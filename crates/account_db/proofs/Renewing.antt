@@ -20,7 +20,7 @@ use Rattle.account_db.specs.Parts.{field, fields_of}
 use Rattle.pam_base.specs.Parts.{parts_of}
 use Rattle.account_db.specs.Replace.{changed_entries, changed_line, changed_lines, is_line_of, renewed, with_hash}
 use Rattle.account_db.specs.Shadow.{are_days, is_days, shadow_in, shadow_of, shadows_of}
-use Rattle.account_db.proofs.Splitting.{either, parts_of-first, parts_of-last}
+use Rattle.pam_base.proofs.Cutting.{either, parts_of-first, parts_of-last}
 
 -- ---- parts that lack a byte
 

@@ -9,7 +9,7 @@ use Rattle.script_lang.specs.declared.line.Line.{Line}
 use Rattle.script_lang.specs.declared.line.Line.TheVariants as lines
 use Rattle.script_lang.specs.Line.{parsed}
 use Rattle.item_stream.specs.declared.ending.Ending.TheVariants.{Done, ReadFault, Refused}
-use Rattle.script_stream.specs.Looked.{looked}
+use Rattle.script_stream.specs.Looked.{held_limit, looked}
 use Rattle.script_stream.specs.Run.{step_at}
 use Rattle.script_stream.specs.Turns.{Ending}
 use Rattle.dispatch_core.specs.Lines.{names_of}
@@ -43,7 +43,7 @@ module _ (setting : Setting) where
 
   -- the blocks of a line that has n lines before it
   abbrev pub line_blocks : ℕ → RunState → List ℕ → List Block
-  line_blocks n s line = if nat_le 65536 n then [] else if nat_lt 513 (length line) then [] else blocks_asked s (parsed line)
+  line_blocks n s line = if nat_le 65536 n then [] else if nat_lt held_limit (length line) then [] else blocks_asked s (parsed line)
 
   abbrev pub blocks_on : Result (RunState × List ℕ) ScriptKind → (RunState → List Block) → List Block
   blocks_on (Ok x) rest = rest x.0

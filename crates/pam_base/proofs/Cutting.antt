@@ -11,7 +11,7 @@ use Rattle.pam_base.specs.Parts.{parts_of}
 rest_is : (text : List ℕ) (n : ℕ) → take (length text - n) (drop n text) ≡ drop n text
 rest_is text n = take_all (length text - n) (drop n text) (omega (arith, length-drop n text))
 
-either : (a b : Bool) → (a || b) ≡ false → (a ≡ false) × (b ≡ false)
+pub either : (a b : Bool) → (a || b) ≡ false → (a ≡ false) × (b ≡ false)
 either true b e = absurd cc
 either false b e = (refl, e)
 
@@ -30,11 +30,11 @@ same n = grind (arith, nat_tests)
 abbrev pub parts_left : ℕ → Bool → List ℕ → List (List ℕ)
 parts_left separator ended rest = cond ended [] (parts_of separator rest)
 
-parts_of-first : (separator : ℕ) (part more : List ℕ) → has_byte separator part ≡ false → parts_of separator (part ++ separator ∷ more) ≡ part ∷ parts_of separator more
+pub parts_of-first : (separator : ℕ) (part more : List ℕ) → has_byte separator part ≡ false → parts_of separator (part ++ separator ∷ more) ≡ part ∷ parts_of separator more
 unfolding parts_of
 parts_of-first separator part more e = slice_split_at (λ b. eqb b separator) part separator more (lacks separator part e) (same separator)
 
-parts_of-last : (separator : ℕ) (part : List ℕ) → has_byte separator part ≡ false → parts_of separator part ≡ part ∷ []
+pub parts_of-last : (separator : ℕ) (part : List ℕ) → has_byte separator part ≡ false → parts_of separator part ≡ part ∷ []
 unfolding parts_of
 parts_of-last separator part e = slice_split_none (λ b. eqb b separator) part (lacks separator part e)
 

@@ -2,11 +2,15 @@
 use Rattle.std.specs.Prelude.{◌⊎◌, ℕ, ◌+◌, ◌≤◌, ◌<◌, Bool, List, [], ◌∷◌, ◌++◌, length, ◌||◌, if◌then◌else◌, nat_le, nat_lt}
 use Rattle.pam_base.specs.Lines.{cut}
 
+-- The most bytes of a line that are held without its newline: 512 of the line, and a carriage return.
+abbrev pub held_limit : ℕ
+held_limit = 513
+
 -- What stands behind the last newline is looked at where the input has ended; before that only where it is one line
--- too many, or where more than 513 bytes of it were taken. `n` is the number of lines before it.
+-- too many, or where more than `held_limit` bytes of it were taken. `n` is the number of lines before it.
 unfoldable pub last_looked : ℕ → List ℕ → Bool → List (List ℕ)
 last_looked n [] ended = []
-last_looked n (b ∷ bs) ended = if ended || nat_le 65536 n || nat_lt 513 (length (b ∷ bs)) then (b ∷ bs) ∷ [] else []
+last_looked n (b ∷ bs) ended = if ended || nat_le 65536 n || nat_lt held_limit (length (b ∷ bs)) then (b ∷ bs) ∷ [] else []
 
 -- the lines among some bytes that are looked at, where n lines stand before them
 unfoldable pub looked : ℕ → List ℕ → Bool → List (List ℕ)
@@ -14,4 +18,4 @@ looked n bytes ended = (cut bytes).lines ++ last_looked (n + length (cut bytes).
 
 -- a line that is one too many, or too long, whatever it ends with
 abbrev pub IsOver : ℕ → List ℕ → Type 0
-IsOver n line = (65536 ≤ n) ⊎ (513 < length line)
+IsOver n line = (65536 ≤ n) ⊎ (held_limit < length line)

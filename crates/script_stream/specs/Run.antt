@@ -3,19 +3,19 @@ use Rattle.std.specs.Prelude.{ℕ, Bool, List, length, Result, Ok, Err, nat_le, 
 use Rattle.pam_base.specs.declared.fault.ScriptKind.{ScriptKind}
 use Rattle.pam_base.specs.declared.fault.ScriptKind.TheVariants.{LineTooLong, TooManyLines}
 use Rattle.item_stream.specs.Run as items
-use Rattle.script_stream.specs.Looked.{looked}
+use Rattle.script_stream.specs.Looked.{held_limit, looked}
 
 -- what a line, without its newline, does to a state: the state after it and the text that is written for it, or why
 -- it is refused
 abbrev pub LineStep : Type 0 → Type 0
 LineStep State = State → List ℕ → Result (State × List ℕ) ScriptKind
 
--- A line that has n lines before it. Line 65,537 is refused, and so is a line of more than 513 bytes, whatever it ends
--- with; one of 513 may end with a carriage return, so that is for the step to say.
+-- A line that has n lines before it. Line 65,537 is refused, and so is a line of more than `held_limit` bytes, whatever it
+-- ends with; one of so many may end with a carriage return, so that is for the step to say.
 unfoldable pub step_at : {State : Type 0} → LineStep State → ℕ → State → List ℕ → Result (State × List ℕ) ScriptKind
 step_at step n s line =
     if nat_le 65536 n then Err TooManyLines
-    else if nat_lt 513 (length line) then Err LineTooLong
+    else if nat_lt held_limit (length line) then Err LineTooLong
     else step s line
 
 -- what lines come to

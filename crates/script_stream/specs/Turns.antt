@@ -6,7 +6,7 @@ use Rattle.item_stream.specs.declared.ending.Ending as endings
 use Rattle.item_stream.specs.declared.ending.Stop.{Stop}
 use Rattle.item_stream.specs.Turns as items
 use Rattle.item_stream.specs.Whole as whole
-use Rattle.script_stream.specs.Looked.{looked}
+use Rattle.script_stream.specs.Looked.{held_limit, looked}
 use Rattle.script_stream.specs.Run.{LineStep, step_at}
 
 -- how the lines of a script came to an end
@@ -47,4 +47,4 @@ Runs step Fails = whole.Runs looked (step_at step) Fails
 
 -- the limit for a line: none may begin where there are too many
 abbrev pub IsLimit : ℕ → ℕ → Type 0
-IsLimit limit lines = ((limit ≡ 513) × (lines < 65536)) ⊎ ((limit ≡ 0) × (65536 ≤ lines))
+IsLimit limit lines = ((limit ≡ held_limit) × (lines < 65536)) ⊎ ((limit ≡ 0) × (65536 ≤ lines))

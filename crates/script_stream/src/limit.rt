@@ -3,10 +3,13 @@ ghost use Rattle.script_stream.specs.Turns.{IsLimit};
 /// The most lines that a script has.
 pub const MAX_LINES: u32 = 65536;
 
-/// How many bytes of a line may be held without its newline, where so many lines stand before it: 513, since a
-/// line has at most 512 bytes and a carriage return, and none of line 65,537.
+/// The most bytes of a line that are held without its newline: 512 of the line, and a carriage return.
+const HELD_LIMIT: usize = 513;
+
+/// How many bytes of a line may be held without its newline, where so many lines stand before it: [`HELD_LIMIT`], and
+/// none of line 65,537.
 pub fn limit_of(lines: u32) -> usize
     ensures { IsLimit result lines }
 {
-    if lines < MAX_LINES { 513 } else { 0 }
+    if lines < MAX_LINES { HELD_LIMIT } else { 0 }
 }
