@@ -17,7 +17,8 @@ pub answer_nul : (text : List ℕ) (line : ℕ) → length text ≤ 65536 → So
 unfolding answer_to
 answer_nul text line short nul = rw (le-ltb 65536 (length text) short, ← nul) refl
 
-pub answer_lines : (text : List ℕ) (result : Result (List RawRule) (Refuse LexFault)) → length text ≤ 65536 → None ≡ nul_line 1 text → Gives result (answer_at 1 (before_nul text)) → Gives result (answer_to text)
+pub answer_lines : (text : List ℕ) (result : Result (List RawRule) (Refuse LexFault)) → length text ≤ 65536 → None ≡ nul_line 1 text
+    → Gives result (answer_at 1 (before_nul text)) → Gives result (answer_to text)
 unfolding answer_to
 answer_lines text result short nul given =
     let at : Gives result (answer_at 1 text) = rw (before_whole text (nul_none 1 text nul)) at given in

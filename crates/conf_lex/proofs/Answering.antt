@@ -45,10 +45,12 @@ module _ (n : ℕ) (before : List ℕ) (ps : List Piece) (within : list_any is_n
   spelling_length after r = omega (arith, ap length r.spelled, length-append (spelling ps) after)
 
   -- what is known of the line's fault
-  line_fault_is : (after : List ℕ) (opened : Bool) (o : Option LexFault) → Reads before ps after → opened ≡ list_any is_open ps → o ≡ fault_at n (length before - length after) opened → line_fault (line n ps) ≡ o
+  line_fault_is : (after : List ℕ) (opened : Bool) (o : Option LexFault) → Reads before ps after → opened ≡ list_any is_open ps
+      → o ≡ fault_at n (length before - length after) opened → line_fault (line n ps) ≡ o
   line_fault_is after opened o r open_is is = sym (is ∙ ap (λ (k : ℕ). fault_at n k opened) (spelling_length after r) ∙ ap (λ (b : Bool). fault_at n (length (spelling ps)) b) open_is)
 
-  pub line_refused : (after : List ℕ) (opened : Bool) (f : LexFault) → Reads before ps after → at_line_end after ≡ true → opened ≡ list_any is_open ps → Some f ≡ fault_at n (length before - length after) opened → answer_at n before ≡ Err f
+  pub line_refused : (after : List ℕ) (opened : Bool) (f : LexFault) → Reads before ps after → at_line_end after ≡ true → opened ≡ list_any is_open ps
+      → Some f ≡ fault_at n (length before - length after) opened → answer_at n before ≡ Err f
   line_refused [] opened f r end open_is is = answer-last r ∙ rw (line_fault_is [] opened (Some f) r open_is is) refl
   line_refused (b ∷ bs) opened f r end open_is is =
       let reads : Reads before ps (10 ∷ bs) = rw (eqb-true b 10 end) at r in
@@ -67,7 +69,9 @@ module _ (n m k : ℕ) (before : List ℕ) (ps : List Piece) (within : list_any 
   unfolding answer_at
   behind_is bs e = ap (λ (i : ℕ). answer_of (numbered i (lines_of_pieces (pieces_of bs)))) e
 
-  pub line_given : (after rest : List ℕ) (opened : Bool) (tokens : List Token) → Reads before ps after → opened ≡ list_any is_open ps → None ≡ fault_at n (length before - length after) opened → tokens ≡ tokens_of ps → k ≡ n + newlines (spelling ps) → EndsLine after rest k m → answer_at n before ≡ with_front (rule_at n tokens) (answer_at m rest)
+  pub line_given : (after rest : List ℕ) (opened : Bool) (tokens : List Token) → Reads before ps after → opened ≡ list_any is_open ps
+      → None ≡ fault_at n (length before - length after) opened → tokens ≡ tokens_of ps → k ≡ n + newlines (spelling ps) → EndsLine after rest k m
+      → answer_at n before ≡ with_front (rule_at n tokens) (answer_at m rest)
   line_given [] rest opened tokens r open_is is tokens_are lines ends =
       answer-last n before ps within r ∙ rw (line_fault_is n before ps within [] opened None r open_is is, ends.0, answer-none m, tokens_are) refl
   line_given (b ∷ bs) rest opened tokens r open_is is tokens_are lines ends =

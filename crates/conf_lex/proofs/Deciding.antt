@@ -161,7 +161,8 @@ rules_spelled : (text : List ℕ) (rules : List RawRule) → Spells text rules �
 rules_spelled text rules s = ap (λ (ps : List Piece). flat_map line_rules (joined_lines ps)) (one_reading text s.pieces s.reading) ∙ sym s.rules_are
 
 module _ (text : List ℕ) (long : 65536 < length text) where
-  pub long_only : (line : ℕ) (kind : FaultKind) → IsFaultOf kind line text → ◌≡◌ {A = LexFault} (record { line = line; kind = kind }) (record { line = 0; kind = FileTooLong })
+  pub long_only : (line : ℕ) (kind : FaultKind) → IsFaultOf kind line text
+      → ◌≡◌ {A = LexFault} (record { line = line; kind = kind }) (record { line = 0; kind = FileTooLong })
   long_only line FileTooLong h = ap (λ (n : ℕ). record { line = n; kind = FileTooLong }) h.1
   long_only line NulByte h = absurd (let short = h.short in omega arith)
   long_only line RuleTooLong h = absurd (let short = h.short in omega arith)
@@ -178,7 +179,8 @@ module _ (text : List ℕ) (short : length text ≤ 65536) (place : ℕ) (at : I
   pub nul_line : (line : ℕ) → HasNul text line → line ≡ 1 + newlines (take place text)
   nul_line line h = h.line_is ∙ ap (λ (n : ℕ). 1 + n) (one_nul text h.place place h.first at)
 
-  pub nul_only : (line : ℕ) (kind : FaultKind) → IsFaultOf kind line text → ◌≡◌ {A = LexFault} (record { line = line; kind = kind }) (record { line = 1 + newlines (take place text); kind = NulByte })
+  pub nul_only : (line : ℕ) (kind : FaultKind) → IsFaultOf kind line text
+      → ◌≡◌ {A = LexFault} (record { line = line; kind = kind }) (record { line = 1 + newlines (take place text); kind = NulByte })
   nul_only line FileTooLong h = absurd (omega (arith, h.0))
   nul_only line NulByte h = ap (λ (n : ℕ). record { line = n; kind = NulByte }) (nul_line line h)
   nul_only line RuleTooLong h = absurd (no_lines h.no_nul)
@@ -189,14 +191,18 @@ module _ (text : List ℕ) (short : length text ≤ 65536) (place : ℕ) (at : I
   fault_line (Err (Named f)) = f.line
   fault_line _ = 0
 
-  fault_line-is : (k line : ℕ) → ◌≡◌ {A = Result (List RawRule) (Refuse LexFault)} (Err (Named (record { line = k; kind = NulByte }))) (Err (Named (record { line = line; kind = NulByte }))) → k ≡ line
+  fault_line-is : (k line : ℕ)
+      → ◌≡◌ {A = Result (List RawRule) (Refuse LexFault)} (Err (Named (record { line = k; kind = NulByte }))) (Err (Named (record { line = line; kind = NulByte })))
+      → k ≡ line
   unfolding fault_line
   fault_line-is k line e = ap fault_line e
 
-  pub nul_given : (k line : ℕ) → k ≡ 1 + newlines (take place text) → (◌≡◌ {A = Result (List RawRule) (Refuse LexFault)} (Err (Named (record { line = k; kind = NulByte }))) (Err (Named (record { line = line; kind = NulByte })))) ↔ HasNul text line
+  pub nul_given : (k line : ℕ) → k ≡ 1 + newlines (take place text)
+      → (◌≡◌ {A = Result (List RawRule) (Refuse LexFault)} (Err (Named (record { line = k; kind = NulByte }))) (Err (Named (record { line = line; kind = NulByte })))) ↔ HasNul text line
   nul_given k line is = (λ e. record { short = short; place = place; first = at; line_is = sym (fault_line-is k line e) ∙ is }, λ h. ap (λ (n : ℕ). Err (Named (record { line = n; kind = NulByte }))) (is ∙ sym (nul_line line h)))
 
-  pub nul_first : (k : ℕ) → k ≡ 1 + newlines (take place text) → (f : LexFault) → IsFirstFault text f → ◌≡◌ {A = Result (List RawRule) LexFault} (Err f) (Err (record { line = k; kind = NulByte }))
+  pub nul_first : (k : ℕ) → k ≡ 1 + newlines (take place text) → (f : LexFault) → IsFirstFault text f
+      → ◌≡◌ {A = Result (List RawRule) LexFault} (Err f) (Err (record { line = k; kind = NulByte }))
   nul_first k is f h = ap Err (nul_only f.line f.kind h ∙ ap (λ (n : ℕ). record { line = n; kind = NulByte }) (sym is))
 
 module _ (text : List ℕ) (short : length text ≤ 65536) (no_nul : has_byte 0 text ≡ false) where
@@ -248,7 +254,8 @@ module _ (text : List ℕ) (short : length text ≤ 65536) (no_nul : has_byte 0 
   gives_read (Ok rules) g = read_of rules g
   gives_read (Err e) g = tt
 
-  pub gives_spelled : (r : Result (List RawRule) (Refuse LexFault)) → Gives r (answer_at 1 text) → (rules : List RawRule) → HasNoFault text → Spells text rules → Gives r (Ok rules)
+  pub gives_spelled : (r : Result (List RawRule) (Refuse LexFault)) → Gives r (answer_at 1 text) → (rules : List RawRule) → HasNoFault text
+      → Spells text rules → Gives r (Ok rules)
   gives_spelled (Ok x) g rules none s = sym (spelled_only rules none s) ∙ g
   gives_spelled (Err (Named f)) g rules none s = sym (spelled_only rules none s) ∙ g
   gives_spelled (Err NoMemory) g rules none s = tt
@@ -266,10 +273,12 @@ module _ (text : List ℕ) (short : length text ≤ 65536) (no_nul : has_byte 0 
   named : (r : Result (List RawRule) (Refuse LexFault)) → Gives r (answer_at 1 text) → (f : LexFault) → r ≡ Err (Named f) → IsFirstFault text f
   named r g f e = let h : answer_at 1 text ≡ Err f = subst (λ (x : Result (List RawRule) (Refuse LexFault)). Gives x (answer_at 1 text)) e g in fault_of f h
 
-  pub gives_long : (r : Result (List RawRule) (Refuse LexFault)) → Gives r (answer_at 1 text) → (r ≡ Err (Named (record { line = 0; kind = FileTooLong }))) ↔ (65536 < length text)
+  pub gives_long : (r : Result (List RawRule) (Refuse LexFault)) → Gives r (answer_at 1 text)
+      → (r ≡ Err (Named (record { line = 0; kind = FileTooLong }))) ↔ (65536 < length text)
   gives_long r g = (λ e. (named r g (record { line = 0; kind = FileTooLong }) e).0, λ long. absurd (omega arith))
 
-  pub gives_nul : (r : Result (List RawRule) (Refuse LexFault)) → Gives r (answer_at 1 text) → (line : ℕ) → (r ≡ Err (Named (record { line = line; kind = NulByte }))) ↔ HasNul text line
+  pub gives_nul : (r : Result (List RawRule) (Refuse LexFault)) → Gives r (answer_at 1 text) → (line : ℕ)
+      → (r ≡ Err (Named (record { line = line; kind = NulByte }))) ↔ HasNul text line
   gives_nul r g line = (λ e. named r g (record { line = line; kind = NulByte }) e, λ h. absurd (no_nul_line line h))
 
 -- ---- laws
@@ -282,7 +291,8 @@ same_fault text f g short no_nul h k =
     let e : Some f ≡ Some g = sym (fault_in text short no_nul f.line f.kind h) ∙ fault_in text short no_nul g.line g.kind k in
     cc
 
-by_first : (text : List ℕ) (line : ℕ) (kind : FaultKind) (g : LexFault) → IsFaultOf kind line text → IsFirstFault text g → ◌≡◌ {A = LexFault} (record { line = line; kind = kind }) g
+by_first : (text : List ℕ) (line : ℕ) (kind : FaultKind) (g : LexFault) → IsFaultOf kind line text → IsFirstFault text g
+    → ◌≡◌ {A = LexFault} (record { line = line; kind = kind }) g
 by_first text line FileTooLong g h k = long_only text h.0 line FileTooLong h ∙ sym (long_only text h.0 g.line g.kind k)
 by_first text line NulByte g h k = nul_only text h.short h.place h.first line NulByte h ∙ sym (nul_only text h.short h.place h.first g.line g.kind k)
 by_first text line RuleTooLong g h k = same_fault text (record { line = line; kind = RuleTooLong }) g h.short h.no_nul h k
@@ -308,6 +318,7 @@ rules_have_tokens (l ∷ ls) = All-append HasToken (line_rules l) (flat_map line
 spelled_have_tokens : (text : List ℕ) (rules : List RawRule) → Spells text rules → All HasToken rules
 spelled_have_tokens text rules s = subst (λ (rs : List RawRule). All HasToken rs) (sym s.rules_are) (rules_have_tokens (joined_lines s.pieces))
 
-pub gives_tokens : (text : List ℕ) (r : Result (List RawRule) (Refuse LexFault)) → IfOk r (λ rules. HasNoFault text × Spells text rules) → IfOk r (λ rules. All HasToken rules)
+pub gives_tokens : (text : List ℕ) (r : Result (List RawRule) (Refuse LexFault)) → IfOk r (λ rules. HasNoFault text × Spells text rules)
+    → IfOk r (λ rules. All HasToken rules)
 gives_tokens text (Ok rules) h = spelled_have_tokens text rules h.1
 gives_tokens text (Err e) h = tt

@@ -80,7 +80,8 @@ which_join None = inl refl
 which_join (Some j) = inr (j, refl)
 
 -- a byte that isn't the end, a join or an escape stands for itself
-pub is_single_by : (b : ℕ) (bs : List ℕ) → join_at (b ∷ bs) ≡ None → (eqb b 92 && begins_with 93 bs) ≡ false → eqb b 93 ≡ false → eqb b 10 ≡ false → is_single (b ∷ bs) ≡ true
+pub is_single_by : (b : ℕ) (bs : List ℕ) → join_at (b ∷ bs) ≡ None → (eqb b 92 && begins_with 93 bs) ≡ false → eqb b 93 ≡ false → eqb b 10 ≡ false
+    → is_single (b ∷ bs) ≡ true
 is_single_by b bs no_join_at no_escape no_close no_newline =
     let none : begins_join (b ∷ bs) ≡ false = ap has_join no_join_at in
     rw (no_close, no_newline, no_escape, none) refl
@@ -91,7 +92,8 @@ an_escape b bs rest is more = record { rest = rest; spelled = rw (is, more) refl
 pub no_unit_at_close : (bs : List ℕ) → unit_at (93 ∷ bs) ≡ None
 no_unit_at_close bs = refl
 
-unit_without : (b : ℕ) (bs : List ℕ) → join_at (b ∷ bs) ≡ None → (eqb b 92 && begins_with 93 bs) ≡ false → (unit_at (b ∷ bs) ≡ None) ⊎ ((u : BracketUnit) × IsUnit (b ∷ bs) u)
+unit_without : (b : ℕ) (bs : List ℕ) → join_at (b ∷ bs) ≡ None → (eqb b 92 && begins_with 93 bs) ≡ false
+    → (unit_at (b ∷ bs) ≡ None) ⊎ ((u : BracketUnit) × IsUnit (b ∷ bs) u)
 unit_without b bs none no_escape =
     elim (which (eqb b 93 || eqb b 10)) [
       | inl y ↦ inl (rw (none, no_escape, y) refl)

@@ -66,7 +66,8 @@ rest_is n t e = take_whole (length t - n) (drop n t) (omega (arith, drop_length 
 pub lines_most : (n : ℕ) (t : List ℕ) → n ≤ length (before_nul t) → newlines (take n (before_nul t)) ≤ n
 lines_most n t e = omega (arith, count_by-le-length (λ b. eqb b 10) (take n (before_nul t)), take_length n (before_nul t) e)
 
-pub skip_moves : (n : ℕ) (t rest : List ℕ) (m lines : ℕ) → n ≤ length (before_nul t) → lines ≡ newlines (take n (before_nul t)) → rest ≡ drop n t → Moves t rest m (m + lines)
+pub skip_moves : (n : ℕ) (t rest : List ℕ) (m lines : ℕ) → n ≤ length (before_nul t) → lines ≡ newlines (take n (before_nul t)) → rest ≡ drop n t
+    → Moves t rest m (m + lines)
 skip_moves n t rest m lines e is to =
     let within : n ≤ length t = omega (arith, before_short t) in
     let left : length rest + n ≡ length t = ap (λ (s : List ℕ). length s + n) to ∙ drop_length n t within in

@@ -106,7 +106,8 @@ pieces_behind-drop zero text = refl
 pieces_behind-drop (suc n) [] = refl
 pieces_behind-drop (suc n) (b ∷ bs) = pieces_behind-drop n bs
 
-from_first : (b : ℕ) (bs rest : List ℕ) (p : Piece) → first_piece (b ∷ bs) ≡ p → drop (length (piece_bytes p) - 1) bs ≡ rest → pieces_of (b ∷ bs) ≡ p ∷ pieces_of rest
+from_first : (b : ℕ) (bs rest : List ℕ) (p : Piece) → first_piece (b ∷ bs) ≡ p → drop (length (piece_bytes p) - 1) bs ≡ rest
+    → pieces_of (b ∷ bs) ≡ p ∷ pieces_of rest
 unfolding pieces_behind
 from_first b bs rest p is left = rw (is, pieces_behind-drop (length (piece_bytes p) - 1) bs, left) refl
 
@@ -140,7 +141,8 @@ not_close : (rest : List ℕ) → at_line_end rest ≡ true → begins_with 93 r
 not_close [] e = refl
 not_close (b ∷ bs) e = rw (eqb-true b 10 e) refl
 
-open_again : (us : List BracketUnit) (rest : List ℕ) → units_stand us rest ≡ true → at_line_end rest ≡ true → first_piece (91 ∷ (units_bytes us ++ rest)) ≡ open_bracket us
+open_again : (us : List BracketUnit) (rest : List ℕ) → units_stand us rest ≡ true → at_line_end rest ≡ true
+    → first_piece (91 ∷ (units_bytes us ++ rest)) ≡ open_bracket us
 unfolding first_piece
 open_again us rest e end = rw (units_to us rest e (no_unit_at_end rest end), drop_front (units_bytes us) rest, not_close rest end) refl
 
@@ -157,7 +159,8 @@ goes_on_facts b rest e =
     let first = either (is_white b) (eqb b 35) third.0 in
     record { no_white = first.0; no_hash = first.1; no_newline = third.1; no_join_at = no_join (join_at (b ∷ rest)) last.1 }
 
-plain_again : (b : ℕ) (bs rest : List ℕ) → eqb b 91 ≡ false → all_go_on (b ∷ bs) rest ≡ true → goes_on rest ≡ false → first_piece (b ∷ (bs ++ rest)) ≡ plain (b ∷ bs)
+plain_again : (b : ℕ) (bs rest : List ℕ) → eqb b 91 ≡ false → all_go_on (b ∷ bs) rest ≡ true → goes_on rest ≡ false
+    → first_piece (b ∷ (bs ++ rest)) ≡ plain (b ∷ bs)
 unfolding first_piece
 plain_again b bs rest e on end =
     let parts = both (goes_on (b ∷ (bs ++ rest))) (all_go_on bs rest) on in

@@ -27,14 +27,16 @@ pub joined_unit : (taken : Bool) (before after : List ℕ) (m n : ℕ) → Takes
 joined_unit false before after m n t e = absurd cc
 joined_unit true before after m n t e = record { unit = joined t.0; spelled = t.1; stand = refl; gives = refl; lines = t.2 ∙ ap (λ k. m + k) (sym (join_newline t.0)) }
 
-single_unit : (text : List ℕ) (m : ℕ) → join_at text ≡ None → is_bracket_end text ≡ false → is_escape text ≡ false → UnitTaken (get_or text 0 0) text (drop 1 text) m m
+single_unit : (text : List ℕ) (m : ℕ) → join_at text ≡ None → is_bracket_end text ≡ false → is_escape text ≡ false
+    → UnitTaken (get_or text 0 0) text (drop 1 text) m m
 single_unit [] m none no_end no_escape = absurd cc
 single_unit (b ∷ bs) m none no_end no_escape =
     let ends = either (eqb b 93) (eqb b 10) no_end in
     let lines : m ≡ m + newlines (b ∷ []) = omega (arith, no_newline b ends.1) in
     record { unit = single b; spelled = refl; stand = is_single_by b bs none no_escape ends.0 ends.1; gives = refl; lines = lines }
 
-pub alone_unit : (taken : Bool) (before mid after : List ℕ) (m k n : ℕ) → TakesJoin taken before mid m k → taken ≡ false → is_bracket_end mid ≡ false → is_escape mid ≡ false → after ≡ drop 1 mid → n ≡ k → UnitTaken (get_or mid 0 0) before after m n
+pub alone_unit : (taken : Bool) (before mid after : List ℕ) (m k n : ℕ) → TakesJoin taken before mid m k → taken ≡ false → is_bracket_end mid ≡ false
+    → is_escape mid ≡ false → after ≡ drop 1 mid → n ≡ k → UnitTaken (get_or mid 0 0) before after m n
 alone_unit true before mid after m k n t e no_end no_escape rest line = absurd cc
 alone_unit false before mid after m k n t e no_end no_escape rest line =
     let one = single_unit mid k (ap join_at t.1 ∙ t.0) no_end no_escape in
@@ -47,21 +49,25 @@ no_units text m = record { units = []; spelled = refl; stand = refl; gives = ref
 pushed : (us : List BracketUnit) (u : BracketUnit) (rest : List ℕ) → units_bytes (us ++ u ∷ []) ++ rest ≡ units_bytes us ++ (unit_bytes u ++ rest)
 pushed us u rest = rw (flat_map-append unit_bytes us (u ∷ []), append-nil (unit_bytes u)) (append_assoc (units_bytes us) (unit_bytes u) rest)
 
-text_pushed : (us : List BracketUnit) (u : BracketUnit) (text : List ℕ) (byte : ℕ) → text ≡ units_text us → unit_text u ≡ byte ∷ [] → text ++ byte ∷ [] ≡ units_text (us ++ u ∷ [])
+text_pushed : (us : List BracketUnit) (u : BracketUnit) (text : List ℕ) (byte : ℕ) → text ≡ units_text us → unit_text u ≡ byte ∷ []
+    → text ++ byte ∷ [] ≡ units_text (us ++ u ∷ [])
 text_pushed us u text byte e f = rw (flat_map-append unit_text us (u ∷ []), append-nil (unit_text u), e, f) refl
 
-lines_pushed : (us : List BracketUnit) (u : BracketUnit) (m k n : ℕ) → k ≡ m + newlines (units_bytes us) → n ≡ k + newlines (unit_bytes u) → n ≡ m + newlines (units_bytes (us ++ u ∷ []))
+lines_pushed : (us : List BracketUnit) (u : BracketUnit) (m k n : ℕ) → k ≡ m + newlines (units_bytes us) → n ≡ k + newlines (unit_bytes u)
+    → n ≡ m + newlines (units_bytes (us ++ u ∷ []))
 lines_pushed us u m k n e f =
     let bytes : units_bytes (us ++ u ∷ []) ≡ units_bytes us ++ unit_bytes u = rw (flat_map-append unit_bytes us (u ∷ []), append-nil (unit_bytes u)) refl in
     rw bytes (omega (arith, newlines-append (units_bytes us) (unit_bytes u)))
 
-units_stand-push : (us : List BracketUnit) (u : BracketUnit) (rest : List ℕ) → units_stand us (unit_bytes u ++ rest) ≡ true → unit_stands u rest ≡ true → units_stand (us ++ u ∷ []) rest ≡ true
+units_stand-push : (us : List BracketUnit) (u : BracketUnit) (rest : List ℕ) → units_stand us (unit_bytes u ++ rest) ≡ true
+    → unit_stands u rest ≡ true → units_stand (us ++ u ∷ []) rest ≡ true
 units_stand-push [] u rest e f = rw f refl
 units_stand-push (v ∷ us) u rest e f =
     let parts = both (unit_stands v (units_bytes us ++ (unit_bytes u ++ rest))) (units_stand us (unit_bytes u ++ rest)) e in
     and_true _ _ (ap (unit_stands v) (pushed us u rest) ∙ parts.0) (units_stand-push us u rest parts.1 f)
 
-pub push_unit : (text before mid after : List ℕ) (byte m k n : ℕ) → TakesUnits text before mid m k → UnitTaken byte mid after k n → TakesUnits (text ++ byte ∷ []) before after m n
+pub push_unit : (text before mid after : List ℕ) (byte m k n : ℕ) → TakesUnits text before mid m k → UnitTaken byte mid after k n
+    → TakesUnits (text ++ byte ∷ []) before after m n
 push_unit text before mid after byte m k n us u = record {
   units = us.units ++ u.unit ∷ [];
   spelled = us.spelled ∙ ap (λ (s : List ℕ). units_bytes us.units ++ s) u.spelled ∙ sym (pushed us.units u.unit after);

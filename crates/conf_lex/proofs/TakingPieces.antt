@@ -37,7 +37,8 @@ no_newlines (b ∷ bs) e =
     let parts = either (eqb b 10) (has_byte 10 bs) e in
     omega (arith, newlines-append (b ∷ []) bs, no_newline b parts.0, no_newlines bs parts.1)
 
-pub comment_piece : (before after : List ℕ) (m n k : ℕ) → begins_with 35 before ≡ true → has_byte 10 (take k before) ≡ false → at_line_end (drop k before) ≡ true → after ≡ drop k before → n ≡ m → TakesPiece founds.Blank before after m n
+pub comment_piece : (before after : List ℕ) (m n k : ℕ) → begins_with 35 before ≡ true → has_byte 10 (take k before) ≡ false
+    → at_line_end (drop k before) ≡ true → after ≡ drop k before → n ≡ m → TakesPiece founds.Blank before after m n
 comment_piece [] after m n k e one end rest line = absurd cc
 comment_piece (b ∷ bs) after m n zero e one end rest line = let no : eqb 35 10 ≡ true = subst (λ (x : ℕ). eqb x 10 ≡ true) (eqb-true b 35 e) end in absurd cc
 comment_piece (b ∷ bs) after m n (suc k) e one end rest line =
@@ -85,7 +86,8 @@ run_begins : (text : List ℕ) → goes_on text ≡ true → begins_with 91 text
 run_begins [] on no_bracket = absurd cc
 run_begins (b ∷ bs) on no_bracket = let facts = goes_on_facts b bs on in rw on (facts.no_newline, no_bracket)
 
-pub plain_piece : (before after text : List ℕ) (m n k : ℕ) → goes_on before ≡ true → begins_with 91 before ≡ false → k ≡ length (run_of before) → text ≡ take k before → after ≡ drop k before → n ≡ m → TakesPiece (founds.Token (record { bracketed = false; text = text })) before after m n
+pub plain_piece : (before after text : List ℕ) (m n k : ℕ) → goes_on before ≡ true → begins_with 91 before ≡ false → k ≡ length (run_of before)
+    → text ≡ take k before → after ≡ drop k before → n ≡ m → TakesPiece (founds.Token (record { bracketed = false; text = text })) before after m n
 plain_piece before after text m n k on no_bracket is text_is rest line =
     let after_is : after ≡ drop (length (run_of before)) before = rest ∙ ap (λ (i : ℕ). drop i before) is in
     let run_is : text ≡ run_of before = text_is ∙ ap (λ (i : ℕ). take i before) is ∙ run_front before in
@@ -110,7 +112,8 @@ after_bracket : (before : List ℕ) → begins_with 91 before ≡ true → befor
 after_bracket [] e = absurd cc
 after_bracket (b ∷ bs) e = ap (λ (x : ℕ). x ∷ bs) (eqb-true b 91 e)
 
-pub open_piece : (before inside after text : List ℕ) (m k n : ℕ) → begins_with 91 before ≡ true → inside ≡ drop 1 before → k ≡ m → TakesUnits text inside after k n → at_line_end after ≡ true → TakesPiece founds.OpenBracket before after m n
+pub open_piece : (before inside after text : List ℕ) (m k n : ℕ) → begins_with 91 before ≡ true → inside ≡ drop 1 before → k ≡ m
+    → TakesUnits text inside after k n → at_line_end after ≡ true → TakesPiece founds.OpenBracket before after m n
 open_piece before inside after text m k n e is line us end = record {
   piece = open_bracket us.units;
   spelled = after_bracket before e ∙ ap (λ (t : List ℕ). 91 ∷ t) (sym is ∙ us.spelled);
@@ -127,7 +130,9 @@ no_both text e f = let no : true ≡ false = sym e ∙ f in absurd cc
 closes : (mid : List ℕ) → unit_at mid ≡ None → at_line_end mid ≡ false → mid ≡ 93 ∷ drop 1 mid
 closes mid none open_end = elim (unit_end mid none) [ inl end ↦ absurd (no_both mid end open_end) | inr h ↦ h.1 ∙ ap (λ (t : List ℕ). 93 ∷ drop 1 t) (sym h.1) ]
 
-pub bracket_piece : (before inside mid after text : List ℕ) (m k i n : ℕ) → begins_with 91 before ≡ true → inside ≡ drop 1 before → k ≡ m → TakesUnits text inside mid k i → unit_at mid ≡ None → at_line_end mid ≡ false → after ≡ drop 1 mid → n ≡ i → TakesPiece (founds.Token (record { bracketed = true; text = text })) before after m n
+pub bracket_piece : (before inside mid after text : List ℕ) (m k i n : ℕ) → begins_with 91 before ≡ true → inside ≡ drop 1 before → k ≡ m
+    → TakesUnits text inside mid k i → unit_at mid ≡ None → at_line_end mid ≡ false → after ≡ drop 1 mid → n ≡ i
+    → TakesPiece (founds.Token (record { bracketed = true; text = text })) before after m n
 bracket_piece before inside mid after text m k i n e is line us none within rest last =
     let mid_is : mid ≡ 93 ∷ after = closes mid none within ∙ ap (λ (t : List ℕ). 93 ∷ t) (sym rest) in
     record {
@@ -152,7 +157,8 @@ pushed ps p rest = rw (flat_map-append piece_bytes ps (p ∷ []), append-nil (pi
 tokens_pushed : (ps : List Piece) (p : Piece) → tokens_of (ps ++ p ∷ []) ≡ tokens_of ps ++ piece_tokens p
 tokens_pushed ps p = rw (flat_map-append piece_tokens ps (p ∷ []), append-nil (piece_tokens p)) refl
 
-lines_pushed : (ps : List Piece) (p : Piece) (m k n : ℕ) → k ≡ m + newlines (spelling ps) → n ≡ k + newlines (piece_bytes p) → n ≡ m + newlines (spelling (ps ++ p ∷ []))
+lines_pushed : (ps : List Piece) (p : Piece) (m k n : ℕ) → k ≡ m + newlines (spelling ps) → n ≡ k + newlines (piece_bytes p)
+    → n ≡ m + newlines (spelling (ps ++ p ∷ []))
 lines_pushed ps p m k n e f =
     let bytes : spelling (ps ++ p ∷ []) ≡ spelling ps ++ piece_bytes p = rw (flat_map-append piece_bytes ps (p ∷ []), append-nil (piece_bytes p)) refl in
     rw bytes (omega (arith, newlines-append (spelling ps) (piece_bytes p)))
@@ -161,13 +167,15 @@ or_false : (b : Bool) → (b || false) ≡ b
 or_false true = refl
 or_false false = refl
 
-all_stand-push : (ps : List Piece) (p : Piece) (rest : List ℕ) → all_stand ps (piece_bytes p ++ rest) ≡ true → stands p rest ≡ true → all_stand (ps ++ p ∷ []) rest ≡ true
+all_stand-push : (ps : List Piece) (p : Piece) (rest : List ℕ) → all_stand ps (piece_bytes p ++ rest) ≡ true → stands p rest ≡ true
+    → all_stand (ps ++ p ∷ []) rest ≡ true
 all_stand-push [] p rest e f = rw f refl
 all_stand-push (q ∷ ps) p rest e f =
     let parts = both (stands q (spelling ps ++ (piece_bytes p ++ rest))) (all_stand ps (piece_bytes p ++ rest)) e in
     and_true _ _ (ap (stands q) (pushed ps p rest) ∙ parts.0) (all_stand-push ps p rest parts.1 f)
 
-push_reads : (before mid after : List ℕ) (ps : List Piece) (p : Piece) → Reads before ps mid → mid ≡ piece_bytes p ++ after → stands p after ≡ true → Reads before (ps ++ p ∷ []) after
+push_reads : (before mid after : List ℕ) (ps : List Piece) (p : Piece) → Reads before ps mid → mid ≡ piece_bytes p ++ after → stands p after ≡ true
+    → Reads before (ps ++ p ∷ []) after
 push_reads before mid after ps p r spelled stand = record {
   spelled = r.spelled ∙ ap (λ (s : List ℕ). spelling ps ++ s) spelled ∙ sym (pushed ps p after);
   stand = all_stand-push ps p after (ap (all_stand ps) (sym spelled) ∙ r.stand) stand;
@@ -176,7 +184,9 @@ push_reads before mid after ps p r spelled stand = record {
 any_push : (f : Piece → Bool) (ps : List Piece) (p : Piece) → list_any f (ps ++ p ∷ []) ≡ (list_any f ps || f p)
 any_push f ps p = list_any-append f ps (p ∷ []) ∙ ap (λ (b : Bool). list_any f ps || b) (or_false (f p))
 
-pub push_piece : (line next : Line) (found : Found) (before mid after : List ℕ) (m k n : ℕ) → TakesPieces line before mid m k → TakesPiece found mid after k n → next.tokens ≡ line.tokens ++ found_tokens found → next.opened ≡ (line.opened || found_open found) → TakesPieces next before after m n
+pub push_piece : (line next : Line) (found : Found) (before mid after : List ℕ) (m k n : ℕ) → TakesPieces line before mid m k
+    → TakesPiece found mid after k n → next.tokens ≡ line.tokens ++ found_tokens found → next.opened ≡ (line.opened || found_open found)
+    → TakesPieces next before after m n
 push_piece line next found before mid after m k n ps p tokens opened = record {
   pieces = ps.pieces ++ p.piece ∷ [];
   reads = push_reads before mid after ps.pieces p.piece ps.reads p.spelled p.stand;

@@ -155,7 +155,8 @@ impl<'a> Lexer<'a> {
     /// Takes the join at the front, if one stands there.
     fn join(&mut self) -> bool
         requires { self.old.line + length self.old.rest.now < 2 ^ 32 }
-        ensures taken { TakesJoin result (before_nul self.old.rest.now) (before_nul self.new.rest.now)
+        ensures taken { TakesJoin result (before_nul self.old.rest.now)
+            (before_nul self.new.rest.now)
             self.old.line self.new.line }
         ensures moves { Moves self.old.rest.now self.new.rest.now self.old.line self.new.line }
     {
@@ -172,7 +173,8 @@ impl<'a> Lexer<'a> {
     /// bracket's end and at the line's.
     fn unit(&mut self) -> Option<u8>
         requires { self.old.line + length self.old.rest.now < 2 ^ 32 }
-        ensures taken { TakesUnit result (before_nul self.old.rest.now) (before_nul self.new.rest.now)
+        ensures taken { TakesUnit result (before_nul self.old.rest.now)
+            (before_nul self.new.rest.now)
             self.old.line self.new.line }
         ensures moves { Moves self.old.rest.now self.new.rest.now self.old.line self.new.line }
     {
@@ -248,7 +250,8 @@ impl<'a> Lexer<'a> {
     fn comment(&mut self) -> Found
         requires fits { self.old.line + length self.old.rest.now < 2 ^ 32 }
         requires hash { IsTrue (begins_with 35 (before_nul self.old.rest.now)) }
-        ensures taken { TakesPiece result (before_nul self.old.rest.now) (before_nul self.new.rest.now)
+        ensures taken { TakesPiece result (before_nul self.old.rest.now)
+            (before_nul self.new.rest.now)
             self.old.line self.new.line }
         ensures moves { Moves self.old.rest.now self.new.rest.now self.old.line self.new.line }
     {
@@ -261,7 +264,8 @@ impl<'a> Lexer<'a> {
     fn white(&mut self) -> Found
         requires fits { self.old.line + length self.old.rest.now < 2 ^ 32 }
         requires white { IsTrue (begins_white (before_nul self.old.rest.now)) }
-        ensures taken { TakesPiece result (before_nul self.old.rest.now) (before_nul self.new.rest.now)
+        ensures taken { TakesPiece result (before_nul self.old.rest.now)
+            (before_nul self.new.rest.now)
             self.old.line self.new.line }
         ensures moves { Moves self.old.rest.now self.new.rest.now self.old.line self.new.line }
     {
@@ -324,7 +328,8 @@ impl<'a> Lexer<'a> {
     fn rule(&mut self, alloc: Global) -> Result<Tokens, Refuse<LexFault>>
         requires fits { self.old.line + length self.old.rest.now < 2 ^ 32 }
         requires some { 0 < length (before_nul self.old.rest.now) }
-        ensures given { GivesLine result (answer_at self.old.line (before_nul self.old.rest.now)) self.old.line
+        ensures given { GivesLine result (answer_at self.old.line
+            (before_nul self.old.rest.now)) self.old.line
             (answer_at self.new.line (before_nul self.new.rest.now)) }
         ensures shorter { OnOk result
             (length (before_nul self.new.rest.now) < length (before_nul self.old.rest.now)) }

@@ -37,7 +37,8 @@ pub fn rules(alloc: Global, text: &[u8]) -> Result<RawRules, Refuse<LexFault>>
     // A first fault is the answer, unless memory runs out.
     ensures first { (fault : LexFault) → IsFirstFault text.now fault → Gives result (Err fault) }
     ensures whole { Gives result (answer_to text.now) }
-    ensures file_too_long { (result ≡ Err (refusals.Named (record { line = 0; kind = kinds.FileTooLong }))) ↔
+    ensures file_too_long { (result ≡ Err (refusals.Named
+        (record { line = 0; kind = kinds.FileTooLong }))) ↔
         (65536 < length text.now) }
     ensures nul_byte { (line : ℕ) →
         (result ≡ Err (refusals.Named (record { line = line; kind = kinds.NulByte }))) ↔

@@ -107,7 +107,8 @@ entries-none : entries_in [] ≡ []
 unfolding entries_in entries_behind
 entries-none = refl
 
-entries-found : (b : ℕ) (bs : List ℕ) (found : FirstEntry) → is_white b ≡ false → first_entry (b ∷ bs) ≡ found → entries_behind 0 (b ∷ bs) ≡ found.entry ∷ entries_behind (length bs - length found.rest) bs
+entries-found : (b : ℕ) (bs : List ℕ) (found : FirstEntry) → is_white b ≡ false → first_entry (b ∷ bs) ≡ found
+    → entries_behind 0 (b ∷ bs) ≡ found.entry ∷ entries_behind (length bs - length found.rest) bs
 unfolding entries_behind
 entries-found b bs found other is = rw (other, entries_behind) (ap (λ (f : FirstEntry). f.entry ∷ entries_behind (length bs - length f.rest) bs) is)
 
@@ -127,7 +128,8 @@ abbrev pub starts : List ℕ → Bool
 starts [] = true
 starts (b ∷ bs) = is_other b
 
-entries-behind_space-by : (b : ℕ) (bs : List ℕ) (is : Bool) → is_white b ≡ is → entries_in bs ≡ entries_in (behind_space bs) → entries_in (b ∷ bs) ≡ entries_in (behind_space (b ∷ bs))
+entries-behind_space-by : (b : ℕ) (bs : List ℕ) (is : Bool) → is_white b ≡ is → entries_in bs ≡ entries_in (behind_space bs)
+    → entries_in (b ∷ bs) ≡ entries_in (behind_space (b ∷ bs))
 entries-behind_space-by b bs true e h = entries-later b bs e ∙ h ∙ ap entries_in (sym (from_first-later is_other b bs (ap not e)))
 entries-behind_space-by b bs false e h = ap entries_in (sym (from_first-here is_other b bs (ap not e)))
 
@@ -149,7 +151,8 @@ starts-behind_space [] = refl
 starts-behind_space (b ∷ bs) = starts-by b bs (is_white b) refl (starts-behind_space bs)
 
 -- the first entry of a text that starts with none, and those behind it
-pub entries-first : (text : List ℕ) → 0 < length text → starts text ≡ true → entries_in text ≡ (first_entry text).entry ∷ entries_in (behind_space (first_entry text).rest)
+pub entries-first : (text : List ℕ) → 0 < length text → starts text ≡ true
+    → entries_in text ≡ (first_entry text).entry ∷ entries_in (behind_space (first_entry text).rest)
 entries-first [] some other = absurd (omega (arith, some))
 entries-first (b ∷ bs) some other =
     entries-other b bs (not-true (is_white b) other) ∙ ap (λ (es : List Entry). (first_entry (b ∷ bs)).entry ∷ es) (entries-behind_space (first_entry (b ∷ bs)).rest)

@@ -49,7 +49,8 @@ module _ (test : List ℕ → Bool) (seen : List Entry) (entry : Entry) where
   abbrev passing : List Entry
   passing = filter (λ e. test e.name) seen
 
-  last_by_test : (passes : Bool) → option_and_then (λ e. result_ok (action_of_word e.action)) (last_or None (passing ++ cond passes (entry ∷ []) [])) ≡ cond passes said (option_and_then (λ e. result_ok (action_of_word e.action)) (last_or None passing))
+  last_by_test : (passes : Bool)
+      → option_and_then (λ e. result_ok (action_of_word e.action)) (last_or None (passing ++ cond passes (entry ∷ []) [])) ≡ cond passes said (option_and_then (λ e. result_ok (action_of_word e.action)) (last_or None passing))
   last_by_test true = ap (option_and_then (λ (e : Entry). result_ok (action_of_word e.action))) (last-end None passing entry)
   last_by_test false = ap (λ (es : List Entry). option_and_then (λ (e : Entry). result_ok (action_of_word e.action)) (last_or None es)) (append-nil passing)
 
@@ -57,7 +58,8 @@ module _ (test : List ℕ → Bool) (seen : List Entry) (entry : Entry) where
   last_action-more = ap (λ (es : List Entry). option_and_then (λ (e : Entry). result_ok (action_of_word e.action)) (last_or None es)) (filter-append (λ (e : Entry). test e.name) seen (entry ∷ [])) ∙ last_by_test (test entry.name)
 
 -- a code's place is set, and no other
-named_with-set : (code : Code) (action : Option Action) (old : Code → Option Action) → map (λ c. cond (eqb (number_of code) (number_of c)) action (old c)) all_codes ≡ set (map old all_codes) (number_of code) action
+named_with-set : (code : Code) (action : Option Action) (old : Code → Option Action)
+    → map (λ c. cond (eqb (number_of code) (number_of c)) action (old c)) all_codes ≡ set (map old all_codes) (number_of code) action
 named_with-set codes.Success action old = refl
 named_with-set codes.OpenErr action old = refl
 named_with-set codes.SymbolErr action old = refl
@@ -105,14 +107,17 @@ module _ (seen : List Entry) (entry : Entry) where
   new_table : (table_of (seen ++ entry ∷ [])).named ≡ map (λ code. cond (names code entry.name) (said (names code) seen entry) (last_action (names code) seen)) all_codes
   new_table = λ i. map (λ code. last_action-more (names code) seen entry i) all_codes
 
-  as_set : (named : Option Code) → map (λ code. cond (is_code code named) (result_ok (action_of_word entry.action)) (last_action (names code) seen)) all_codes ≡ named_with named (result_ok (action_of_word entry.action)) old_table
+  as_set : (named : Option Code)
+      → map (λ code. cond (is_code code named) (result_ok (action_of_word entry.action)) (last_action (names code) seen)) all_codes ≡ named_with named (result_ok (action_of_word entry.action)) old_table
   as_set None = refl
   as_set (Some code) = named_with-set code (result_ok (action_of_word entry.action)) (λ c. last_action (names c) seen)
 
-  named-by : (named : Option Code) → code_of_word entry.name ≡ named → (table_of (seen ++ entry ∷ [])).named ≡ named_with named (result_ok (action_of_word entry.action)) old_table
+  named-by : (named : Option Code) → code_of_word entry.name ≡ named
+      → (table_of (seen ++ entry ∷ [])).named ≡ named_with named (result_ok (action_of_word entry.action)) old_table
   named-by named e = new_table ∙ ap (λ (n : Option Code). map (λ code. cond (is_code code n) (result_ok (action_of_word entry.action)) (last_action (names code) seen)) all_codes) e ∙ as_set named
 
-  default-by : (is : Bool) → is_default entry.name ≡ is → last_action is_default (seen ++ entry ∷ []) ≡ cond is (result_ok (action_of_word entry.action)) (last_action is_default seen)
+  default-by : (is : Bool) → is_default entry.name ≡ is
+      → last_action is_default (seen ++ entry ∷ []) ≡ cond is (result_ok (action_of_word entry.action)) (last_action is_default seen)
   default-by is e = last_action-more is_default seen entry ∙ ap (λ (b : Bool). cond b (result_ok (action_of_word entry.action)) (last_action is_default seen)) e
 
   table-by : (is : Bool) → is_default entry.name ≡ is
@@ -139,7 +144,8 @@ pub filled-none : (whole left : List Entry) (table : Table) → whole ≡ left �
 filled-none whole left table all same = record { seen = []; parts = all; fine = refl; same = same }
 
 module _ (whole left : List Entry) (table : Table) (so_far : Filled whole left table) where
-  pub filled-all : (control : List Action) → left ≡ [] → control ≡ settled table → ◌≡◌ {A = Result (List Action) ControlFault} (Ok control) (control_of_entries whole)
+  pub filled-all : (control : List Action) → left ≡ [] → control ≡ settled table
+      → ◌≡◌ {A = Result (List Action) ControlFault} (Ok control) (control_of_entries whole)
   filled-all control none is =
       let all : whole ≡ so_far.seen = so_far.parts ∙ ap (λ (l : List Entry). so_far.seen ++ l) none ∙ append-nil so_far.seen in
       let fine : filter_map fault_of_entry whole ≡ [] = ap (filter_map fault_of_entry) all ∙ so_far.fine in
@@ -152,7 +158,8 @@ module _ (whole left : List Entry) (table : Table) (so_far : Filled whole left t
         ap (filter_map fault_of_entry) (so_far.parts ∙ ap (λ (l : List Entry). so_far.seen ++ l) cut) ∙ filter_map-append fault_of_entry so_far.seen (entry ∷ more)
         ∙ ap (λ (front : List ControlFault). front ++ filter_map fault_of_entry (entry ∷ more)) so_far.fine
 
-    pub filled-fault : (fault : ControlFault) → fault_of_entry entry ≡ Some fault → ◌≡◌ {A = Result (List Action) ControlFault} (Err fault) (control_of_entries whole)
+    pub filled-fault : (fault : ControlFault) → fault_of_entry entry ≡ Some fault
+        → ◌≡◌ {A = Result (List Action) ControlFault} (Err fault) (control_of_entries whole)
     filled-fault fault e =
         let first : filter_map fault_of_entry whole ≡ fault ∷ filter_map fault_of_entry more = faults ∙ ap (λ (o : Option ControlFault). cons_option o (filter_map fault_of_entry more)) e in
         sym (ap (λ (fs : List ControlFault). control_unless fs whole) first)

@@ -32,7 +32,8 @@ module _ (test : ℕ → Bool) where
   rest-here [] e = refl
   rest-here (b ∷ bs) e = from_first-here test b bs e
 
-  up_to : (run more : List ℕ) → list_all (λ b. not (test b)) run ≡ true → stops test more ≡ true → (before_first test (run ++ more) ≡ run) × (from_first test (run ++ more) ≡ more)
+  up_to : (run more : List ℕ) → list_all (λ b. not (test b)) run ≡ true → stops test more ≡ true
+      → (before_first test (run ++ more) ≡ run) × (from_first test (run ++ more) ≡ more)
   up_to [] more all ends = (before_first-here more ends, rest-here more ends)
   up_to (b ∷ bs) more all ends =
       let parts = both (not (test b)) (list_all (λ c. not (test c)) bs) all in

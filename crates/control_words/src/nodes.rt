@@ -42,7 +42,8 @@ impl Nodes {
 
     /// Adds a node at the end. Without memory the list stays as it was.
     pub fn push(&mut self, node: Node) -> Result<(), NoMemory>
-        ensures ok { OnOk result (stack_of self.new.vec.items ≡ joined (stack_of self.old.vec.items) (node_on node none)) }
+        ensures ok { OnOk result (stack_of self.new.vec.items
+            ≡ joined (stack_of self.old.vec.items) (node_on node none)) }
         ensures err { OnErr result (self.new.vec.items ≡ self.old.vec.items) }
     {
         self.vec.push(node)?;

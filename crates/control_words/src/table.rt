@@ -28,9 +28,12 @@ impl Table {
 
     /// Adds what an entry says. After a fault the table is of no use.
     pub(crate) fn fill(&mut self, name: &[u8], action: &[u8]) -> Result<(), ControlFault>
-        ensures fine { OnOk result (fault_of_entry (record { name = name.now; action = action.now }) ≡ None) }
-        ensures filled { OnOk result (self.new ≡ filled self.old (record { name = name.now; action = action.now })) }
-        ensures fault { IfErr result (λ fault. fault_of_entry (record { name = name.now; action = action.now }) ≡ Some fault) }
+        ensures fine { OnOk result (fault_of_entry (record { name = name.now; action = action.now })
+            ≡ None) }
+        ensures filled { OnOk result (self.new ≡ filled self.old
+            (record { name = name.now; action = action.now })) }
+        ensures fault { IfErr result (λ fault. fault_of_entry
+            (record { name = name.now; action = action.now }) ≡ Some fault) }
     {
         if name.is_empty() || action.is_empty() {
             return Err(ControlFault::of(FaultKind::BadControl));

@@ -35,11 +35,13 @@ none_ready [] e = absurd cc
 none_ready (Answer text ∷ offers) e = absurd cc
 none_ready (Later ∷ offers) e = refl
 
-answer_is : (s : ConvState) (messages : List Message) (off : Bool) → (s.waits || starts_with_mark s.offers) ≡ off → answer_to s messages ≡ answered (has_replies s messages) off (replies_from (ready_replies s.offers) messages)
+answer_is : (s : ConvState) (messages : List Message) (off : Bool) → (s.waits || starts_with_mark s.offers) ≡ off
+    → answer_to s messages ≡ answered (has_replies s messages) off (replies_from (ready_replies s.offers) messages)
 unfolding answered
 answer_is s messages off e = rw e refl
 
-pub again : (s : ConvState) (messages : List Message) → s.waits ≡ false → (answer_to s messages ≡ Err Again) ↔ (HasPrompt messages × (starts_with_mark s.offers ≡ true))
+pub again : (s : ConvState) (messages : List Message) → s.waits ≡ false
+    → (answer_to s messages ≡ Err Again) ↔ (HasPrompt messages × (starts_with_mark s.offers ≡ true))
 again s messages waits =
     let is = answer_is s messages (starts_with_mark s.offers) (rw waits refl) in
     let cases = put_off (has_replies s messages) (starts_with_mark s.offers) (replies_from (ready_replies s.offers) messages) in
@@ -48,7 +50,8 @@ again s messages waits =
       λ both. let none = none_ready s.offers both.1 in is ∙ cases.1 (few.1 (omega (arith, none, both.0)), both.1),
     )
 
-pub gone : (s : ConvState) (messages : List Message) → s.waits ≡ false → (answer_to s messages ≡ Err Gone) ↔ ((length (ready_replies s.offers) < prompt_count messages) × (starts_with_mark s.offers ≡ false))
+pub gone : (s : ConvState) (messages : List Message) → s.waits ≡ false
+    → (answer_to s messages ≡ Err Gone) ↔ ((length (ready_replies s.offers) < prompt_count messages) × (starts_with_mark s.offers ≡ false))
 gone s messages waits =
     let is = answer_is s messages (starts_with_mark s.offers) (rw waits refl) in
     let cases = ended (has_replies s messages) (starts_with_mark s.offers) (replies_from (ready_replies s.offers) messages) in
@@ -57,7 +60,8 @@ gone s messages waits =
       λ both. is ∙ cases.1 (few.1 both.0, both.1),
     )
 
-pub waiting : (s : ConvState) (messages : List Message) → s.waits ≡ true → (answer_to s messages ≡ Err Again) ↔ (length (ready_replies s.offers) < prompt_count messages)
+pub waiting : (s : ConvState) (messages : List Message) → s.waits ≡ true
+    → (answer_to s messages ≡ Err Again) ↔ (length (ready_replies s.offers) < prompt_count messages)
 waiting s messages waits =
     let is = answer_is s messages true (rw waits refl) in
     let cases = put_off (has_replies s messages) true (replies_from (ready_replies s.offers) messages) in

@@ -101,11 +101,14 @@ one_more messages ms m done r from mid to before now after c reply typed appende
   parts = append_assoc c.so_far (shown m) (all_shown ms) ∙ c.parts;
 }
 
-pub all_replies : (messages : List Message) (done : List Reply) (from to before now : Option (List ℕ)) → IsConversing messages [] done from to before now → AreReplies messages done
+pub all_replies : (messages : List Message) (done : List Reply) (from to before now : Option (List ℕ))
+    → IsConversing messages [] done from to before now → AreReplies messages done
 all_replies messages done from to before now c = subst (AreReplies messages) (append-nil done) (c.replies [] tt)
 
-pub all_typed : (messages : List Message) (done : List Reply) (from to before now : Option (List ℕ)) → IsConversing messages [] done from to before now → Types messages done from to
+pub all_typed : (messages : List Message) (done : List Reply) (from to before now : Option (List ℕ))
+    → IsConversing messages [] done from to before now → Types messages done from to
 all_typed messages done from to before now c = types_all messages done from to c.typed
 
-pub all_are_shown : (messages : List Message) (done : List Reply) (from to before now : Option (List ℕ)) → IsConversing messages [] done from to before now → Appends before now (all_shown messages)
+pub all_are_shown : (messages : List Message) (done : List Reply) (from to before now : Option (List ℕ))
+    → IsConversing messages [] done from to before now → Appends before now (all_shown messages)
 all_are_shown messages done from to before now c = subst (Appends before now) (sym (append-nil c.so_far) ∙ c.parts) c.appended

@@ -35,7 +35,8 @@ fitting texts (m ∷ ms) all = by (is_prompt m.style) refl (fitting (drop 1 text
     by true e taken kept = (record { short = first_within texts all; silent = λ no. absurd cc }, taken)
     by false e taken kept = (record { short = omega arith; silent = λ no. refl }, kept)
 
-pub replies_fit : (offers : List Offer) (messages : List Message) (replies : List Reply) → AreShort offers → replies ≡ replies_from (ready_replies offers) messages → AreReplies messages replies
+pub replies_fit : (offers : List Offer) (messages : List Message) (replies : List Reply) → AreShort offers
+    → replies ≡ replies_from (ready_replies offers) messages → AreReplies messages replies
 replies_fit offers messages replies all is = rw is (fitting (ready_replies offers) messages (ready_within offers all))
 
 pub short_rest : (n : ℕ) (offers : List Offer) → AreShort offers → AreShort (drop n offers)

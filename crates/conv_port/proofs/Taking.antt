@@ -16,7 +16,8 @@ pub record IsTaking (messages rest : List Message) (before now : List Offer) (do
   pub offers : drop (prompt_count rest) now ≡ drop (prompt_count messages) before
   pub enough : prompt_count rest ≤ length (ready_replies now)
 
-pub takes_first : (m : Message) (ms : List Message) (offers : List Offer) → prompt_count (m ∷ ms) ≤ length (ready_replies offers) → is_prompt m.style ≡ true → 0 < length (ready_replies offers)
+pub takes_first : (m : Message) (ms : List Message) (offers : List Offer) → prompt_count (m ∷ ms) ≤ length (ready_replies offers)
+    → is_prompt m.style ≡ true → 0 < length (ready_replies offers)
 takes_first m ms offers enough is = let h : 1 + prompt_count ms ≤ length (ready_replies offers) = rw is at enough in omega (arith, h)
 
 abbrev reply : List ℕ → Reply

@@ -63,7 +63,8 @@ at_end (suc n) (b ∷ text) plain le =
 line_is : (text bytes left : List ℕ) → 0 < length bytes → IsCut 512 bytes text left → IsLine text bytes left
 line_is text bytes left lt c = record { some = lt; text_is = sym c.line_is; left_is = sym c.behind_is }
 
-pub line_ended : (old now new : Option (List ℕ)) (text : List ℕ) (b : ℕ) → Consumes old now text → Consumes now new (b ∷ []) → b ≡ 10 → has_byte 10 text ≡ false → length text < 512 → TypesLine text old new
+pub line_ended : (old now new : Option (List ℕ)) (text : List ℕ) (b : ℕ) → Consumes old now text → Consumes now new (b ∷ []) → b ≡ 10
+    → has_byte 10 text ≡ false → length text < 512 → TypesLine text old new
 line_ended None now new text b c d is plain lt = tt
 line_ended (Some xs) None new text b c d is plain lt = absurd c
 line_ended (Some xs) (Some ys) None text b c d is plain lt = absurd d
@@ -77,7 +78,8 @@ line_full (Some xs) None text c plain len = absurd c
 line_full (Some xs) (Some ys) text c plain len =
     rw c (line_is text (text ++ ys) ys (omega (arith, length-append text ys, len)) (subst (λ n. IsCut n (text ++ ys) text ys) len (full text ys plain)))
 
-pub line_at_end : (old now new : Option (List ℕ)) (text : List ℕ) → Consumes old now text → Consumes now new [] → IsAtEnd new → has_byte 10 text ≡ false → length text ≤ 512 → 0 < length text → TypesLine text old new
+pub line_at_end : (old now new : Option (List ℕ)) (text : List ℕ) → Consumes old now text → Consumes now new [] → IsAtEnd new
+    → has_byte 10 text ≡ false → length text ≤ 512 → 0 < length text → TypesLine text old new
 line_at_end None now new text c d end plain le lt = tt
 line_at_end (Some xs) None new text c d end plain le lt = absurd c
 line_at_end (Some xs) (Some ys) None text c d end plain le lt = absurd d

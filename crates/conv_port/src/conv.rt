@@ -34,8 +34,8 @@ pub trait Conv: Drop {
     /// Whether it tells what it holds. It does so for ever or never.
     ghost conv_tells: { Self → Bool };
 
-    /// What was offered to it and isn't taken yet, whether it waits where too little was, and what it was handed, where it
-    /// tells.
+    /// What was offered to it and isn't taken yet, whether it waits where too little was, and what
+    /// it was handed, where it tells.
     ghost conv_holds: { Self → ConvState };
 
     /// How often it answered Gone. The count never falls, and stands still at 2^64 - 1.
@@ -53,14 +53,19 @@ pub trait Conv: Drop {
         requires { IsExchange messages.now }
         ensures replies { IfOk result (λ replies. AreReplies messages.now replies) }
         ensures tells { conv_tells self.new ≡ conv_tells self.old }
-        ensures told { IsTrue (conv_tells self.old) → Talks result messages.now (conv_holds self.old) (conv_holds self.new) }
+        ensures told { IsTrue (conv_tells self.old) →
+            Talks result messages.now (conv_holds self.old) (conv_holds self.new) }
         ensures faults { conv_faults self.old ≤ conv_faults self.new }
-        ensures gone { result ≡ Err ConvFault.Gone → Rose (conv_faults self.old) (conv_faults self.new) }
-        ensures no_fault { result ≢ Err ConvFault.Gone → conv_faults self.new ≡ conv_faults self.old }
+        ensures gone { result ≡ Err ConvFault.Gone →
+            Rose (conv_faults self.old) (conv_faults self.new) }
+        ensures no_fault { result ≢ Err ConvFault.Gone →
+            conv_faults self.new ≡ conv_faults self.old }
         ensures deferrals { conv_deferrals self.old ≤ conv_deferrals self.new }
-        ensures again { result ≡ Err ConvFault.Again → Rose (conv_deferrals self.old) (conv_deferrals self.new) }
+        ensures again { result ≡ Err ConvFault.Again →
+            Rose (conv_deferrals self.old) (conv_deferrals self.new) }
         ensures prompt { result ≡ Err ConvFault.Again → HasPrompt messages.now }
-        ensures no_deferral { result ≢ Err ConvFault.Again → conv_deferrals self.new ≡ conv_deferrals self.old };
+        ensures no_deferral { result ≢ Err ConvFault.Again →
+            conv_deferrals self.new ≡ conv_deferrals self.old };
 
     /// Offers a reply of at most 512 bytes, for a prompt to come. One that tells and doesn't wait takes the six
     /// bytes `\later` as a mark, which puts off the exchange that finds it in front; one that tells adds what was
@@ -68,7 +73,8 @@ pub trait Conv: Drop {
     fn offer(&mut self, alloc: Global, text: &[u8]) -> Result<(), NoMemory>
         requires { length text.now ≤ MAX_TEXT }
         ensures tells { conv_tells self.new ≡ conv_tells self.old }
-        ensures told { IsTrue (conv_tells self.old) → TakesOffer result text.now (conv_holds self.old) (conv_holds self.new) }
+        ensures told { IsTrue (conv_tells self.old) →
+            TakesOffer result text.now (conv_holds self.old) (conv_holds self.new) }
         ensures faults { conv_faults self.new ≡ conv_faults self.old }
         ensures deferrals { conv_deferrals self.new ≡ conv_deferrals self.old };
 }
@@ -82,14 +88,18 @@ pub fn talk_with(
     requires { IsExchange messages.now }
     ensures replies { IfOk result (λ replies. AreReplies messages.now replies) }
     ensures tells { conv_tells conv.new ≡ conv_tells conv.old }
-    ensures told { IsTrue (conv_tells conv.old) → Talks result messages.now (conv_holds conv.old) (conv_holds conv.new) }
+    ensures told { IsTrue (conv_tells conv.old) →
+        Talks result messages.now (conv_holds conv.old) (conv_holds conv.new) }
     ensures faults { conv_faults conv.old ≤ conv_faults conv.new }
-    ensures gone { result ≡ Err ConvFault.Gone → Rose (conv_faults conv.old) (conv_faults conv.new) }
+    ensures gone { result ≡ Err ConvFault.Gone →
+        Rose (conv_faults conv.old) (conv_faults conv.new) }
     ensures no_fault { result ≢ Err ConvFault.Gone → conv_faults conv.new ≡ conv_faults conv.old }
     ensures deferrals { conv_deferrals conv.old ≤ conv_deferrals conv.new }
-    ensures again { result ≡ Err ConvFault.Again → Rose (conv_deferrals conv.old) (conv_deferrals conv.new) }
+    ensures again { result ≡ Err ConvFault.Again →
+        Rose (conv_deferrals conv.old) (conv_deferrals conv.new) }
     ensures prompt { result ≡ Err ConvFault.Again → HasPrompt messages.now }
-    ensures no_deferral { result ≢ Err ConvFault.Again → conv_deferrals conv.new ≡ conv_deferrals conv.old }
+    ensures no_deferral { result ≢ Err ConvFault.Again →
+        conv_deferrals conv.new ≡ conv_deferrals conv.old }
 {
     conv.talk(alloc, messages)
 }
@@ -98,7 +108,8 @@ pub fn talk_with(
 pub fn offer_to(conv: &mut dyn Conv, alloc: Global, text: &[u8]) -> Result<(), NoMemory>
     requires { length text.now ≤ MAX_TEXT }
     ensures tells { conv_tells conv.new ≡ conv_tells conv.old }
-    ensures told { IsTrue (conv_tells conv.old) → TakesOffer result text.now (conv_holds conv.old) (conv_holds conv.new) }
+    ensures told { IsTrue (conv_tells conv.old) →
+        TakesOffer result text.now (conv_holds conv.old) (conv_holds conv.new) }
     ensures faults { conv_faults conv.new ≡ conv_faults conv.old }
     ensures deferrals { conv_deferrals conv.new ≡ conv_deferrals conv.old }
 {

@@ -10,12 +10,15 @@ ghost use Rattle.conv_port.specs.declared.message.Message.{Message};
 /// too few, and is never gone.
 pub fn exchange_without_replies()
     ensures again { (s : ConvState) (messages : List Message) → s.waits ≡ false →
-        (answer_to s messages ≡ Err Again) ↔ (HasPrompt messages × (starts_with_mark s.offers ≡ true)) }
+        (answer_to s messages ≡ Err Again) ↔ (HasPrompt messages × (starts_with_mark s.offers
+        ≡ true)) }
     ensures gone { (s : ConvState) (messages : List Message) → s.waits ≡ false →
         (answer_to s messages ≡ Err Gone)
-        ↔ ((length (ready_replies s.offers) < prompt_count messages) × (starts_with_mark s.offers ≡ false)) }
+        ↔ ((length (ready_replies s.offers) < prompt_count messages) × (starts_with_mark s.offers
+        ≡ false)) }
     ensures waiting { (s : ConvState) (messages : List Message) → s.waits ≡ true →
-        (answer_to s messages ≡ Err Again) ↔ (length (ready_replies s.offers) < prompt_count messages) }
+        (answer_to s messages ≡ Err Again) ↔ (length (ready_replies s.offers)
+        < prompt_count messages) }
     ensures never_gone { (s : ConvState) (messages : List Message) → s.waits ≡ true →
         answer_to s messages ≢ Err Gone }
 {}

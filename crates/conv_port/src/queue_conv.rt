@@ -30,7 +30,12 @@ impl Model for QueueConv {
 
     ghost Value = { QueueState };
 
-    ghost view = { λ q. record { offers = q.offers.items; faults = q.faults; deferrals = q.deferrals; handed = map (λ s. s.value) q.handed.items } };
+    ghost view = { λ q. record {
+      offers = q.offers.items;
+      faults = q.faults;
+      deferrals = q.deferrals;
+      handed = map (λ s. s.value) q.handed.items;
+    } };
 
     ghost invariant = { λ q. AreShort q.offers.items };
 }
@@ -116,8 +121,10 @@ pub(crate) fn take_replies(
     offers: &mut VecDeque<Offer>,
 ) -> Result<Vec<Reply>, NoMemory>
     requires { prompt_count «messages».now ≤ length (ready_replies offers.old.items) }
-    ensures replies { IfOk result (λ replies. replies.items ≡ replies_from (ready_replies offers.old.items) «messages».now) }
-    ensures taken { IfOk result (λ _. offers.new.items ≡ drop (prompt_count «messages».now) offers.old.items) }
+    ensures replies { IfOk result (λ replies. replies.items
+        ≡ replies_from (ready_replies offers.old.items) «messages».now) }
+    ensures taken { IfOk result (λ _. offers.new.items
+        ≡ drop (prompt_count «messages».now) offers.old.items) }
     ensures err { OnErr result (offers.new.items ≡ offers.old.items) }
 {
     let mut replies = Vec::with_capacity(alloc, messages.len())?;

@@ -61,19 +61,35 @@ impl<R: Read + Drop, W: Write + Drop> Conv for TermConv<R, W> {
     fn talk(&mut self, alloc: Global, messages: &Messages) -> Result<Replies, ConvFault>
         requires { IsExchange messages.now }
         ensures replies { IfOk result (λ replies. AreReplies messages.now replies) }
-        ensures tells { ⟦<TermConv<R, W> as Conv>⟧.conv_tells self.new ≡ ⟦<TermConv<R, W> as Conv>⟧.conv_tells self.old }
-        ensures told { IsTrue (⟦<TermConv<R, W> as Conv>⟧.conv_tells self.old) → Talks result messages.now (⟦<TermConv<R, W> as Conv>⟧.conv_holds self.old) (⟦<TermConv<R, W> as Conv>⟧.conv_holds self.new) }
-        ensures faults { ⟦<TermConv<R, W> as Conv>⟧.conv_faults self.old ≤ ⟦<TermConv<R, W> as Conv>⟧.conv_faults self.new }
-        ensures gone { result ≡ Err ConvFault.Gone → Rose (⟦<TermConv<R, W> as Conv>⟧.conv_faults self.old) (⟦<TermConv<R, W> as Conv>⟧.conv_faults self.new) }
-        ensures no_fault { result ≢ Err ConvFault.Gone → ⟦<TermConv<R, W> as Conv>⟧.conv_faults self.new ≡ ⟦<TermConv<R, W> as Conv>⟧.conv_faults self.old }
-        ensures deferrals { ⟦<TermConv<R, W> as Conv>⟧.conv_deferrals self.old ≤ ⟦<TermConv<R, W> as Conv>⟧.conv_deferrals self.new }
-        ensures again { result ≡ Err ConvFault.Again → Rose (⟦<TermConv<R, W> as Conv>⟧.conv_deferrals self.old) (⟦<TermConv<R, W> as Conv>⟧.conv_deferrals self.new) }
+        ensures tells { ⟦<TermConv<R, W> as Conv>⟧.conv_tells self.new
+            ≡ ⟦<TermConv<R, W> as Conv>⟧.conv_tells self.old }
+        ensures told { IsTrue (⟦<TermConv<R, W> as Conv>⟧.conv_tells self.old) →
+            Talks result messages.now (⟦<TermConv<R, W> as Conv>⟧.conv_holds self.old)
+            (⟦<TermConv<R, W> as Conv>⟧.conv_holds self.new) }
+        ensures faults { ⟦<TermConv<R, W> as Conv>⟧.conv_faults self.old
+            ≤ ⟦<TermConv<R, W> as Conv>⟧.conv_faults self.new }
+        ensures gone { result ≡ Err ConvFault.Gone →
+            Rose (⟦<TermConv<R, W> as Conv>⟧.conv_faults self.old)
+            (⟦<TermConv<R, W> as Conv>⟧.conv_faults self.new) }
+        ensures no_fault { result ≢ Err ConvFault.Gone →
+            ⟦<TermConv<R, W> as Conv>⟧.conv_faults self.new
+            ≡ ⟦<TermConv<R, W> as Conv>⟧.conv_faults self.old }
+        ensures deferrals { ⟦<TermConv<R, W> as Conv>⟧.conv_deferrals self.old
+            ≤ ⟦<TermConv<R, W> as Conv>⟧.conv_deferrals self.new }
+        ensures again { result ≡ Err ConvFault.Again →
+            Rose (⟦<TermConv<R, W> as Conv>⟧.conv_deferrals self.old)
+            (⟦<TermConv<R, W> as Conv>⟧.conv_deferrals self.new) }
         ensures prompt { result ≡ Err ConvFault.Again → HasPrompt messages.now }
-        ensures no_deferral { result ≢ Err ConvFault.Again → ⟦<TermConv<R, W> as Conv>⟧.conv_deferrals self.new ≡ ⟦<TermConv<R, W> as Conv>⟧.conv_deferrals self.old }
+        ensures no_deferral { result ≢ Err ConvFault.Again →
+            ⟦<TermConv<R, W> as Conv>⟧.conv_deferrals self.new
+            ≡ ⟦<TermConv<R, W> as Conv>⟧.conv_deferrals self.old }
         ensures never_again { result ≢ Err ConvFault.Again }
-        ensures one_fault { result ≡ Err ConvFault.Gone → self.new.faults ≡ next_count self.old.faults }
-        ensures shown { OnOk result (Appends (W.contents self.old.writer) (W.contents self.new.writer) (all_shown messages.now)) }
-        ensures typed { IfOk result (λ replies. Types messages.now replies (R.remaining self.old.reader) (R.remaining self.new.reader)) }
+        ensures one_fault { result ≡ Err ConvFault.Gone →
+            self.new.faults ≡ next_count self.old.faults }
+        ensures shown { OnOk result (Appends (W.contents self.old.writer)
+            (W.contents self.new.writer) (all_shown messages.now)) }
+        ensures typed { IfOk result (λ replies. Types messages.now replies
+            (R.remaining self.old.reader) (R.remaining self.new.reader)) }
     {
         let result = converse(alloc, messages.items(), &mut self.reader, &mut self.writer);
         if let Err(ConvFault::Gone) = result {
@@ -85,10 +101,15 @@ impl<R: Read + Drop, W: Write + Drop> Conv for TermConv<R, W> {
     /// Does nothing: a terminal's replies are typed.
     fn offer(&mut self, _alloc: Global, _text: &[u8]) -> Result<(), NoMemory>
         requires { length _text.now ≤ MAX_TEXT }
-        ensures tells { ⟦<TermConv<R, W> as Conv>⟧.conv_tells self.new ≡ ⟦<TermConv<R, W> as Conv>⟧.conv_tells self.old }
-        ensures told { IsTrue (⟦<TermConv<R, W> as Conv>⟧.conv_tells self.old) → TakesOffer result _text.now (⟦<TermConv<R, W> as Conv>⟧.conv_holds self.old) (⟦<TermConv<R, W> as Conv>⟧.conv_holds self.new) }
-        ensures faults { ⟦<TermConv<R, W> as Conv>⟧.conv_faults self.new ≡ ⟦<TermConv<R, W> as Conv>⟧.conv_faults self.old }
-        ensures deferrals { ⟦<TermConv<R, W> as Conv>⟧.conv_deferrals self.new ≡ ⟦<TermConv<R, W> as Conv>⟧.conv_deferrals self.old }
+        ensures tells { ⟦<TermConv<R, W> as Conv>⟧.conv_tells self.new
+            ≡ ⟦<TermConv<R, W> as Conv>⟧.conv_tells self.old }
+        ensures told { IsTrue (⟦<TermConv<R, W> as Conv>⟧.conv_tells self.old) →
+            TakesOffer result _text.now (⟦<TermConv<R, W> as Conv>⟧.conv_holds self.old)
+            (⟦<TermConv<R, W> as Conv>⟧.conv_holds self.new) }
+        ensures faults { ⟦<TermConv<R, W> as Conv>⟧.conv_faults self.new
+            ≡ ⟦<TermConv<R, W> as Conv>⟧.conv_faults self.old }
+        ensures deferrals { ⟦<TermConv<R, W> as Conv>⟧.conv_deferrals self.new
+            ≡ ⟦<TermConv<R, W> as Conv>⟧.conv_deferrals self.old }
         ensures nothing { self.new ≡ self.old }
         ensures ok { IsOk result }
     {
@@ -105,8 +126,10 @@ fn converse<R: Read, W: Write>(
 ) -> Result<Replies, ConvFault>
     ensures replies { IfOk result (λ replies. AreReplies «messages».now replies) }
     ensures never_again { result ≢ Err ConvFault.Again }
-    ensures shown { OnOk result (Appends (W.contents writer.old) (W.contents writer.new) (all_shown «messages».now)) }
-    ensures typed { IfOk result (λ replies. Types «messages».now replies (R.remaining reader.old) (R.remaining reader.new)) }
+    ensures shown { OnOk result (Appends (W.contents writer.old) (W.contents writer.new)
+        (all_shown «messages».now)) }
+    ensures typed { IfOk result (λ replies. Types «messages».now replies (R.remaining reader.old)
+        (R.remaining reader.new)) }
 {
     let mut replies = Replies::new(alloc);
     for message in messages {
@@ -119,7 +142,8 @@ fn converse<R: Read, W: Write>(
 // Shows one text.
 fn show<W: Write>(message: &Message, writer: &mut W) -> Result<(), ConvFault>
     ensures never_again { result ≢ Err ConvFault.Again }
-    ensures shown { OnOk result (Appends (W.contents writer.old) (W.contents writer.new) (shown message.now)) }
+    ensures shown { OnOk result (Appends (W.contents writer.old) (W.contents writer.new)
+        (shown message.now)) }
 {
     writer
         .write_all(message.text.bytes())
@@ -134,7 +158,8 @@ fn show<W: Write>(message: &Message, writer: &mut W) -> Result<(), ConvFault>
 fn read_reply<R: Read>(alloc: Global, message: &Message, reader: &mut R) -> Result<Reply, ConvFault>
     ensures reply { IfOk result (λ reply. IsReply message.now reply) }
     ensures never_again { result ≢ Err ConvFault.Again }
-    ensures typed { IfOk result (λ reply. Types (message.now ∷ []) (reply ∷ []) (R.remaining reader.old) (R.remaining reader.new)) }
+    ensures typed { IfOk result (λ reply. Types (message.now ∷ []) (reply
+        ∷ []) (R.remaining reader.old) (R.remaining reader.new)) }
 {
     let text = if message.is_prompt() {
         read_line(alloc, reader)?
@@ -148,7 +173,8 @@ fn read_reply<R: Read>(alloc: Global, message: &Message, reader: &mut R) -> Resu
 fn read_line<R: Read>(alloc: Global, reader: &mut R) -> Result<Text, ConvFault>
     ensures short { IfOk result (λ text. length text ≤ MAX_TEXT) }
     ensures never_again { result ≢ Err ConvFault.Again }
-    ensures typed { IfOk result (λ text. TypesLine text (R.remaining reader.old) (R.remaining reader.new)) }
+    ensures typed { IfOk result (λ text. TypesLine text (R.remaining reader.old)
+        (R.remaining reader.new)) }
 {
     let mut bytes = Vec::with_capacity(alloc, MAX_TEXT).map_err(|_| ConvFault::NoMemory)?;
     while bytes.len() < MAX_TEXT {
@@ -166,7 +192,8 @@ fn read_line<R: Read>(alloc: Global, reader: &mut R) -> Result<Text, ConvFault>
 fn read_byte<R: Read>(reader: &mut R) -> Result<Option<u8>, ConvFault>
     ensures never_again { result ≢ Err ConvFault.Again }
     ensures byte { IfOk result (λ byte. MatchOption byte
-        (Consumes (R.remaining reader.old) (R.remaining reader.new) [] × IsAtEnd (R.remaining reader.new))
+        (Consumes (R.remaining reader.old) (R.remaining reader.new) []
+        × IsAtEnd (R.remaining reader.new))
         (λ b. Consumes (R.remaining reader.old) (R.remaining reader.new) (b ∷ []))) }
 {
     let mut byte = [0u8; 1];

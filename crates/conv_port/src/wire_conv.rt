@@ -26,7 +26,12 @@ impl Model for WireConv {
 
     ghost Value = { QueueState };
 
-    ghost view = { λ q. record { offers = q.offers.items; faults = 0; deferrals = q.deferrals; handed = map (λ s. s.value) q.handed.items } };
+    ghost view = { λ q. record {
+      offers = q.offers.items;
+      faults = 0;
+      deferrals = q.deferrals;
+      handed = map (λ s. s.value) q.handed.items;
+    } };
 
     ghost invariant = { λ q. AreShort q.offers.items };
 }

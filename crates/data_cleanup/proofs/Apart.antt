@@ -7,7 +7,8 @@ pub apart_empty : (ds : List PlainDatum) → ds ≡ [] → AreApart ds
 unfolding IsDistinct
 apart_empty ds e = subst AreApart (sym e) tt
 
-all_front : (P : List ℕ → Type 0) (xs ys : List PlainDatum) → AllByRecursion P (map (λ (d : PlainDatum). d.name) (xs ++ ys)) → AllByRecursion P (map (λ (d : PlainDatum). d.name) xs)
+all_front : (P : List ℕ → Type 0) (xs ys : List PlainDatum) → AllByRecursion P (map (λ (d : PlainDatum). d.name) (xs ++ ys))
+    → AllByRecursion P (map (λ (d : PlainDatum). d.name) xs)
 all_front P [] ys all = tt
 all_front P (x ∷ xs) ys all = (all.0, all_front P xs ys all.1)
 

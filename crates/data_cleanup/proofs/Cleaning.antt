@@ -48,7 +48,8 @@ pub goes_on : (note : Notes) (status : ℕ) (before : PlainLedger) (all : List P
     → IsCleaningUp note status before all next rest
 goes_on note status before all now next left rest d receipt t took is filed = one_more note status before all now next left rest d t took (rw is at filed)
 
-ledger_is : (bs cs : _) (fs gs : List Filed) → bs ≡ cs → fs ≡ gs → ◌≡◌ {A = PlainLedger} (record { births = bs; filed = fs }) (record { births = cs; filed = gs })
+ledger_is : (bs cs : _) (fs gs : List Filed) → bs ≡ cs → fs ≡ gs
+    → ◌≡◌ {A = PlainLedger} (record { births = bs; filed = fs }) (record { births = cs; filed = gs })
 ledger_is bs cs fs gs e f = cc
 
 pub ends : (note : Notes) (status : ℕ) (before : PlainLedger) (all : List PlainDatum) (now : PlainLedger) (left : List PlainDatum)
@@ -93,7 +94,8 @@ less true n le = omega (arith, le)
 less false n le = omega (arith, le)
 
 -- the first datum gets its receipt, and the others still await theirs
-pub others_await : (modules : ℕ) (ledger next : PlainLedger) (all rest : List PlainDatum) (d : PlainDatum) (receipt : Receipt) → AwaitCleanup modules ledger all → all ≡ d ∷ rest
+pub others_await : (modules : ℕ) (ledger next : PlainLedger) (all rest : List PlainDatum) (d : PlainDatum) (receipt : Receipt)
+    → AwaitCleanup modules ledger all → all ≡ d ∷ rest
     → receipt.id ≡ d.id → next ≡ record { births = ledger.births; filed = ledger.filed ++ record { receipt = receipt; mark = length ledger.births } ∷ [] }
     → AwaitCleanup modules next rest
 others_await modules ledger next all rest d receipt o is same filed =
@@ -104,7 +106,8 @@ others_await modules ledger next all rest d receipt o is same filed =
       once = λ id. less _ _ (o'.once id);
     })
 
-pub next_awaits : (modules : ℕ) (ledger : PlainLedger) (all rest : List PlainDatum) (d : PlainDatum) → AwaitCleanup modules ledger all → all ≡ d ∷ rest → AwaitsCleanup modules ledger d
+pub next_awaits : (modules : ℕ) (ledger : PlainLedger) (all rest : List PlainDatum) (d : PlainDatum) → AwaitCleanup modules ledger all
+    → all ≡ d ∷ rest → AwaitsCleanup modules ledger d
 next_awaits modules ledger all rest d o is = let o' : AwaitCleanup modules ledger (d ∷ rest) = subst (AwaitCleanup modules ledger) is o in o'.each.0
 
 pub all-reverse : {A : Type 0} (P : A → Type 0) (xs : List A) → AllByRecursion P xs → AllByRecursion P (reverse xs)

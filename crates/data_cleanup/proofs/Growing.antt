@@ -15,7 +15,8 @@ with_births-append : (live : List PlainDatum) (xs ys : List Birth) → with_birt
 with_births-append live [] ys = refl
 with_births-append live (x ∷ xs) ys = with_births-append (with_datum live (datum_of x)) xs ys
 
-replacements-append : (live : List PlainDatum) (xs ys : List Birth) → replacements live (xs ++ ys) ≡ replacements live xs ++ replacements (with_births live xs) ys
+replacements-append : (live : List PlainDatum) (xs ys : List Birth)
+    → replacements live (xs ++ ys) ≡ replacements live xs ++ replacements (with_births live xs) ys
 replacements-append live [] ys = refl
 replacements-append live (x ∷ xs) ys =
     ap (λ (rs : List (PlainDatum × ℕ)). map (λ (d : PlainDatum). (d, x.id)) (data_named live x.name) ++ rs) (replacements-append (with_datum live (datum_of x)) xs ys)
@@ -27,16 +28,19 @@ swept-more note m n (r ∷ rs) (f ∷ fs) le s = (record { id = s.0.id; status =
 swept-more note m n [] (f ∷ fs) le s = absurd s
 swept-more note m n (r ∷ rs) [] le s = absurd s
 
-swept-append : (note : Notes) (n : ℕ) (rs : List (PlainDatum × ℕ)) (fs : List Filed) (qs : List (PlainDatum × ℕ)) (gs : List Filed) → AreSwept note n rs fs → AreSwept note n qs gs → AreSwept note n (rs ++ qs) (fs ++ gs)
+swept-append : (note : Notes) (n : ℕ) (rs : List (PlainDatum × ℕ)) (fs : List Filed) (qs : List (PlainDatum × ℕ)) (gs : List Filed)
+    → AreSwept note n rs fs → AreSwept note n qs gs → AreSwept note n (rs ++ qs) (fs ++ gs)
 swept-append note n [] [] qs gs s t = t
 swept-append note n (r ∷ rs) (f ∷ fs) qs gs s t = (s.0, swept-append note n rs fs qs gs s.1 t)
 swept-append note n [] (f ∷ fs) qs gs s t = absurd s
 swept-append note n (r ∷ rs) [] qs gs s t = absurd s
 
-pub list_is : (m n : ℕ) (xs ys : List PlainDatum) → m ≡ n → xs ≡ ys → ◌≡◌ {A = PlainDataList} (record { handle = m; live = xs; gone = [] }) (record { handle = n; live = ys; gone = [] })
+pub list_is : (m n : ℕ) (xs ys : List PlainDatum) → m ≡ n → xs ≡ ys
+    → ◌≡◌ {A = PlainDataList} (record { handle = m; live = xs; gone = [] }) (record { handle = n; live = ys; gone = [] })
 list_is m n xs ys e f = cc
 
-pub grows_transitive : (note : Notes) (modules : ℕ) (x y z : PlainDataList) (a b c : PlainLedger) → Grows note modules x a y b → Grows note modules y b z c → Grows note modules x a z c
+pub grows_transitive : (note : Notes) (modules : ℕ) (x y z : PlainDataList) (a b c : PlainLedger) → Grows note modules x a y b
+    → Grows note modules y b z c → Grows note modules x a z c
 grows_transitive note modules x y z a b c g h =
     let longer : length b.births ≤ length c.births = rw h.births (omega (arith, length-append b.births h.added)) in
     let handle : y.handle ≡ x.handle = ap (λ (l : PlainDataList). l.handle) g.list in

@@ -25,7 +25,8 @@ pub record IsPlaced (ds : List PlainDatum) (new old : PlainDatum) (i : ℕ) : Ty
   pub gone : data_named ds new.name ≡ old ∷ []
   pub kept : names (set ds i new) ≡ names ds
 
-placed_there : (ds : List PlainDatum) (new d : PlainDatum) (i : ℕ) → i < length ds → has new.name (get_or ds i d) ≡ true → ((k : ℕ) → k < i → has new.name (get_or ds k d) ≡ false) → IsPlaced ds new (get_or ds i d) i
+placed_there : (ds : List PlainDatum) (new d : PlainDatum) (i : ℕ) → i < length ds → has new.name (get_or ds i d) ≡ true
+    → ((k : ℕ) → k < i → has new.name (get_or ds k d) ≡ false) → IsPlaced ds new (get_or ds i d) i
 placed_there [] new d i lt here before = absurd (omega arith)
 placed_there (x ∷ xs) new d zero lt here before = record {
   live = rw here refl;
@@ -86,7 +87,8 @@ apart_set ds new old i p apart = subst (λ (ns : List (List ℕ)). IsDistinct by
 pub apart_push : (ds : List PlainDatum) (new : PlainDatum) → IsUnplaced ds new → AreApart ds → AreApart (ds ++ new ∷ [])
 apart_push ds new p apart = rw map-append (IsDistinct-push nat_list_eq_equiv (names ds) new.name apart p.none)
 
-pub held_set : (h : ℕ) (ds gs gone : List PlainDatum) (new old dest last : PlainDatum) (i : ℕ) → IsPlaced ds new old i → dest ≡ new → last ≡ old → gone ≡ gs ++ last ∷ []
+pub held_set : (h : ℕ) (ds gs gone : List PlainDatum) (new old dest last : PlainDatum) (i : ℕ) → IsPlaced ds new old i → dest ≡ new → last ≡ old
+    → gone ≡ gs ++ last ∷ []
     → ◌≡◌ {A = PlainDataList} (record { handle = h; live = set ds i dest; gone = gone }) (record { handle = h; live = with_datum ds new; gone = gs ++ data_named ds new.name })
 held_set h ds gs gone new old dest last i p d l g = rw (d, g, l, p.live, p.gone) refl
 

@@ -21,25 +21,30 @@ all-map P Q [] f a = tt
 all-map P Q (x ∷ xs) f a = (f x a.0, all-map P Q xs f a.1)
 
 -- how often an id stands in the list and among what a birth replacements
-times_cases : (b : Bool) (id : ℕ) (d new : PlainDatum) (ds out in_place : List PlainDatum) → times id out + times id in_place ≡ times id ds + times id (new ∷ [])
+times_cases : (b : Bool) (id : ℕ) (d new : PlainDatum) (ds out in_place : List PlainDatum)
+    → times id out + times id in_place ≡ times id ds + times id (new ∷ [])
     → times id (if b then d ∷ [] else out) + times id (if b then new ∷ ds else d ∷ in_place) ≡ times id (d ∷ ds) + times id (new ∷ [])
 times_cases true id d new ds out in_place ih = omega arith
 times_cases false id d new ds out in_place ih = omega (arith, ih)
 
-placed_times : (id : ℕ) (live : List PlainDatum) (new : PlainDatum) → times id (data_named live new.name) + times id (with_datum live new) ≡ times id live + times id (new ∷ [])
+placed_times : (id : ℕ) (live : List PlainDatum) (new : PlainDatum)
+    → times id (data_named live new.name) + times id (with_datum live new) ≡ times id live + times id (new ∷ [])
 placed_times id [] new = refl
 placed_times id (d ∷ ds) new = times_cases (bytes_eq d.name new.name) id d new ds (data_named ds new.name) (with_datum ds new) (placed_times id ds new)
 
-all_cases : (P : PlainDatum → Type 0) (b : Bool) (d new : PlainDatum) (ds out in_place : List PlainDatum) → P d → P new → AllByRecursion P ds → AllByRecursion P out × AllByRecursion P in_place
+all_cases : (P : PlainDatum → Type 0) (b : Bool) (d new : PlainDatum) (ds out in_place : List PlainDatum) → P d → P new → AllByRecursion P ds
+    → AllByRecursion P out × AllByRecursion P in_place
     → AllByRecursion P (if b then d ∷ [] else out) × AllByRecursion P (if b then new ∷ ds else d ∷ in_place)
 all_cases P true d new ds out in_place here made all ih = ((here, tt), (made, all))
 all_cases P false d new ds out in_place here made all ih = (ih.0, (here, ih.1))
 
-all_placed : (P : PlainDatum → Type 0) (live : List PlainDatum) (new : PlainDatum) → AllByRecursion P live → P new → AllByRecursion P (data_named live new.name) × AllByRecursion P (with_datum live new)
+all_placed : (P : PlainDatum → Type 0) (live : List PlainDatum) (new : PlainDatum) → AllByRecursion P live → P new
+    → AllByRecursion P (data_named live new.name) × AllByRecursion P (with_datum live new)
 all_placed P [] new all made = (tt, (made, tt))
 all_placed P (d ∷ ds) new all made = all_cases P (bytes_eq d.name new.name) d new ds (data_named ds new.name) (with_datum ds new) all.0 made all.1 (all_placed P ds new all.1 made)
 
-all_held : (P : PlainDatum → Type 0) (h : PlainDataList) (b : Birth) → AllByRecursion P (h.gone ++ h.live) → P (datum_of b) → AllByRecursion P ((hold h b).gone ++ (hold h b).live)
+all_held : (P : PlainDatum → Type 0) (h : PlainDataList) (b : Birth) → AllByRecursion P (h.gone ++ h.live) → P (datum_of b)
+    → AllByRecursion P ((hold h b).gone ++ (hold h b).live)
 all_held P h b all made =
     let both = all_placed P h.live (datum_of b) (all-back P h.gone h.live all) made in
     all-append P _ _ (all-append P _ _ (all-front P h.gone h.live all) both.0) both.1
@@ -82,7 +87,8 @@ setting_one modules n filed h b is owner unfiled s = record {
   once = λ id. rw (held_times id h b) (new_times (eqb b.id id) n id (h.gone ++ h.live) (λ t. sym is ∙ eqb-true b.id id t) (absent n _ (all-map _ _ _ (λ (d : PlainDatum) (p : IsSetting modules n filed d). p.below) s.each)) (s.once id));
 }
 
-setting_all : (modules handle owner n : ℕ) (filed : List Filed) (h : PlainDataList) (bs : List Birth) → AreNumbered n bs → AllByRecursion (IsBy handle owner) bs → owner < modules
+setting_all : (modules handle owner n : ℕ) (filed : List Filed) (h : PlainDataList) (bs : List Birth) → AreNumbered n bs
+    → AllByRecursion (IsBy handle owner) bs → owner < modules
     → ((k : ℕ) → n ≤ k → list_any (eqb k) (filed_ids filed) ≡ false)
     → AreSetting modules n filed (h.gone ++ h.live) → AreSetting modules (n + length bs) filed ((hold_all h bs).gone ++ (hold_all h bs).live)
 setting_all modules handle owner n filed h [] numbered by within fresh s = subst (λ k. AreSetting modules k filed (h.gone ++ h.live)) (let e : n ≡ n + 0 = omega arith in e) s
@@ -107,10 +113,12 @@ fresh : (births : List Birth) (filed : List Filed) → IsSound births filed → 
 fresh births filed sound k le = false_unless _ (λ t. omega (arith, le, ids_below (length births) k filed sound.born sound.marks t))
 
 -- what a ledger's soundness says of the births that were added
-added_numbered : (before after : PlainLedger) (added : List Birth) → after.births ≡ before.births ++ added → AreNumbered 0 after.births → AreNumbered (length before.births) added
+added_numbered : (before after : PlainLedger) (added : List Birth) → after.births ≡ before.births ++ added → AreNumbered 0 after.births
+    → AreNumbered (length before.births) added
 added_numbered before after added e all = subst (λ k. AreNumbered k added) (let z : 0 + length before.births ≡ length before.births = omega arith in z) (numbered_back 0 before.births added (subst (AreNumbered 0) e all))
 
-added_length : (before after : PlainLedger) (added : List Birth) → after.births ≡ before.births ++ added → length after.births ≡ length before.births + length added
+added_length : (before after : PlainLedger) (added : List Birth) → after.births ≡ before.births ++ added
+    → length after.births ≡ length before.births + length added
 added_length before after added e = ap length e ∙ length-append before.births added
 
 -- Data that were set are open, and so are those that they replacements.
@@ -154,7 +162,8 @@ all_paired : (n id : ℕ) (ds : List PlainDatum) → id < n → AllByRecursion (
 all_paired n id [] lt = tt
 all_paired n id (d ∷ ds) lt = (lt, all_paired n id ds lt)
 
-replaced_below : (n : ℕ) (live : List PlainDatum) (bs : List Birth) → AllByRecursion (λ (b : Birth). b.id < n) bs → AllByRecursion (λ (r : PlainDatum × ℕ). r.1 < n) (replacements live bs)
+replaced_below : (n : ℕ) (live : List PlainDatum) (bs : List Birth) → AllByRecursion (λ (b : Birth). b.id < n) bs
+    → AllByRecursion (λ (r : PlainDatum × ℕ). r.1 < n) (replacements live bs)
 replaced_below n live [] all = tt
 replaced_below n live (b ∷ bs) all = all-append _ _ _ (all_paired n b.id (data_named live b.name) all.0) (replaced_below n (with_datum live (datum_of b)) bs all.1)
 

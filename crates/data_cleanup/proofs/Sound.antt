@@ -34,7 +34,8 @@ pub numbered_bear : (births more : List Birth) (b : Birth) → more ≡ births +
 numbered_bear births more b e is all = subst (AreNumbered 0) (sym e) (numbered_from 0 births b all (omega (arith, is)))
 
 -- one more receipt
-pub sound_file : (births : List Birth) (filed : List Filed) (f : Filed) → IsOutstanding (record { births = births; filed = filed }) f.receipt.id → f.mark ≡ length births → IsSound births filed → IsSound births (filed ++ f ∷ [])
+pub sound_file : (births : List Birth) (filed : List Filed) (f : Filed) → IsOutstanding (record { births = births; filed = filed }) f.receipt.id
+    → f.mark ≡ length births → IsSound births filed → IsSound births (filed ++ f ∷ [])
 sound_file births filed f outstanding mark s = record {
   once = rw map-append (IsDistinct-push nat_eq_equiv (filed_ids filed) f.receipt.id s.once outstanding.unfiled);
   born = all_push _ filed f s.born (rw mark outstanding.born);
@@ -49,7 +50,8 @@ neither : (a b : Bool) → (a || b) ≡ false → (a ≡ false) × (b ≡ false)
 neither true b e = absurd cc
 neither false b e = (refl, e)
 
-pub ids_below : (n id : ℕ) (fs : List Filed) → AllByRecursion (λ (f : Filed). f.receipt.id < f.mark) fs → AllByRecursion (λ (f : Filed). f.mark ≤ n) fs → list_any (eqb id) (filed_ids fs) ≡ true → id < n
+pub ids_below : (n id : ℕ) (fs : List Filed) → AllByRecursion (λ (f : Filed). f.receipt.id < f.mark) fs
+    → AllByRecursion (λ (f : Filed). f.mark ≤ n) fs → list_any (eqb id) (filed_ids fs) ≡ true → id < n
 ids_below n id [] born marks e = absurd cc
 ids_below n id (f ∷ fs) born marks e = elim (or_split (eqb id f.receipt.id) (list_any (eqb id) (filed_ids fs)) e) [
   | inl here ↦ omega (arith, born.0, marks.0, eqb-true id f.receipt.id here)
@@ -60,14 +62,16 @@ not_among : (id : ℕ) (ids : List ℕ) → list_any (eqb id) ids ≡ false → 
 not_among id [] e = tt
 not_among id (i ∷ is) e = let both = neither (eqb id i) (list_any (eqb id) is) e in (both.0, not_among id is both.1)
 
-below_with : (n id q : ℕ) (fs : List Filed) → id < n → AllByRecursion (λ (f : Filed). f.receipt.id < f.mark) fs → AllByRecursion (λ (f : Filed). f.mark ≤ n) fs → list_any (eqb q) (id ∷ filed_ids fs) ≡ true → q < n
+below_with : (n id q : ℕ) (fs : List Filed) → id < n → AllByRecursion (λ (f : Filed). f.receipt.id < f.mark) fs
+    → AllByRecursion (λ (f : Filed). f.mark ≤ n) fs → list_any (eqb q) (id ∷ filed_ids fs) ≡ true → q < n
 below_with n id q fs lt born marks e = elim (or_split (eqb q id) (list_any (eqb q) (filed_ids fs)) e) [
   | inl here ↦ omega (arith, eqb-true q id here)
   | inr there ↦ ids_below n q fs born marks there
 ]
 
 -- A birth without a receipt leaves room.
-pub room_left : (births : List Birth) (filed : List Filed) (id : ℕ) → IsOutstanding (record { births = births; filed = filed }) id → IsSound births filed → length filed < length births
+pub room_left : (births : List Birth) (filed : List Filed) (id : ℕ) → IsOutstanding (record { births = births; filed = filed }) id
+    → IsSound births filed → length filed < length births
 room_left births filed id outstanding s =
     let distinct = IsDistinct-cons eqb id (filed_ids filed) (not_among id (filed_ids filed) outstanding.unfiled) s.once in
     let within = length-le_from_distinct_below (id ∷ filed_ids filed) (length births) distinct (λ q e. below_with (length births) id q filed outstanding.born s.born s.marks e) in

@@ -58,10 +58,12 @@ impl DataList {
         payload: &[u8],
     ) -> Result<(), NoMemory>
         ensures held { OnOk result (self.new ≡
-            hold self.old (birth_of (length ledger.old.births) self.old.handle owner name.now payload.now)) }
+            hold self.old (birth_of (length ledger.old.births) self.old.handle owner name.now
+            payload.now)) }
         ensures born { OnOk result (ledger.new ≡ record ledger.old {
           births = ledger.old.births
-              ++ birth_of (length ledger.old.births) self.old.handle owner name.now payload.now ∷ [];
+              ++ birth_of (length ledger.old.births) self.old.handle owner name.now payload.now
+              ∷ [];
         }) }
         ensures err_list { OnErr result (self.new ≡ self.old) }
         ensures err_ledger { OnErr result (ledger.new ≡ ledger.old) }
@@ -99,7 +101,8 @@ impl DataList {
     /// Takes the oldest of the data that were replaced; None exactly where there is none. It takes no memory.
     pub fn take_gone(&mut self) -> Option<Datum>
         ensures { MatchOption result ((self.old.gone ≡ []) × (self.new ≡ self.old))
-            (λ d. (self.old.gone ≡ d ∷ self.new.gone) × (self.new ≡ record self.old { gone = self.new.gone })) }
+            (λ d. (self.old.gone ≡ d ∷ self.new.gone) × (self.new
+            ≡ record self.old { gone = self.new.gone })) }
     {
         if self.gone.is_empty() {
             return None;
@@ -110,7 +113,8 @@ impl DataList {
     /// Takes the datum whose name was set last; None exactly where no name is set. It takes no memory.
     pub fn take_newest(&mut self) -> Option<Datum>
         ensures { MatchOption result ((self.old.live ≡ []) × (self.new ≡ self.old))
-            (λ d. (self.old.live ≡ self.new.live ++ d ∷ []) × (self.new ≡ record self.old { live = self.new.live })) }
+            (λ d. (self.old.live ≡ self.new.live ++ d ∷ []) × (self.new
+            ≡ record self.old { live = self.new.live })) }
     {
         self.live.pop()
     }

@@ -39,27 +39,35 @@ pub fn setting_is_transitive()
 
 /// Setting nothing changes nothing.
 pub fn nothing_sets()
-    ensures { (owner : ℕ) (list : PlainDataList) (ledger : PlainLedger) → Sets owner list ledger list ledger }
+    ensures { (owner : ℕ) (list : PlainDataList) (ledger : PlainLedger) →
+        Sets owner list ledger list ledger }
 {}
 
 /// One call of `DataList::set` sets.
 pub fn one_birth_sets()
-    ensures { (owner : ℕ) (old new : PlainDataList) (before after : PlainLedger) (name payload : List ℕ) →
+    ensures { (owner : ℕ) (old new : PlainDataList) (before after : PlainLedger)
+        (name payload : List ℕ) →
         new ≡ hold old (birth_of (length before.births) old.handle owner name payload) →
-        after ≡ record before { births = before.births ++ birth_of (length before.births) old.handle owner name payload ∷ [] } →
+        after ≡ record before {
+          births = before.births
+              ++ birth_of (length before.births) old.handle owner name payload ∷ [];
+        } →
         Sets owner old before new after }
 {}
 
 /// Data that were set, and then the sweep of those that they replaced, grow.
 pub fn swept_setting_grows()
-    ensures { (note : Notes) (modules owner : ℕ) (old : PlainDataList) (before : PlainLedger) (new : PlainDataList) (after : PlainLedger) →
-        AreNumbered 0 after.births → owner < modules → old.gone ≡ [] → Sets owner old before new after →
+    ensures { (note : Notes) (modules owner : ℕ) (old : PlainDataList) (before : PlainLedger)
+        (new : PlainDataList) (after : PlainLedger) →
+        AreNumbered 0 after.births → owner < modules → old.gone ≡ [] →
+        Sets owner old before new after →
         Grows note modules old before (swept_list new) (swept_ledger note new after) }
 {}
 
 /// Data that were set await their cleanup, and so do those that they replaced.
 pub fn set_data_await_cleanup()
-    ensures { (modules owner : ℕ) (old : PlainDataList) (before : PlainLedger) (new : PlainDataList) (after : PlainLedger) →
+    ensures { (modules owner : ℕ) (old : PlainDataList) (before : PlainLedger) (new : PlainDataList)
+        (after : PlainLedger) →
         IsSound before.births before.filed → AreNumbered 0 after.births → owner < modules →
         AwaitCleanup modules before (old.gone ++ old.live) → Sets owner old before new after →
         AwaitCleanup modules after (new.gone ++ new.live) }
@@ -73,27 +81,41 @@ pub fn cleanup_begins()
 
 /// The next datum gets its receipt.
 pub fn cleanup_goes_on()
-    ensures { (note : Notes) (status : ℕ) (before : PlainLedger) (all : List PlainDatum) (now next : PlainLedger)
+    ensures { (note : Notes) (status : ℕ) (before : PlainLedger) (all : List PlainDatum)
+        (now next : PlainLedger)
         (left rest : List PlainDatum) (d : PlainDatum) (receipt : Receipt) →
         IsCleaningUp note status before all now left → left ≡ d ∷ rest →
         receipt ≡ record { id = d.id; status = status; note = note d.owner d.payload status } →
-        next ≡ record now { filed = now.filed ++ record { receipt = receipt; mark = length now.births } ∷ [] } →
+        next ≡ record now {
+          filed = now.filed ++ record {
+            receipt = receipt;
+            mark = length
+                now.births;
+          } ∷ [];
+        } →
         IsCleaningUp note status before all next rest }
 {}
 
 /// Once none is left, all are cleaned up.
 pub fn cleanup_ends()
-    ensures { (note : Notes) (status : ℕ) (before : PlainLedger) (all : List PlainDatum) (now : PlainLedger) (left : List PlainDatum) →
-        IsCleaningUp note status before all now left → left ≡ [] → now ≡ ledger_after note status all before }
+    ensures { (note : Notes) (status : ℕ) (before : PlainLedger) (all : List PlainDatum)
+        (now : PlainLedger) (left : List PlainDatum) →
+        IsCleaningUp note status before all now left → left ≡ [] →
+        now ≡ ledger_after note status all before }
 {}
 
 /// The next of some data that await their cleanup awaits it, and once it has its receipt the others still do.
 pub fn next_awaits_cleanup()
-    ensures next { (modules : ℕ) (ledger : PlainLedger) (all rest : List PlainDatum) (d : PlainDatum) →
+    ensures next { (modules : ℕ) (ledger : PlainLedger) (all rest : List PlainDatum)
+        (d : PlainDatum) →
         AwaitCleanup modules ledger all → all ≡ d ∷ rest → AwaitsCleanup modules ledger d }
-    ensures others { (modules : ℕ) (ledger next : PlainLedger) (all rest : List PlainDatum) (d : PlainDatum) (receipt : Receipt) →
+    ensures others { (modules : ℕ) (ledger next : PlainLedger) (all rest : List PlainDatum)
+        (d : PlainDatum) (receipt : Receipt) →
         AwaitCleanup modules ledger all → all ≡ d ∷ rest → receipt.id ≡ d.id →
-        next ≡ record ledger { filed = ledger.filed ++ record { receipt = receipt; mark = length ledger.births } ∷ [] } →
+        next ≡ record ledger {
+          filed = ledger.filed
+              ++ record { receipt = receipt; mark = length ledger.births } ∷ [];
+        } →
         AwaitCleanup modules next rest }
 {}
 

@@ -72,9 +72,15 @@ impl Ledger {
         payload: &[u8],
     ) -> Result<Datum, NoMemory>
         ensures ledger { OnOk result (self.new ≡ record self.old {
-          births = self.old.births ++ birth_of (length self.old.births) handle owner name.now payload.now ∷ [];
+          births = self.old.births ++ birth_of (length self.old.births) handle owner name.now
+              payload.now ∷ [];
         }) }
-        ensures datum { IfOk result (λ d. d ≡ record { id = length self.old.births; owner = owner; name = name.now; payload = payload.now }) }
+        ensures datum { IfOk result (λ d. d ≡ record {
+          id = length self.old.births;
+          owner = owner;
+          name = name.now;
+          payload = payload.now;
+        }) }
         ensures err { OnErr result (self.new ≡ self.old) }
     {
         let own_name = Text::from_bytes(alloc, name)?;
@@ -98,7 +104,8 @@ impl Ledger {
     pub fn file(&mut self, receipt: Receipt)
         requires { IsOutstanding self.old receipt.id }
         ensures { self.new ≡ record self.old {
-          filed = self.old.filed ++ record { receipt = receipt; mark = length self.old.births } ∷ [];
+          filed = self.old.filed ++ record { receipt = receipt; mark = length self.old.births }
+              ∷ [];
         } }
     {
         let mark = self.births.len() as u64;

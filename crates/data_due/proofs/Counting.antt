@@ -22,11 +22,13 @@ pub times-reverse : (id : ℕ) (xs : List PlainDatum) → times id (reverse xs) 
 times-reverse id [] = refl
 times-reverse id (x ∷ xs) = ap (times id) (reverse-append (x ∷ []) xs) ∙ omega (arith, times-append id (reverse xs) (x ∷ []), times-reverse id xs)
 
-times-with_datum : (id : ℕ) (live : List PlainDatum) (d : PlainDatum) → times id (with_datum live d) + times id (data_named live d.name) ≡ times id live + (if eqb d.id id then 1 else 0)
+times-with_datum : (id : ℕ) (live : List PlainDatum) (d : PlainDatum)
+    → times id (with_datum live d) + times id (data_named live d.name) ≡ times id live + (if eqb d.id id then 1 else 0)
 times-with_datum id [] d = omega arith
 times-with_datum id (x ∷ xs) d = by_test (bytes_eq x.name d.name) (λ e. rw e (omega arith)) (λ e. rw e (omega (arith, times-with_datum id xs d)))
 
-pub times-with_births : (id : ℕ) (live : List PlainDatum) (bs : List Birth) → times id (with_births live bs) + times id (replaced_data live bs) ≡ times id live + times id (map datum_of bs)
+pub times-with_births : (id : ℕ) (live : List PlainDatum) (bs : List Birth)
+    → times id (with_births live bs) + times id (replaced_data live bs) ≡ times id live + times id (map datum_of bs)
 times-with_births id live [] = refl
 times-with_births id live (b ∷ bs) =
     let rest = times-with_births id (with_datum live (datum_of b)) bs in
@@ -46,7 +48,8 @@ filed-receipts id note status (d ∷ ds) = ap (λ (n : ℕ). (if eqb d.id id the
 one_more : (id n : ℕ) → (if ltb id n then 1 else 0) + (if eqb n id then 1 else 0) ≡ (if ltb id (n + 1) then 1 else 0)
 one_more id n = grind arith
 
-pub times-numbered : (id n : ℕ) (bs : List Birth) → AreNumbered n bs → (if ltb id n then 1 else 0) + times id (map datum_of bs) ≡ (if ltb id (n + length bs) then 1 else 0)
+pub times-numbered : (id n : ℕ) (bs : List Birth) → AreNumbered n bs
+    → (if ltb id n then 1 else 0) + times id (map datum_of bs) ≡ (if ltb id (n + length bs) then 1 else 0)
 times-numbered id n [] is = let e : n + 0 ≡ n = omega arith in rw e (omega arith)
 times-numbered id n (b ∷ bs) is =
     let step : n + suc (length bs) ≡ (n + 1) + length bs = omega arith in
@@ -57,7 +60,8 @@ numbered-back n [] ys is = let e : n ≡ n + 0 = omega arith in subst (λ (m : �
 numbered-back n (x ∷ xs) ys is = let e : (n + 1) + length xs ≡ n + suc (length xs) = omega arith in subst (λ (m : ℕ). AreNumbered m ys) e (numbered-back (n + 1) xs ys is.1)
 
 -- a handle's list changes, and the others stay
-pub same_below : (limit id handle : ℕ) (lists next : ℕ → List PlainDatum) → ((h : ℕ) → h < limit → next h ≡ lists h) → times_held limit id next ≡ times_held limit id lists
+pub same_below : (limit id handle : ℕ) (lists next : ℕ → List PlainDatum) → ((h : ℕ) → h < limit → next h ≡ lists h)
+    → times_held limit id next ≡ times_held limit id lists
 unfolding times_held
 same_below zero id handle lists next same = refl
 same_below (suc limit) id handle lists next same = rw (same_below limit id handle lists next (λ h lt. same h (omega arith)), same limit (omega arith)) refl

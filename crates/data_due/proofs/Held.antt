@@ -32,14 +32,16 @@ numbered_below : (n : ℕ) (births : List Birth) → AreNumbered n births → Al
 numbered_below n [] is = tt
 numbered_below n (b ∷ bs) is = (omega (arith, is.0), every (λ (c : Birth). c.id < (n + 1) + length bs) (λ (c : Birth). c.id < n + length (b ∷ bs)) (λ c lt. omega (arith, lt)) bs (numbered_below (n + 1) bs is.1))
 
-of_more : (modules handle : ℕ) (births added : List Birth) (d : PlainDatum) → AllByRecursion (λ (c : Birth). length births ≤ c.id) added → IsOfHandle modules handle births d → IsOfHandle modules handle (births ++ added) d
+of_more : (modules handle : ℕ) (births added : List Birth) (d : PlainDatum) → AllByRecursion (λ (c : Birth). length births ≤ c.id) added
+    → IsOfHandle modules handle births d → IsOfHandle modules handle (births ++ added) d
 of_more modules handle births added d late o = record {
   below = omega (arith, o.below, length-append births added);
   owner = o.owner;
   is = every-append _ births added o.is (every (λ (c : Birth). length births ≤ c.id) (λ (b : Birth). b.id ≡ d.id → (datum_of b ≡ d) × (b.handle ≡ handle)) (λ c le e. absurd (omega (arith, le, e, o.below))) added late);
 }
 
-of_new : (modules handle : ℕ) (births : List Birth) (b : Birth) → Only births b → b.id < length births → IsOf modules handle b → IsOfHandle modules handle births (datum_of b)
+of_new : (modules handle : ℕ) (births : List Birth) (b : Birth) → Only births b → b.id < length births → IsOf modules handle b
+    → IsOfHandle modules handle births (datum_of b)
 of_new modules handle births b only below is = record {
   below = below;
   owner = is.owner_is;
@@ -47,7 +49,8 @@ of_new modules handle births b only below is = record {
       (λ c same e. (ap datum_of (same e), ap (λ (x : Birth). x.handle) (same e) ∙ is.handle_is)) births only;
 }
 
-each_placed_all : (P : PlainDatum → Type 0) (live : List PlainDatum) (bs : List Birth) → AllByRecursion P live → AllByRecursion (λ (b : Birth). P (datum_of b)) bs → AllByRecursion P (with_births live bs)
+each_placed_all : (P : PlainDatum → Type 0) (live : List PlainDatum) (bs : List Birth) → AllByRecursion P live
+    → AllByRecursion (λ (b : Birth). P (datum_of b)) bs → AllByRecursion P (with_births live bs)
 each_placed_all P live [] all new = all
 each_placed_all P live (b ∷ bs) all new = each_placed_all P (with_datum live (datum_of b)) bs (each_placed P live (datum_of b) all new.0) new.1
 
@@ -90,7 +93,8 @@ held_on_end note modules limit handle status before after lists next a lt is non
     }
 
 -- what a handle holds may be receipts_for
-pub held_ready : (modules limit handle : ℕ) (ledger : PlainLedger) (lists : ℕ → List PlainDatum) → HeldLive modules limit ledger lists → handle < limit → AwaitCleanup modules ledger (lists handle)
+pub held_ready : (modules limit handle : ℕ) (ledger : PlainLedger) (lists : ℕ → List PlainDatum) → HeldLive modules limit ledger lists
+    → handle < limit → AwaitCleanup modules ledger (lists handle)
 held_ready modules limit handle ledger lists a lt =
     let open_data = open_lists limit handle ledger lists a.once lt in
     record {

@@ -26,7 +26,8 @@ abbrev Of : ℕ → List Birth → Type 0
 Of handle bs = AllByRecursion (λ (b : Birth). b.handle ≡ handle) bs
 
 -- births of a handle go to its list
-since_births : (handle : ℕ) (past : List Event) (bs : List Birth) → Of handle bs → since_end handle (reverse (map birth bs) ++ past) ≡ reverse bs ++ since_end handle past
+since_births : (handle : ℕ) (past : List Event) (bs : List Birth) → Of handle bs
+    → since_end handle (reverse (map birth bs) ++ past) ≡ reverse bs ++ since_end handle past
 since_births handle past [] all = refl
 since_births handle past (b ∷ bs) all =
     ap (since_end handle) (reverse_front (birth b) (map birth bs) past)
@@ -34,18 +35,21 @@ since_births handle past (b ∷ bs) all =
     ∙ ap (λ (l : List Birth). reverse bs ++ l) (since_own handle b past all.0)
     ∙ sym (reverse_front b bs (since_end handle past))
 
-pub births_since-births : (handle : ℕ) (events : List Event) (bs : List Birth) → Of handle bs → births_since handle (events ++ map birth bs) ≡ births_since handle events ++ bs
+pub births_since-births : (handle : ℕ) (events : List Event) (bs : List Birth) → Of handle bs
+    → births_since handle (events ++ map birth bs) ≡ births_since handle events ++ bs
 births_since-births handle events bs all =
     ap (λ (l : List Event). reverse (since_end handle l)) (reverse-append events (map birth bs))
     ∙ ap reverse (since_births handle (reverse events) bs all)
     ∙ reverse-append (reverse bs) (since_end handle (reverse events))
     ∙ ap (λ (l : List Birth). births_since handle events ++ l) (reverse-reverse bs)
 
-pub data_held-births : (handle : ℕ) (events : List Event) (bs : List Birth) → Of handle bs → data_held handle (events ++ map birth bs) ≡ with_births (data_held handle events) bs
+pub data_held-births : (handle : ℕ) (events : List Event) (bs : List Birth) → Of handle bs
+    → data_held handle (events ++ map birth bs) ≡ with_births (data_held handle events) bs
 data_held-births handle events bs all = ap (with_births []) (births_since-births handle events bs all) ∙ with_births-append [] (births_since handle events) bs
 
 -- and to no other
-since_other : (handle other : ℕ) (past : List Event) (bs : List Birth) → eqb other handle ≡ false → Of handle bs → since_end other (reverse (map birth bs) ++ past) ≡ since_end other past
+since_other : (handle other : ℕ) (past : List Event) (bs : List Birth) → eqb other handle ≡ false → Of handle bs
+    → since_end other (reverse (map birth bs) ++ past) ≡ since_end other past
 since_other handle other past [] e all = refl
 since_other handle other past (b ∷ bs) e all =
     let away : eqb b.handle other ≡ false = rw all.0 (grind arith) in
@@ -53,7 +57,8 @@ since_other handle other past (b ∷ bs) e all =
     ∙ since_other handle other (birth b ∷ past) bs e all.1
     ∙ rw away refl
 
-pub data_held-other : (handle other : ℕ) (events : List Event) (bs : List Birth) → eqb other handle ≡ false → Of handle bs → data_held other (events ++ map birth bs) ≡ data_held other events
+pub data_held-other : (handle other : ℕ) (events : List Event) (bs : List Birth) → eqb other handle ≡ false → Of handle bs
+    → data_held other (events ++ map birth bs) ≡ data_held other events
 data_held-other handle other events bs e all =
     ap (λ (l : List Event). with_births [] (reverse (since_end other l))) (reverse-append events (map birth bs))
     ∙ ap (λ (l : List Birth). with_births [] (reverse l)) (since_other handle other (reverse events) bs e all)
@@ -63,7 +68,8 @@ data_held-ended handle status events =
     ap (λ (l : List Event). with_births [] (reverse (since_end handle l))) (reverse-append events (ends handle status ∷ []))
     ∙ ap (λ (l : List Birth). with_births [] (reverse l)) (since_ended handle status (reverse events))
 
-pub data_held-other_ended : (handle status other : ℕ) (events : List Event) → eqb other handle ≡ false → data_held other (events ++ ends handle status ∷ []) ≡ data_held other events
+pub data_held-other_ended : (handle status other : ℕ) (events : List Event) → eqb other handle ≡ false
+    → data_held other (events ++ ends handle status ∷ []) ≡ data_held other events
 data_held-other_ended handle status other events e =
     let away : eqb handle other ≡ false = grind arith in
     ap (λ (l : List Event). with_births [] (reverse (since_end other l))) (reverse-append events (ends handle status ∷ []))

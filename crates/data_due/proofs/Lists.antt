@@ -34,7 +34,8 @@ pub record HeldLive (modules limit : ℕ) (ledger : PlainLedger) (lists : ℕ �
   pub once : EachOnce limit ledger lists
   pub each : (handle : ℕ) → AllByRecursion (IsOfHandle modules handle ledger.births) (lists handle)
 
-abbrev pub grows_live : (note : Notes) (modules handle : ℕ) (old new : PlainDataList) (before after : PlainLedger) → old.handle ≡ handle → Grows note modules old before new after → GrowsLive note modules handle old.live before new.live after
+abbrev pub grows_live : (note : Notes) (modules handle : ℕ) (old new : PlainDataList) (before after : PlainLedger) → old.handle ≡ handle
+    → Grows note modules old before new after → GrowsLive note modules handle old.live before new.live after
 grows_live note modules handle old new before after own g = record {
   added = g.added;
   receipts = g.receipts;

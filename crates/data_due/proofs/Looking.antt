@@ -50,18 +50,22 @@ receipts_of_births : (note : Notes) (status : ℕ) (bs : List Birth) → map (re
 receipts_of_births note status [] = refl
 receipts_of_births note status (b ∷ bs) = ap (λ (rs : List Receipt). receipt_of note status b ∷ rs) (receipts_of_births note status bs)
 
-pub receipts-append : (note : Notes) (status : ℕ) (xs ys : List PlainDatum) → receipts note status (xs ++ ys) ≡ receipts note status xs ++ receipts note status ys
+pub receipts-append : (note : Notes) (status : ℕ) (xs ys : List PlainDatum)
+    → receipts note status (xs ++ ys) ≡ receipts note status xs ++ receipts note status ys
 receipts-append note status xs ys = map-append _ xs ys
 
 -- what the births of one handle make due
-data_before : (i : ℕ) (ns : List PlainDatum) (rs : List (PlainDatum × ℕ)) → map (λ (r : PlainDatum × ℕ). r.0) (map (λ (d : PlainDatum). (d, i)) ns ++ rs) ≡ ns ++ map (λ (r : PlainDatum × ℕ). r.0) rs
+data_before : (i : ℕ) (ns : List PlainDatum) (rs : List (PlainDatum × ℕ))
+    → map (λ (r : PlainDatum × ℕ). r.0) (map (λ (d : PlainDatum). (d, i)) ns ++ rs) ≡ ns ++ map (λ (r : PlainDatum × ℕ). r.0) rs
 data_before i [] rs = refl
 data_before i (n ∷ ns) rs = ap (λ (ds : List PlainDatum). n ∷ ds) (data_before i ns rs)
 
-pub replaced_data-cons : (live : List PlainDatum) (b : Birth) (bs : List Birth) → replaced_data live (b ∷ bs) ≡ data_named live b.name ++ replaced_data (with_datum live (datum_of b)) bs
+pub replaced_data-cons : (live : List PlainDatum) (b : Birth) (bs : List Birth)
+    → replaced_data live (b ∷ bs) ≡ data_named live b.name ++ replaced_data (with_datum live (datum_of b)) bs
 replaced_data-cons live b bs = data_before b.id (data_named live b.name) (replacements (with_datum live (datum_of b)) bs)
 
-pub due_births : (note : Notes) (h : ℕ) (past : List Event) (bs : List Birth) → AllByRecursion (λ (b : Birth). b.handle ≡ h) bs → due_after note past (map birth bs) ≡ receipts note data_replace (replaced_data (hold_back (since_end h past)) bs)
+pub due_births : (note : Notes) (h : ℕ) (past : List Event) (bs : List Birth) → AllByRecursion (λ (b : Birth). b.handle ≡ h) bs
+    → due_after note past (map birth bs) ≡ receipts note data_replace (replaced_data (hold_back (since_end h past)) bs)
 due_births note h past [] all = refl
 due_births note h past (b ∷ bs) all =
     let live = hold_back (since_end h past) in
@@ -152,13 +156,15 @@ spread_back (b ∷ before) =
 pub standing_is : (births : List Birth) → map datum_of (standing_births births) ≡ reverse (hold_back births)
 standing_is births = standing_spread births (first_of_each births) ∙ spread_back births
 
-pub due_end : (note : Notes) (h status : ℕ) (past : List Event) → due_after note past (ends h status ∷ []) ≡ receipts note status (reverse (hold_back (since_end h past)))
+pub due_end : (note : Notes) (h status : ℕ) (past : List Event)
+    → due_after note past (ends h status ∷ []) ≡ receipts note status (reverse (hold_back (since_end h past)))
 due_end note h status past = append-nil _ ∙ receipts_of_births note status (standing_births (since_end h past)) ∙ ap (receipts note status) (standing_is (since_end h past))
 
 pub reverse_front : {A : Type 0} (x : A) (xs past : List A) → reverse (x ∷ xs) ++ past ≡ reverse xs ++ x ∷ past
 reverse_front x xs past = ap (λ l. l ++ past) (reverse-append (x ∷ []) xs) ∙ append_assoc (reverse xs) (x ∷ []) past
 
-pub due_after-append : (note : Notes) (past xs ys : List Event) → due_after note past (xs ++ ys) ≡ due_after note past xs ++ due_after note (reverse xs ++ past) ys
+pub due_after-append : (note : Notes) (past xs ys : List Event)
+    → due_after note past (xs ++ ys) ≡ due_after note past xs ++ due_after note (reverse xs ++ past) ys
 due_after-append note past [] ys = refl
 due_after-append note past (x ∷ xs) ys =
     ap (λ (rs : List Receipt). made_due note past x ++ rs) (due_after-append note (x ∷ past) xs ys ∙ ap (λ (p : List Event). due_after note (x ∷ past) xs ++ due_after note p ys) (sym (reverse_front x xs past)))

@@ -38,7 +38,8 @@ names_flip x y e = false_unless (bytes_eq y x) (λ s.
     cc)
 
 -- what a list says of a name after a datum was with_datum
-pub data_named-with_datum : (live : List PlainDatum) (d : PlainDatum) (n : List ℕ) → data_named (with_datum live d) n ≡ (if bytes_eq d.name n then d ∷ [] else data_named live n)
+pub data_named-with_datum : (live : List PlainDatum) (d : PlainDatum) (n : List ℕ)
+    → data_named (with_datum live d) n ≡ (if bytes_eq d.name n then d ∷ [] else data_named live n)
 data_named-with_datum [] d n = refl
 data_named-with_datum (x ∷ xs) d n = by_test (bytes_eq x.name d.name)
     (λ e. rw (e, names_agree x.name d.name n e) (by_test (bytes_eq d.name n) (λ t. rw t refl) (λ t. rw t refl)))

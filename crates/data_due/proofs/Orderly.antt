@@ -48,5 +48,6 @@ tidy_on_end note status list before after t latest is sound =
           (end_tidy note list.handle status before.births (reverse list.live) (every-reverse (IsLatest list.handle before.births) list.live latest)));
     }
 
-pub stand_latest : (note : Notes) (limit handle : ℕ) (ledger : PlainLedger) (lists : Lists) (events : List Event) → StandFor note limit ledger lists events → AreLatest ledger.births (lists handle)
+pub stand_latest : (note : Notes) (limit handle : ℕ) (ledger : PlainLedger) (lists : Lists) (events : List Event)
+    → StandFor note limit ledger lists events → AreLatest ledger.births (lists handle)
 stand_latest note limit handle ledger lists events s = rw (s.lists_are handle, s.births) (held_latest handle events (rw s.births at s.tidy.numbered))

@@ -40,24 +40,28 @@ distinct (f ∷ fs) most =
     (not_among f.receipt.id (filed_ids fs) (none_unfiled f.receipt.id fs (omega (arith, one))), distinct fs (λ id. own_gone _ (eqb f.receipt.id id) (most id)))
 
 -- a datum is replacements by a later birth
-each_now : (n id : ℕ) (live : List PlainDatum) (name : List ℕ) → id ≡ n → AllByRecursion (λ (d : PlainDatum). d.id < n) live → AllByRecursion (λ (r : PlainDatum × ℕ). r.0.id < r.1) (map (λ (d : PlainDatum). (d, id)) (data_named live name))
+each_now : (n id : ℕ) (live : List PlainDatum) (name : List ℕ) → id ≡ n → AllByRecursion (λ (d : PlainDatum). d.id < n) live
+    → AllByRecursion (λ (r : PlainDatum × ℕ). r.0.id < r.1) (map (λ (d : PlainDatum). (d, id)) (data_named live name))
 each_now n id [] name e all = tt
 each_now n id (x ∷ xs) name e all = by_test (bytes_eq x.name name) (λ t. rw t (omega (arith, all.0, e), tt)) (λ t. rw t (each_now n id xs name e all.1))
 
-pub replaced_later : (n : ℕ) (live : List PlainDatum) (bs : List Birth) → AreNumbered n bs → AllByRecursion (λ (d : PlainDatum). d.id < n) live → AllByRecursion (λ (r : PlainDatum × ℕ). r.0.id < r.1) (replacements live bs)
+pub replaced_later : (n : ℕ) (live : List PlainDatum) (bs : List Birth) → AreNumbered n bs → AllByRecursion (λ (d : PlainDatum). d.id < n) live
+    → AllByRecursion (λ (r : PlainDatum × ℕ). r.0.id < r.1) (replacements live bs)
 replaced_later n live [] is all = tt
 replaced_later n live (b ∷ bs) is all = every-append _ (map (λ (d : PlainDatum). (d, b.id)) (data_named live b.name)) (replacements (with_datum live (datum_of b)) bs)
     (each_now n b.id live b.name is.0 all)
     (replaced_later (n + 1) (with_datum live (datum_of b)) bs is.1
     (each_placed (λ (d : PlainDatum). d.id < n + 1) live (datum_of b) (every (λ (d : PlainDatum). d.id < n) (λ (d : PlainDatum). d.id < n + 1) (λ d lt. omega (arith, lt)) live all) (omega (arith, is.0))))
 
-pub swept_low : (note : Notes) (limit : ℕ) (rs : List (PlainDatum × ℕ)) (fs : List Filed) → AreSwept note limit rs fs → AllByRecursion (λ (r : PlainDatum × ℕ). r.0.id < r.1) rs → AllByRecursion (λ (f : Filed). f.receipt.id < f.mark) fs
+pub swept_low : (note : Notes) (limit : ℕ) (rs : List (PlainDatum × ℕ)) (fs : List Filed) → AreSwept note limit rs fs
+    → AllByRecursion (λ (r : PlainDatum × ℕ). r.0.id < r.1) rs → AllByRecursion (λ (f : Filed). f.receipt.id < f.mark) fs
 swept_low note limit [] [] s all = tt
 swept_low note limit (r ∷ rs) (f ∷ fs) s all = (omega (arith, s.0.id, s.0.after, all.0), swept_low note limit rs fs s.1 all.1)
 swept_low note limit [] (f ∷ fs) s all = absurd s
 swept_low note limit (r ∷ rs) [] s all = absurd s
 
-pub swept_within : (note : Notes) (limit : ℕ) (rs : List (PlainDatum × ℕ)) (fs : List Filed) → AreSwept note limit rs fs → AllByRecursion (λ (f : Filed). f.mark ≤ limit) fs
+pub swept_within : (note : Notes) (limit : ℕ) (rs : List (PlainDatum × ℕ)) (fs : List Filed) → AreSwept note limit rs fs
+    → AllByRecursion (λ (f : Filed). f.mark ≤ limit) fs
 swept_within note limit [] [] s = tt
 swept_within note limit (r ∷ rs) (f ∷ fs) s = (s.0.within, swept_within note limit rs fs s.1)
 swept_within note limit [] (f ∷ fs) s = absurd s

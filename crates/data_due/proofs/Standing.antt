@@ -30,7 +30,8 @@ ids_below [] is = tt
 ids_below (b ∷ before) is = (omega (arith, is.0), every _ _ (λ (c : Birth) (lt : c.id < length before). omega (arith, lt)) before (ids_below before is.1))
 
 -- what holds of each after a datum was with_datum
-placed_each : (P Q : PlainDatum → Type 0) (d : PlainDatum) (live : List PlainDatum) → Apart live → AllByRecursion P live → Q d → ((x : PlainDatum) → P x → bytes_eq x.name d.name ≡ false → Q x) → AllByRecursion Q (with_datum live d)
+placed_each : (P Q : PlainDatum → Type 0) (d : PlainDatum) (live : List PlainDatum) → Apart live → AllByRecursion P live → Q d
+    → ((x : PlainDatum) → P x → bytes_eq x.name d.name ≡ false → Q x) → AllByRecursion Q (with_datum live d)
 placed_each P Q d [] apart all new old = (new, tt)
 placed_each P Q d (x ∷ xs) apart all new old = by_test (bytes_eq x.name d.name)
     (λ e. rw e (new, others xs (rw (name_is x.name d.name e) at apart.0) all.1))
@@ -42,7 +43,8 @@ placed_each P Q d (x ∷ xs) apart all new old = by_test (bytes_eq x.name d.name
           (λ e. (old y ps.0 e, others ys (rw e at none) ps.1))
 
 -- a birth more
-kept_other : (handle : ℕ) (b : Birth) (births : List Birth) (d : PlainDatum) → b.id ≡ length births → (b.handle ≡ handle → b.name ≡ d.name → ⊥) → IsLatest handle births d → IsLatest handle (b ∷ births) d
+kept_other : (handle : ℕ) (b : Birth) (births : List Birth) (d : PlainDatum) → b.id ≡ length births → (b.handle ≡ handle → b.name ≡ d.name → ⊥)
+    → IsLatest handle births d → IsLatest handle (b ∷ births) d
 kept_other handle b births d number apart l = record {
   below = omega (arith, l.below);
   is = (λ e. absurd (omega (arith, e, number, l.below)), l.is);
@@ -56,7 +58,8 @@ newest b births number numbered = record {
   latest = (λ lt same name. omega (arith, lt), every (λ (c : Birth). c.id < length births) (λ (c : Birth). b.id < c.id → c.handle ≡ b.handle → c.name ≡ b.name → ⊥) (λ c lt after same name. omega (arith, lt, after, number)) births (ids_below births numbered));
 }
 
-pub latest_back : (handle : ℕ) (past : List Event) → NumberedBack (births_back past) → AllByRecursion (IsLatest handle (births_back past)) (hold_back (since_end handle past))
+pub latest_back : (handle : ℕ) (past : List Event) → NumberedBack (births_back past)
+    → AllByRecursion (IsLatest handle (births_back past)) (hold_back (since_end handle past))
 latest_back handle [] is = tt
 latest_back handle (ends h status ∷ past) is = by_test (eqb h handle) (λ e. rw e tt) (λ e. rw e (latest_back handle past is))
 latest_back handle (birth b ∷ past) is = by_test (eqb b.handle handle)
@@ -108,7 +111,8 @@ latest-reverse : (handle : ℕ) (births : List Birth) (d : PlainDatum) → IsLat
 latest-reverse handle births d l = record { below = omega (arith, l.below, length-reverse births); is = every-reverse _ births l.is; latest = every-reverse _ births l.latest }
 
 -- what a handle holds is the latest of its names
-pub held_latest : (handle : ℕ) (events : List Event) → AreNumbered 0 (births_of events) → AllByRecursion (IsLatest handle (births_of events)) (data_held handle events)
+pub held_latest : (handle : ℕ) (events : List Event) → AreNumbered 0 (births_of events)
+    → AllByRecursion (IsLatest handle (births_of events)) (data_held handle events)
 held_latest handle events numbered =
     let past = reverse events in
     let back = latest_back handle past (numbered_back (births_back past) (subst (AreNumbered 0) (births_are events) numbered)) in

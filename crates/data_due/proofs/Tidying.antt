@@ -26,7 +26,8 @@ numbered_late n [] is = tt
 numbered_late n (b ∷ bs) is = (omega (arith, is.0), every (λ (c : Birth). n + 1 ≤ c.id) (λ (c : Birth). n ≤ c.id) (λ c le. omega (arith, le)) bs (numbered_late (n + 1) bs is.1))
 
 -- births more
-of_more : (note : Notes) (births added : List Birth) (b : Birth) (f : Filed) → AllByRecursion (λ (c : Birth). length births ≤ c.id) added → f.mark ≤ length births → IsReceiptOf note births b f → IsReceiptOf note (births ++ added) b f
+of_more : (note : Notes) (births added : List Birth) (b : Birth) (f : Filed) → AllByRecursion (λ (c : Birth). length births ≤ c.id) added
+    → f.mark ≤ length births → IsReceiptOf note births b f → IsReceiptOf note (births ++ added) b f
 of_more note births added b f late within r = record {
   by_owner = r.by_owner;
   due_status = every-append _ births added r.due_status
@@ -34,7 +35,8 @@ of_more note births added b f late within r = record {
       (λ c le after below same name. absurd (omega (arith, le, below, within))) added late);
 }
 
-tidy_more : (note : Notes) (births added : List Birth) (f : Filed) → AllByRecursion (λ (c : Birth). length births ≤ c.id) added → IsTidy note births f → IsTidy note (births ++ added) f
+tidy_more : (note : Notes) (births added : List Birth) (f : Filed) → AllByRecursion (λ (c : Birth). length births ≤ c.id) added → IsTidy note births f
+    → IsTidy note (births ++ added) f
 tidy_more note births added f late t = record {
   below = t.below;
   within = omega (arith, t.within, length-append births added);
@@ -45,7 +47,8 @@ tidy_more note births added f late t = record {
       (λ c le e. absurd (omega (arith, le, e, t.below, t.within))) added late);
 }
 
-pub all_tidy_more : (note : Notes) (births added : List Birth) (fs : List Filed) → AllByRecursion (λ (c : Birth). length births ≤ c.id) added → AllByRecursion (IsTidy note births) fs → AllByRecursion (IsTidy note (births ++ added)) fs
+pub all_tidy_more : (note : Notes) (births added : List Birth) (fs : List Filed) → AllByRecursion (λ (c : Birth). length births ≤ c.id) added
+    → AllByRecursion (IsTidy note births) fs → AllByRecursion (IsTidy note (births ++ added)) fs
 all_tidy_more note births added fs late all = every (IsTidy note births) (IsTidy note (births ++ added)) (λ f t. tidy_more note births added f late t) fs all
 
 -- each birth with the datum's id is the datum's
@@ -60,7 +63,8 @@ numbered_known n (b ∷ bs) is =
       both (λ (c : Birth). n + 1 ≤ c.id) (λ (c : Birth). Known bs (datum_of c)) (λ (c : Birth). Known (b ∷ bs) (datum_of c)) (λ c le k. (λ e. absurd (omega (arith, le, e, is.0)), k)) bs late (numbered_known (n + 1) bs is.1),
     )
 
-latest_known : (handle : ℕ) (births added : List Birth) (d : PlainDatum) → AllByRecursion (λ (c : Birth). length births ≤ c.id) added → IsLatest handle births d → Known (births ++ added) d
+latest_known : (handle : ℕ) (births added : List Birth) (d : PlainDatum) → AllByRecursion (λ (c : Birth). length births ≤ c.id) added
+    → IsLatest handle births d → Known (births ++ added) d
 latest_known handle births added d late l = every-append _ births added
     (every (λ (b : Birth). b.id ≡ d.id → (datum_of b ≡ d) × (b.handle ≡ handle)) (λ (b : Birth). b.id ≡ d.id → datum_of b ≡ d) (λ b is e. (is e).0) births l.is)
     (every (λ (c : Birth). length births ≤ c.id) (λ (b : Birth). b.id ≡ d.id → datum_of b ≡ d) (λ c le e. absurd (omega (arith, le, e, l.below))) added late)
@@ -69,11 +73,13 @@ pub each_placed : (P : PlainDatum → Type 0) (live : List PlainDatum) (d : Plai
 each_placed P [] d all p = (p, tt)
 each_placed P (x ∷ xs) d all p = by_test (bytes_eq x.name d.name) (λ e. rw e (p, all.1)) (λ e. rw e (all.0, each_placed P xs d all.1 p))
 
-each_named : (P : PlainDatum → Type 0) (live : List PlainDatum) (n : List ℕ) (id : ℕ) → AllByRecursion P live → AllByRecursion (λ (r : PlainDatum × ℕ). P r.0) (map (λ (d : PlainDatum). (d, id)) (data_named live n))
+each_named : (P : PlainDatum → Type 0) (live : List PlainDatum) (n : List ℕ) (id : ℕ) → AllByRecursion P live
+    → AllByRecursion (λ (r : PlainDatum × ℕ). P r.0) (map (λ (d : PlainDatum). (d, id)) (data_named live n))
 each_named P [] n id all = tt
 each_named P (x ∷ xs) n id all = by_test (bytes_eq x.name n) (λ e. rw e (all.0, tt)) (λ e. rw e (each_named P xs n id all.1))
 
-each_gone : (P : PlainDatum → Type 0) (live : List PlainDatum) (bs : List Birth) → AllByRecursion P live → AllByRecursion (λ (b : Birth). P (datum_of b)) bs → AllByRecursion (λ (r : PlainDatum × ℕ). P r.0) (replacements live bs)
+each_gone : (P : PlainDatum → Type 0) (live : List PlainDatum) (bs : List Birth) → AllByRecursion P live
+    → AllByRecursion (λ (b : Birth). P (datum_of b)) bs → AllByRecursion (λ (r : PlainDatum × ℕ). P r.0) (replacements live bs)
 each_gone P live [] all new = tt
 each_gone P live (b ∷ bs) all new = every-append _ (map (λ (d : PlainDatum). (d, b.id)) (data_named live b.name)) (replacements (with_datum live (datum_of b)) bs)
     (each_named P live b.name b.id all) (each_gone P (with_datum live (datum_of b)) bs (each_placed P live (datum_of b) all new.0) new.1)
@@ -106,7 +112,8 @@ growth_tidy note handle limit births added live fs numbered late all s low in_li
     (every-back _ births added (numbered_known 0 (births ++ added) numbered)))
 
 -- the receipts of an end
-pub end_tidy : (note : Notes) (handle status : ℕ) (births : List Birth) (ds : List PlainDatum) → AllByRecursion (IsLatest handle births) ds → AllByRecursion (IsTidy note births) (receipts_for note status (length births) ds)
+pub end_tidy : (note : Notes) (handle status : ℕ) (births : List Birth) (ds : List PlainDatum) → AllByRecursion (IsLatest handle births) ds
+    → AllByRecursion (IsTidy note births) (receipts_for note status (length births) ds)
 end_tidy note handle status births [] all = tt
 end_tidy note handle status births (d ∷ ds) all =
     let f : Filed = record { receipt = record { id = d.id; status = status; note = note d.owner d.payload status }; mark = length births } in
@@ -128,7 +135,8 @@ end_tidy note handle status births (d ∷ ds) all =
 receipt_is : (i j s t n m : ℕ) → i ≡ j → s ≡ t → n ≡ m → ◌≡◌ {A = Receipt} (record { id = i; status = s; note = n }) (record { id = j; status = t; note = m })
 receipt_is i j s t n m a b c = cc
 
-pub swept_receipts : (note : Notes) (limit : ℕ) (rs : List (PlainDatum × ℕ)) (fs : List Filed) → AreSwept note limit rs fs → receipts_in fs ≡ receipts note data_replace (map (λ (r : PlainDatum × ℕ). r.0) rs)
+pub swept_receipts : (note : Notes) (limit : ℕ) (rs : List (PlainDatum × ℕ)) (fs : List Filed) → AreSwept note limit rs fs
+    → receipts_in fs ≡ receipts note data_replace (map (λ (r : PlainDatum × ℕ). r.0) rs)
 swept_receipts note limit [] [] s = refl
 swept_receipts note limit (r ∷ rs) (f ∷ fs) s =
     ap (λ (x : Receipt). x ∷ receipts_in fs) (receipt_is _ _ _ _ _ _ s.0.id s.0.status s.0.by_owner)

@@ -19,7 +19,8 @@ use Rattle.data_due.proofs.Held.{held_at_first, held_on_growth, held_on_end, hel
 abbrev live_of : Lists → ℕ → List PlainDatum
 live_of lists handle = (lists handle).live
 
-live_stand : (note : Notes) (limit : ℕ) (ledger : PlainLedger) (lists : Lists) (events : List Event) → StandFor note limit ledger lists events → StandLive note limit ledger (live_of lists) events
+live_stand : (note : Notes) (limit : ℕ) (ledger : PlainLedger) (lists : Lists) (events : List Event) → StandFor note limit ledger lists events
+    → StandLive note limit ledger (live_of lists) events
 live_stand note limit ledger lists events s = record {
   births = s.births;
   receipts = s.receipts;
@@ -32,7 +33,8 @@ live_stand note limit ledger lists events s = record {
 whole : (h : ℕ) (l : PlainDataList) (live : List PlainDatum) → l ≡ clean_list h l.live → l.live ≡ live → l ≡ clean_list h live
 whole h l live clean e = clean ∙ ap (clean_list h) e
 
-whole_stand : (note : Notes) (limit : ℕ) (ledger : PlainLedger) (lists : Lists) (events : List Event) → ((h : ℕ) → lists h ≡ clean_list h (lists h).live) → StandLive note limit ledger (live_of lists) events → StandFor note limit ledger lists events
+whole_stand : (note : Notes) (limit : ℕ) (ledger : PlainLedger) (lists : Lists) (events : List Event)
+    → ((h : ℕ) → lists h ≡ clean_list h (lists h).live) → StandLive note limit ledger (live_of lists) events → StandFor note limit ledger lists events
 whole_stand note limit ledger lists events clean s = record {
   births = s.births;
   receipts = s.receipts;
@@ -42,25 +44,29 @@ whole_stand note limit ledger lists events clean s = record {
 }
 
 -- what stands for events is clean
-stand_clean : (note : Notes) (limit : ℕ) (ledger : PlainLedger) (lists : Lists) (events : List Event) → StandFor note limit ledger lists events → (h : ℕ) → lists h ≡ clean_list h (lists h).live
+stand_clean : (note : Notes) (limit : ℕ) (ledger : PlainLedger) (lists : Lists) (events : List Event) → StandFor note limit ledger lists events
+    → (h : ℕ) → lists h ≡ clean_list h (lists h).live
 stand_clean note limit ledger lists events s h = s.lists_are h ∙ ap (clean_list h) (sym (ap (λ (l : PlainDataList). l.live) (s.lists_are h)))
 
 handle_of_clean : (h : ℕ) (l : PlainDataList) → l ≡ clean_list h l.live → l.handle ≡ h
 handle_of_clean h l e = ap (λ (x : PlainDataList). x.handle) e
 
 -- one list changes, and is clean again
-clean_next : (handle : ℕ) (lists next : Lists) → ((h : ℕ) → lists h ≡ clean_list h (lists h).live) → next handle ≡ clean_list handle (next handle).live → ((h : ℕ) → eqb h handle ≡ false → next h ≡ lists h)
+clean_next : (handle : ℕ) (lists next : Lists) → ((h : ℕ) → lists h ≡ clean_list h (lists h).live)
+    → next handle ≡ clean_list handle (next handle).live → ((h : ℕ) → eqb h handle ≡ false → next h ≡ lists h)
     → (h : ℕ) → next h ≡ clean_list h (next h).live
 clean_next handle lists next clean own same h = by_test (eqb h handle)
     (λ e. let here : h ≡ handle = grind arith in subst (λ k. next k ≡ clean_list k (next k).live) (sym here) own)
     (λ e. same h e ∙ clean h ∙ ap (λ (l : PlainDataList). clean_list h l.live) (sym (same h e)))
 
-grown_clean : (note : Notes) (modules handle : ℕ) (old new : PlainDataList) (before after : PlainLedger) → old.handle ≡ handle → Grows note modules old before new after → new ≡ clean_list handle new.live
+grown_clean : (note : Notes) (modules handle : ℕ) (old new : PlainDataList) (before after : PlainLedger) → old.handle ≡ handle
+    → Grows note modules old before new after → new ≡ clean_list handle new.live
 grown_clean note modules handle old new before after own g =
     let is : new ≡ clean_list handle (with_births old.live g.added) = g.list ∙ ap (λ n. clean_list n (with_births old.live g.added)) own in
     is ∙ ap (clean_list handle) (sym (ap (λ (l : PlainDataList). l.live) is))
 
-same_live : (handle : ℕ) (lists next : Lists) → ((h : ℕ) → eqb h handle ≡ false → next h ≡ lists h) → (h : ℕ) → eqb h handle ≡ false → live_of next h ≡ live_of lists h
+same_live : (handle : ℕ) (lists next : Lists) → ((h : ℕ) → eqb h handle ≡ false → next h ≡ lists h) → (h : ℕ) → eqb h handle ≡ false
+    → live_of next h ≡ live_of lists h
 same_live handle lists next same h e = ap (λ (l : PlainDataList). l.live) (same h e)
 
 abbrev pub no_lists : Lists
@@ -162,5 +168,6 @@ holds_on_end note modules limit handle status before after lists next a lt is no
     let live = held_on_end note modules limit handle status before after (live_of lists) (live_of next) (live_held modules limit before lists a) lt is empty (same_live handle lists next same) in
     record { once = live.once; each = live.each; clean = clean_next handle lists next a.clean (none ∙ ap (clean_list handle) (sym empty)) same }
 
-pub holds_ready : (modules limit handle : ℕ) (ledger : PlainLedger) (lists : Lists) → AreHeld modules limit ledger lists → handle < limit → AwaitCleanup modules ledger (lists handle).live
+pub holds_ready : (modules limit handle : ℕ) (ledger : PlainLedger) (lists : Lists) → AreHeld modules limit ledger lists → handle < limit
+    → AwaitCleanup modules ledger (lists handle).live
 holds_ready modules limit handle ledger lists a lt = held_ready modules limit handle ledger (live_of lists) (live_held modules limit ledger lists a) lt

@@ -21,7 +21,8 @@ pub fn births_make_due()
     ensures { (note : Notes) (events : List Event) (handle : ℕ) (births : List Birth) →
         AllByRecursion (λ (b : Birth). b.handle ≡ handle) births →
         due note (events ++ map birth births)
-        ≡ due note events ++ receipts note data_replace (replaced_data (data_held handle events) births) }
+        ≡ due note events ++ receipts note data_replace (replaced_data
+        (data_held handle events) births) }
 {}
 
 /// An end makes due the transaction's data, the last name first.
@@ -53,7 +54,8 @@ pub fn nothing_stands_for_none()
 
 /// Where the list of one transaction grows, the births that were added are the next events.
 pub fn growth_stands()
-    ensures { (note : Notes) (modules limit handle : ℕ) (events : List Event) (before after : PlainLedger) (lists next : Lists) →
+    ensures { (note : Notes) (modules limit handle : ℕ) (events : List Event)
+        (before after : PlainLedger) (lists next : Lists) →
         StandFor note limit before lists events → handle < limit →
         (g : Grows note modules (lists handle) before (next handle) after) →
         ((h : ℕ) → nat_eq h handle ≡ false → next h ≡ lists h) → AreNumbered 0 after.births →
@@ -62,16 +64,19 @@ pub fn growth_stands()
 
 /// Where the data of one transaction are cleaned up, the last name first, its end is the next event.
 pub fn end_stands()
-    ensures { (note : Notes) (limit handle status : ℕ) (events : List Event) (before after : PlainLedger) (lists next : Lists) →
+    ensures { (note : Notes) (limit handle status : ℕ) (events : List Event)
+        (before after : PlainLedger) (lists next : Lists) →
         StandFor note limit before lists events → handle < limit →
-        after ≡ ledger_after note status (reverse (lists handle).live) before → next handle ≡ clean_list handle [] →
+        after ≡ ledger_after note status (reverse (lists handle).live) before →
+        next handle ≡ clean_list handle [] →
         ((h : ℕ) → nat_eq h handle ≡ false → next h ≡ lists h) →
         StandFor note limit after next (events ++ ends handle status ∷ []) }
 {}
 
 /// Growth of one transaction's list moves on by the births that were added.
 pub fn growth_moves()
-    ensures { (note : Notes) (modules limit handle : ℕ) (before after : PlainLedger) (lists next : Lists) →
+    ensures { (note : Notes) (modules limit handle : ℕ) (before after : PlainLedger)
+        (lists next : Lists) →
         handle < limit → Grows note modules (lists handle) before (next handle) after →
         ((h : ℕ) → nat_eq h handle ≡ false → next h ≡ lists h) → AreNumbered 0 after.births →
         Moves note limit [] before lists after next }
@@ -79,21 +84,25 @@ pub fn growth_moves()
 
 /// The end of one transaction moves on by that end.
 pub fn end_moves()
-    ensures { (note : Notes) (limit handle status : ℕ) (before after : PlainLedger) (lists next : Lists) →
+    ensures { (note : Notes) (limit handle status : ℕ) (before after : PlainLedger)
+        (lists next : Lists) →
         handle < limit → after ≡ ledger_after note status (reverse (lists handle).live) before →
-        next handle ≡ clean_list handle [] → ((h : ℕ) → nat_eq h handle ≡ false → next h ≡ lists h) →
+        next handle ≡ clean_list handle [] → ((h : ℕ) → nat_eq h handle ≡ false →
+        next h ≡ lists h) →
         Moves note limit (ends handle status ∷ []) before lists after next }
 {}
 
 /// What changes no data moves on by nothing.
 pub fn nothing_moves()
     ensures { (note : Notes) (limit : ℕ) (before after : PlainLedger) (lists next : Lists) →
-        after ≡ before → ((h : ℕ) → next h ≡ lists h) → Moves note limit [] before lists after next }
+        after ≡ before → ((h : ℕ) → next h ≡ lists h) →
+        Moves note limit [] before lists after next }
 {}
 
 /// What a transaction holds of what stands for some events is the latest of its names.
 pub fn held_data_are_latest()
-    ensures { (note : Notes) (limit handle : ℕ) (ledger : PlainLedger) (lists : Lists) (events : List Event) →
+    ensures { (note : Notes) (limit handle : ℕ) (ledger : PlainLedger) (lists : Lists)
+        (events : List Event) →
         StandFor note limit ledger lists events → AreLatest ledger.births (lists handle) }
 {}
 
@@ -107,7 +116,8 @@ pub fn growth_keeps_tidy()
 /// A ledger in order stays so when the data of a list are cleaned up at its end.
 pub fn end_keeps_tidy()
     ensures { (note : Notes) (status : ℕ) (list : PlainDataList) (before after : PlainLedger) →
-        Tidy note before → AreLatest before.births list → after ≡ ledger_after note status (reverse list.live) before →
+        Tidy note before → AreLatest before.births list →
+        after ≡ ledger_after note status (reverse list.live) before →
         IsSound after.births after.filed → Tidy note after }
 {}
 
@@ -119,7 +129,8 @@ pub fn nothing_is_held()
 
 /// Growth of one transaction's list leaves the lists with exactly what has no receipt.
 pub fn growth_holds()
-    ensures { (note : Notes) (modules limit handle : ℕ) (before after : PlainLedger) (lists next : Lists) →
+    ensures { (note : Notes) (modules limit handle : ℕ) (before after : PlainLedger)
+        (lists next : Lists) →
         AreHeld modules limit before lists → handle < limit →
         Grows note modules (lists handle) before (next handle) after →
         ((h : ℕ) → nat_eq h handle ≡ false → next h ≡ lists h) → AreNumbered 0 after.births →
@@ -128,26 +139,32 @@ pub fn growth_holds()
 
 /// So does the end of one transaction.
 pub fn end_holds()
-    ensures { (note : Notes) (modules limit handle status : ℕ) (before after : PlainLedger) (lists next : Lists) →
+    ensures { (note : Notes) (modules limit handle status : ℕ) (before after : PlainLedger)
+        (lists next : Lists) →
         AreHeld modules limit before lists → handle < limit →
-        after ≡ ledger_after note status (reverse (lists handle).live) before → next handle ≡ clean_list handle [] →
+        after ≡ ledger_after note status (reverse (lists handle).live) before →
+        next handle ≡ clean_list handle [] →
         ((h : ℕ) → nat_eq h handle ≡ false → next h ≡ lists h) → AreHeld modules limit after next }
 {}
 
 /// What a transaction holds awaits its cleanup.
 pub fn held_data_await_cleanup()
     ensures { (modules limit handle : ℕ) (ledger : PlainLedger) (lists : Lists) →
-        AreHeld modules limit ledger lists → handle < limit → AwaitCleanup modules ledger (lists handle).live }
+        AreHeld modules limit ledger lists → handle < limit →
+        AwaitCleanup modules ledger (lists handle).live }
 {}
 
 /// What has no receipt stands, once, in the list of one transaction.
 pub fn outstanding_are_held()
-    ensures { (limit : ℕ) (ledger : PlainLedger) (data_of : ℕ → List PlainDatum) → EachOnce limit ledger data_of →
+    ensures { (limit : ℕ) (ledger : PlainLedger) (data_of : ℕ → List PlainDatum) →
+        EachOnce limit ledger data_of →
         (id : ℕ) → IsOutstanding ledger id ↔ ((h : ℕ) × (h < limit) × (times id (data_of h) ≡ 1)) }
 {}
 
 /// Where no transaction has data, each birth has its receipt.
 pub fn all_are_filed()
-    ensures { (limit : ℕ) (ledger : PlainLedger) (data_of : ℕ → List PlainDatum) → EachOnce limit ledger data_of →
-        ((h : ℕ) → h < limit → data_of h ≡ []) → (id : ℕ) → id < length ledger.births → is_filed ledger id ≡ true }
+    ensures { (limit : ℕ) (ledger : PlainLedger) (data_of : ℕ → List PlainDatum) →
+        EachOnce limit ledger data_of →
+        ((h : ℕ) → h < limit → data_of h ≡ []) → (id : ℕ) → id < length ledger.births →
+        is_filed ledger id ≡ true }
 {}

@@ -19,7 +19,8 @@ pub entered_first : (level opens : ℕ) (o : Opinion) (f : Entries) → entered 
 entered_first level opens o f =
     let test : (nat_le (level + 1) (level + 1) && nat_lt (level + 1) (level + 1 + (opens + 1))) ≡ true = grind (arith, nat_tests) in rw test refl
 
-pub entered_closed : (lines level opens : ℕ) (o : Opinion) (f : Entries) (k : ℕ) → k ≤ level → entered (level + 1) (pending lines (opens + 1)) o f k ≡ entered level (pending lines opens) o f k
+pub entered_closed : (lines level opens : ℕ) (o : Opinion) (f : Entries) (k : ℕ) → k ≤ level
+    → entered (level + 1) (pending lines (opens + 1)) o f k ≡ entered level (pending lines opens) o f k
 entered_closed zero level opens o f k le = entered_under level opens o f k le
 entered_closed (suc lines) level opens o f k le = entered_none (level + 1) o f k ∙ sym (entered_none level o f k)
 

@@ -16,7 +16,8 @@ use Rattle.dispatch_core.specs.Lines.{answers_by, names_of}
 use Rattle.dispatch_core.proofs.Standing.{standing, at_line-stands}
 
 -- the names of modules are those of their players
-names_are : {M : Type 0} (label : M → List ℕ) (plays : M → Plays) (note : M → Note) (mods : List M) → map label mods ≡ names_of (map (player_of label plays note) mods)
+names_are : {M : Type 0} (label : M → List ℕ) (plays : M → Plays) (note : M → Note) (mods : List M)
+    → map label mods ≡ names_of (map (player_of label plays note) mods)
 names_are label plays note [] = refl
 names_are label plays note (m ∷ ms) = ap (λ (names : List (List ℕ)). label m ∷ names) (names_are label plays note ms)
 

@@ -19,12 +19,14 @@ empty-place : (n place : ℕ) → by_place (Some (empty_cells n)) place ≡ None
 empty-place n zero = refl
 empty-place n (suc i) = no_answer n i
 
-set_same : (cells : List (Option Code)) (i : ℕ) (answer : Code) → i < length cells → option_flatten (slice_get (slice_set cells i (Some answer)) i) ≡ Some answer
+set_same : (cells : List (Option Code)) (i : ℕ) (answer : Code) → i < length cells
+    → option_flatten (slice_get (slice_set cells i (Some answer)) i) ≡ Some answer
 set_same [] i answer within = absurd (omega (arith, within))
 set_same (x ∷ xs) zero answer within = refl
 set_same (x ∷ xs) (suc i) answer within = set_same xs i answer (omega arith)
 
-set_other : (cells : List (Option Code)) (i j : ℕ) (answer : Code) → j ≢ i → option_flatten (slice_get (slice_set cells i (Some answer)) j) ≡ option_flatten (slice_get cells j)
+set_other : (cells : List (Option Code)) (i j : ℕ) (answer : Code) → j ≢ i
+    → option_flatten (slice_get (slice_set cells i (Some answer)) j) ≡ option_flatten (slice_get cells j)
 set_other [] i j answer other = refl
 set_other (x ∷ xs) zero zero answer other = absurd (other refl)
 set_other (x ∷ xs) zero (suc j) answer other = refl
@@ -41,7 +43,8 @@ kept_in-other : (visits : List Visit) (at place : ℕ) (answer : Code) → place
 kept_in-other [] at place answer other = ap (λ (b : Bool). if b then Some answer else None) (ne_eqb place at other)
 kept_in-other (v ∷ vs) at place answer other = other_if (nat_eq place v.place) v.answer _ _ (kept_in-other vs at place answer other)
 
-new_if : (b : Bool) (x : Code) (first second third : Option Code) → (first ≡ None → second ≡ third) → (if b then Some x else first) ≡ None → (if b then Some x else second) ≡ third
+new_if : (b : Bool) (x : Code) (first second third : Option Code) → (first ≡ None → second ≡ third) → (if b then Some x else first) ≡ None
+    → (if b then Some x else second) ≡ third
 new_if true x first second third goes is = cc
 new_if false x first second third goes is = goes is
 
@@ -61,7 +64,8 @@ pub record Progress (kept : Answers) (taken : List Code) (at : ℕ) (visits : Li
   pub kept_is : is_some kept ≡ true → Keeps kept visits
   pub below : (place : ℕ) → at < place → kept_in visits place ≡ None
 
-pub nothing_yet : (kept : Answers) (taken : List Code) (lines at : ℕ) → (is_some kept ≡ true → kept ≡ Some (empty_cells lines)) → taken ≡ [] → Progress kept taken at []
+pub nothing_yet : (kept : Answers) (taken : List Code) (lines at : ℕ) → (is_some kept ≡ true → kept ≡ Some (empty_cells lines)) → taken ≡ []
+    → Progress kept taken at []
 nothing_yet kept taken lines at cells none = record {
   taken_is = none;
   kept_is = λ there place. ap (λ (k : Answers). by_place k place) (cells there) ∙ empty-place lines place;

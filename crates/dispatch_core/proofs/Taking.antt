@@ -16,7 +16,8 @@ module _ {State : Type 0} (kind : PassKind) (serve : Serving (PassState State)) 
   abbrev pub Gave : Option Code → Code → Type 0
   Gave answer deciding = ServedAs (serve (rule_at stack w.at) (w.at + 1) s) (answer_in answer) deciding (is_none answer) (pass_state past (visits_with visits (w.at + 1) answer) state)
 
-  pub put_off : (answer : Option Code) (deciding : Code) → w.at < lines_in stack → Gave answer deciding → answer ≡ None → walk_on kind serve stack w s ≡ halted w.opinion (pass_state past visits state)
+  pub put_off : (answer : Option Code) (deciding : Code) → w.at < lines_in stack → Gave answer deciding → answer ≡ None
+      → walk_on kind serve stack w s ≡ halted w.opinion (pass_state past visits state)
   put_off answer deciding within gave none =
       let here : Gave None deciding = subst (λ (o : Option Code). Gave o deciding) none gave in
       halted_there kind serve stack w s (pass_state past visits state) _ deciding _ within here refl

@@ -25,7 +25,8 @@ near : (b : Bool) (n left i next : ℕ) (new : Opinion) (rest : Stack) → Some 
 near true n left i next new rest is = (refl, cc)
 near false n left i next new rest is = cc
 
-pub jumped_near : (stack : Stack) (a : Action) (i n next : ℕ) (new : Opinion) (s : FlatLine) → a ≡ actions.Jump n → Some next ≡ target_at stack i n → Stands stack i s → LeadsTo a s.rest new i new next
+pub jumped_near : (stack : Stack) (a : Action) (i n next : ℕ) (new : Opinion) (s : FlatLine) → a ≡ actions.Jump n → Some next ≡ target_at stack i n
+    → Stands stack i s → LeadsTo a s.rest new i new next
 jumped_near stack a i n next new s which is stands =
     let both = near (nat_le n (count s.rest)) n (count s.rest) i next new s.rest
     (is ∙ at_line-stands None (λ s. if nat_le n (count s.rest) then Some (i + 1 + lines_in_first n s.rest) else None) stack i s _ stands) in
@@ -37,7 +38,8 @@ far : (b : Bool) (n i : ℕ) (new : Opinion) (rest : Stack) → None ≡ (if b t
 far true n i new rest is = cc
 far false n i new rest is = (refl, ap (λ n. i + 1 + n) (sym (all_nodes rest)))
 
-pub jumped_far : (stack : Stack) (a : Action) (i n next : ℕ) (new opinion : Opinion) (s : FlatLine) → a ≡ actions.Jump n → None ≡ target_at stack i n → opinion ≡ overrun → next ≡ end_at stack i → Stands stack i s
+pub jumped_far : (stack : Stack) (a : Action) (i n next : ℕ) (new opinion : Opinion) (s : FlatLine) → a ≡ actions.Jump n → None ≡ target_at stack i n
+    → opinion ≡ overrun → next ≡ end_at stack i → Stands stack i s
     → LeadsTo a s.rest new i opinion next
 jumped_far stack a i n next new opinion s which is denied end stands =
     let both = far (nat_le n (count s.rest)) n i new s.rest
@@ -61,11 +63,13 @@ ended actions.Die i new rest is = record { opinion_is = refl; next_is = by_end t
 ended actions.Reset i new rest is = absurd (true≢false (sym is))
 ended (actions.Jump n) i new rest is = absurd (true≢false (sym is))
 
-pub ended_at : (stack : Stack) (a : Action) (i next : ℕ) (new : Opinion) (s : FlatLine) → ends a new ≡ true → next ≡ end_at stack i → Stands stack i s → LeadsTo a s.rest new i new next
+pub ended_at : (stack : Stack) (a : Action) (i next : ℕ) (new : Opinion) (s : FlatLine) → ends a new ≡ true → next ≡ end_at stack i → Stands stack i s
+    → LeadsTo a s.rest new i new next
 ended_at stack a i next new s is end stands = rw (end ∙ at_line-stands 0 (λ s. i + 1 + lines_in s.rest) stack i s _ stands) (ended a i new s.rest is)
 
 -- wherever a list goes on, it is further on
-pub goes_ahead : (stack : Stack) (a : Action) (i next : ℕ) (new opinion : Opinion) → i < lines_in stack → ((s : FlatLine) → Stands stack i s → LeadsTo a s.rest new i opinion next) → i < next
+pub goes_ahead : (stack : Stack) (a : Action) (i next : ℕ) (new opinion : Opinion) → i < lines_in stack
+    → ((s : FlatLine) → Stands stack i s → LeadsTo a s.rest new i opinion next) → i < next
 goes_ahead stack a i next new opinion within goes = let at = standing stack i within in omega (arith, (goes at.line at.stands).next_is)
 
 module _ {State : Type 0} (kind : PassKind) (serve : Serving State) where
@@ -128,13 +132,15 @@ module _ {State : Type 0} (kind : PassKind) (serve : Serving State) where
       ∙ sym (rw (on.leads.next_is, on.leads.opinion_is, entries_are, here.state_is) refl)
 
   -- behind the last line
-  pub ended_at_last : (stack : Stack) (w : Walker) (s : State) (all : Walked State) → lines_in stack ≤ w.at → walk_on kind serve stack w s ≡ all → walked w.opinion s ≡ all
+  pub ended_at_last : (stack : Stack) (w : Walker) (s : State) (all : Walked State) → lines_in stack ≤ w.at → walk_on kind serve stack w s ≡ all
+      → walked w.opinion s ≡ all
   ended_at_last stack w s all behind is =
       let none_left : drop w.at (flat_lines 0 0 stack) ≡ [] = drop_of_length-le (flat_lines 0 0 stack) (omega (arith, behind, flat_lines-count stack 0 0)) in
       sym (ap (λ (xs : List FlatLine). run kind serve xs 0 (w.at + 1) (entry_at w.entries) w.opinion s) none_left) ∙ is
 
   -- before the first line
-  pub begun : (stack : Stack) (w : Walker) (s : State) → w.at ≡ 0 → w.opinion ≡ opening → ((k : ℕ) → entry_at w.entries k ≡ opening) → walk_on kind serve stack w s ≡ pass kind serve stack s
+  pub begun : (stack : Stack) (w : Walker) (s : State) → w.at ≡ 0 → w.opinion ≡ opening → ((k : ℕ) → entry_at w.entries k ≡ opening)
+      → walk_on kind serve stack w s ≡ pass kind serve stack s
   begun stack w s first unformed entries =
       let all : entry_at w.entries ≡ (λ k. opening) = fun_ext entries in
       rw (first, unformed, all) (run_is_pass kind serve stack s)

@@ -34,7 +34,8 @@ next_fits actions.Reset left new = omega arith
 next_fits (actions.Jump n) left new = jump_fits (nat_le n left) n left (λ h. grind (arith, nat_tests))
 
 module _ {State : Type 0} (kind : PassKind) (serve : Serving State) where
-  skip_over : (xs ys : List FlatLine) (k at : ℕ) (f : Entries) (o : Opinion) (s : State) → run kind serve (xs ++ ys) (length xs + k) at f o s ≡ run kind serve ys k (at + length xs) f o s
+  skip_over : (xs ys : List FlatLine) (k at : ℕ) (f : Entries) (o : Opinion) (s : State)
+      → run kind serve (xs ++ ys) (length xs + k) at f o s ≡ run kind serve ys k (at + length xs) f o s
   skip_over [] ys k at f o s =
       ap (λ n. run kind serve ys n at f o s) (zero-add k) ∙ ap (λ n. run kind serve ys k n f o s) (sym (add-zero at))
   skip_over (x ∷ xs) ys k at f o s =
@@ -42,7 +43,8 @@ module _ {State : Type 0} (kind : PassKind) (serve : Serving State) where
       ∙ skip_over xs ys k (at + 1) f o s
       ∙ ap (λ n. run kind serve ys k n f o s) (let e : at + 1 + length xs ≡ at + suc (length xs) = omega arith in e)
 
-  pub skip_to : (xs : List FlatLine) (k at : ℕ) (f : Entries) (o : Opinion) (s : State) → run kind serve xs k at f o s ≡ run kind serve (drop k xs) 0 (at + k) f o s
+  pub skip_to : (xs : List FlatLine) (k at : ℕ) (f : Entries) (o : Opinion) (s : State)
+      → run kind serve xs k at f o s ≡ run kind serve (drop k xs) 0 (at + k) f o s
   skip_to [] zero at f o s = refl
   skip_to [] (suc k) at f o s = refl
   skip_to (x ∷ xs) zero at f o s = ap (λ n. run kind serve (x ∷ xs) 0 n f o s) (sym (add-zero at))

@@ -19,7 +19,11 @@ impl Model for Given {
 
     ghost Value = { GivenView };
 
-    ghost view = { λ g. record { taken = take g.used g.answers.items; past = drop g.used g.answers.items; room = vec_capacity g.answers - vec_len g.answers } };
+    ghost view = { λ g. record {
+      taken = take g.used g.answers.items;
+      past = drop g.used g.answers.items;
+      room = vec_capacity g.answers - vec_len g.answers;
+    } };
 
     ghost invariant = { λ g. g.used ≤ length g.answers.items };
 }

@@ -19,7 +19,8 @@ Entry = Vec ℕ Global × List ℕ
 abbrev pub is_same : Vec ℕ Global → Vec ℕ Global → Bool
 is_same one other = bytes_eq one.items other.items
 
-none_of : (key : Vec ℕ Global) (entries : List Entry) → AllByRecursion (λ other. is_same key other ≡ false) (keys_of entries) → NoneNamed key.items (variables_of entries)
+none_of : (key : Vec ℕ Global) (entries : List Entry) → AllByRecursion (λ other. is_same key other ≡ false) (keys_of entries)
+    → NoneNamed key.items (variables_of entries)
 none_of key [] none = none
 none_of key (entry ∷ entries) none = (none.0, none_of key entries none.1)
 
@@ -53,7 +54,8 @@ inserted_last key value (entry ∷ entries) none =
     let parts = none_of_parts (bytes_eq key.items entry.0.items) (is_set key.items (variables_of entries)) none in
     rw parts.0 (ap (λ (vs : List Variable). variable_of entry ∷ vs) (inserted_last key value entries parts.1))
 
-inserted_in_place : (key : Vec ℕ Global) (value : List ℕ) (entries : List Entry) → HaveDifferentNames (variables_of entries) → is_set key.items (variables_of entries) ≡ true
+inserted_in_place : (key : Vec ℕ Global) (value : List ℕ) (entries : List Entry) → HaveDifferentNames (variables_of entries)
+    → is_set key.items (variables_of entries) ≡ true
     → variables_of (insert_entry is_same entries key value) ≡ map (changed key.items value) (variables_of entries)
 unfolding IsDistinct
 inserted_in_place key value [] differ there = absurd cc
@@ -87,7 +89,8 @@ unfolding IsDistinct
 removed name [] differ = refl
 removed name (entry ∷ entries) differ = by (bytes_eq name entry.0.items) refl (removed name entries differ.1)
   where
-    by : (b : Bool) → bytes_eq name entry.0.items ≡ b → variables_of (remove_entry (λ key. bytes_eq name key.items) entries) ≡ without name (variables_of entries)
+    by : (b : Bool) → bytes_eq name entry.0.items ≡ b
+        → variables_of (remove_entry (λ key. bytes_eq name key.items) entries) ≡ without name (variables_of entries)
         → variables_of (remove_entry (λ key. bytes_eq name key.items) (entry ∷ entries)) ≡ without name (variables_of (entry ∷ entries))
     by true e rest =
         let same : name ≡ entry.0.items = same_name name entry.0.items e in

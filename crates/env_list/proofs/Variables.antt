@@ -13,7 +13,8 @@ abbrev pub added : List ℕ → List ℕ → Variable
 added name value = record { name = name; value = value }
 
 -- a name that is set
-changed_value : (name value : List ℕ) (variables : List Variable) → is_set name variables ≡ true → value_of name (map (changed name value) variables) ≡ Some value
+changed_value : (name value : List ℕ) (variables : List Variable) → is_set name variables ≡ true
+    → value_of name (map (changed name value) variables) ≡ Some value
 changed_value name value [] there = absurd cc
 changed_value name value (variable ∷ variables) there = by (is_named name variable) refl (λ later. changed_value name value variables later)
   where
@@ -23,7 +24,8 @@ changed_value name value (variable ∷ variables) there = by (is_named name vari
     by false e rest = rw (e, e) (rest (rw e at there))
 
 -- a new name
-added_value : (name value : List ℕ) (variables : List Variable) → is_set name variables ≡ false → value_of name (variables ++ added name value ∷ []) ≡ Some value
+added_value : (name value : List ℕ) (variables : List Variable) → is_set name variables ≡ false
+    → value_of name (variables ++ added name value ∷ []) ≡ Some value
 added_value name value [] none = rw (own_name name) refl
 added_value name value (variable ∷ variables) none =
     let parts = none_of_parts (is_named name variable) (is_set name variables) none in
@@ -37,7 +39,8 @@ put_value name value variables = by (is_set name variables) refl
     by false e = rw e (added_value name value variables e)
 
 -- the other names
-changed_others : (name other value : List ℕ) (variables : List Variable) → other ≢ name → value_of other (map (changed name value) variables) ≡ value_of other variables
+changed_others : (name other value : List ℕ) (variables : List Variable) → other ≢ name
+    → value_of other (map (changed name value) variables) ≡ value_of other variables
 changed_others name other value [] differ = refl
 changed_others name other value (variable ∷ variables) differ = by (is_named name variable) refl (changed_others name other value variables differ)
   where
@@ -51,14 +54,16 @@ changed_others name other value (variable ∷ variables) differ = by (is_named n
         (elim (is_named other variable) as (λ c. option_map (λ v. v.value) (if c then Some variable else find (is_named other) (map (changed name value) variables))
         ≡ option_map (λ v. v.value) (if c then Some variable else find (is_named other) variables)) [ true ↦ refl | false ↦ rest ])
 
-added_others : (name other value : List ℕ) (variables : List Variable) → other ≢ name → value_of other (variables ++ added name value ∷ []) ≡ value_of other variables
+added_others : (name other value : List ℕ) (variables : List Variable) → other ≢ name
+    → value_of other (variables ++ added name value ∷ []) ≡ value_of other variables
 added_others name other value [] differ = rw (other_name other name differ) refl
 added_others name other value (variable ∷ variables) differ =
     let rest = added_others name other value variables differ in
     elim (is_named other variable) as (λ c. option_map (λ v. v.value) (if c then Some variable else find (is_named other) (variables ++ added name value ∷ []))
     ≡ option_map (λ v. v.value) (if c then Some variable else find (is_named other) variables)) [ true ↦ refl | false ↦ rest ]
 
-pub put_others : (name other value : List ℕ) (variables : List Variable) → other ≢ name → value_of other (with_value name value variables) ≡ value_of other variables
+pub put_others : (name other value : List ℕ) (variables : List Variable) → other ≢ name
+    → value_of other (with_value name value variables) ≡ value_of other variables
 put_others name other value variables differ = by (is_set name variables) refl
   where
     by : (b : Bool) → is_set name variables ≡ b → value_of other (with_value name value variables) ≡ value_of other variables
@@ -73,7 +78,8 @@ changed_names name value (variable ∷ variables) =
     elim (is_named name variable) as (λ c. (if c then record variable { value = value } else variable).name ∷ map (λ v. v.name) (map (changed name value) variables)
     ≡ variable.name ∷ map (λ v. v.name) variables) [ true ↦ ap (λ (ns : List (List ℕ)). variable.name ∷ ns) rest | false ↦ ap (λ (ns : List (List ℕ)). variable.name ∷ ns) rest ]
 
-pub put_names : (name value : List ℕ) (variables : List Variable) → is_set name variables ≡ true → map (λ v. v.name) (with_value name value variables) ≡ map (λ v. v.name) variables
+pub put_names : (name value : List ℕ) (variables : List Variable) → is_set name variables ≡ true
+    → map (λ v. v.name) (with_value name value variables) ≡ map (λ v. v.name) variables
 put_names name value variables there = rw there (changed_names name value variables)
 
 -- a deleted name
@@ -111,7 +117,8 @@ pub none_changed : (name value : List ℕ) (variables : List Variable) → NoneN
 none_changed name value [] none = refl
 none_changed name value (variable ∷ variables) none = rw none.0 (ap (λ (vs : List Variable). variable ∷ vs) (none_changed name value variables none.1))
 
-apart_from : (variable : Variable) (before behind : List Variable) (first : Variable) → NoneNamed first.name (before ++ variable ∷ behind) → is_named variable.name first ≡ false
+apart_from : (variable : Variable) (before behind : List Variable) (first : Variable) → NoneNamed first.name (before ++ variable ∷ behind)
+    → is_named variable.name first ≡ false
 apart_from variable [] behind first none = other_name variable.name first.name (λ same. let e : bytes_eq first.name variable.name ≡ true = rw same (own_name first.name) in let no : true ≡ false = sym e ∙ none.0 in cc)
 apart_from variable (next ∷ before) behind first none = apart_from variable before behind first none.1
 

@@ -51,7 +51,8 @@ impl EnvList {
     pub fn put(&mut self, text: &[u8]) -> Result<(), Refuse<BadItem>>
         ensures ok { OnOk result (self.new ≡ after_put text.now self.old) }
         ensures err { OnErr result (self.new ≡ self.old) }
-        ensures bad_item { (result ≡ Err (Refuse.Named bad_item)) ↔ IsTrue (is_refused text.now self.old) }
+        ensures bad_item { (result ≡ Err (Refuse.Named bad_item))
+            ↔ IsTrue (is_refused text.now self.old) }
         ensures deletion { IsTrue (is_deletion text.now) → result ≢ Err Refuse.NoMemory }
     {
         match first_place(EQUALS, text) {
@@ -123,7 +124,8 @@ impl EnvList {
     fn delete(&mut self, name: &[u8]) -> Result<(), Refuse<BadItem>>
         ensures ok { OnOk result (self.new ≡ without name.now self.old) }
         ensures err { OnErr result (self.new ≡ self.old) }
-        ensures bad_item { (result ≡ Err (Refuse.Named bad_item)) ↔ IsTrue (length name.now == 0 || not (is_set name.now self.old)) }
+        ensures bad_item { (result ≡ Err (Refuse.Named bad_item)) ↔ IsTrue (length name.now == 0
+            || not (is_set name.now self.old)) }
         ensures memory { result ≢ Err Refuse.NoMemory }
     {
         if name.is_empty() || !self.remove(name) {
@@ -143,7 +145,8 @@ impl EnvList {
 }
 
 fn joined(alloc: Global, name: &[u8], value: &[u8]) -> Result<Text, NoMemory>
-    ensures { IfOk result (λ text. text ≡ variable_text (record { name = name.now; value = value.now })) }
+    ensures { IfOk result (λ text. text ≡ variable_text
+        (record { name = name.now; value = value.now })) }
 {
     let mut text = Vec::from_slice(alloc, name)?;
     text.push(EQUALS)?;

@@ -5,8 +5,10 @@ ghost use Rattle.env_list.specs.Environment.{Variable, HaveDifferentNames, is_se
 
 /// `NAME=VALUE` sets the name to the value, whatever the value holds, and `NAME` alone deletes it.
 pub fn put_texts()
-    ensures name { (name value : List ℕ) → has_byte 61 name ≡ false → name_in (name ++ 61 ∷ value) ≡ name }
-    ensures value { (name value : List ℕ) → has_byte 61 name ≡ false → value_in (name ++ 61 ∷ value) ≡ value }
+    ensures name { (name value : List ℕ) → has_byte 61 name ≡ false →
+        name_in (name ++ 61 ∷ value) ≡ name }
+    ensures value { (name value : List ℕ) → has_byte 61 name ≡ false →
+        value_in (name ++ 61 ∷ value) ≡ value }
     ensures sets { (name value : List ℕ) → is_deletion (name ++ 61 ∷ value) ≡ false }
     ensures deletes { (name : List ℕ) → has_byte 61 name ≡ false → is_deletion name ≡ true }
     ensures deleted { (name : List ℕ) → has_byte 61 name ≡ false → name_in name ≡ name }
@@ -19,16 +21,20 @@ pub fn setting_keeps_the_place()
         value_of name (with_value name value variables) ≡ Some value }
     ensures others { (name other value : List ℕ) (variables : List Variable) → other ≢ name →
         value_of other (with_value name value variables) ≡ value_of other variables }
-    ensures place { (name value : List ℕ) (variables : List Variable) → is_set name variables ≡ true →
-        map (λ variable. variable.name) (with_value name value variables) ≡ map (λ variable. variable.name) variables }
-    ensures last { (name value : List ℕ) (variables : List Variable) → is_set name variables ≡ false →
+    ensures place { (name value : List ℕ) (variables : List Variable) →
+        is_set name variables ≡ true →
+        map (λ variable. variable.name) (with_value name value variables)
+        ≡ map (λ variable. variable.name) variables }
+    ensures last { (name value : List ℕ) (variables : List Variable) →
+        is_set name variables ≡ false →
         with_value name value variables ≡ variables ++ record { name = name; value = value } ∷ [] }
 {}
 
 /// A name that was deleted is unset, and every other name has the value that it had. The variables behind it
 /// close up, in their order.
 pub fn deleting_closes_up()
-    ensures same { (name : List ℕ) (variables : List Variable) → value_of name (without name variables) ≡ None }
+    ensures same { (name : List ℕ) (variables : List Variable) →
+        value_of name (without name variables) ≡ None }
     ensures others { (name other : List ℕ) (variables : List Variable) → other ≢ name →
         value_of other (without name variables) ≡ value_of other variables }
     ensures closes { (variable : Variable) (before behind : List Variable) →

@@ -6,7 +6,8 @@ use Rattle.std.proofs.lemmas.Grind.{common_steps}
 use Rattle.fail_delay.specs.Delay.{spread, asked_delay}
 
 -- the remainder that gives this delay
-remainder_for : (longest half delay : ℕ) → half ≤ longest → longest - half ≤ delay → delay ≤ longest + half → (r : ℕ) × (r < 2 * half + 1) × (spread longest half r ≡ delay)
+remainder_for : (longest half delay : ℕ) → half ≤ longest → longest - half ≤ delay → delay ≤ longest + half
+    → (r : ℕ) × (r < 2 * half + 1) × (spread longest half r ≡ delay)
 remainder_for longest half delay small low high =
     elim (cases_lt delay longest) [
       | inl lt ↦ (half + (longest - delay), omega arith, grind (arith, common_steps))

@@ -24,7 +24,8 @@ pub trait DelayTold {
 #[derive(Drop)]
 pub struct DelayFn {
     rule: DelayRule,
-    ghost callable: { (code : Code) (asked : ℕ) → asked ≤ LONGEST_ASKED → DelayRule.pre rule code asked },
+    ghost callable: { (code : Code) (asked : ℕ) → asked ≤ LONGEST_ASKED →
+        DelayRule.pre rule code asked },
     ghost one_number: { GivesOneNumber (DelayRule.post rule) },
 }
 
@@ -36,7 +37,8 @@ impl DelayFn {
     /// The function may be called for every code and every asked delay up to 90 seconds. It gives one number
     /// for each pair of them, always the same, and at most 60 seconds.
     pub fn new(rule: DelayRule) -> Self
-        requires callable { (code : Code) (asked : ℕ) → asked ≤ LONGEST_ASKED → DelayRule.pre rule code asked }
+        requires callable { (code : Code) (asked : ℕ) → asked ≤ LONGEST_ASKED →
+            DelayRule.pre rule code asked }
         requires one_number { GivesOneNumber (DelayRule.post rule) }
         ensures { (number : Code → ℕ → ℕ) → IsNumberGiven (DelayRule.post rule) number →
             ⟦<DelayFn as DelayTold>⟧.delay_is result number }
@@ -48,7 +50,8 @@ impl DelayFn {
     /// delay. It is at most 60 seconds.
     pub fn wait(&self, code: Code, asked: u32) -> u32
         requires { asked ≤ LONGEST_ASKED }
-        ensures number { (number : Code → ℕ → ℕ) → ⟦<DelayFn as DelayTold>⟧.delay_is self.now number →
+        ensures number { (number : Code → ℕ → ℕ) →
+            ⟦<DelayFn as DelayTold>⟧.delay_is self.now number →
             result ≡ number code asked }
         ensures within { result ≤ LONGEST_REQUEST }
     {

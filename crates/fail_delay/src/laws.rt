@@ -8,7 +8,8 @@ use crate::delay_fn::LONGEST_ASKED;
 /// The longest of some requests is no shorter than any of them, each counted to 60 seconds at most, and is
 /// one of them where there is one.
 pub fn longest_is_the_maximum()
-    ensures no_shorter { (requests : List ℕ) → All (λ micros. counted_request micros ≤ longest_of requests) requests }
+    ensures no_shorter { (requests : List ℕ) → All (λ micros. counted_request micros
+        ≤ longest_of requests) requests }
     ensures one_of_them { (requests : List ℕ) → 0 < longest_of requests →
         Any (λ micros. counted_request micros ≡ longest_of requests) requests }
     ensures counted { (requests : List ℕ) → longest_of requests ≤ LONGEST_REQUEST }
@@ -19,9 +20,11 @@ pub fn longest_is_the_maximum()
 pub fn asked_within_half()
     ensures above { (longest word : ℕ) → asked_delay longest word ≤ longest + longest / 2 }
     ensures below { (longest word : ℕ) → longest - longest / 2 ≤ asked_delay longest word }
-    ensures each { (longest delay : ℕ) → longest - longest / 2 ≤ delay → delay ≤ longest + longest / 2 →
+    ensures each { (longest delay : ℕ) → longest - longest / 2 ≤ delay →
+        delay ≤ longest + longest / 2 →
         (word : ℕ) × (asked_delay longest word ≡ delay) }
-    ensures bound { (longest word : ℕ) → longest ≤ LONGEST_REQUEST → asked_delay longest word ≤ LONGEST_ASKED }
+    ensures bound { (longest word : ℕ) → longest ≤ LONGEST_REQUEST →
+        asked_delay longest word ≤ LONGEST_ASKED }
 {}
 
 /// With the word 0 the asked delay is the longest request, and it is 0 exactly where no delay was requested.

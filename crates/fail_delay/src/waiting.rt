@@ -10,7 +10,8 @@ use pam_base::Code;
 /// waited and no function was called.
 pub fn wait_after(delay_fn: Option<&DelayFn>, code: Code, asked: u32) -> Option<u32>
     requires { asked ≤ LONGEST_ASKED }
-    ensures wait { (number : Code → ℕ → ℕ) → IfSome delay_fn.entry (λ f. ⟦<DelayFn as DelayTold>⟧.delay_is f.now number) →
+    ensures wait { (number : Code → ℕ → ℕ) → IfSome delay_fn.entry
+        (λ f. ⟦<DelayFn as DelayTold>⟧.delay_is f.now number) →
         result ≡ wait_of (is_some delay_fn.entry) number code asked }
     ensures within { IfSome result (λ wait. wait ≤ LONGEST_ASKED) }
 {

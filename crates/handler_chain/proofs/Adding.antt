@@ -38,20 +38,23 @@ block_kept positions more start first t block = record {
   placed = λ n within. get_or-before positions more (start + n) (omega (arith, block.room)) ∙ block.placed n within;
 }
 
-pub block_line : (positions : List ℕ) (start first : ℕ) (rule : _) (rest : Stack) → IsBlock positions start first (line rule rest) → IsBlock positions (start + 1) (first + 1) rest
+pub block_line : (positions : List ℕ) (start first : ℕ) (rule : _) (rest : Stack) → IsBlock positions start first (line rule rest)
+    → IsBlock positions (start + 1) (first + 1) rest
 block_line positions start first rule rest block = record {
   room = omega (arith, block.room);
   placed = λ n within. ap (λ i. get_or positions i 0) (let e : start + 1 + n ≡ start + suc n = omega arith in e) ∙ block.placed (suc n) (omega arith) ∙ (let e : first + (lines_in_first n rest + 1) ≡ first + 1 + lines_in_first n rest = omega arith in e);
 }
 
-pub block_sub : (positions : List ℕ) (start first : ℕ) (inner rest : Stack) → IsBlock positions start first (sub inner rest) → IsBlock positions (start + 1) (first + lines_in inner) rest
+pub block_sub : (positions : List ℕ) (start first : ℕ) (inner rest : Stack) → IsBlock positions start first (sub inner rest)
+    → IsBlock positions (start + 1) (first + lines_in inner) rest
 block_sub positions start first inner rest block = record {
   room = omega (arith, block.room);
   placed = λ n within. ap (λ i. get_or positions i 0) (let e : start + 1 + n ≡ start + suc n = omega arith in e) ∙ block.placed (suc n) (omega arith) ∙ (let e : first + (lines_in inner + lines_in_first n rest) ≡ first + lines_in inner + lines_in_first n rest = omega arith in e);
 }
 
 module _ (names : List (List ℕ)) where
-  are_kept : (positions more : List ℕ) (i : ℕ) (ss : List FlatLine) (es : List ChainLine) → AreLines names positions i ss es → AreLines names (positions ++ more) i ss es
+  are_kept : (positions more : List ℕ) (i : ℕ) (ss : List FlatLine) (es : List ChainLine) → AreLines names positions i ss es
+      → AreLines names (positions ++ more) i ss es
   are_kept positions more i [] [] are = tt
   are_kept positions more i (s ∷ ss) (e ∷ es) are =
       let first = are.0 in
@@ -59,7 +62,8 @@ module _ (names : List (List ℕ)) where
   are_kept positions more i [] (e ∷ es) are = are
   are_kept positions more i (s ∷ ss) [] are = are
 
-  are_joined : (positions : List ℕ) (i : ℕ) (ss ts : List FlatLine) (es fs : List ChainLine) → AreLines names positions i ss es → AreLines names positions (i + length es) ts fs → AreLines names positions i (ss ++ ts) (es ++ fs)
+  are_joined : (positions : List ℕ) (i : ℕ) (ss ts : List FlatLine) (es fs : List ChainLine) → AreLines names positions i ss es
+      → AreLines names positions (i + length es) ts fs → AreLines names positions i (ss ++ ts) (es ++ fs)
   are_joined positions i [] ts [] fs are more = subst (λ n. AreLines names positions n ts fs) (add-zero i) more
   are_joined positions i (s ∷ ss) ts (e ∷ es) fs are more =
       (are.0, are_joined positions (i + 1) ss ts es fs are.1 (subst (λ n. AreLines names positions n ts fs) (let e : i + suc (length es) ≡ i + 1 + length es = omega arith in e) more))
@@ -69,7 +73,8 @@ module _ (names : List (List ℕ)) where
   pub adds_none : (level opens : ℕ) (es : List ChainLine) (ps : List ℕ) → AddsList names level opens none es es ps ps
   adds_none level opens es ps = record { more = []; added = sym (append-nil es); positions = []; placed = sym (append-nil ps); are = tt }
 
-  pub adds_marked : (level opens : ℕ) (t : Stack) (es es' : List ChainLine) (ps qs ps' : List ℕ) → AddsList names level opens t es es' (ps ++ qs) ps' → AddsList names level opens t es es' ps ps'
+  pub adds_marked : (level opens : ℕ) (t : Stack) (es es' : List ChainLine) (ps qs ps' : List ℕ) → AddsList names level opens t es es' (ps ++ qs) ps'
+      → AddsList names level opens t es es' ps ps'
   adds_marked level opens t es es' ps qs ps' adds = record {
     more = adds.more;
     added = adds.added;

@@ -8,16 +8,19 @@ use Rattle.handler_chain.specs.Flat.{IsChainLine, AreLines, IsFlat}
 use Rattle.handler_chain.specs.Chain.{ChainView}
 use Rattle.handler_chain.proofs.Standing.{flat_lines-count, at_line-stands, line_within}
 
-are-count : (names : List (List ℕ)) (positions : List ℕ) (i : ℕ) (ss : List FlatLine) (es : List ChainLine) → AreLines names positions i ss es → length es ≡ length ss
+are-count : (names : List (List ℕ)) (positions : List ℕ) (i : ℕ) (ss : List FlatLine) (es : List ChainLine) → AreLines names positions i ss es
+    → length es ≡ length ss
 are-count names positions i [] [] are = refl
 are-count names positions i (s ∷ ss) (e ∷ es) are = omega (arith, are-count names positions (i + 1) ss es are.1)
 are-count names positions i [] (e ∷ es) are = absurd are
 are-count names positions i (s ∷ ss) [] are = absurd are
 
-pub flat-count : (stack : Stack) (names : List (List ℕ)) (lines : List ChainLine) (positions : List ℕ) → IsFlat stack names lines positions → length lines ≡ lines_in stack
+pub flat-count : (stack : Stack) (names : List (List ℕ)) (lines : List ChainLine) (positions : List ℕ) → IsFlat stack names lines positions
+    → length lines ≡ lines_in stack
 flat-count stack names lines positions flat = are-count names positions 0 (flat_lines 0 0 stack) lines flat.are ∙ flat_lines-count stack 0 0
 
-are_at : (names : List (List ℕ)) (positions : List ℕ) (first i : ℕ) (ss : List FlatLine) (es : List ChainLine) (e : ChainLine) → AreLines names positions first ss es → i < length es → e ≡ get_or es i e
+are_at : (names : List (List ℕ)) (positions : List ℕ) (first i : ℕ) (ss : List FlatLine) (es : List ChainLine) (e : ChainLine)
+    → AreLines names positions first ss es → i < length es → e ≡ get_or es i e
     → (s : FlatLine) × ((drop i ss ≡ s ∷ drop (i + 1) ss) × IsChainLine names positions (first + i) s e)
 are_at names positions first i [] [] e are within is = absurd (omega (arith, within))
 are_at names positions first zero (s ∷ ss) (f ∷ es) e are within is = (s, (refl, rw (is, add-zero first) are.0))
@@ -50,7 +53,8 @@ all_front none = refl
 all_front (line rule rest) = ap (λ n. lines_in_first n (line rule rest)) (add-one (count rest)) ∙ ap (λ n. n + 1) (all_front rest)
 all_front (sub inner rest) = ap (λ n. lines_in_first n (sub inner rest)) (add-one (count rest)) ∙ ap (λ n. lines_in inner + n) (all_front rest)
 
-pub answers : (stack : Stack) (names : List (List ℕ)) (lines : List ChainLine) (positions : List ℕ) (i : ℕ) (e : ChainLine) → IsFlat stack names lines positions → i < lines_in stack → e ≡ get_or lines i e → Answers stack names positions i e
+pub answers : (stack : Stack) (names : List (List ℕ)) (lines : List ChainLine) (positions : List ℕ) (i : ℕ) (e : ChainLine)
+    → IsFlat stack names lines positions → i < lines_in stack → e ≡ get_or lines i e → Answers stack names positions i e
 answers stack names lines positions i e flat within is =
     let found = are_at names positions 0 i (flat_lines 0 0 stack) lines e flat.are (omega (arith, within, flat-count stack names lines positions flat)) is in
     let s : FlatLine = found.0 in
@@ -81,11 +85,13 @@ answers stack names lines positions i e flat within is =
 abbrev view_of : Stack → List (List ℕ) → ℕ → ChainView
 view_of nodes names looks = record { nodes = nodes; names = names; looks = looks }
 
-pub view-count : (chain : ChainView) (nodes : Stack) (names : List (List ℕ)) (looks : ℕ) (lines : List ChainLine) (positions : List ℕ) → view_of nodes names looks ≡ chain → IsFlat nodes names lines positions
+pub view-count : (chain : ChainView) (nodes : Stack) (names : List (List ℕ)) (looks : ℕ) (lines : List ChainLine) (positions : List ℕ)
+    → view_of nodes names looks ≡ chain → IsFlat nodes names lines positions
     → length lines ≡ lines_in chain.nodes
 view-count chain nodes names looks lines positions is flat = flat-count nodes names lines positions flat ∙ ap (λ s. lines_in s.nodes) is
 
-pub view_answers : (chain : ChainView) (nodes : Stack) (names : List (List ℕ)) (looks : ℕ) (lines : List ChainLine) (positions : List ℕ) (i : ℕ) (e : ChainLine) → view_of nodes names looks ≡ chain → IsFlat nodes names lines positions
+pub view_answers : (chain : ChainView) (nodes : Stack) (names : List (List ℕ)) (looks : ℕ) (lines : List ChainLine) (positions : List ℕ) (i : ℕ) (e : ChainLine)
+    → view_of nodes names looks ≡ chain → IsFlat nodes names lines positions
     → i < lines_in chain.nodes → e ≡ get_or lines i e → Answers chain.nodes chain.names positions i e
 view_answers chain nodes names looks lines positions i e is flat within found =
     answers chain.nodes chain.names lines positions i e (subst (λ (s : ChainView). IsFlat s.nodes s.names lines positions) is flat) within found

@@ -8,13 +8,16 @@ use Rattle.control_words.specs.Stack.{Stack, line, sub, node_on, stack_of, lines
 use Rattle.handler_chain.specs.Flat.{positions_behind}
 use Rattle.handler_chain.proofs.Listing.{node_on-Sub}
 
-peeled : (nodes : List Node) (i : ℕ) (node : Node) → i < length nodes → node ≡ get_or nodes i node → stack_of (drop i nodes) ≡ node_on node (stack_of (drop (i + 1) nodes))
+peeled : (nodes : List Node) (i : ℕ) (node : Node) → i < length nodes → node ≡ get_or nodes i node
+    → stack_of (drop i nodes) ≡ node_on node (stack_of (drop (i + 1) nodes))
 peeled nodes i node within is = ap stack_of (drop_more nodes i node within ∙ ap (λ (n : Node). n ∷ drop (i + 1) nodes) (sym is))
 
-pub peeled_line : (nodes : List Node) (i : ℕ) (node : Node) (rule : Rule) → i < length nodes → node ≡ get_or nodes i node → node ≡ Line rule → stack_of (drop i nodes) ≡ line rule (stack_of (drop (i + 1) nodes))
+pub peeled_line : (nodes : List Node) (i : ℕ) (node : Node) (rule : Rule) → i < length nodes → node ≡ get_or nodes i node → node ≡ Line rule
+    → stack_of (drop i nodes) ≡ line rule (stack_of (drop (i + 1) nodes))
 peeled_line nodes i node rule within is which = peeled nodes i node within is ∙ ap (λ (n : Node). node_on n (stack_of (drop (i + 1) nodes))) which
 
-pub peeled_sub : (nodes : List Node) (i : ℕ) (node : Node) (inner : Nodes) → i < length nodes → node ≡ get_or nodes i node → node ≡ Sub inner → stack_of (drop i nodes) ≡ sub (stack_of inner.vec.items) (stack_of (drop (i + 1) nodes))
+pub peeled_sub : (nodes : List Node) (i : ℕ) (node : Node) (inner : Nodes) → i < length nodes → node ≡ get_or nodes i node → node ≡ Sub inner
+    → stack_of (drop i nodes) ≡ sub (stack_of inner.vec.items) (stack_of (drop (i + 1) nodes))
 peeled_sub nodes i node inner within is which =
     peeled nodes i node within is ∙ ap (λ (n : Node). node_on n (stack_of (drop (i + 1) nodes))) which ∙ node_on-Sub inner (stack_of (drop (i + 1) nodes))
 
@@ -30,7 +33,8 @@ pub next_sub : (here inner behind : Stack) (width : ℕ) → here ≡ sub inner 
 next_sub here inner behind width is counted = rw (is, counted) (record { lines = refl; marks = λ first. refl })
 
 -- one position more was added
-pub marked : (all now new : List ℕ) (first width : ℕ) (here behind : Stack) → IsNext here behind width → now ++ positions_behind first here ≡ all → new ≡ now ++ (first + width) ∷ []
+pub marked : (all now new : List ℕ) (first width : ℕ) (here behind : Stack) → IsNext here behind width → now ++ positions_behind first here ≡ all
+    → new ≡ now ++ (first + width) ∷ []
     → new ++ positions_behind (first + width) behind ≡ all
 marked all now new first width here behind next so_far added =
     rw added (append_assoc now ((first + width) ∷ []) (positions_behind (first + width) behind) ∙ ap (λ (xs : List ℕ). now ++ xs) (sym (next.marks first)) ∙ so_far)

@@ -10,7 +10,8 @@ flat_lines-count (sub inner rest) level opens =
     omega (arith, length-append (flat_lines (level + 1) (opens + 1) inner) (flat_lines level (pending (lines_in inner) opens) rest), flat_lines-count inner (level + 1) (opens + 1), flat_lines-count rest level (pending (lines_in inner) opens))
 
 -- what is said of the line of an index is said of the line that stands there
-pub at_line-stands : {A : Type 0} (other : A) (of : FlatLine → A) (stack : Stack) (i : ℕ) (s : FlatLine) (rest : List FlatLine) → drop i (flat_lines 0 0 stack) ≡ s ∷ rest → at_line other of stack i ≡ of s
+pub at_line-stands : {A : Type 0} (other : A) (of : FlatLine → A) (stack : Stack) (i : ℕ) (s : FlatLine) (rest : List FlatLine)
+    → drop i (flat_lines 0 0 stack) ≡ s ∷ rest → at_line other of stack i ≡ of s
 at_line-stands other of stack i s rest stands = ap (of_first other of) stands
 
 -- levels are bounded, and no line opens more substacks than are round it
@@ -44,7 +45,8 @@ within_at most [] rest s (suc i) within is = cc
 within_at most (t ∷ ts) rest s zero within is = let same : t ≡ s = cc in rw (← same) within.0
 within_at most (t ∷ ts) rest s (suc i) within is = within_at most ts rest s i within.1 is
 
-pub line_within : (stack : Stack) (i : ℕ) (s : FlatLine) (rest : List FlatLine) → drop i (flat_lines 0 0 stack) ≡ s ∷ rest → (s.level ≤ depth stack) × (s.opens ≤ s.level)
+pub line_within : (stack : Stack) (i : ℕ) (s : FlatLine) (rest : List FlatLine) → drop i (flat_lines 0 0 stack) ≡ s ∷ rest
+    → (s.level ≤ depth stack) × (s.opens ≤ s.level)
 line_within stack i s rest is =
     let both = within_at (0 + depth stack) (flat_lines 0 0 stack) rest s i (lines_within stack 0 0 (omega arith)) is in
     (omega (arith, both.0), both.1)

@@ -46,7 +46,8 @@ fn number_of(names: &Texts, wanted: &[u8]) -> Option<u32>
 // Adds the positions between the nodes of a list, whose first line has the index `first`.
 fn add_positions(positions: &mut Vec<usize>, nodes: &Nodes, first: usize) -> Result<(), NoMemory>
     requires few { first + lines_in (stack_of nodes.now.vec.items) ≤ 4096 }
-    ensures { OnOk result (positions.new.items ≡ positions.old.items ++ first ∷ positions_behind first (stack_of nodes.now.vec.items)) }
+    ensures { OnOk result (positions.new.items ≡ positions.old.items ++ first
+        ∷ positions_behind first (stack_of nodes.now.vec.items)) }
 {
     positions.push(first)?;
     let mut position = first;
@@ -74,8 +75,11 @@ pub fn add_list(
     requires numbered { length names.now < 2 ^ 32 }
     requires shallow { level + depth (stack_of nodes.now.vec.items) ≤ 16 }
     requires opens { opens ≤ level }
-    ensures added { OnOk result (AddsList names.now level opens (stack_of nodes.now.vec.items) lines.old.items lines.new.items positions.old.items positions.new.items) }
-    ensures counted { OnOk result (length lines.new.items ≡ length lines.old.items + lines_in (stack_of nodes.now.vec.items)) }
+    ensures added { OnOk result (AddsList names.now level opens
+        (stack_of nodes.now.vec.items) lines.old.items lines.new.items positions.old.items
+        positions.new.items) }
+    ensures counted { OnOk result (length lines.new.items
+        ≡ length lines.old.items + lines_in (stack_of nodes.now.vec.items)) }
 {
     let mut behind = positions.len();
     add_positions(positions, nodes, lines.len())?;

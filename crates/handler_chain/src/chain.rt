@@ -36,9 +36,14 @@ impl Model for Chain {
 
     ghost use Rattle.handler_chain.specs.Flat.{IsFlat};
 
-    ghost view = { λ c. record { nodes = stack_of c.nodes.value.vec.items; names = c.names.value; looks = c.looks } };
+    ghost view = { λ c. record {
+      nodes = stack_of c.nodes.value.vec.items;
+      names = c.names.value;
+      looks = c.looks;
+    } };
 
-    ghost invariant = { λ c. IsFlat (stack_of c.nodes.value.vec.items) c.names.value c.lines.items c.positions.items };
+    ghost invariant = { λ c. IsFlat (stack_of c.nodes.value.vec.items) c.names.value c.lines.items
+        c.positions.items };
 }
 
 /// Lays a stack flat, for modules with these names.

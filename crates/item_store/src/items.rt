@@ -70,7 +70,8 @@ impl Items {
 
     /// Sets SERVICE, which neither an application nor a module can set. Without memory all stays as it was.
     pub fn set_service(&mut self, service: &[u8]) -> Result<(), NoMemory>
-        ensures ok { OnOk result (self.new ≡ with_text self.old ItemName.Service (Some service.now)) }
+        ensures ok { OnOk result (self.new ≡ with_text self.old ItemName.Service
+            (Some service.now)) }
         ensures err { OnErr result (self.new ≡ self.old) }
     {
         let text = Text::from_bytes(self.alloc, service)?;
@@ -84,7 +85,8 @@ impl Items {
     pub fn set_app(&mut self, item: ItemName, value: Option<&[u8]>) -> Result<(), Refuse<BadItem>>
         ensures ok { OnOk result (self.new ≡ with_text self.old item (option_copied value.entry)) }
         ensures err { OnErr result (self.new ≡ self.old) }
-        ensures bad_item { (result ≡ Err (Refuse.Named bad_item)) ↔ IsTrue (is_refused Access.ApplicationSets item) }
+        ensures bad_item { (result ≡ Err (Refuse.Named bad_item))
+            ↔ IsTrue (is_refused Access.ApplicationSets item) }
         ensures unset { value.entry ≡ None → result ≢ Err Refuse.NoMemory }
     {
         self.set(Access::ApplicationSets, item, value)
@@ -103,7 +105,8 @@ impl Items {
     pub fn set_mod(&mut self, item: ItemName, value: Option<&[u8]>) -> Result<(), Refuse<BadItem>>
         ensures ok { OnOk result (self.new ≡ with_text self.old item (option_copied value.entry)) }
         ensures err { OnErr result (self.new ≡ self.old) }
-        ensures bad_item { (result ≡ Err (Refuse.Named bad_item)) ↔ IsTrue (is_refused Access.ModuleSets item) }
+        ensures bad_item { (result ≡ Err (Refuse.Named bad_item))
+            ↔ IsTrue (is_refused Access.ModuleSets item) }
         ensures unset { value.entry ≡ None → result ≢ Err Refuse.NoMemory }
     {
         self.set(Access::ModuleSets, item, value)
@@ -133,7 +136,8 @@ impl Items {
     ) -> Result<(), Refuse<BadItem>>
         ensures ok { OnOk result (self.new ≡ with_text self.old item (option_copied value.entry)) }
         ensures err { OnErr result (self.new ≡ self.old) }
-        ensures bad_item { (result ≡ Err (Refuse.Named bad_item)) ↔ IsTrue (is_refused access item) }
+        ensures bad_item { (result ≡ Err (Refuse.Named bad_item))
+            ↔ IsTrue (is_refused access item) }
         ensures unset { value.entry ≡ None → result ≢ Err Refuse.NoMemory }
     {
         if access.refuses(item) {

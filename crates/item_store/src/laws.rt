@@ -6,7 +6,8 @@ ghost use Rattle.item_store.specs.Items.{ItemTexts, text_of, with_text, without_
 /// A set item reads as it was set, and every other item as before.
 pub fn items_stand_alone()
     ensures set { (items : ItemTexts) (item : ItemName) (text : Option (List ℕ)) →
-        item ≢ ItemName.Conv → item ≢ ItemName.FailDelay → text_of (with_text items item text) item ≡ text }
+        item ≢ ItemName.Conv → item ≢ ItemName.FailDelay →
+        text_of (with_text items item text) item ≡ text }
     ensures others { (items : ItemTexts) (item other : ItemName) (text : Option (List ℕ)) →
         other ≢ item → text_of (with_text items item text) other ≡ text_of items other }
 {}
@@ -14,7 +15,9 @@ pub fn items_stand_alone()
 /// Clearing the tokens leaves neither of them, and every other item as before.
 pub fn tokens_stand_alone()
     ensures cleared { (items : ItemTexts) → text_of (without_tokens items) ItemName.AuthTok ≡ None }
-    ensures cleared_old { (items : ItemTexts) → text_of (without_tokens items) ItemName.OldAuthTok ≡ None }
-    ensures others { (items : ItemTexts) (other : ItemName) → other ≢ ItemName.AuthTok → other ≢ ItemName.OldAuthTok →
+    ensures cleared_old { (items : ItemTexts) → text_of (without_tokens items) ItemName.OldAuthTok
+        ≡ None }
+    ensures others { (items : ItemTexts) (other : ItemName) → other ≢ ItemName.AuthTok →
+        other ≢ ItemName.OldAuthTok →
         text_of (without_tokens items) other ≡ text_of items other }
 {}

@@ -10,7 +10,8 @@ use Rattle.item_stream.specs.Run.{Looks, ItemStep, Run, with_text, run_items, ru
 use Rattle.item_stream.specs.Turns.{GoesOn, EndsBy, StopsBy, Tells, LastRead, Turns, begun_items}
 use Rattle.item_stream.proofs.Running.{items-append}
 
-calls_both : {Kind : Type 0} (r : Result (Option (Ending Kind)) Stop) (p q s : ℕ) (a b : List ℕ) → q ≤ p + length a → OnOk r (s ≤ q + length b) → OnOk r (s ≤ p + length (a ++ b))
+calls_both : {Kind : Type 0} (r : Result (Option (Ending Kind)) Stop) (p q s : ℕ) (a b : List ℕ) → q ≤ p + length a → OnOk r (s ≤ q + length b)
+    → OnOk r (s ≤ p + length (a ++ b))
 calls_both (Ok o) p q s a b f g = omega (arith, length-append a b)
 calls_both (Err stop) p q s a b f g = tt
 
@@ -82,7 +83,8 @@ module _ {State Kind : Type 0} (looked : Looks) (step : ItemStep State Kind) (Fa
     unfolding run_of
     served_run ended = ap (run_items step n c) (a.among got ended) ∙ items-append step n c a.served (looked m (held ++ got) ended) text d m a.run
 
-    goes_on : (k : ℕ) (e : State) (rest more_text : List ℕ) → GoesOn looked step m k d e (held ++ got) rest more_text → GoesOn looked step n k c e (met ++ got) rest (text ++ more_text)
+    goes_on : (k : ℕ) (e : State) (rest more_text : List ℕ) → GoesOn looked step m k d e (held ++ got) rest more_text
+        → GoesOn looked step n k c e (met ++ got) rest (text ++ more_text)
     goes_on k e rest more_text b = record {
       served = a.served ++ b.served;
       number = omega (arith, a.number, b.number, length-append a.served b.served);
@@ -90,7 +92,8 @@ module _ {State Kind : Type 0} (looked : Looks) (step : ItemStep State Kind) (Fa
       run = items-append step n c a.served b.served text d m a.run ∙ ap (with_text text) b.run;
     }
 
-    ends_by : (ending : Ending Kind) (k : ℕ) (e : State) (left more_text : List ℕ) → EndsBy looked step ending m k d e (held ++ got) left more_text → EndsBy looked step ending n k c e (met ++ got) left (text ++ more_text)
+    ends_by : (ending : Ending Kind) (k : ℕ) (e : State) (left more_text : List ℕ) → EndsBy looked step ending m k d e (held ++ got) left more_text
+        → EndsBy looked step ending n k c e (met ++ got) left (text ++ more_text)
     ends_by ending k e left more_text b = record {
       ended = b.ended;
       at_end = b.at_end;
@@ -98,7 +101,8 @@ module _ {State Kind : Type 0} (looked : Looks) (step : ItemStep State Kind) (Fa
       run = served_run b.ended ∙ ap (with_text text) b.run;
     }
 
-    stops_by : (stop : Stop) (e : State) (left more_text : List ℕ) → StopsBy looked step Fails stop m d e (held ++ got) left more_text → StopsBy looked step Fails stop n c e (met ++ got) left (text ++ more_text)
+    stops_by : (stop : Stop) (e : State) (left more_text : List ℕ) → StopsBy looked step Fails stop m d e (held ++ got) left more_text
+        → StopsBy looked step Fails stop n c e (met ++ got) left (text ++ more_text)
     stops_by stop e left more_text b = record {
       served = a.served ++ b.served;
       begun = b.begun;
@@ -125,7 +129,9 @@ module _ {State Kind : Type 0} (looked : Looks) (step : ItemStep State Kind) (Fa
   tells_both n m k c d e met held got rest left text more_text (Err stop) a b = stops_by n m c d met held text got a stop e left more_text b
 
   -- the last read of two stretches is that of the second, where it read
-  last_both : (n m : ℕ) (c d : State) (got held more text : List ℕ) → GoesOn looked step n m c d got held text → (got ≡ []) ⊎ LastRead looked step n c [] got → (more ≡ []) ⊎ LastRead looked step m d held more → (got ++ more ≡ []) ⊎ LastRead looked step n c [] (got ++ more)
+  last_both : (n m : ℕ) (c d : State) (got held more text : List ℕ) → GoesOn looked step n m c d got held text
+      → (got ≡ []) ⊎ LastRead looked step n c [] got → (more ≡ []) ⊎ LastRead looked step m d held more
+      → (got ++ more ≡ []) ⊎ LastRead looked step n c [] (got ++ more)
   last_both n m c d got held more text a first (inr l) = inr (record {
     early = got ++ l.early;
     late = l.late;

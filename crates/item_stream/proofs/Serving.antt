@@ -12,7 +12,8 @@ module _ {State Kind : Type 0} (step : ItemStep State Kind) (Fails : State → L
   pub silent : (n : ℕ) (item : List ℕ) (c d : State) (p : SinkState) → step n c item ≡ Ok (d, []) → ServesTold step Fails (Ok None) n item c d p p
   silent n item c d p s = record { text = []; written = sym (append-nil p.written); served = s; calls = omega arith; calls_ok = omega arith }
 
-  pub written : (result : Result (Unit {0}) Failed) (n : ℕ) (item text : List ℕ) (c d : State) (p q : SinkState) → step n c item ≡ Ok (d, text) → WritesWhole result text p q → ServesTold step Fails (written_by result) n item c d p q
+  pub written : (result : Result (Unit {0}) Failed) (n : ℕ) (item text : List ℕ) (c d : State) (p q : SinkState) → step n c item ≡ Ok (d, text)
+      → WritesWhole result text p q → ServesTold step Fails (written_by result) n item c d p q
   written (Ok u) n item text c d p q s w = record { text = w.front; written = w.written; served = rw w.all s; calls = w.calls; calls_ok = w.calls_ok }
   written (Err e) n item text c d p q s w = record {
     text = w.front;
@@ -22,7 +23,8 @@ module _ {State Kind : Type 0} (step : ItemStep State Kind) (Fails : State → L
     calls_ok = tt;
   }
 
-  pub refused : (kind : Kind) (n : ℕ) (item : List ℕ) (c : State) (p : SinkState) → step n c item ≡ Err kind → ServesTold step Fails (Ok (Some kind)) n item c c p p
+  pub refused : (kind : Kind) (n : ℕ) (item : List ℕ) (c : State) (p : SinkState) → step n c item ≡ Err kind
+      → ServesTold step Fails (Ok (Some kind)) n item c c p p
   refused kind n item c p s = record { text = []; written = sym (append-nil p.written); served = (s, refl, refl); calls = omega arith; calls_ok = omega arith }
 
   pub unbegun : (n : ℕ) (item : List ℕ) (c : State) (p : SinkState) → ServesTold step Fails (Err NoMemory) n item c c p p

@@ -33,7 +33,8 @@ module _ {State Kind : Type 0} (looked : Looks) (refuses : Refuses) (step : Item
 
   -- ---- nothing was found
 
-  pub fault_turn : (n : ℕ) (before held : List ℕ) (e : Failed) (c : State) (x y : SourceState) (p : SinkState) → IsFound looked (Err e) n held → Finds looked refuses (Err e) n before held x y → Turns looked step Fails (Ok (Some ReadFault)) n n c c before held x y p p
+  pub fault_turn : (n : ℕ) (before held : List ℕ) (e : Failed) (c : State) (x y : SourceState) (p : SinkState) → IsFound looked (Err e) n held
+      → Finds looked refuses (Err e) n before held x y → Turns looked step Fails (Ok (Some ReadFault)) n n c c before held x y p p
   fault_turn n before held e c x y p found f = record {
     got = f.got;
     text = [];
@@ -50,7 +51,8 @@ module _ {State Kind : Type 0} (looked : Looks) (refuses : Refuses) (step : Item
     calls_ok = omega arith;
   }
 
-  pub end_turn : Cuts looked → (n : ℕ) (before held : List ℕ) (c : State) (x y : SourceState) (p : SinkState) → IsFound looked (Ok End) n held → Finds looked refuses (Ok End) n before held x y → Turns looked step Fails (Ok (Some Done)) n n c c before held x y p p
+  pub end_turn : Cuts looked → (n : ℕ) (before held : List ℕ) (c : State) (x y : SourceState) (p : SinkState) → IsFound looked (Ok End) n held
+      → Finds looked refuses (Ok End) n before held x y → Turns looked step Fails (Ok (Some Done)) n n c c before held x y p p
   end_turn cuts n before held c x y p none f =
       let r : run_of looked step n c held true ≡ come_to [] c n None = run-none n c held true (ap (λ (h : List ℕ). looked n h true) none ∙ cuts.none n true) in
       record {
@@ -71,7 +73,8 @@ module _ {State Kind : Type 0} (looked : Looks) (refuses : Refuses) (step : Item
 
   -- ---- an item was found and served
 
-  accepted_of : (stop : Stop) (n : ℕ) (item : List ℕ) (c d : State) (written : List ℕ) → StopsAt step Fails stop n (Some item) c d written → (x : State × List ℕ) × (step n c item ≡ Ok x)
+  accepted_of : (stop : Stop) (n : ℕ) (item : List ℕ) (c d : State) (written : List ℕ) → StopsAt step Fails stop n (Some item) c d written
+      → (x : State × List ℕ) × (step n c item ≡ Ok x)
   accepted_of NoMemory n item c d written h = ((h.0.after, h.0.text), h.0.accepted)
   accepted_of WriteFault n item c d written h = ((d, h.text), h.applied)
 
@@ -85,7 +88,8 @@ module _ {State Kind : Type 0} (looked : Looks) (refuses : Refuses) (step : Item
     unfolding run_of run_items
     whole = ap (run_items step n c) first_held
 
-    item_tells : (o : Result (Option Kind) Stop) (s : ServesTold step Fails o n (take item_size held) c d p q) → Tells looked step Fails (after_item o) n (items_after o n) c d held (held_after o size held) y.left s.text
+    item_tells : (o : Result (Option Kind) Stop) (s : ServesTold step Fails o n (take item_size held) c d p q)
+        → Tells looked step Fails (after_item o) n (items_after o n) c d held (held_after o size held) y.left s.text
     unfolding run_items
     item_tells (Ok None) s = record {
       served = take item_size held ∷ [];
@@ -143,7 +147,8 @@ module _ {State Kind : Type 0} (looked : Looks) (refuses : Refuses) (step : Item
     calls_after (Ok (Some k)) a b h = h
     calls_after (Err stop) a b h = tt
 
-    pub item_turn : (o : Result (Option Kind) Stop) → ServesTold step Fails o n (take item_size held) c d p q → Turns looked step Fails (after_item o) n (items_after o n) c d before (held_after o size held) x y p q
+    pub item_turn : (o : Result (Option Kind) Stop) → ServesTold step Fails o n (take item_size held) c d p q
+        → Turns looked step Fails (after_item o) n (items_after o n) c d before (held_after o size held) x y p q
     item_turn o s = record {
       got = f.got;
       text = s.text;
@@ -175,7 +180,8 @@ module _ {State Kind : Type 0} (looked : Looks) (refuses : Refuses) (step : Item
     only : (left : List ℕ) → left ≡ [] → how.ended ≡ true → looked n (held ++ left) true ≡ held ∷ []
     only left none end = ap (λ (l : List ℕ). looked n (held ++ l) true) none ∙ ap (λ (l : List ℕ). looked n l true) (append-nil held) ∙ ap (looked n held) (sym end) ∙ how.seen
 
-    rest_tells : (o : Result (Option Kind) Stop) (s : ServesTold step Fails o n held c d p q) → Tells looked step Fails (after_rest o) n (items_after o n) c d held held y.left s.text
+    rest_tells : (o : Result (Option Kind) Stop) (s : ServesTold step Fails o n held c d p q)
+        → Tells looked step Fails (after_rest o) n (items_after o n) c d held held y.left s.text
     unfolding run_items
     rest_tells (Ok None) s = record {
       ended = how.ended;
@@ -243,7 +249,8 @@ module _ {State Kind : Type 0} (looked : Looks) (refuses : Refuses) (step : Item
     rest_calls (Ok (Some k)) a b h = h
     rest_calls (Err stop) a b h = tt
 
-    pub rest_turn : (o : Result (Option Kind) Stop) → ServesTold step Fails o n held c d p q → Turns looked step Fails (after_rest o) n (items_after o n) c d before held x y p q
+    pub rest_turn : (o : Result (Option Kind) Stop) → ServesTold step Fails o n held c d p q
+        → Turns looked step Fails (after_rest o) n (items_after o n) c d before held x y p q
     rest_turn o s = record {
       got = f.got;
       text = s.text;

@@ -24,7 +24,8 @@ pub record IsBegun {State Kind : Type 0} (step : ItemStep State Kind) (Fails : S
   pub state : (d ≡ after) ⊎ Fails c item d
 
 -- how a run stops, and in which item if it began one
-abbrev pub StopsAt : {State Kind : Type 0} → ItemStep State Kind → (State → List ℕ → State → Type 0) → Stop → ℕ → Option (List ℕ) → State → State → List ℕ → Type 0
+abbrev pub StopsAt : {State Kind : Type 0} → ItemStep State Kind → (State → List ℕ → State → Type 0) → Stop → ℕ → Option (List ℕ) → State → State
+    → List ℕ → Type 0
 StopsAt step Fails WriteFault n None c d written = ⊥
 StopsAt step Fails WriteFault n (Some item) c d written = IsCutShort step n item c d written
 StopsAt step Fails NoMemory n None c d written = (d ≡ c) × (written ≡ [])
@@ -32,7 +33,8 @@ StopsAt step Fails NoMemory n (Some item) c d written = IsBegun step Fails n ite
 
 -- One item is served: it is applied and its text is written, or it is refused and nothing happened, or the run stops
 -- in it, or before it was begun.
-abbrev pub Serves : {State Kind : Type 0} → ItemStep State Kind → (State → List ℕ → State → Type 0) → Result (Option Kind) Stop → ℕ → List ℕ → State → State → List ℕ → Type 0
+abbrev pub Serves : {State Kind : Type 0} → ItemStep State Kind → (State → List ℕ → State → Type 0) → Result (Option Kind) Stop → ℕ → List ℕ → State
+    → State → List ℕ → Type 0
 Serves step Fails (Ok None) n item c d written = step n c item ≡ Ok (d, written)
 Serves step Fails (Ok (Some kind)) n item c d written = (step n c item ≡ Err kind) × (d ≡ c) × (written ≡ [])
 Serves step Fails (Err stop) n item c d written = StopsAt step Fails stop n (Some item) c d written ⊎ StopsAt step Fails stop n None c d written
@@ -97,7 +99,8 @@ pub record StopsBy {State Kind : Type 0} (looked : Looks) (step : ItemStep State
   pub stopped : StopsAt step Fails stop items begun middle d part
 
 -- what was written for the bytes that a state met
-abbrev pub Tells : {State Kind : Type 0} → Looks → ItemStep State Kind → (State → List ℕ → State → Type 0) → Result (Option (Ending Kind)) Stop → ℕ → ℕ → State → State → List ℕ → List ℕ → List ℕ → List ℕ → Type 0
+abbrev pub Tells : {State Kind : Type 0} → Looks → ItemStep State Kind → (State → List ℕ → State → Type 0) → Result (Option (Ending Kind)) Stop → ℕ
+    → ℕ → State → State → List ℕ → List ℕ → List ℕ → List ℕ → Type 0
 Tells looked step Fails (Ok None) n m c d met held left text = GoesOn looked step n m c d met held text
 Tells looked step Fails (Ok (Some ending)) n m c d met held left text = EndsBy looked step ending n m c d met left text
 Tells looked step Fails (Err stop) n m c d met held left text = StopsBy looked step Fails stop n c d met left text

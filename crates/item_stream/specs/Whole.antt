@@ -14,7 +14,8 @@ at_last (Err stop) = Err stop
 -- What a run tells of the whole input, by how it comes to its end: that it was read out, and what it comes to; what the
 -- bytes taken come to before the source failed; the refused item, which is that of the bytes taken and that of the
 -- whole input; or where it stopped.
-abbrev pub Reports : {State Kind : Type 0} → Looks → ItemStep State Kind → (State → List ℕ → State → Type 0) → Result (Ending Kind) Stop → ℕ → State → State → List ℕ → List ℕ → List ℕ → List ℕ → Type 0
+abbrev pub Reports : {State Kind : Type 0} → Looks → ItemStep State Kind → (State → List ℕ → State → Type 0) → Result (Ending Kind) Stop → ℕ → State
+    → State → List ℕ → List ℕ → List ℕ → List ℕ → Type 0
 Reports looked step Fails (Ok Done) m c d input taken left text = (left ≡ []) × (run_of looked step 0 c input true ≡ come_to text d m None)
 Reports looked step Fails (Ok ReadFault) m c d input taken left text = run_of looked step 0 c taken false ≡ come_to text d m None
 Reports looked step Fails (Ok (Refused kind)) m c d input taken left text =

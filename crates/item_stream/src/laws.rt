@@ -6,8 +6,10 @@ use crate::stepping::Stepping;
 
 /// Before the first byte no turn was made yet; and a run may find no memory then.
 pub fn first_turn<R: Stepping>()
-    ensures none_yet { (setting : R.Setting) → NoTurnYet R.looked (R.step setting) (R.fails setting) }
-    ensures no_memory { (setting : R.Setting) → StopsAtOnce R.looked (R.step setting) (R.fails setting) }
+    ensures none_yet { (setting : R.Setting) → NoTurnYet R.looked (R.step setting)
+        (R.fails setting) }
+    ensures no_memory { (setting : R.Setting) → StopsAtOnce R.looked (R.step setting)
+        (R.fails setting) }
 {}
 
 /// What serves one item: it writes nothing, its text is written, whole or up to a write that failed, it is refused, or
@@ -22,16 +24,20 @@ pub fn item_is_served<R: Stepping>()
 
 /// Where a source failed or has ended, and nothing was found, that is the last turn.
 pub fn nothing_found_is_a_turn<R: Stepping>()
-    ensures fault { (setting : R.Setting) → FaultIsTurn R.looked R.refuses (R.step setting) (R.fails setting) }
-    ensures end { (setting : R.Setting) → EndIsTurn R.looked R.refuses (R.step setting) (R.fails setting) }
+    ensures fault { (setting : R.Setting) → FaultIsTurn R.looked R.refuses (R.step setting)
+        (R.fails setting) }
+    ensures end { (setting : R.Setting) → EndIsTurn R.looked R.refuses (R.step setting)
+        (R.fails setting) }
 {
     R::cuts();
 }
 
 /// An item that was found and served is a turn; without its end it is the last one.
 pub fn found_item_is_a_turn<R: Stepping>()
-    ensures item { (setting : R.Setting) → ItemIsTurn R.looked R.refuses (R.step setting) (R.fails setting) }
-    ensures rest { (setting : R.Setting) → RestIsTurn R.looked R.refuses (R.step setting) (R.fails setting) }
+    ensures item { (setting : R.Setting) → ItemIsTurn R.looked R.refuses (R.step setting)
+        (R.fails setting) }
+    ensures rest { (setting : R.Setting) → RestIsTurn R.looked R.refuses (R.step setting)
+        (R.fails setting) }
 {
     R::keeps();
 }

@@ -77,7 +77,8 @@ impl Reader {
         ensures told { IsTrue (S.source_tells source.old) →
             Finds R.looked R.refuses result before self.old self.new
             (S.source_holds source.old) (S.source_holds source.new) }
-        ensures faults { RisesIf (is_err result) (S.source_faults source.old) (S.source_faults source.new) }
+        ensures faults { RisesIf (is_err result) (S.source_faults source.old)
+            (S.source_faults source.new) }
     {
         R::cuts();
         loop {
@@ -111,7 +112,8 @@ impl Reader {
         ensures tells { S.source_tells source.new ≡ S.source_tells source.old }
         ensures told { IsTrue (S.source_tells source.old) →
             Fills result self.old self.new (S.source_holds source.old) (S.source_holds source.new) }
-        ensures faults { RisesIf (is_err result) (S.source_faults source.old) (S.source_faults source.new) }
+        ensures faults { RisesIf (is_err result) (S.source_faults source.old)
+            (S.source_faults source.new) }
     {
         let mut chunk = [0u8; CHUNK];
         let n = source.read(&mut chunk)?;

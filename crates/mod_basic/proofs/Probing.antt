@@ -62,5 +62,6 @@ pub first_of : (whole : List (List ℕ)) (arg : List ℕ) → 1 ≤ length whole
 first_of [] arg some is = absurd (omega (arith, some))
 first_of (x ∷ xs) arg some is = let all : take (length (x ∷ xs) - 1) xs ≡ xs = take_all _ xs (omega arith) in rw (← is, all) refl
 
-pub said_on : (x y z : List Message) → (more : List Message) × (y ≡ x ++ more) → (more : List Message) × (z ≡ y ++ more) → (more : List Message) × (z ≡ x ++ more)
+pub said_on : (x y z : List Message) → (more : List Message) × (y ≡ x ++ more) → (more : List Message) × (z ≡ y ++ more)
+    → (more : List Message) × (z ≡ x ++ more)
 said_on x y z s t = (s.0 ++ t.0, t.1 ∙ ap (λ (l : List Message). l ++ t.0) s.1 ∙ append_assoc x _ _)

@@ -1,4 +1,5 @@
-//! The smallest modules: pam_permit, pam_deny, pam_debug and pam_rootok, and pam_probe, with which a stack is tried out.
+//! The smallest modules: pam_permit, pam_deny, pam_debug and pam_rootok, and pam_probe, with which
+//! a stack is tried out.
 #![tactic(auto)]
 
 mod debug;

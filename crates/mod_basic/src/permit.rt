@@ -56,7 +56,9 @@ impl Module for Permit {
 
 // A user who isn't set is nobody.
 fn set_nobody(items: &mut Items) -> Result<(), NoMemory>
-    ensures ok { OnOk result (items.new ≡ record items.old { user = option_or items.old.user (Some (codes "nobody")) }) }
+    ensures ok { OnOk result (items.new ≡ record items.old {
+      user = option_or items.old.user (Some (codes "nobody"));
+    }) }
     ensures err { OnErr result (items.new ≡ items.old) }
 {
     match get_item(items, ItemName::User) {

@@ -76,10 +76,12 @@ fn do_all(
 ) -> Result<(), Refuse<ConvErr>>
     ensures tells { conv_tells conv.new ≡ conv_tells conv.old }
     ensures told { IsTrue (conv_tells conv.old) →
-        ProbesAll result (probed_all args.now (probing false (seen_of (room_of (plain_transaction transaction.old) (conv_holds conv.old))) []))
+        ProbesAll result (probed_all args.now (probing false (seen_of (room_of
+        (plain_transaction transaction.old) (conv_holds conv.old))) []))
         (seen_of (room_of (plain_transaction transaction.new) (conv_holds conv.new)))
         transaction.old.serving transaction.old.datums ledger.old transaction.new.datums ledger.new }
-    ensures sets { Sets transaction.old.serving transaction.old.datums ledger.old transaction.new.datums ledger.new }
+    ensures sets { Sets transaction.old.serving transaction.old.datums ledger.old
+        transaction.new.datums ledger.new }
     ensures data_handle { transaction.new.datums.handle ≡ transaction.old.datums.handle }
     ensures delay { transaction.old.delay ≤ transaction.new.delay }
     ensures said { (more : List Message) × (transaction.new.said ≡ transaction.old.said ++ more) }
@@ -112,10 +114,14 @@ fn do_request(
 ) -> Result<(), Refuse<ConvErr>>
     ensures tells { conv_tells conv.new ≡ conv_tells conv.old }
     ensures told { IsTrue (conv_tells conv.old) →
-        Probes result (plain_request request.entry) (seen_of (room_of (plain_transaction transaction.old) (conv_holds conv.old)))
+        Probes result (plain_request request.entry) (seen_of (room_of
+        (plain_transaction transaction.old) (conv_holds conv.old)))
         (seen_of (room_of (plain_transaction transaction.new) (conv_holds conv.new))) }
-    ensures sets { OnOk result (HasSet transaction.old.serving (births_in (plain_request request.entry)) transaction.old.datums ledger.old transaction.new.datums ledger.new) }
-    ensures none_set { OnErr result ((transaction.new.datums ≡ transaction.old.datums) × (ledger.new ≡ ledger.old)) }
+    ensures sets { OnOk result (HasSet transaction.old.serving (births_in
+        (plain_request request.entry)) transaction.old.datums ledger.old transaction.new.datums
+        ledger.new) }
+    ensures none_set { OnErr result ((transaction.new.datums ≡ transaction.old.datums) × (ledger.new
+        ≡ ledger.old)) }
     ensures delay { transaction.old.delay ≤ transaction.new.delay }
     ensures said { (more : List Message) × (transaction.new.said ≡ transaction.old.said ++ more) }
     ensures others { transaction.new ≡ record transaction.old {

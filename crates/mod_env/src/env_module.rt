@@ -26,8 +26,9 @@ use std::alloc::Global;
 /// The most bytes of either file.
 const ENV_LIMIT: u32 = 65536;
 
-/// `pam_env(8)`: setcred and open_session set variables by `/etc/security/pam_env.conf`, or the file of `conffile=`, and
-/// then by `/etc/environment`, or the file of `envfile=`, unless `readenv=0` is given.
+/// `pam_env(8)`: setcred and open_session set variables by `/etc/security/pam_env.conf`, or the
+/// file of `conffile=`, and then by `/etc/environment`, or the file of `envfile=`, unless
+/// `readenv=0` is given.
 #[derive(Drop)]
 pub struct Env;
 

@@ -31,7 +31,8 @@ pub fn read_whole(
     Ok(content)
 }
 
-/// Sets the file with this name whole, by one call of the vault; whether it was. Where it wasn't, all files are as before.
+/// Sets the file with this name whole, by one call of the vault; whether it was. Where it wasn't,
+/// all files are as before.
 pub fn replace_whole(
     alloc: Global,
     vault: &mut dyn Vault,

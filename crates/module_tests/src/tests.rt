@@ -79,7 +79,11 @@ struct Outcome {
 
 // Memory of a process without data.
 fn process(alloc: Global) -> Process
-    ensures { plain_process result ≡ record { ledger = record { births = []; filed = [] }; root = []; caller = 0 } }
+    ensures { plain_process result ≡ record {
+      ledger = record { births = []; filed = [] };
+      root = [];
+      caller = 0;
+    } }
 {
     Process {
         ledger: Ledger::new(alloc),
@@ -98,8 +102,10 @@ fn serve_first(
 ) -> Result<Code, NoMemory>
     requires some { 0 < length mods.now }
     requires few { length mods.now < 2 ^ 32 }
-    requires ready { IsReady (length mods.now) (plain_transaction room.old.transaction) (plain_process world.old.process) }
-    ensures ready { IsReady (length mods.now) (plain_transaction room.new.transaction) (plain_process world.new.process) }
+    requires ready { IsReady (length mods.now) (plain_transaction room.old.transaction)
+        (plain_process world.old.process) }
+    ensures ready { IsReady (length mods.now) (plain_transaction room.new.transaction)
+        (plain_process world.new.process) }
 {
     room.transaction.trail.reserve(1)?;
     let line = StackLine {
@@ -110,7 +116,8 @@ fn serve_first(
     serve_line(alloc, mods, line, call, room, world)
 }
 
-// Has a module serve authenticate in a new transaction, at the moment 5 and over no files, and ends it with the status 5.
+// Has a module serve authenticate in a new transaction, at the moment 5 and over no files, and ends
+// it with the status 5.
 fn serve_once(alloc: Global, module: Box<dyn Module>) -> Result<Outcome, Fail> {
     let mut mods: Vec<Box<dyn Module>> = Vec::new(alloc);
     mods.push(module)?;

@@ -30,7 +30,8 @@ same n = grind (arith, nat_tests)
 abbrev pub parts_left : ℕ → Bool → List ℕ → List (List ℕ)
 parts_left separator ended rest = cond ended [] (parts_of separator rest)
 
-pub parts_of-first : (separator : ℕ) (part more : List ℕ) → has_byte separator part ≡ false → parts_of separator (part ++ separator ∷ more) ≡ part ∷ parts_of separator more
+pub parts_of-first : (separator : ℕ) (part more : List ℕ) → has_byte separator part ≡ false
+    → parts_of separator (part ++ separator ∷ more) ≡ part ∷ parts_of separator more
 unfolding parts_of
 parts_of-first separator part more e = slice_split_at (λ b. eqb b separator) part separator more (lacks separator part e) (same separator)
 

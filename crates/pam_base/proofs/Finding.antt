@@ -16,7 +16,8 @@ none_of byte (b ∷ bs) h =
     let first : eqb b byte ≡ false = h 0 (omega arith) in
     rw first (none_of byte bs (λ k lt. h (suc k) (omega arith)))
 
-first_at : (byte : ℕ) (text : List ℕ) (n : ℕ) → n < length text → eqb (get_or text n 0) byte ≡ true → ((k : ℕ) → k < n → eqb (get_or text k 0) byte ≡ false) → IsFirstPlace (Some n) byte text
+first_at : (byte : ℕ) (text : List ℕ) (n : ℕ) → n < length text → eqb (get_or text n 0) byte ≡ true
+    → ((k : ℕ) → k < n → eqb (get_or text k 0) byte ≡ false) → IsFirstPlace (Some n) byte text
 first_at byte [] n lt here before = absurd (omega arith)
 first_at byte (b ∷ bs) zero lt here before = (lt, refl, ap (λ (x : ℕ). x ∷ bs) (eqb-true b byte here))
 first_at byte (b ∷ bs) (suc n) lt here before =

@@ -12,7 +12,8 @@ both : (a b : Bool) → (a && b) ≡ true → (a ≡ true) × (b ≡ true)
 both true b e = (refl, e)
 both false b e = absurd cc
 
-number_at : (first : ℕ) (list : List Code) (i : ℕ) (none : Code) → are_numbered_from first list ≡ true → i < length list → number_of (get_or list i none) ≡ first + i
+number_at : (first : ℕ) (list : List Code) (i : ℕ) (none : Code) → are_numbered_from first list ≡ true → i < length list
+    → number_of (get_or list i none) ≡ first + i
 unfolding are_numbered_from
 number_at first [] i none e lt = absurd (omega (arith, lt))
 number_at first (c ∷ cs) zero none e lt = eqb-true _ _ (both (eqb (number_of c) first) (are_numbered_from (suc first) cs) e).0 ∙ omega arith

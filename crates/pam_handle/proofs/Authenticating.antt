@@ -51,7 +51,8 @@ passed_on number p h code kept paused room world e =
     ∙ ap (λ (s : State). authenticated number p.paused p.code (record h { room = s.room; authenticated = p.kept; pending = pending_behind Authenticate None p.paused }) s.world) e.state_is
 
 -- behind a pass that has ended
-waited_behind : (number : Code → ℕ → ℕ) (code : Code) (h : PlainHandle) (w last : PlainWorld) (longest : ℕ) (waited : Option Wait) → longest ≡ h.room.transaction.delay
+waited_behind : (number : Code → ℕ → ℕ) (code : Code) (h : PlainHandle) (w last : PlainWorld) (longest : ℕ) (waited : Option Wait)
+    → longest ≡ h.room.transaction.delay
     → (waited ≡ waited_by code (asked_delay longest w.clock.word) (wait_of h.delay_on number code (asked_delay longest w.clock.word)) h.waited)
     × (last ≡ rested_by (wait_of h.delay_on number code (asked_delay longest w.clock.word)) w)
     → CallsAs (authenticated number None code h w) code (record (request_forgotten (tokens_cleared h)) { waited = waited }) last
@@ -63,7 +64,8 @@ waited_behind number code h w last longest waited l e = record {
 }
 
 -- behind a pass, put off or not
-authenticated_is : (number : Code → ℕ → ℕ) (paused : Option (List Code)) (code : Code) (h : PlainHandle) (kept : Option KeptAnswers) (room : PlainRoom) (world last : PlainWorld) (longest : ℕ) (waited : Option Wait) → longest ≡ room.transaction.delay
+authenticated_is : (number : Code → ℕ → ℕ) (paused : Option (List Code)) (code : Code) (h : PlainHandle) (kept : Option KeptAnswers) (room : PlainRoom) (world last : PlainWorld) (longest : ℕ) (waited : Option Wait)
+    → longest ≡ room.transaction.delay
     → WaitsBehind number (code_at_end paused (Ok code)) longest h.delay_on h.waited world waited last
     → CallsAs (authenticated number paused code (record h { room = room; authenticated = kept; pending = pending_behind Authenticate None paused }) world) code
     (record h { room = room_behind paused room; authenticated = kept; pending = pending_behind Authenticate None paused; waited = waited }) last
@@ -96,14 +98,16 @@ some_none : (p : Pending) → ◌≡◌ {A = Option Pending} (Some p) None → �
 some_none p e = (cc)
 
 -- a call that isn't pending any more has waited
-pub waited_at_end : (result : Result Code NoMemory) (paused : Option (List Code)) (room : PlainRoom) (h mid new : PlainHandle) → new ≡ record mid { room = room; pending = pending_behind Authenticate None paused }
+pub waited_at_end : (result : Result Code NoMemory) (paused : Option (List Code)) (room : PlainRoom) (h mid new : PlainHandle)
+    → new ≡ record mid { room = room; pending = pending_behind Authenticate None paused }
     → WaitsOnlyAtEnd (code_at_end paused result) h.delay_on h.waited mid.waited → IfOk result (λ code. new.pending ≡ None → Waits code h new)
 waited_at_end (Ok code) None room h mid new n w = subst (λ (x : PlainHandle). x.pending ≡ None → Waits code h x) (sym n) (λ _. w)
 waited_at_end (Ok code) (Some past) room h mid new n w = subst (λ (x : PlainHandle). x.pending ≡ None → Waits code h x) (sym n) (λ e. absurd (some_none _ e))
 waited_at_end (Err none) paused room h mid new n w = tt
 
 -- without memory nothing is rested behind a pass that left the nap as it was
-pub not_rested : {A : Type 0} (result : Result Code NoMemory) (paused : Option (List Code)) (code : Option Code) (x y z : A) → code ≡ code_at_end paused result → y ≡ x → IfNone code (z ≡ y) → OnErr result (z ≡ x)
+pub not_rested : {A : Type 0} (result : Result Code NoMemory) (paused : Option (List Code)) (code : Option Code) (x y z : A)
+    → code ≡ code_at_end paused result → y ≡ x → IfNone code (z ≡ y) → OnErr result (z ≡ x)
 not_rested (Ok value) paused code x y z is same rest = tt
 not_rested (Err none) None code x y z is same rest = let left : z ≡ y = rw is at rest in left ∙ same
 not_rested (Err none) (Some past) code x y z is same rest = let left : z ≡ y = rw is at rest in left ∙ same

@@ -60,7 +60,8 @@ followed_failed (Err none) None cells kind k e = ap kept_answers (e ∙ ap (λ (
 followed_failed (Err none) (Some kept) cells kind k e = ap kept_answers (e ∙ ap (λ (p : PassKind). kept_failed p (Some kept)) k)
 
 -- a pass that keeps its own answers leaves none without memory
-pub kept_nothing : (result : Result Code NoMemory) (kept cells : Answers) → OnErr result (cells ≡ kept_failed Keep kept) → OnErr result (kept_answers cells ≡ None)
+pub kept_nothing : (result : Result Code NoMemory) (kept cells : Answers) → OnErr result (cells ≡ kept_failed Keep kept)
+    → OnErr result (kept_answers cells ≡ None)
 kept_nothing (Ok code) kept cells e = tt
 kept_nothing (Err none) kept cells e = ap kept_answers e
 

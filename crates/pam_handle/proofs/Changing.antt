@@ -25,7 +25,8 @@ use Rattle.pam_handle.specs.Call.{Called, CallsAs, begun_or_going_on, called, it
 use Rattle.pam_handle.specs.StackCalls.{behind_check, change_goes_on, changed, chauthtok, check, has_pass_flag, update}
 use Rattle.pam_handle.proofs.Calling.{runs}
 
-pub if_ok_from : (result : Result Code NoMemory) (a b : Called) (X : Code → Called) → a ≡ b → IfOk result (λ code. b ≡ X code) → IfOk result (λ code. a ≡ X code)
+pub if_ok_from : (result : Result Code NoMemory) (a b : Called) (X : Code → Called) → a ≡ b → IfOk result (λ code. b ≡ X code)
+    → IfOk result (λ code. a ≡ X code)
 if_ok_from (Ok code) a b X e x = e ∙ x
 if_ok_from (Err none) a b X e x = tt
 
@@ -65,7 +66,8 @@ checked players flags past h w stack before code kept paused room world r s e su
     success over
 
 -- behind a first pass that gave another code there is no second one
-behind_other : (players : List Player) (flags : ℕ) (code : Code) (paused : Option (List Code)) (kept : Option KeptAnswers) (h : PlainHandle) (w : PlainWorld) → (code ≡ Success → ⊥)
+behind_other : (players : List Player) (flags : ℕ) (code : Code) (paused : Option (List Code)) (kept : Option KeptAnswers) (h : PlainHandle) (w : PlainWorld)
+    → (code ≡ Success → ⊥)
     → behind_check players flags code paused kept h w ≡ changed paused code h w
 behind_other players flags Success paused kept h w other = absurd (other refl)
 behind_other players flags code paused kept h w other = refl
@@ -120,7 +122,8 @@ changed_is : (paused : Option (List Code)) (first : Option KeptAnswers) (code : 
 changed_is None first code h room world = record { code_is = refl; handle_is = refl; world_is = refl }
 changed_is (Some past) first code h room world = record { code_is = refl; handle_is = refl; world_is = refl }
 
-goes_change : (pending : Option Pending) (aborted : Called) (players : List Player) (flags : ℕ) (h : PlainHandle) (w : PlainWorld) → is_other_pending pending ChAuthTok ≡ false
+goes_change : (pending : Option Pending) (aborted : Called) (players : List Player) (flags : ℕ) (h : PlainHandle) (w : PlainWorld)
+    → is_other_pending pending ChAuthTok ≡ false
     → begun_or_going_on pending ChAuthTok aborted (check players flags [] (tokens_cleared h) w) (λ p. change_goes_on players flags p.past p.first h w)
     ≡ change_goes_on players flags (past_in pending) (first_in pending) (with_items (items_begun pending h.room.transaction.items) h) w
 goes_change None aborted players flags h w e = refl
@@ -166,7 +169,8 @@ service_begun None items = refl
 service_begun (Some p) items = refl
 
 -- what stands round passes changes nothing that has to stay
-sound_behind : (note : Notes) (modules : ℕ) (h : PlainHandle) (items : ItemTexts) (paused : Option (List Code)) (room : PlainRoom) (a b : PlainProcess) → items.service ≡ h.room.transaction.items.service
+sound_behind : (note : Notes) (modules : ℕ) (h : PlainHandle) (items : ItemTexts) (paused : Option (List Code)) (room : PlainRoom) (a b : PlainProcess)
+    → items.service ≡ h.room.transaction.items.service
     → GoesSoundly note modules (record h.room.transaction { items = items }) room.transaction a b
     → GoesSoundly note modules (record h.room.transaction { delay = 0 }) (room_behind paused room).transaction a b
 sound_behind note modules h items None room a b e s = record {

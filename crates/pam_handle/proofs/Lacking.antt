@@ -44,7 +44,8 @@ pub module_is : (names : List (List ℕ)) (stack : Stack) (i : ℕ) → i < line
 module_is names stack i within = (lines_from names i (flat_lines 0 0 stack) (omega (arith, flat_length 0 0 stack, within))).1
 
 -- one line more
-pub one_line : (names : List (List ℕ)) (stack : Stack) (i : ℕ) (now next all : List (List ℕ)) → i < lines_in stack → next ≡ now ++ missing_of names (rule_at stack i)
+pub one_line : (names : List (List ℕ)) (stack : Stack) (i : ℕ) (now next all : List (List ℕ)) → i < lines_in stack
+    → next ≡ now ++ missing_of names (rule_at stack i)
     → now ++ missing_lines names (drop i (flat_lines 0 0 stack)) ≡ all → next ++ missing_lines names (drop (i + 1) (flat_lines 0 0 stack)) ≡ all
 one_line names stack i now next all within n e =
     ap (λ (x : List (List ℕ)). x ++ missing_lines names (drop (i + 1) (flat_lines 0 0 stack))) n
@@ -56,7 +57,8 @@ drop_all : (n : ℕ) (ls : List FlatLine) → n ≡ length ls → drop n ls ≡ 
 drop_all n [] e = rw e refl
 drop_all n (l ∷ ls) e = rw e (drop_all (length ls) ls refl)
 
-pub all_lines : (names : List (List ℕ)) (stack : Stack) (n : ℕ) (now all : List (List ℕ)) → n ≡ lines_in stack → now ++ missing_lines names (drop n (flat_lines 0 0 stack)) ≡ all → now ≡ all
+pub all_lines : (names : List (List ℕ)) (stack : Stack) (n : ℕ) (now all : List (List ℕ)) → n ≡ lines_in stack
+    → now ++ missing_lines names (drop n (flat_lines 0 0 stack)) ≡ all → now ≡ all
 all_lines names stack n now all e m =
     sym (append-nil now) ∙ ap (λ (ls : List FlatLine). now ++ missing_lines names ls) (sym (drop_all n (flat_lines 0 0 stack) (e ∙ sym (flat_length 0 0 stack)))) ∙ m
 
@@ -68,7 +70,8 @@ none_there None e = refl
 none_there (Some n) e = absurd (false_true (sym e))
 
 -- a line adds its module where it isn't silent and the module isn't there
-pub adds_name : (names : List (List ℕ)) (rule : Rule) (silent : Bool) (number : Option ℕ) (name : List ℕ) → silent ≡ rule.silent → silent ≡ false → number ≡ module_of names rule → is_some number ≡ false
+pub adds_name : (names : List (List ℕ)) (rule : Rule) (silent : Bool) (number : Option ℕ) (name : List ℕ) → silent ≡ rule.silent → silent ≡ false
+    → number ≡ module_of names rule → is_some number ≡ false
     → name ≡ name_of_module rule.path → name ∷ [] ≡ missing_of names rule
 adds_name names rule silent number name s f m n e =
     ap (λ (x : List ℕ). x ∷ []) e

@@ -34,7 +34,8 @@ kept_all : (cells : Answers) (visits : List Visit) → KeepsAll cells visits →
 kept_all None visits k = absurd (none_held k.0)
 kept_all (Some cells) visits k = ap Some (fun_ext k.1)
 
-kept_after : (kind : PassKind) (visits : List Visit) (old new : Answers) → KeepsAfter kind visits old new → kept_answers new ≡ kept_behind kind visits (kept_answers old)
+kept_after : (kind : PassKind) (visits : List Visit) (old new : Answers) → KeepsAfter kind visits old new
+    → kept_answers new ≡ kept_behind kind visits (kept_answers old)
 kept_after Keep visits old new k = kept_all new visits k
 kept_after Follow visits old new k = ap kept_answers k
 kept_after Loose visits old new k = ap kept_answers k
@@ -56,7 +57,8 @@ passes_to players func flags kind old new stack past s code paused state l = rec
 }
 
 -- the names of modules, as players
-pub names_of_players : {M : Type 0} (label : M → List ℕ) (plays : M → Plays) (note : M → Note) (mods : List M) → names_of (map (player_of label plays note) mods) ≡ map label mods
+pub names_of_players : {M : Type 0} (label : M → List ℕ) (plays : M → Plays) (note : M → Note) (mods : List M)
+    → names_of (map (player_of label plays note) mods) ≡ map label mods
 names_of_players label plays note [] = refl
 names_of_players label plays note (m ∷ mods) = ap (λ (names : List (List ℕ)). label m ∷ names) (names_of_players label plays note mods)
 
@@ -69,7 +71,8 @@ pass_told (Ok code) found players func flags kind old new stack past s paused st
     (subst (λ (ps : List Player). LeavesAs kind (pass_after kind (by_place old) (answers_by ps func flags) stack past s) old code new paused state) e l)
 pass_told (Err none) found players func flags kind old new stack past s paused state e l = tt
 
-pub names_given : {M : Type 0} (result : Result (List (List ℕ)) NoMemory) (label : M → List ℕ) (plays : M → Plays) (note : M → Note) (found mods : List M) → found ≡ mods
+pub names_given : {M : Type 0} (result : Result (List (List ℕ)) NoMemory) (label : M → List ℕ) (plays : M → Plays) (note : M → Note) (found mods : List M)
+    → found ≡ mods
     → IfOk result (λ names. names ≡ map label found) → IfOk result (λ names. names ≡ names_of (map (player_of label plays note) mods))
 names_given (Ok names) label plays note found mods e n = n ∙ ap (map label) e ∙ sym (names_of_players label plays note mods)
 names_given (Err none) label plays note found mods e n = tt

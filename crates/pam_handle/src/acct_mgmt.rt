@@ -20,7 +20,8 @@ use stack_walk::PassKind;
 use std::alloc::Global;
 
 impl Handle {
-    /// Asks whether the account is valid (`pam_acct_mgmt(3)`): a pass over the account stack, whose answers aren't kept.
+    /// Asks whether the account is valid (`pam_acct_mgmt(3)`): a pass over the account stack, whose
+    /// answers aren't kept.
     ///
     /// Without memory what was kept stays.
     pub fn acct_mgmt(

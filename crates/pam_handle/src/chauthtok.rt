@@ -28,9 +28,10 @@ use stack_walk::PassKind;
 use std::alloc::Global;
 
 impl Handle {
-    /// Changes the user's token (`pam_chauthtok(3)`): a pass over the password stack with PAM_PRELIM_CHECK, and only where
-    /// that gives SUCCESS one with PAM_UPDATE_AUTHTOK, which goes by the answers of the first. The tokens are cleared before
-    /// the first and behind the last. Flags that hold one of these two are answered SYSTEM_ERR, and nothing changes.
+    /// Changes the user's token (`pam_chauthtok(3)`): a pass over the password stack with
+    /// PAM_PRELIM_CHECK, and only where that gives SUCCESS one with PAM_UPDATE_AUTHTOK, which goes
+    /// by the answers of the first. The tokens are cleared before the first and behind the last.
+    /// Flags that hold one of these two are answered SYSTEM_ERR, and nothing changes.
     ///
     /// Without memory what authentications and openings kept stays, and the tokens are cleared.
     pub fn chauthtok(
@@ -158,7 +159,8 @@ fn change(
     }
 }
 
-// The first pass, in which modules look whether they can change the token, and only where it gives SUCCESS the second one.
+// The first pass, in which modules look whether they can change the token, and only where it gives
+// SUCCESS the second one.
 fn check(
     alloc: Global,
     gear: &Gear,

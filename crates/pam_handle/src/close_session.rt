@@ -19,8 +19,8 @@ use pam_room::{Room, RoomTold, World, WorldTold};
 use std::alloc::Global;
 
 impl Handle {
-    /// Closes a session (`pam_close_session(3)`): a pass over the session stack, which goes by the answers that the last
-    /// opening kept, where any are.
+    /// Closes a session (`pam_close_session(3)`): a pass over the session stack, which goes by the
+    /// answers that the last opening kept, where any are.
     ///
     /// Without memory what was kept stays.
     pub fn close_session(

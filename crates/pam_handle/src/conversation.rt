@@ -22,8 +22,8 @@ impl Handle {
         mem::replace(&mut self.room.conv, conv)
     }
 
-    /// Offers the conversation a reply of at most 512 bytes for a prompt to come, as `Conv::offer` does. Without memory a
-    /// conversation that tells holds what it held.
+    /// Offers the conversation a reply of at most 512 bytes for a prompt to come, as `Conv::offer`
+    /// does. Without memory a conversation that tells holds what it held.
     pub fn offer(&mut self, alloc: Global, text: &[u8]) -> Result<(), NoMemory>
         requires { length text.now ≤ MAX_TEXT }
         ensures tells { ⟦<Room as RoomTold>⟧.tells (room_in self.new)

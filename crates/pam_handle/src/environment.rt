@@ -11,9 +11,9 @@ use pam_room::{Room, RoomTold};
 use std::alloc::Global;
 
 impl Handle {
-    /// `pam_putenv(3)`: `NAME=VALUE` sets a variable, `NAME=` sets it to the empty text, and `NAME` alone deletes it.
-    /// BadItem exactly where the name is empty or an unset one is deleted. A deletion takes no memory. After a refusal and
-    /// without memory all is as it was.
+    /// `pam_putenv(3)`: `NAME=VALUE` sets a variable, `NAME=` sets it to the empty text, and `NAME`
+    /// alone deletes it. BadItem exactly where the name is empty or an unset one is deleted. A
+    /// deletion takes no memory. After a refusal and without memory all is as it was.
     pub fn putenv(&mut self, text: &[u8]) -> Result<(), Refuse<BadItem>>
         ensures tells { ⟦<Room as RoomTold>⟧.tells (room_in self.new)
             ≡ ⟦<Room as RoomTold>⟧.tells (room_in self.old) }

@@ -25,5 +25,6 @@ impl GearTold for Gear {
     ghost use Rattle.std.specs.Prelude.{map};
     ghost use Rattle.pam_room.specs.Module.{player_of};
 
-    ghost players = { λ g. map (player_of (λ b. (Module-box b).label b.value) (λ b. (Module-box b).plays b.value) (λ b. (Module-box b).note b.value)) g.mods.items };
+    ghost players = { λ g. map (player_of (λ b. (Module-box b).label b.value) (λ b.
+        (Module-box b).plays b.value) (λ b. (Module-box b).note b.value)) g.mods.items };
 }

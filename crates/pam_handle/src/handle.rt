@@ -7,12 +7,13 @@ use pam_room::Room;
 /// A transaction (`pam_start(3)`), from its start to its end. It holds module data, so it can't be dropped: `end` alone
 /// uses it up.
 ///
-/// Six calls run a stack: `authenticate`, `setcred`, `acct_mgmt`, `open_session`, `close_session` and `chauthtok`. Where a
-/// line puts such a call off it answers INCOMPLETE and is pending: called again it goes on at that line, with the flags of
-/// the new call, and what it does before a pass isn't done again. Where another call is pending it answers ABORT, and
-/// nothing changes. A call that has ended leaves nothing pending and no request for a delay. It takes memory unless it
-/// aborts; without memory too nothing is pending, no request is left, no datum waits for its cleanup, and what was told
-/// before stands in front.
+/// Six calls run a stack: `authenticate`, `setcred`, `acct_mgmt`, `open_session`, `close_session`
+/// and `chauthtok`. Where a line puts such a call off it answers INCOMPLETE and is pending: called
+/// again it goes on at that line, with the flags of the new call, and what it does before a pass
+/// isn't done again. Where another call is pending it answers ABORT, and nothing changes. A call
+/// that has ended leaves nothing pending and no request for a delay. It takes memory unless it
+/// aborts; without memory too nothing is pending, no request is left, no datum waits for its
+/// cleanup, and what was told before stands in front.
 pub struct Handle {
     pub(crate) room: Room,
     pub(crate) chains: Chains,

@@ -12,9 +12,10 @@ use pam_base::{BadItem, ItemName, Refuse};
 use pam_room::{Room, RoomTold};
 
 impl Handle {
-    /// `pam_set_item(3)`: a copy of the value, or with None the item is unset, which takes no memory. BadItem exactly for
-    /// SERVICE, which the start alone sets, for the tokens, which are the modules', and for CONV and FAIL_DELAY, which have
-    /// calls of their own. After a refusal and without memory all is as it was. A call that is pending stays so.
+    /// `pam_set_item(3)`: a copy of the value, or with None the item is unset, which takes no
+    /// memory. BadItem exactly for SERVICE, which the start alone sets, for the tokens, which are
+    /// the modules', and for CONV and FAIL_DELAY, which have calls of their own. After a refusal
+    /// and without memory all is as it was. A call that is pending stays so.
     pub fn set_item(&mut self, item: ItemName, value: Option<&[u8]>) -> Result<(), Refuse<BadItem>>
         ensures tells { ⟦<Room as RoomTold>⟧.tells (room_in self.new)
             ≡ ⟦<Room as RoomTold>⟧.tells (room_in self.old) }

@@ -1,6 +1,6 @@
-//! One transaction of an application (the Application Developers' Guide): its start, the six calls that run a stack, its
-//! items, environment, delays and conversation, and its end. A stack call may be put off, and goes on when it is called
-//! again.
+//! One transaction of an application (the Application Developers' Guide): its start, the six calls
+//! that run a stack, its items, environment, delays and conversation, and its end. A stack call may
+//! be put off, and goes on when it is called again.
 //!
 //! Begin at start.rt and authenticate.rt; pass.rt is one pass, pending.rt what stands round it where it is put off.
 #![tactic(auto)]

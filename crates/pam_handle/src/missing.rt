@@ -12,9 +12,10 @@ use pam_room::{Room, RoomTold};
 use std::alloc::Global;
 
 impl Handle {
-    /// The names of the modules that lines name and that the gear of the start didn't have, in the order of the stacks auth,
-    /// account, password and session, and in each in written order. A name stands as often as it is missing; a line that is
-    /// silent about its module (a `-` before its type, `pam.conf(5)`) adds none.
+    /// The names of the modules that lines name and that the gear of the start didn't have, in the
+    /// order of the stacks auth, account, password and session, and in each in written order. A
+    /// name stands as often as it is missing; a line that is silent about its module (a `-` before
+    /// its type, `pam.conf(5)`) adds none.
     pub fn missing(&self, alloc: Global) -> Result<Texts, NoMemory>
         ensures { IfOk result (λ names. names
             ≡ missing_from (plain_handle ⟦<Room as RoomTold>⟧.plain self.now).names

@@ -20,7 +20,8 @@ use stack_walk::PassKind;
 use std::alloc::Global;
 
 impl Handle {
-    /// Opens a session (`pam_open_session(3)`): a pass over the session stack, whose answers are kept for `close_session`.
+    /// Opens a session (`pam_open_session(3)`): a pass over the session stack, whose answers are
+    /// kept for `close_session`.
     ///
     /// Without memory no answers of an opening are kept.
     pub fn open_session(

@@ -19,8 +19,8 @@ use pam_room::{Room, RoomTold, World, WorldTold};
 use stack_walk::PassKind;
 use std::alloc::Global;
 
-/// One pass of a stack call over one of a transaction's stacks, with the answers that are kept for it, and where it was put
-/// off, behind those that it was given.
+/// One pass of a stack call over one of a transaction's stacks, with the answers that are kept for
+/// it, and where it was put off, behind those that it was given.
 pub(crate) fn pass(
     alloc: Global,
     gear: &Gear,

@@ -60,8 +60,9 @@ impl Handle {
     }
 }
 
-/// What the call that is pending goes on with: the answers that it was given, and for the second pass of a change of token
-/// those that the first one kept. Nothing of both where nothing is pending.
+/// What the call that is pending goes on with: the answers that it was given, and for the second
+/// pass of a change of token those that the first one kept. Nothing of both where nothing is
+/// pending.
 pub(crate) fn taken_up(pending: Option<PutOff>) -> (Paused, Kept)
     ensures past { past_of result.0 ≡ past_in (option_map pending_of pending) }
     ensures first { kept_answers result.1 ≡ first_in (option_map pending_of pending) }

@@ -20,8 +20,9 @@ use pam_room::{Room, RoomTold, World, WorldTold};
 use std::alloc::Global;
 
 impl Handle {
-    /// Sets, deletes or refreshes the user's credentials (`pam_setcred(3)`); the flags 0 stand for PAM_ESTABLISH_CRED. A
-    /// pass over the auth stack, which goes by the answers that the last authentication kept, where any are.
+    /// Sets, deletes or refreshes the user's credentials (`pam_setcred(3)`); the flags 0 stand for
+    /// PAM_ESTABLISH_CRED. A pass over the auth stack, which goes by the answers that the last
+    /// authentication kept, where any are.
     ///
     /// Without memory what was kept stays.
     pub fn setcred(

@@ -28,11 +28,12 @@ pub struct StartRefused {
 }
 
 impl Handle {
-    /// Starts a transaction (`pam_start(3)`) of this number: the stacks of the service are loaded, and laid flat for the
-    /// gear's modules. SERVICE, in lower case, and where it is known USER are set and nothing else; the delay function is off.
+    /// Starts a transaction (`pam_start(3)`) of this number: the stacks of the service are loaded,
+    /// and laid flat for the gear's modules. SERVICE, in lower case, and where it is known USER are
+    /// set and nothing else; the delay function is off.
     ///
-    /// It is refused exactly as `load` is, or without memory, and then gives the conversation back. Refused or not, of the
-    /// world only what the vault counts changes.
+    /// It is refused exactly as `load` is, or without memory, and then gives the conversation back.
+    /// Refused or not, of the world only what the vault counts changes.
     pub fn start(
         alloc: Global,
         gear: &Gear,

@@ -9,8 +9,8 @@ use pam_room::{Room, RoomTold, Visits};
 use std::alloc::Global;
 use std::mem;
 
-/// What a transaction has to tell: the messages that were handed to the conversation, the lines that were visited, both in
-/// order, and the last wait.
+/// What a transaction has to tell: the messages that were handed to the conversation, the lines
+/// that were visited, both in order, and the last wait.
 #[derive(Debug, Drop)]
 pub struct Told {
     pub said: Messages,

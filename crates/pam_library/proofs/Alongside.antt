@@ -70,7 +70,8 @@ module _ {State : Type 0} (R : State → State → Type 0) where
           | false ↦ more
         ]
 
-    pub walk_twins : (skip : ℕ) (stack : Stack) (at : ℕ) (entry opinion : Opinion) (s t : State) → R s t → WalkedTwins (walk kind serve skip stack at entry opinion s) (walk kind serve skip stack at entry opinion t)
+    pub walk_twins : (skip : ℕ) (stack : Stack) (at : ℕ) (entry opinion : Opinion) (s t : State) → R s t
+        → WalkedTwins (walk kind serve skip stack at entry opinion s) (walk kind serve skip stack at entry opinion t)
     walk_twins skip none at entry opinion s t r = record { rest = refl; state = r }
     walk_twins (suc skip) (line rule rest) at entry opinion s t r = walk_twins skip rest (at + 1) entry opinion s t r
     walk_twins (suc skip) (sub inner rest) at entry opinion s t r = walk_twins skip rest (at + lines_in inner) entry opinion s t r
@@ -99,7 +100,8 @@ module _ {State : Type 0} (R : State → State → Type 0) where
   AsksTwins answering = (rule : Rule) (at : ℕ) (s t : State) → R s t → ((answering rule at s).answer ≡ (answering rule at t).answer) × R (answering rule at s).state (answering rule at t).state
 
   module _ (kind : PassKind) (kept : KeptAnswers) (answering : Answering State) (asks : AsksTwins answering) where
-    now_twins : (at : ℕ) (visits : List Visit) (x y : Answered State) → x.answer ≡ y.answer → R x.state y.state → ServedTwins PassTwins (served_now kind kept at visits x) (served_now kind kept at visits y)
+    now_twins : (at : ℕ) (visits : List Visit) (x y : Answered State) → x.answer ≡ y.answer → R x.state y.state
+        → ServedTwins PassTwins (served_now kind kept at visits x) (served_now kind kept at visits y)
     now_twins at visits x y same r =
         subst (λ (c : Code). ServedTwins PassTwins (served_now kind kept at visits x) (served_now kind kept at visits (record y { answer = c }))) same
         (record { rest = refl; state = record { rest = refl; state = r } })
@@ -114,6 +116,7 @@ module _ {State : Type 0} (R : State → State → Type 0) where
         subst (λ (x : PassState State). ServedTwins PassTwins (serving kind kept answering rule at p) (serving kind kept answering rule at x)) r.rest
         (past_twins rule at p.past p.visits p.state q.state r.state)
 
-    pub pass_twins : (stack : Stack) (past : List Code) (s t : State) → R s t → WalkedTwins PassTwins (pass_after kind kept answering stack past s) (pass_after kind kept answering stack past t)
+    pub pass_twins : (stack : Stack) (past : List Code) (s t : State) → R s t
+        → WalkedTwins PassTwins (pass_after kind kept answering stack past s) (pass_after kind kept answering stack past t)
     pass_twins stack past s t r =
         walk_twins PassTwins kind (serving kind kept answering) serving_twins 0 stack 1 opening opening (pass_state past [] s) (pass_state past [] t) (record { rest = refl; state = r })

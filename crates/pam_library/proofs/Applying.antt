@@ -68,7 +68,8 @@ chosen : {A : Type 0} (b : Bool) (xs ys : List A) → b ≡ true → (if b then 
 chosen true xs ys e = refl
 chosen false xs ys e = absurd (cc)
 
-pub replaced : {A T E : Type 0} (xs rest ys : List A) (number : ℕ) (x y : A) (result : Result T E) → 0 < number → number ≤ length xs → x ≡ get_or xs (number - 1) x → rest ≡ remove xs (number - 1)
+pub replaced : {A T E : Type 0} (xs rest ys : List A) (number : ℕ) (x y : A) (result : Result T E) → 0 < number → number ≤ length xs
+    → x ≡ get_or xs (number - 1) x → rest ≡ remove xs (number - 1)
     → ys ≡ (if is_ok result then insert rest (number - 1) y else rest) → is_ok result ≡ true → IsReplaced xs ys number x y
 replaced xs rest ys number x y result some within read rest_is ys_is ok =
     let i : ℕ = number - 1 in
@@ -92,7 +93,8 @@ put_number : (slots : List PlainSlot) (number : ℕ) (slot : PlainSlot) → 0 < 
 put_number slots zero slot some = absurd (omega arith)
 put_number slots (suc i) slot some = let e : i ≡ suc i - 1 = omega arith in ap (λ (k : ℕ). slice_set slots k slot) e
 
-pub put : {A : Type 0} (f : A → PlainSlot) (xs ys : List A) (number : ℕ) (x y : A) → 0 < number → IsReplaced xs ys number x y → IsPut (map f xs) (map f ys) number (f x) (f y)
+pub put : {A : Type 0} (f : A → PlainSlot) (xs ys : List A) (number : ℕ) (x y : A) → 0 < number → IsReplaced xs ys number x y
+    → IsPut (map f xs) (map f ys) number (f x) (f y)
 put f xs ys number x y some r = record {
   there = at_number (map f xs) number some ∙ slice_get-map f xs (number - 1) ∙ ap (option_map f) r.there;
   next_is = ap (map f) r.ys_is ∙ set-map f xs (number - 1) y ∙ sym (put_number (map f xs) number (f y) some);
@@ -122,11 +124,13 @@ pub slots_length : {A : Type 0} (f : A → PlainSlot) (xs : List A) (number : �
 slots_length f xs number beyond = omega (arith, length_of f xs)
 
 module _ (players : List Player) (number_of : Code → ℕ → ℕ) (slots : List PlainSlot) (w : PlainWorld) (step : Step) where
-  found_as : (found : Option PlainSlot) → slot_at slots step.number ≡ found → stepped players number_of slots w step ≡ stepped_at players number_of slots w step.number step.call found
+  found_as : (found : Option PlainSlot) → slot_at slots step.number ≡ found
+      → stepped players number_of slots w step ≡ stepped_at players number_of slots w step.number step.call found
   unfolding stepped
   found_as found is = ap (stepped_at players number_of slots w step.number step.call) is
 
-  pub bad_number : (o : Outcome) → slot_at slots step.number ≡ None → IsOnly o (filed_in w) answers.BadNumber → StepsAs (stepped players number_of slots w step) (plain_outcome o) slots w
+  pub bad_number : (o : Outcome) → slot_at slots step.number ≡ None → IsOnly o (filed_in w) answers.BadNumber
+      → StepsAs (stepped players number_of slots w step) (plain_outcome o) slots w
   bad_number o none only =
       let e : stepped players number_of slots w step ≡ stepped_at players number_of slots w step.number step.call None = found_as None none in
       record {
@@ -197,7 +201,8 @@ module _ (players : List Player) (gives : (Code → ℕ → ℕ) → Type 0) (te
   new_there : slot_at next number ≡ Some new
   new_there = ap (λ (s : List PlainSlot). slot_at s number) is.next_is ∙ slot_at-with_slot_same slots number old new is.there
 
-  pub sound_after : SoundLaw → IsSound (names_of players) (length players) slots w.process.ledger → AreNumbered 0 v.process.ledger.births → IsSound (names_of players) (length players) next v.process.ledger
+  pub sound_after : SoundLaw → IsSound (names_of players) (length players) slots w.process.ledger → AreNumbered 0 v.process.ledger.births
+      → IsSound (names_of players) (length players) next v.process.ledger
   sound_after law sound numbered = subst (λ (s : List PlainSlot). IsSound (names_of players) (length players) s v.process.ledger) (sym is.next_is)
       (law (notes_of players) (names_of players) (length players) slots number old new call w.process.ledger v.process.ledger sound is.there goes.placed goes.spends numbered)
 

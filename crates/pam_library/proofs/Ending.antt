@@ -45,7 +45,8 @@ module _ {A : Type 0} (f : A → PlainSlot) where
       let h = found_of (i + 1) (f x) (map f (drop (i + 1) xs)) there in
       (h.0, e ∙ ap (first_open (i + 1)) (more_of xs i x within is) ∙ h.1)
 
-  pub finds_none : (xs : List A) (i : ℕ) (found : Option (ℕ × PlainHandle)) → length xs ≤ i → found ≡ first_open (i + 1) (map f (drop i xs)) → IsFirstOpen None found
+  pub finds_none : (xs : List A) (i : ℕ) (found : Option (ℕ × PlainHandle)) → length xs ≤ i → found ≡ first_open (i + 1) (map f (drop i xs))
+      → IsFirstOpen None found
   finds_none xs i found past e = e ∙ ap (λ (l : List A). first_open (i + 1) (map f l)) (drop_all i xs past)
 
 -- ---- the place that was found
@@ -82,17 +83,20 @@ none_open n (closed conv ∷ slots) e = (refl, none_open (n + 1) slots e)
 none_open n (opened h ∷ slots) e = absurd (cc)
 
 -- what was found, where something was
-pub found_at : (result : Option ℕ) (found : Option (ℕ × PlainHandle)) (place : ℕ) → IsFirstOpen result found → result ≡ Some place → (h : PlainHandle) × (found ≡ Some (place + 1, h))
+pub found_at : (result : Option ℕ) (found : Option (ℕ × PlainHandle)) (place : ℕ) → IsFirstOpen result found → result ≡ Some place
+    → (h : PlainHandle) × (found ≡ Some (place + 1, h))
 found_at result found place is e = subst (λ (r : Option ℕ). IsFirstOpen r found) e is
 
 pub found_none : (result : Option ℕ) (found : Option (ℕ × PlainHandle)) → IsFirstOpen result found → result ≡ None → found ≡ None
 found_none result found is e = subst (λ (r : Option ℕ). IsFirstOpen r found) e is
 
 -- what was found is what stands there
-pub found_as : (slot : PlainSlot) (found : Option (ℕ × PlainHandle)) (number : ℕ) (h k : PlainHandle) → slot ≡ opened h → slot ≡ opened k → found ≡ Some (number, h) → found ≡ Some (number, k)
+pub found_as : (slot : PlainSlot) (found : Option (ℕ × PlainHandle)) (number : ℕ) (h k : PlainHandle) → slot ≡ opened h → slot ≡ opened k
+    → found ≡ Some (number, h) → found ≡ Some (number, k)
 found_as slot found number h k is also e = let same : h ≡ k = cc in e ∙ ap (λ (j : PlainHandle). Some (number, j)) same
 
-pub put_as : (slots next : List PlainSlot) (number : ℕ) (old was new now : PlainSlot) → IsPut slots next number old new → old ≡ was → new ≡ now → IsPut slots next number was now
+pub put_as : (slots next : List PlainSlot) (number : ℕ) (old was new now : PlainSlot) → IsPut slots next number old new → old ≡ was → new ≡ now
+    → IsPut slots next number was now
 put_as slots next number old was new now is e f = record { there = is.there ∙ ap Some e; next_is = is.next_is ∙ ap (with_slot slots number) f }
 
 module _ {A : Type 0} (f : A → PlainSlot) (xs : List A) (place : ℕ) (h : PlainHandle) (found : first_open 1 (map f xs) ≡ Some (place + 1, h)) where
@@ -143,11 +147,13 @@ module _ (note : Notes) (status : ℕ) (slots : List PlainSlot) (w : PlainWorld)
   pub closes_none : (answer : Option ℕ) → answer ≡ None → first_open 1 slots ≡ None → ClosesAs (closed_one note status slots w) answer slots w slots w
   closes_none answer is e = subst (λ (c : Option ClosedOne). ClosesAs c answer slots w slots w) (sym (closed_by None e)) (is, refl, refl)
 
-  pub closes_one : (next : List PlainSlot) (number : ℕ) (h : PlainHandle) (v : PlainWorld) → first_open 1 slots ≡ Some (number, h) → next ≡ with_slot slots number (closed h.room.conv) → v ≡ world_after_end note status h w
+  pub closes_one : (next : List PlainSlot) (number : ℕ) (h : PlainHandle) (v : PlainWorld) → first_open 1 slots ≡ Some (number, h)
+      → next ≡ with_slot slots number (closed h.room.conv) → v ≡ world_after_end note status h w
       → ClosesAs (closed_one note status slots w) (Some number) slots w next v
   closes_one next number h v e next_is world = subst (λ (c : Option ClosedOne). ClosesAs c (Some number) slots w next v) (sym (closed_by (Some (number, h)) e)) (refl, next_is, world)
 
-pub some_is_open : (slots : List PlainSlot) (place : ℕ) (h : PlainHandle) (n : ℕ) → first_open 1 slots ≡ Some (place + 1, h) → IsNone (Some n) ↔ NoneIsOpen slots
+pub some_is_open : (slots : List PlainSlot) (place : ℕ) (h : PlainHandle) (n : ℕ) → first_open 1 slots ≡ Some (place + 1, h)
+    → IsNone (Some n) ↔ NoneIsOpen slots
 some_is_open slots place h n e = (λ (o : IsNone (Some n)). absurd (cc), λ (all : NoneIsOpen slots). absurd (not_none slots place h (open_place slots place h e) all))
 
 pub none_is_open : (slots : List PlainSlot) {X : Type 0} (o : Option X) → first_open 1 slots ≡ None → o ≡ None → IsNone o ↔ NoneIsOpen slots

@@ -72,7 +72,8 @@ module _ {State : Type 0} (K : State → Type 0) where
         either inside.stopped _ _ here (walk_keeps zero rest (at + lines_in inner) entry inside.opinion inside.state here)
 
   module _ (kind : PassKind) (kept : KeptAnswers) (answering : Answering State) (asks : (rule : Rule) (at : ℕ) (s : State) → K s → K (answering rule at s).state) where
-    by_past : (rule : Rule) (at : ℕ) (past : List Code) (visits : List Visit) (s : State) → K s → K (served_past kind kept answering rule at past visits s).state.state
+    by_past : (rule : Rule) (at : ℕ) (past : List Code) (visits : List Visit) (s : State) → K s
+        → K (served_past kind kept answering rule at past visits s).state.state
     by_past rule at [] visits s k = asks rule at s k
     by_past rule at (p ∷ past) visits s k = k
 
@@ -89,7 +90,8 @@ module _ (P : List File → Type 0) (players : List Player) (keep : (n : ℕ) (p
   abbrev pub K : State → Type 0
   K s = P s.world.vault.files
 
-  by_player : (o : Option Player) (number : ℕ) (call : PlainCall) (s : State) → ((p : Player) → o ≡ Some p → KeepsFiles P p) → K s → K (served_by players o number call s).state
+  by_player : (o : Option Player) (number : ℕ) (call : PlainCall) (s : State) → ((p : Player) → o ≡ Some p → KeepsFiles P p) → K s
+      → K (served_by players o number call s).state
   by_player None number call s all k = k
   by_player (Some p) number call s all k = all p refl call _ _ _ k
 
@@ -100,7 +102,8 @@ module _ (P : List File → Type 0) (players : List Player) (keep : (n : ℕ) (p
   asked : (func : Func) (flags : ℕ) (rule : Rule) (at : ℕ) (s : State) → K s → K (answers_by players func flags rule at s).state
   asked func flags rule at s k = by_number (module_of (names_of players) rule) (call_of func flags rule) s k
 
-  passed_keeps : (func : Func) (flags : ℕ) (kind : PassKind) (kept : Option KeptAnswers) (stack : Stack) (past : List Code) (s : State) → K s → K (passed players func flags kind kept stack past s).state
+  passed_keeps : (func : Func) (flags : ℕ) (kind : PassKind) (kept : Option KeptAnswers) (stack : Stack) (past : List Code) (s : State) → K s
+      → K (passed players func flags kind kept stack past s).state
   passed_keeps func flags kind kept stack past s k =
       walk_keeps (KeptWithin K) kind (serving kind (answers_held kept) (answers_by players func flags))
       (λ rule at p l. by_past K kind (answers_held kept) (answers_by players func flags) (asked func flags) rule at p.past p.visits p.state l)
@@ -111,7 +114,8 @@ module _ (P : List File → Type 0) (players : List Player) (keep : (n : ℕ) (p
   abbrev pub Kept : Called → Type 0
   Kept c = P c.world.vault.files
 
-  begun : (pending : Option Pending) (func : Func) (a b : Called) (f : Pending → Called) → Kept a → Kept b → ((p : Pending) → Kept (f p)) → Kept (begun_or_going_on pending func a b f)
+  begun : (pending : Option Pending) (func : Func) (a b : Called) (f : Pending → Called) → Kept a → Kept b → ((p : Pending) → Kept (f p))
+      → Kept (begun_or_going_on pending func a b f)
   begun None func a b f k l m = l
   begun (Some p) func a b f k l m = elim (same_func p.func func) as (λ (x : Bool). Kept (if x then f p else a)) [ true ↦ m p | false ↦ k ]
 
@@ -124,23 +128,27 @@ module _ (P : List File → Type 0) (players : List Player) (keep : (n : ℕ) (p
   changed_keeps None code h w k = k
 
   module _ (number : Code → ℕ → ℕ) where
-    authenticated_keeps : (paused : Option (List Code)) (code : Code) (h : PlainHandle) (w : PlainWorld) → P w.vault.files → Kept (authenticated number paused code h w)
+    authenticated_keeps : (paused : Option (List Code)) (code : Code) (h : PlainHandle) (w : PlainWorld) → P w.vault.files
+        → Kept (authenticated number paused code h w)
     authenticated_keeps (Some past) code h w k = k
     authenticated_keeps None code h w k = rested_keeps (wait_of h.delay_on number code (asked_delay h.room.transaction.delay w.clock.word)) w k
 
-    authentication_keeps : (flags : ℕ) (past : List Code) (h : PlainHandle) (w : PlainWorld) → P w.vault.files → Kept (authentication players number flags past h w)
+    authentication_keeps : (flags : ℕ) (past : List Code) (h : PlainHandle) (w : PlainWorld) → P w.vault.files
+        → Kept (authentication players number flags past h w)
     authentication_keeps flags past h w k =
         let p = passed players funcs.Authenticate flags kinds.Keep h.authenticated h.stacks.auth past (state_of h.room w) in
         authenticated_keeps p.paused p.code (record h { room = p.state.room; authenticated = p.kept; pending = pending_behind funcs.Authenticate None p.paused }) p.state.world
         (passed_keeps funcs.Authenticate flags kinds.Keep h.authenticated h.stacks.auth past (state_of h.room w) k)
 
-    update_keeps : (flags : ℕ) (first : Option KeptAnswers) (past : List Code) (h : PlainHandle) (w : PlainWorld) → P w.vault.files → Kept (update players flags first past h w)
+    update_keeps : (flags : ℕ) (first : Option KeptAnswers) (past : List Code) (h : PlainHandle) (w : PlainWorld) → P w.vault.files
+        → Kept (update players flags first past h w)
     update_keeps flags first past h w k =
         let p = passed players funcs.ChAuthTok (bit_or flags update_authtok) kinds.Follow first h.stacks.password past (state_of h.room w) in
         changed_keeps p.paused p.code (record h { room = p.state.room; pending = pending_behind funcs.ChAuthTok first p.paused }) p.state.world
         (passed_keeps funcs.ChAuthTok (bit_or flags update_authtok) kinds.Follow first h.stacks.password past (state_of h.room w) k)
 
-    behind_check_keeps : (flags : ℕ) (code : Code) (paused : Option (List Code)) (kept : Option KeptAnswers) (h : PlainHandle) (w : PlainWorld) → P w.vault.files → Kept (behind_check players flags code paused kept h w)
+    behind_check_keeps : (flags : ℕ) (code : Code) (paused : Option (List Code)) (kept : Option KeptAnswers) (h : PlainHandle) (w : PlainWorld)
+        → P w.vault.files → Kept (behind_check players flags code paused kept h w)
     behind_check_keeps flags codes.Success paused kept h w k = update_keeps flags kept [] h w k
     behind_check_keeps flags other paused kept h w k = changed_keeps paused other h w k
 
@@ -150,7 +158,8 @@ module _ (P : List File → Type 0) (players : List Player) (keep : (n : ℕ) (p
         behind_check_keeps flags p.code p.paused p.kept (record h { room = p.state.room; pending = pending_behind funcs.ChAuthTok None p.paused }) p.state.world
         (passed_keeps funcs.ChAuthTok (bit_or flags prelim_check) kinds.Keep None h.stacks.password past (state_of h.room w) k)
 
-    change_keeps : (flags : ℕ) (past : List Code) (first : Option KeptAnswers) (h : PlainHandle) (w : PlainWorld) → P w.vault.files → Kept (change_goes_on players flags past first h w)
+    change_keeps : (flags : ℕ) (past : List Code) (first : Option KeptAnswers) (h : PlainHandle) (w : PlainWorld) → P w.vault.files
+        → Kept (change_goes_on players flags past first h w)
     change_keeps flags past None h w k = check_keeps flags past h w k
     change_keeps flags past (Some first) h w k = update_keeps flags (Some first) past h w k
 
@@ -184,7 +193,8 @@ module _ (P : List File → Type 0) (players : List Player) (keep : (n : ℕ) (p
     step_either true x y k l = k
     step_either false x y k l = l
 
-    unless_keeps : (other : Option Func) (slot : PlainSlot) (w : PlainWorld) (s : SlotStepped) → P w.vault.files → KeptAt s → KeptAt (unless_pending other slot w s)
+    unless_keeps : (other : Option Func) (slot : PlainSlot) (w : PlainWorld) (s : SlotStepped) → P w.vault.files → KeptAt s
+        → KeptAt (unless_pending other slot w s)
     unless_keeps None slot w s k l = l
     unless_keeps (Some func) slot w s k l = k
 
@@ -209,11 +219,13 @@ module _ (P : List File → Type 0) (players : List Player) (keep : (n : ℕ) (p
     open_keeps h w (calls.DelayFn on) k = k
     open_keeps h w (calls.Reply text) k = k
 
-    load_keeps : (made : Stacks → PlainHandle) (r : Result Counts Stop) (stacks : Stacks) (w : PlainWorld) → P w.vault.files → P (started_by made r stacks w).world.vault.files
+    load_keeps : (made : Stacks → PlainHandle) (r : Result Counts Stop) (stacks : Stacks) (w : PlainWorld) → P w.vault.files
+        → P (started_by made r stacks w).world.vault.files
     load_keeps made (Ok counts) stacks w k = k
     load_keeps made (Err s) stacks w k = k
 
-    opened_keeps : (names : List (List ℕ)) (conv : ConvState) (filed : ℕ) (w : PlainWorld) (r : Result PlainHandle LoadFault) → P w.vault.files → KeptAt (opened_by names conv filed w r)
+    opened_keeps : (names : List (List ℕ)) (conv : ConvState) (filed : ℕ) (w : PlainWorld) (r : Result PlainHandle LoadFault) → P w.vault.files
+        → KeptAt (opened_by names conv filed w r)
     opened_keeps names conv filed w (Ok h) k = k
     opened_keeps names conv filed w (Err fault) k = k
 
@@ -228,7 +240,8 @@ module _ (P : List File → Type 0) (players : List Player) (keep : (n : ℕ) (p
     slot_keeps place (closed conv) w call k = closed_keeps place conv w call k
     slot_keeps place (opened h) w call k = open_keeps _ w call k
 
-    at_keeps : (slots : List PlainSlot) (w : PlainWorld) (place : ℕ) (call : AppCall) (o : Option PlainSlot) → P w.vault.files → P (stepped_at players number slots w place call o).world.vault.files
+    at_keeps : (slots : List PlainSlot) (w : PlainWorld) (place : ℕ) (call : AppCall) (o : Option PlainSlot) → P w.vault.files
+        → P (stepped_at players number slots w place call o).world.vault.files
     at_keeps slots w place call None k = k
     at_keeps slots w place call (Some slot) k = slot_keeps place slot w call k
 
@@ -238,18 +251,21 @@ module _ (P : List File → Type 0) (players : List Player) (keep : (n : ℕ) (p
 
 -- ---- one call of a module more
 
-pub one_more : (players : List Player) (before now : List File) (cs : List ModuleCall) (n : ℕ) (p : Player) (call : PlainCall) (room : SeenRoom) (held : List NamedData) (sight : Sight) → slice_get players n ≡ Some p → sight.files ≡ now
+pub one_more : (players : List Player) (before now : List File) (cs : List ModuleCall) (n : ℕ) (p : Player) (call : PlainCall) (room : SeenRoom) (held : List NamedData) (sight : Sight)
+    → slice_get players n ≡ Some p → sight.files ≡ now
     → GoesBy players before cs now → GoesBy players before (cs ++ record { number = n; call = call; room = room; held = held; sight = sight } ∷ []) (p.plays call room held sight).files
 one_more players before now [] n p call room held sight e at goes = (p, e, at ∙ goes, refl)
 one_more players before now (c ∷ cs) n p call room held sight e at goes = (goes.0, goes.1, goes.2, one_more players _ now cs n p call room held sight e at goes.3)
 
-pub goes_on : (players : List Player) (number : Code → ℕ → ℕ) (slots : List PlainSlot) (w : PlainWorld) (step : Step) → GoesOn players w.vault.files (stepped players number slots w step).world.vault.files
+pub goes_on : (players : List Player) (number : Code → ℕ → ℕ) (slots : List PlainSlot) (w : PlainWorld) (step : Step)
+    → GoesOn players w.vault.files (stepped players number slots w step).world.vault.files
 goes_on players number slots w step =
     step_keeps (GoesOn players w.vault.files) players
     (λ n p e call room held sight goes. (goes.0 ++ record { number = n; call = call; room = room; held = held; sight = sight } ∷ [], one_more players w.vault.files sight.files goes.0 n p call room held sight e refl goes.1))
     number slots w step ([], refl)
 
-appended : (players : List Player) (first middle last : List File) (cs ds : List ModuleCall) → GoesBy players first cs middle → GoesBy players middle ds last → GoesBy players first (cs ++ ds) last
+appended : (players : List Player) (first middle last : List File) (cs ds : List ModuleCall) → GoesBy players first cs middle
+    → GoesBy players middle ds last → GoesBy players first (cs ++ ds) last
 appended players first middle last [] ds g h = subst (λ (f : List File). GoesBy players f ds last) g h
 appended players first middle last (c ∷ cs) ds g h = (g.0, g.1, g.2, appended players _ middle last cs ds g.3 h)
 

@@ -45,7 +45,8 @@ pub births_without_ids : (id handle owner : ℕ) (ds : List NamedData) → map b
 births_without_ids id handle owner [] = refl
 births_without_ids id handle owner (d ∷ ds) = ap (λ (bs : List Birth). birth_of 0 handle owner d.name d.payload ∷ bs) (births_without_ids (id + 1) handle owner ds)
 
-pub set_without_ids : (l : PlainDataList) (id handle owner : ℕ) (ds : List NamedData) → data_without_ids (hold_all l (births_of id handle owner ds)) ≡ hold_all (data_without_ids l) (unnumbered handle owner ds)
+pub set_without_ids : (l : PlainDataList) (id handle owner : ℕ) (ds : List NamedData)
+    → data_without_ids (hold_all l (births_of id handle owner ds)) ≡ hold_all (data_without_ids l) (unnumbered handle owner ds)
 set_without_ids l id handle owner ds = all_held l (births_of id handle owner ds) ∙ ap (hold_all (data_without_ids l)) (births_without_ids id handle owner ds)
 
 pub named_without_ids : (ds : List PlainDatum) → named_data (map datum_without_id ds) ≡ named_data ds

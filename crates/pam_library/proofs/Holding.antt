@@ -6,16 +6,19 @@ use Rattle.std.proofs.lemmas.Option.{slice_get-map, slice_get-get_or, slice_get_
 use Rattle.pam_library.specs.Slots.{PlainSlot, slot_at, with_slot, is_open, is_open_at, NoneIsOpen}
 
 module _ {A : Type 0} (plain : A → PlainSlot) where
-  pub held_at : (slots : List A) (number : ℕ) (found : Option A) → 0 < number → slice_get slots (number - 1) ≡ found → slot_at (map plain slots) number ≡ option_map plain found
+  pub held_at : (slots : List A) (number : ℕ) (found : Option A) → 0 < number → slice_get slots (number - 1) ≡ found
+      → slot_at (map plain slots) number ≡ option_map plain found
   held_at slots zero found positive is = absurd (omega arith)
   held_at slots (suc i) found positive is =
       let e : suc i - 1 ≡ i = omega arith in
       slice_get-map plain slots i ∙ ap (option_map plain) (ap (slice_get slots) (sym e) ∙ is)
 
-  pub held_in : (slots : List A) (number : ℕ) (s : A) → 0 < number → number - 1 < length slots → s ≡ get_or slots (number - 1) s → slot_at (map plain slots) number ≡ Some (plain s)
+  pub held_in : (slots : List A) (number : ℕ) (s : A) → 0 < number → number - 1 < length slots → s ≡ get_or slots (number - 1) s
+      → slot_at (map plain slots) number ≡ Some (plain s)
   held_in slots number s positive below is = held_at slots number (Some s) positive (slice_get-get_or slots (number - 1) s below ∙ ap Some (sym is))
 
-  pub open_found : (slots : List A) (number : ℕ) (s : A) (result : Bool) → 0 < number → number - 1 < length slots → s ≡ get_or slots (number - 1) s → result ≡ is_open (plain s) → result ≡ is_open_at (slot_at (map plain slots) number)
+  pub open_found : (slots : List A) (number : ℕ) (s : A) (result : Bool) → 0 < number → number - 1 < length slots → s ≡ get_or slots (number - 1) s
+      → result ≡ is_open (plain s) → result ≡ is_open_at (slot_at (map plain slots) number)
   open_found slots number s result positive below is same = same ∙ sym (ap is_open_at (held_in slots number s positive below is))
 
   pub none_found : (slots : List A) (number : ℕ) → 0 < number → length slots ≤ number - 1 → false ≡ is_open_at (slot_at (map plain slots) number)
@@ -27,7 +30,8 @@ module _ {A : Type 0} (plain : A → PlainSlot) where
   map-slice_set (x ∷ slots) (suc i) s = ap (λ (t : List PlainSlot). plain x ∷ t) (map-slice_set slots i s)
 
   -- another is put into the place of a number
-  pub put_at : (slots : List A) (number : ℕ) (s : A) (now : PlainSlot) → 0 < number → plain s ≡ now → map plain (slice_set slots (number - 1) s) ≡ with_slot (map plain slots) number now
+  pub put_at : (slots : List A) (number : ℕ) (s : A) (now : PlainSlot) → 0 < number → plain s ≡ now
+      → map plain (slice_set slots (number - 1) s) ≡ with_slot (map plain slots) number now
   put_at slots zero s now positive is = absurd (omega arith)
   put_at slots (suc i) s now positive is =
       let e : suc i - 1 ≡ i = omega arith in
@@ -56,7 +60,8 @@ list_all-map : {A : Type 0} (test : A → Bool) (xs : List A) → list_all test 
 list_all-map test [] = refl
 list_all-map test (x ∷ xs) = ap (λ (b : Bool). test x && b) (list_all-map test xs)
 
-pub made_test : {A B : Type 0} (make : B → A) (test : A → Bool) (from : B → Bool) → ((b : B) → test (make b) ≡ from b) → (all left : List B) (made : List A) → left ≡ [] → made ++ map make left ≡ map make all → list_all test made ≡ list_all from all
+pub made_test : {A B : Type 0} (make : B → A) (test : A → Bool) (from : B → Bool) → ((b : B) → test (make b) ≡ from b)
+    → (all left : List B) (made : List A) → left ≡ [] → made ++ map make left ≡ map make all → list_all test made ≡ list_all from all
 made_test make test from same all left made none whole =
     list_all-map test made ∙ ap (list_all (λ (b : Bool). b)) (made_all make test from same all left made none whole) ∙ sym (list_all-map from all)
 
@@ -67,17 +72,20 @@ empty_of (x ∷ xs) none = absurd (omega arith)
 -- ---- another is put into a place
 
 module _ {A : Type 0} (plain : A → PlainSlot) where
-  was_held : (slots : List A) (number : ℕ) (was : A) (slot : PlainSlot) → 0 < number → number - 1 < length slots → was ≡ get_or slots (number - 1) was → slot_at (map plain slots) number ≡ Some slot → slot ≡ plain was
+  was_held : (slots : List A) (number : ℕ) (was : A) (slot : PlainSlot) → 0 < number → number - 1 < length slots → was ≡ get_or slots (number - 1) was
+      → slot_at (map plain slots) number ≡ Some slot → slot ≡ plain was
   was_held slots number was slot positive below is at =
       let e : Some slot ≡ Some (plain was) = sym at ∙ held_in plain slots number was positive below is in
       cc
 
-  pub put_slots : (slots : List A) (number : ℕ) (was s : A) (with_it : PlainSlot → PlainSlot) (slot : PlainSlot) → 0 < number → number - 1 < length slots → was ≡ get_or slots (number - 1) was
+  pub put_slots : (slots : List A) (number : ℕ) (was s : A) (with_it : PlainSlot → PlainSlot) (slot : PlainSlot) → 0 < number
+      → number - 1 < length slots → was ≡ get_or slots (number - 1) was
       → plain s ≡ with_it (plain was) → slot_at (map plain slots) number ≡ Some slot → map plain (slice_set slots (number - 1) s) ≡ with_slot (map plain slots) number (with_it slot)
   put_slots slots number was s with_it slot positive below is same at =
       put_at plain slots number s (with_it slot) positive (same ∙ ap with_it (sym (was_held slots number was slot positive below is at)))
 
-  pub put_old : {B : Type 0} (of : PlainSlot → B) (slots : List A) (number : ℕ) (was : A) (slot : PlainSlot) (b : B) → 0 < number → number - 1 < length slots → was ≡ get_or slots (number - 1) was
+  pub put_old : {B : Type 0} (of : PlainSlot → B) (slots : List A) (number : ℕ) (was : A) (slot : PlainSlot) (b : B) → 0 < number
+      → number - 1 < length slots → was ≡ get_or slots (number - 1) was
       → b ≡ of (plain was) → slot_at (map plain slots) number ≡ Some slot → b ≡ of slot
   put_old of slots number was slot b positive below is same at = same ∙ ap of (sym (was_held slots number was slot positive below is at))
 

@@ -31,10 +31,12 @@ still_at number births more (opened h) r = record {
 }
 
 module _ (n number : ℕ) (slots : List PlainSlot) (old new : PlainSlot) (start w : PlainWorld) where
-  in_order : slot_at slots number ≡ Some old → AreInOrder slots start.process.ledger → KeptIn n number start w → IsRecordedAt number w.process.ledger.births new → AreInOrder (with_slot slots number new) w.process.ledger
+  in_order : slot_at slots number ≡ Some old → AreInOrder slots start.process.ledger → KeptIn n number start w
+      → IsRecordedAt number w.process.ledger.births new → AreInOrder (with_slot slots number new) w.process.ledger
   in_order there order k here = record { filed = k.filed; each = each }
     where
-      other : (m : ℕ) (slot : PlainSlot) → nat_eq m number ≡ false → slot_at (with_slot slots number new) m ≡ Some slot → IsRecordedAt m w.process.ledger.births slot
+      other : (m : ℕ) (slot : PlainSlot) → nat_eq m number ≡ false → slot_at (with_slot slots number new) m ≡ Some slot
+          → IsRecordedAt m w.process.ledger.births slot
       other m slot differs is =
           let before : slot_at slots m ≡ Some slot = sym (slot_at-with_slot_other slots number m new (λ (same : m ≡ number). grind (arith, nat_tests))) ∙ is in
           subst (λ (births : List Birth). IsRecordedAt m births slot) (sym k.births) (still_at m start.process.ledger.births k.added slot (order.each m slot before))
@@ -60,7 +62,8 @@ nothing_left (f ∷ fs) = nothing_left fs
 none_cleaned : (ledger : PlainLedger) → cleaned_behind (length ledger.filed) ledger ≡ []
 none_cleaned ledger = ap (flat_map (cleaned_as ledger.births)) (nothing_left ledger.filed)
 
-kept_first : (n number : ℕ) (slots : List PlainSlot) (w : PlainWorld) → AreInOrder slots w.process.ledger → Rattle.pam_library.specs.Alike.NoCallFails w.vault → KeptIn n number w w
+kept_first : (n number : ℕ) (slots : List PlainSlot) (w : PlainWorld) → AreInOrder slots w.process.ledger
+    → Rattle.pam_library.specs.Alike.NoCallFails w.vault → KeptIn n number w w
 kept_first n number slots w order quiet = record {
   quiet = quiet;
   clock_is = refl;
@@ -134,7 +137,8 @@ module _ (players : List Player) (number_of : Code → ℕ → ℕ) where
 
   -- ---- on another number
 
-  other_at : (n number : ℕ) (call : AppCall) (slots others : List PlainSlot) (w v : PlainWorld) (a : Option PlainSlot) → nat_eq number n ≡ false → AreAlike n slots w others v → slot_at slots number ≡ a →
+  other_at : (n number : ℕ) (call : AppCall) (slots others : List PlainSlot) (w v : PlainWorld) (a : Option PlainSlot) → nat_eq number n ≡ false
+      → AreAlike n slots w others v → slot_at slots number ≡ a →
       (stepped_at players number_of slots w number call a).world.vault.files ≡ w.vault.files →
       AreAlike n (stepped_at players number_of slots w number call a).slots (stepped_at players number_of slots w number call a).world others v
   other_at n number call slots others w v None differs h there files = h
@@ -157,7 +161,8 @@ module _ (players : List Player) (number_of : Code → ℕ → ℕ) where
         second_quiet = h.second_quiet;
       }
 
-  pub other_call : (number : ℕ) (step : Step) (slots others : List PlainSlot) (w v : PlainWorld) → nat_eq step.number number ≡ false → AreAlike number slots w others v →
+  pub other_call : (number : ℕ) (step : Step) (slots others : List PlainSlot) (w v : PlainWorld) → nat_eq step.number number ≡ false
+      → AreAlike number slots w others v →
       (stepped players number_of slots w step).world.vault.files ≡ w.vault.files →
       AreAlike number (stepped players number_of slots w step).slots (stepped players number_of slots w step).world others v
   unfolding stepped

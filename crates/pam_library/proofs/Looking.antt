@@ -53,7 +53,8 @@ module _ (some others : List ℕ) where
     held_twins file opener (holds rules) = record { rest = refl; first = first; second = second }
 
   module _ (texts : List ℕ → Option (List ℕ)) where
-    behind_twins : (c : Counts) (k : ℕ) → QuietAt some c.calls → QuietAt others k → (i : Item) → LookTwins (behind texts some c i) (behind texts others (record c { calls = k }) i)
+    behind_twins : (c : Counts) (k : ℕ) → QuietAt some c.calls → QuietAt others k → (i : Item)
+        → LookTwins (behind texts some c i) (behind texts others (record c { calls = k }) i)
     behind_twins c k first second begin = record { rest = refl; first = first; second = second }
     behind_twins c k first second (opening file level opener) =
         let d : Counts = record c { calls = k } in
@@ -88,7 +89,8 @@ module _ (some others : List ℕ) where
           | false ↦ record { rest = refl; first = first; second = second }
         ]
 
-    going_twins : (a b : Result Counts Stop) (f g : Counts → Result Counts Stop) → LookTwins a b → ((c d : Counts) → CountsTwins c d → LookTwins (f c) (g d)) → LookTwins (going_on a f) (going_on b g)
+    going_twins : (a b : Result Counts Stop) (f g : Counts → Result Counts Stop) → LookTwins a b
+        → ((c d : Counts) → CountsTwins c d → LookTwins (f c) (g d)) → LookTwins (going_on a f) (going_on b g)
     going_twins (Ok c) (Ok d) f g t more = more c d t
     going_twins (Err s) (Err u) f g t more = t
     going_twins (Ok c) (Err s) f g t more = absurd t
@@ -107,7 +109,8 @@ module _ (some others : List ℕ) where
 quiet_at : (v : VaultState) → NoCallFails v → QuietAt v.fails v.calls
 quiet_at v quiet = quiet_with_files [] v quiet
 
-same_files : (v w : VaultState) (root service : List ℕ) → NoCallFails v → NoCallFails w → LookTwins v.fails w.fails (loaded v root service) (loaded (record w { files = v.files }) root service)
+same_files : (v w : VaultState) (root service : List ℕ) → NoCallFails v → NoCallFails w
+    → LookTwins v.fails w.fails (loaded v root service) (loaded (record w { files = v.files }) root service)
 same_files v w root service first second =
     let w' : VaultState = record w { files = v.files } in
     let from : LookTwins v.fails w.fails (loaded_from (has_folder v root) v root service (next_count v.calls)) (loaded_from (has_folder v root) w' root service (next_count w.calls)) =
@@ -121,7 +124,8 @@ same_files v w root service first second =
     (loaded_from (has_folder v root) v root service (next_count v.calls))
     (if b then failed w' else loaded_from (has_folder v root) w' root service (next_count w.calls))) (sym (quiet_now w second)) from)
 
-pub loaded_twins : (v w : VaultState) (root root' service : List ℕ) → v.files ≡ w.files → root ≡ root' → NoCallFails v → NoCallFails w → LookTwins v.fails w.fails (loaded v root service) (loaded w root' service)
+pub loaded_twins : (v w : VaultState) (root root' service : List ℕ) → v.files ≡ w.files → root ≡ root' → NoCallFails v → NoCallFails w
+    → LookTwins v.fails w.fails (loaded v root service) (loaded w root' service)
 loaded_twins v w root root' service files roots first second =
     subst (λ (fs : List File). LookTwins v.fails w.fails (loaded v root service) (loaded (record w { files = fs }) root' service)) files
     (subst (λ (r : List ℕ). LookTwins v.fails w.fails (loaded v root service) (loaded (record w { files = v.files }) r service)) roots

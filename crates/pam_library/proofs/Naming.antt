@@ -3,7 +3,9 @@ use Rattle.std.proofs.Common.{◌≡◌, ℕ, zero, suc, ◌<◌, List, [], ◌�
 use Rattle.pam_room.specs.Module.{Plays, Note, player_of}
 use Rattle.dispatch_core.specs.Lines.{names_of}
 
-pub name_at : {M : Type 0} (label : M → List ℕ) (plays : M → Plays) (note : M → Note) (mods : List M) (i : ℕ) (m : M) (name : List ℕ) → m ≡ get_or mods i m → i < length (map (player_of label plays note) mods) → name ≡ label m → slice_get (names_of (map (player_of label plays note) mods)) i ≡ Some name
+pub name_at : {M : Type 0} (label : M → List ℕ) (plays : M → Plays) (note : M → Note) (mods : List M) (i : ℕ) (m : M) (name : List ℕ)
+    → m ≡ get_or mods i m → i < length (map (player_of label plays note) mods) → name ≡ label m
+    → slice_get (names_of (map (player_of label plays note) mods)) i ≡ Some name
 name_at label plays note [] i m name is below same = absurd (omega arith)
 name_at label plays note (x ∷ xs) zero m name is below same = ap Some (ap label (sym is) ∙ sym same)
 name_at label plays note (x ∷ xs) (suc i) m name is below same = name_at label plays note xs i m name is (omega arith) same

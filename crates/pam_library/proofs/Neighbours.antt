@@ -12,7 +12,8 @@ use Rattle.pam_library.proofs.Placing.{slot_at-with_slot_same, slot_at-with_slot
 
 module _ (players : List Player) (number_of : Code → ℕ → ℕ) where
   -- a step by the place of its number
-  at_place : (slots : List PlainSlot) (m : Met) (found : Option PlainSlot) → slot_at slots m.step.number ≡ found → stepped players number_of slots m.world m.step ≡ stepped_at players number_of slots m.world m.step.number m.step.call found
+  at_place : (slots : List PlainSlot) (m : Met) (found : Option PlainSlot) → slot_at slots m.step.number ≡ found
+      → stepped players number_of slots m.world m.step ≡ stepped_at players number_of slots m.world m.step.number m.step.call found
   unfolding stepped
   at_place slots m found is = ap (stepped_at players number_of slots m.world m.step.number m.step.call) is
 
@@ -20,7 +21,8 @@ module _ (players : List Player) (number_of : Code → ℕ → ℕ) where
   of_place number slot m = (slot_step players number_of number slot m.world m.step.call).slot
 
   -- a step on this number
-  own_slot : (number : ℕ) (slots : List PlainSlot) (m : Met) (slot : PlainSlot) → m.step.number ≡ number → slot_at slots number ≡ Some slot → slot_at (stepped players number_of slots m.world m.step).slots number ≡ Some (of_place number slot m)
+  own_slot : (number : ℕ) (slots : List PlainSlot) (m : Met) (slot : PlainSlot) → m.step.number ≡ number → slot_at slots number ≡ Some slot
+      → slot_at (stepped players number_of slots m.world m.step).slots number ≡ Some (of_place number slot m)
   own_slot number slots m slot same is =
       let here : slot_at slots m.step.number ≡ Some slot = ap (slot_at slots) same ∙ is in
       let s : stepped players number_of slots m.world m.step ≡ stepped_at players number_of slots m.world m.step.number m.step.call (Some slot) = at_place slots m (Some slot) here in
@@ -29,17 +31,20 @@ module _ (players : List Player) (number_of : Code → ℕ → ℕ) where
       ∙ slot_at-with_slot_same slots m.step.number slot (of_place m.step.number slot m) here
       ∙ ap (λ (n : ℕ). Some (of_place n slot m)) same
 
-  own_outcome : (number : ℕ) (slots : List PlainSlot) (m : Met) (slot : PlainSlot) → m.step.number ≡ number → slot_at slots number ≡ Some slot → (stepped players number_of slots m.world m.step).outcome ≡ (slot_step players number_of number slot m.world m.step.call).outcome
+  own_outcome : (number : ℕ) (slots : List PlainSlot) (m : Met) (slot : PlainSlot) → m.step.number ≡ number → slot_at slots number ≡ Some slot
+      → (stepped players number_of slots m.world m.step).outcome ≡ (slot_step players number_of number slot m.world m.step.call).outcome
   own_outcome number slots m slot same is =
       ap (λ (t : Stepped). t.outcome) (at_place slots m (Some slot) (ap (slot_at slots) same ∙ is))
       ∙ ap (λ (n : ℕ). (slot_step players number_of n slot m.world m.step.call).outcome) same
 
-  other_place : (slots : List PlainSlot) (m : Met) (number : ℕ) (found : Option PlainSlot) → (number ≡ m.step.number → ⊥) → slot_at (stepped_at players number_of slots m.world m.step.number m.step.call found).slots number ≡ slot_at slots number
+  other_place : (slots : List PlainSlot) (m : Met) (number : ℕ) (found : Option PlainSlot) → (number ≡ m.step.number → ⊥)
+      → slot_at (stepped_at players number_of slots m.world m.step.number m.step.call found).slots number ≡ slot_at slots number
   other_place slots m number None differs = refl
   other_place slots m number (Some slot) differs = slot_at-with_slot_other slots m.step.number number (of_place m.step.number slot m) differs
 
   -- a step on another number
-  pub other_slot : (number : ℕ) (slots : List PlainSlot) (m : Met) → (number ≡ m.step.number → ⊥) → slot_at (stepped players number_of slots m.world m.step).slots number ≡ slot_at slots number
+  pub other_slot : (number : ℕ) (slots : List PlainSlot) (m : Met) → (number ≡ m.step.number → ⊥)
+      → slot_at (stepped players number_of slots m.world m.step).slots number ≡ slot_at slots number
   other_slot number slots m differs =
       ap (λ (t : Stepped). slot_at t.slots number) (at_place slots m (slot_at slots m.step.number) refl) ∙ other_place slots m number (slot_at slots m.step.number) differs
 

@@ -40,7 +40,8 @@ fails_told tells (calls.Reply text) h new f = record { rest = f.rest; told = f.t
 fails_told tells call h new f = f
 
 module _ (players : List Player) (gives : (Code → ℕ → ℕ) → Type 0) (tells world_tells : Bool) (call : AppCall) (h : PlainHandle) (w : PlainWorld) (result : Result Outcome NoMemory) (new : PlainSlot) (v : PlainWorld) where
-  from_told : (number : ℕ) → GoesInPlace players gives tells world_tells number call (opened (all_told h)) w result new v → GoesInPlace players gives tells world_tells number call (opened h) w result new v
+  from_told : (number : ℕ) → GoesInPlace players gives tells world_tells number call (opened (all_told h)) w result new v
+      → GoesInPlace players gives tells world_tells number call (opened h) w result new v
   from_told number goes = record {
     told = goes.told;
     alone = goes.alone;
@@ -97,11 +98,13 @@ never_refused h (calls.FailDelay micros) fault e = cc
 never_refused h (calls.DelayFn on) fault e = cc
 never_refused h (calls.Reply text) fault e = cc
 
-counts_nothing : (h : PlainHandle) (call : AppCall) (answer : Answer) (before now : ℕ) → AnswersBy (refusal (Some (opened h)) call) call answer → CountsRefusal answer before now
+counts_nothing : (h : PlainHandle) (call : AppCall) (answer : Answer) (before now : ℕ) → AnswersBy (refusal (Some (opened h)) call) call answer
+    → CountsRefusal answer before now
 counts_nothing h call (answers.Refused fault) before now e = absurd (never_refused h call fault e)
 counts_nothing h call answer before now e = tt
 
-faults_stay : {E : Type 0} (h : PlainHandle) (call : AppCall) (result : Result Outcome E) (before now : ℕ) → IfOk result (λ o. AnswersBy (refusal (Some (opened h)) call) call o.answer) → IfOk result (λ o. CountsRefusal o.answer before now)
+faults_stay : {E : Type 0} (h : PlainHandle) (call : AppCall) (result : Result Outcome E) (before now : ℕ)
+    → IfOk result (λ o. AnswersBy (refusal (Some (opened h)) call) call o.answer) → IfOk result (λ o. CountsRefusal o.answer before now)
 faults_stay h call (Ok o) before now e = counts_nothing h call o.answer before now e
 faults_stay h call (Err e) before now f = tt
 

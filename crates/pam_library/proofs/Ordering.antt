@@ -20,7 +20,8 @@ record Found (P : Birth → Type 0) (births : List Birth) (i id : ℕ) : Type 0 
   id_is : birth.id ≡ id
   holds : P birth
 
-found : (P : Birth → Type 0) (births : List Birth) (from i : ℕ) → AreNumbered from births → AllByRecursion P births → i < length births → Found P births i (from + i)
+found : (P : Birth → Type 0) (births : List Birth) (from i : ℕ) → AreNumbered from births → AllByRecursion P births → i < length births
+    → Found P births i (from + i)
 found P [] from i numbered all lt = absurd (omega arith)
 found P (b ∷ births) from zero numbered all lt = record { birth = b; there = refl; id_is = omega (arith, numbered.0); holds = all.0 }
 found P (b ∷ births) from (suc i) numbered all lt =
@@ -40,7 +41,8 @@ recorded modules number births d numbered known =
     let whole : f.birth ≡ birth_of d.id number d.owner d.name d.payload = λ i. birth_of (datum i).id (handle i) (datum i).owner (datum i).name (datum i).payload in
     f.there ∙ ap Some whole
 
-all_recorded : (modules number : ℕ) (births : List Birth) (ds : List PlainDatum) → AreNumbered 0 births → AllByRecursion (IsOfHandle modules number births) ds → AllByRecursion (IsRecorded number births) ds
+all_recorded : (modules number : ℕ) (births : List Birth) (ds : List PlainDatum) → AreNumbered 0 births
+    → AllByRecursion (IsOfHandle modules number births) ds → AllByRecursion (IsRecorded number births) ds
 all_recorded modules number births [] numbered known = tt
 all_recorded modules number births (d ∷ ds) numbered known = (recorded modules number births d numbered known.0, all_recorded modules number births ds numbered known.1)
 
@@ -50,7 +52,8 @@ each_born : (births : List Birth) → AllByRecursion (λ (b : Birth). Unit {0}) 
 each_born [] = tt
 each_born (b ∷ births) = (tt, each_born births)
 
-of_births : (births : List Birth) (fs : List Filed) → AreNumbered 0 births → AllByRecursion (λ (f : Filed). f.receipt.id < f.mark) fs → AllByRecursion (λ (f : Filed). f.mark ≤ length births) fs → AllByRecursion (IsOfBirth births) fs
+of_births : (births : List Birth) (fs : List Filed) → AreNumbered 0 births → AllByRecursion (λ (f : Filed). f.receipt.id < f.mark) fs
+    → AllByRecursion (λ (f : Filed). f.mark ≤ length births) fs → AllByRecursion (IsOfBirth births) fs
 of_births births [] numbered born marks = tt
 of_births births (f ∷ fs) numbered born marks =
     let below : f.receipt.id < length births = omega (arith, born.0, marks.0) in
@@ -60,7 +63,8 @@ of_births births (f ∷ fs) numbered born marks =
 -- ---- all places
 
 module _ (names : List (List ℕ)) (modules : ℕ) (slots : List PlainSlot) (ledger : PlainLedger) where
-  at_place : (number : ℕ) (slot : PlainSlot) → slot_at slots number ≡ Some slot → IsSound names modules slots ledger → AreNumbered 0 ledger.births → IsRecordedAt number ledger.births slot
+  at_place : (number : ℕ) (slot : PlainSlot) → slot_at slots number ≡ Some slot → IsSound names modules slots ledger → AreNumbered 0 ledger.births
+      → IsRecordedAt number ledger.births slot
   at_place number (closed conv) there sound numbered = tt
   at_place number (opened h) there sound numbered =
       let list : lists_of slots number ≡ h.room.transaction.datums = ap (data_in number) there in

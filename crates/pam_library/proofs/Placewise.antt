@@ -59,10 +59,12 @@ module _ (n number : ℕ) (first second : PlainWorld) where
     pub first_kept : KeptIn n number first v
     pub second_kept : KeptIn n number second w
 
-  closed_twins : (conv : ConvState) (v w : PlainWorld) (answer : Answer) → WorldTwins v w → PlaceTwins (answered (closed conv) v answer) (answered (closed conv) w answer)
+  closed_twins : (conv : ConvState) (v w : PlainWorld) (answer : Answer) → WorldTwins v w
+      → PlaceTwins (answered (closed conv) v answer) (answered (closed conv) w answer)
   closed_twins conv v w answer t = record { slot = refl; told = refl; shown = t.shown; first_kept = t.first_kept; second_kept = t.second_kept; first_data = tt; second_data = tt }
 
-  opened_twins : (x : PlainHandle) (r : PlainRoom) (v w : PlainWorld) (a b : Answer) → a ≡ b → Both (state_of x.room v) (state_of r w) → PlaceTwins (answered (opened x) v a) (answered (opened (in_room r x)) w b)
+  opened_twins : (x : PlainHandle) (r : PlainRoom) (v w : PlainWorld) (a b : Answer) → a ≡ b → Both (state_of x.room v) (state_of r w)
+      → PlaceTwins (answered (opened x) v a) (answered (opened (in_room r x)) w b)
   opened_twins x r v w a b same t =
       let room : room_without_ids x.room ≡ room_without_ids r = t.room in
       record {
@@ -76,7 +78,8 @@ module _ (n number : ℕ) (first second : PlainWorld) where
       }
 
   -- the room alone is changed
-  changed_room : (u : PlainRoom → PlainRoom) → Touches n number u → (x : PlainHandle) (r : PlainRoom) (v w : PlainWorld) (a : Answer) → Both (state_of x.room v) (state_of r w) →
+  changed_room : (u : PlainRoom → PlainRoom) → Touches n number u → (x : PlainHandle) (r : PlainRoom) (v w : PlainWorld) (a : Answer)
+      → Both (state_of x.room v) (state_of r w) →
       PlaceTwins (answered (opened (in_room (u x.room) x)) v a) (answered (opened (in_room (u r) x)) w a)
   changed_room u touches x r v w a t = opened_twins (in_room (u x.room) x) (u r) v w a a refl (touched n number u touches first second (state_of x.room v) (state_of r w) t)
 
@@ -88,7 +91,8 @@ module _ (n number : ℕ) (first second : PlainWorld) where
       receipts_filed n number note status (length v.process.ledger.births) v.process.ledger.births v.process.ledger.filed (reverse x.room.transaction.datums.live)
       (turned_recorded number v.process.ledger.births x.room.transaction.datums.live d.live)
 
-  kept_at_end : (note : Notes) (status : ℕ) (start : PlainWorld) (x : PlainHandle) (v : PlainWorld) → KeptIn n number start v → RecordedIn n number x.room v → KeptIn n number start (world_after_end note status x v)
+  kept_at_end : (note : Notes) (status : ℕ) (start : PlainWorld) (x : PlainHandle) (v : PlainWorld) → KeptIn n number start v
+      → RecordedIn n number x.room v → KeptIn n number start (world_after_end note status x v)
   kept_at_end note status start x v k d = record {
     quiet = k.quiet;
     clock_is = k.clock_is;
@@ -124,7 +128,8 @@ module _ (n number : ℕ) (first second : PlainWorld) where
       ∙ cleanings_without_ids n number note status (reverse r.transaction.datums.live) in
       cleaned note status first x v t.first_kept t.first_data ∙ (λ i. receipts i ++ same i) ∙ sym (cleaned note status second (in_room r x) w t.second_kept t.second_data)
 
-  ended_twins : (note : Notes) (status : ℕ) (x : PlainHandle) (r : PlainRoom) (v w : PlainWorld) → Both (state_of x.room v) (state_of r w) → PlaceTwins (ended note status x v) (ended note status (in_room r x) w)
+  ended_twins : (note : Notes) (status : ℕ) (x : PlainHandle) (r : PlainRoom) (v w : PlainWorld) → Both (state_of x.room v) (state_of r w)
+      → PlaceTwins (ended note status x v) (ended note status (in_room r x) w)
   ended_twins note status x r v w t =
       let receipts : receipts_on n (world_after_end note status x v).process.ledger ≡ receipts_on n (world_after_end note status (in_room r x) w).process.ledger = shown_at_end note status x r v w t in
       record {
@@ -145,7 +150,8 @@ module _ (n number : ℕ) (first second : PlainWorld) where
   told_room_touches : Touches n number told_room
   told_room_touches = record { same = λ r. refl; datums = λ r. refl; handle = λ r. refl }
 
-  handed_out : (before after : ℕ) (c d : Called) → CalledTwins n number first second c d → PlaceTwins (told_by before (answers.Code c.code) c) (told_by after (answers.Code d.code) d)
+  handed_out : (before after : ℕ) (c d : Called) → CalledTwins n number first second c d
+      → PlaceTwins (told_by before (answers.Code c.code) c) (told_by after (answers.Code d.code) d)
   handed_out before after c d t =
       let r : PlainRoom = d.handle.room in
       let e : Called = called c.code (in_room r c.handle) d.world in
@@ -171,7 +177,8 @@ module _ (n number : ℕ) (first second : PlainWorld) where
   -- ---- a call on an open place
 
   module _ (players : List Player) (delay : Code → ℕ → ℕ) (x : PlainHandle) (r : PlainRoom) (v w : PlainWorld) (t : Twins n number first second (state_of x.room v) (state_of r w)) where
-    unless_twins : (found : Option Func) (a b : SlotStepped) → PlaceTwins a b → PlaceTwins (unless_pending found (opened x) v a) (unless_pending found (opened (in_room r x)) w b)
+    unless_twins : (found : Option Func) (a b : SlotStepped) → PlaceTwins a b
+        → PlaceTwins (unless_pending found (opened x) v a) (unless_pending found (opened (in_room r x)) w b)
     unless_twins None a b both = both
     unless_twins (Some func) a b both = opened_twins x r v w (answers.Pending func) (answers.Pending func) refl t
 
@@ -244,7 +251,8 @@ module _ (n number : ℕ) (first second : PlainWorld) where
     abbrev start_as : Result Counts Stop → Stacks → PlainWorld → SlotStepped
     start_as found stacks u = let s = started_by begun found stacks u in opened_by (names_of players) conv (filed_in u) s.world s.answer
 
-    called_so_often : (start : PlainWorld) (u : PlainWorld) (calls : ℕ) → KeptIn n number start u → Rattle.pam_library.proofs.Looking.QuietAt u.vault.fails calls → Kept n number start (record u.vault { calls = calls }) u.clock u.process
+    called_so_often : (start : PlainWorld) (u : PlainWorld) (calls : ℕ) → KeptIn n number start u
+        → Rattle.pam_library.proofs.Looking.QuietAt u.vault.fails calls → Kept n number start (record u.vault { calls = calls }) u.clock u.process
     called_so_often start u calls k quiet = record {
       quiet = quiet_with_calls u.vault calls quiet;
       clock_is = k.clock_is;
@@ -260,7 +268,8 @@ module _ (n number : ℕ) (first second : PlainWorld) where
       other_receipts = k.other_receipts;
     }
 
-    start_by : (a b : Result Counts Stop) (stacks others : Stacks) → stacks ≡ others → LookTwins v.vault.fails w.vault.fails a b → PlaceTwins (start_as a stacks v) (start_as b others w)
+    start_by : (a b : Result Counts Stop) (stacks others : Stacks) → stacks ≡ others → LookTwins v.vault.fails w.vault.fails a b
+        → PlaceTwins (start_as a stacks v) (start_as b others w)
     start_by (Ok c) (Ok d) stacks others same twins = record {
       slot = λ i. opened (begun (same i));
       told = λ i. record (answers_only 0 (answers.Code codes.Success)) { missing = missing_from (names_of players) (same i) };
@@ -282,7 +291,8 @@ module _ (n number : ℕ) (first second : PlainWorld) where
     start_by (Ok c) (Err s) stacks others same twins = absurd twins
     start_by (Err s) (Ok c) stacks others same twins = absurd twins
 
-    start_twins : (delay : Code → ℕ → ℕ) → PlaceTwins (closed_step players delay number conv v (calls.Start service user)) (closed_step players delay number conv w (calls.Start service user))
+    start_twins : (delay : Code → ℕ → ℕ)
+        → PlaceTwins (closed_step players delay number conv v (calls.Start service user)) (closed_step players delay number conv w (calls.Start service user))
     start_twins delay =
         start_by (loaded v.vault v.process.root service) (loaded w.vault w.process.root service) (stacks_under v.vault v.process.root service) (stacks_under w.vault w.process.root service)
         (λ i. stacks_under (record { files = (t.shown i).files; calls = 0; fails = [] }) (t.shown i).root service)
@@ -291,7 +301,8 @@ module _ (n number : ℕ) (first second : PlainWorld) where
   -- ---- a call on a place
 
   module _ (players : List Player) (delay : Code → ℕ → ℕ) where
-    closed_step_twins : (conv : ConvState) (v w : PlainWorld) → WorldTwins v w → (call : AppCall) → PlaceTwins (closed_step players delay number conv v call) (closed_step players delay number conv w call)
+    closed_step_twins : (conv : ConvState) (v w : PlainWorld) → WorldTwins v w → (call : AppCall)
+        → PlaceTwins (closed_step players delay number conv v call) (closed_step players delay number conv w call)
     closed_step_twins conv v w t (calls.Start service user) = start_twins players conv v w t service user delay
     closed_step_twins conv v w t (calls.Reply text) = closed_twins (offered text conv) v w answers.Nothing t
     closed_step_twins conv v w t call = closed_twins conv v w answers.NotOpen t
@@ -331,15 +342,18 @@ module _ (n number : ℕ) (first second : PlainWorld) where
 
 -- ---- what was filed before a call is counted first
 
-opened_from : (names : List (List ℕ)) (conv : ConvState) (filed : ℕ) (w : PlainWorld) (r : Result PlainHandle LoadFault) → (opened_by names conv filed w r).outcome.filed_from ≡ filed
+opened_from : (names : List (List ℕ)) (conv : ConvState) (filed : ℕ) (w : PlainWorld) (r : Result PlainHandle LoadFault)
+    → (opened_by names conv filed w r).outcome.filed_from ≡ filed
 opened_from names conv filed w (Ok h) = refl
 opened_from names conv filed w (Err fault) = refl
 
-unless_from : (found : Option Func) (h : PlainHandle) (w : PlainWorld) (s : SlotStepped) → s.outcome.filed_from ≡ filed_in w → (unless_pending found (opened h) w s).outcome.filed_from ≡ filed_in w
+unless_from : (found : Option Func) (h : PlainHandle) (w : PlainWorld) (s : SlotStepped) → s.outcome.filed_from ≡ filed_in w
+    → (unless_pending found (opened h) w s).outcome.filed_from ≡ filed_in w
 unless_from None h w s is = is
 unless_from (Some func) h w s is = refl
 
-either_from : (b : Bool) (w : PlainWorld) (s u : SlotStepped) → s.outcome.filed_from ≡ filed_in w → u.outcome.filed_from ≡ filed_in w → (if b then s else u).outcome.filed_from ≡ filed_in w
+either_from : (b : Bool) (w : PlainWorld) (s u : SlotStepped) → s.outcome.filed_from ≡ filed_in w → u.outcome.filed_from ≡ filed_in w
+    → (if b then s else u).outcome.filed_from ≡ filed_in w
 either_from true w s u is other = is
 either_from false w s u is other = other
 
@@ -370,6 +384,7 @@ module _ (players : List Player) (delay : Code → ℕ → ℕ) where
       opened_from (names_of players) conv (filed_in w) (started place service user conv (names_of players) w).world (started place service user conv (names_of players) w).answer
   closed_from place conv w call = refl
 
-  pub filed_from_is : (place : ℕ) (slot : PlainSlot) (w : PlainWorld) (call : AppCall) → (slot_step players delay place slot w call).outcome.filed_from ≡ filed_in w
+  pub filed_from_is : (place : ℕ) (slot : PlainSlot) (w : PlainWorld) (call : AppCall)
+      → (slot_step players delay place slot w call).outcome.filed_from ≡ filed_in w
   filed_from_is place (closed conv) w call = closed_from place conv w call
   filed_from_is place (opened h) w call = open_from (all_told h) w call

@@ -19,11 +19,13 @@ length-slice_set [] i new = refl
 length-slice_set (x ∷ xs) zero new = refl
 length-slice_set (x ∷ xs) (suc i) new = ap suc (length-slice_set xs i new)
 
-pub slot_at-with_slot_same : (slots : List PlainSlot) (number : ℕ) (old new : PlainSlot) → slot_at slots number ≡ Some old → slot_at (with_slot slots number new) number ≡ Some new
+pub slot_at-with_slot_same : (slots : List PlainSlot) (number : ℕ) (old new : PlainSlot) → slot_at slots number ≡ Some old
+    → slot_at (with_slot slots number new) number ≡ Some new
 slot_at-with_slot_same slots zero old new is = cc
 slot_at-with_slot_same slots (suc i) old new is = get-set_same slots i old new is
 
-pub slot_at-with_slot_other : (slots : List PlainSlot) (number other : ℕ) (new : PlainSlot) → (other ≡ number → ⊥) → slot_at (with_slot slots number new) other ≡ slot_at slots other
+pub slot_at-with_slot_other : (slots : List PlainSlot) (number other : ℕ) (new : PlainSlot) → (other ≡ number → ⊥)
+    → slot_at (with_slot slots number new) other ≡ slot_at slots other
 slot_at-with_slot_other slots zero other new differs = refl
 slot_at-with_slot_other slots (suc i) zero new differs = refl
 slot_at-with_slot_other slots (suc i) (suc j) new differs = get-set_other slots i j new (λ e. differs (ap suc e))
@@ -40,8 +42,10 @@ slot_at-within (x ∷ slots) (suc zero) slot is = (omega arith, omega arith)
 slot_at-within (x ∷ slots) (suc (suc i)) slot is = let h = slot_at-within slots (suc i) slot is in (omega arith, omega arith)
 
 -- only the data of one place change
-pub lists-other : (slots : List PlainSlot) (number : ℕ) (new : PlainSlot) (other : ℕ) → (other ≡ number → ⊥) → lists_of (with_slot slots number new) other ≡ lists_of slots other
+pub lists-other : (slots : List PlainSlot) (number : ℕ) (new : PlainSlot) (other : ℕ) → (other ≡ number → ⊥)
+    → lists_of (with_slot slots number new) other ≡ lists_of slots other
 lists-other slots number new other differs = ap (data_in other) (slot_at-with_slot_other slots number other new differs)
 
-pub lists-same : (slots : List PlainSlot) (number : ℕ) (old new : PlainSlot) → slot_at slots number ≡ Some old → lists_of (with_slot slots number new) number ≡ data_in number (Some new)
+pub lists-same : (slots : List PlainSlot) (number : ℕ) (old new : PlainSlot) → slot_at slots number ≡ Some old
+    → lists_of (with_slot slots number new) number ≡ data_in number (Some new)
 lists-same slots number old new is = ap (data_in number) (slot_at-with_slot_same slots number old new is)

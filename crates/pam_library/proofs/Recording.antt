@@ -43,14 +43,16 @@ look_behind (x ∷ births) more b = look_behind births more b
 
 -- ---- births that are added
 
-pub still_recorded : (number : ℕ) (births more : List Birth) (ds : List PlainDatum) → AllByRecursion (IsRecorded number births) ds → AllByRecursion (IsRecorded number (births ++ more)) ds
+pub still_recorded : (number : ℕ) (births more : List Birth) (ds : List PlainDatum) → AllByRecursion (IsRecorded number births) ds
+    → AllByRecursion (IsRecorded number (births ++ more)) ds
 still_recorded number births more ds a = all_more (IsRecorded number births) (IsRecorded number (births ++ more)) (λ d is. look_further births more d.id (birth_of d.id number d.owner d.name d.payload) is) ds a
 
 pub still_of_births : (births more : List Birth) (fs : List Filed) → AllByRecursion (IsOfBirth births) fs → AllByRecursion (IsOfBirth (births ++ more)) fs
 still_of_births births more fs a = all_more (IsOfBirth births) (IsOfBirth (births ++ more)) (λ f is. (is.0, look_further births more f.receipt.id is.0 is.1)) fs a
 
 -- old receipts are found as before
-pub receipts_stay : (n : ℕ) (births more : List Birth) (fs : List Filed) → AllByRecursion (IsOfBirth births) fs → flat_map (own_filed n (births ++ more)) fs ≡ flat_map (own_filed n births) fs
+pub receipts_stay : (n : ℕ) (births more : List Birth) (fs : List Filed) → AllByRecursion (IsOfBirth births) fs
+    → flat_map (own_filed n (births ++ more)) fs ≡ flat_map (own_filed n births) fs
 receipts_stay n births more [] a = refl
 receipts_stay n births more (f ∷ fs) a =
     let head : own_filed n (births ++ more) f ≡ own_filed n births f =
@@ -95,7 +97,8 @@ all_named P (e ∷ ds) name a = elim (bytes_eq e.name name) as (λ (b : Bool). A
   | false ↦ all_named P ds name a.1
 ]
 
-all_held : (P : PlainDatum → Type 0) (l : PlainDataList) (bs : List Birth) → AllByRecursion P l.live → AllByRecursion P l.gone → AllByRecursion (λ (b : Birth). P (datum_of b)) bs →
+all_held : (P : PlainDatum → Type 0) (l : PlainDataList) (bs : List Birth) → AllByRecursion P l.live → AllByRecursion P l.gone
+    → AllByRecursion (λ (b : Birth). P (datum_of b)) bs →
     AllByRecursion P (hold_all l bs).live × AllByRecursion P (hold_all l bs).gone
 all_held P l [] live gone new = (live, gone)
 all_held P l (b ∷ bs) live gone new =
@@ -117,12 +120,14 @@ set_recorded number handle owner births l ds same live gone =
 abbrev pub cleanings : ℕ → ℕ → Notes → ℕ → List PlainDatum → List Cleaned
 cleanings n handle note status ds = flat_map (λ (d : PlainDatum). own_receipt n (Some (birth_of 0 handle d.owner d.name d.payload)) (record { id = 0; status = status; note = note d.owner d.payload status })) ds
 
-pub cleanings_without_ids : (n handle : ℕ) (note : Notes) (status : ℕ) (ds : List PlainDatum) → cleanings n handle note status (map datum_without_id ds) ≡ cleanings n handle note status ds
+pub cleanings_without_ids : (n handle : ℕ) (note : Notes) (status : ℕ) (ds : List PlainDatum)
+    → cleanings n handle note status (map datum_without_id ds) ≡ cleanings n handle note status ds
 cleanings_without_ids n handle note status [] = refl
 cleanings_without_ids n handle note status (d ∷ ds) =
     ap (λ (l : List Cleaned). own_receipt n (Some (birth_of 0 handle d.owner d.name d.payload)) (record { id = 0; status = status; note = note d.owner d.payload status }) ++ l) (cleanings_without_ids n handle note status ds)
 
-pub no_cleanings_of_another : (n handle : ℕ) (note : Notes) (status : ℕ) (ds : List PlainDatum) → nat_eq handle n ≡ false → cleanings n handle note status ds ≡ []
+pub no_cleanings_of_another : (n handle : ℕ) (note : Notes) (status : ℕ) (ds : List PlainDatum) → nat_eq handle n ≡ false
+    → cleanings n handle note status ds ≡ []
 no_cleanings_of_another n handle note status [] other = refl
 no_cleanings_of_another n handle note status (d ∷ ds) other =
     let c : Cleaned = record { birth = birth_of 0 handle d.owner d.name d.payload; status = status; note = note d.owner d.payload status } in
@@ -137,16 +142,19 @@ filed_now n handle note status mark births (d ∷ ds) a =
     let rest : flat_map (own_filed n births) (receipts_for note status mark ds) ≡ cleanings n handle note status ds = filed_now n handle note status mark births ds a.1 in
     λ i. head i ++ rest i
 
-pub receipts_filed : (n handle : ℕ) (note : Notes) (status mark : ℕ) (births : List Birth) (fs : List Filed) (ds : List PlainDatum) → AllByRecursion (IsRecorded handle births) ds →
+pub receipts_filed : (n handle : ℕ) (note : Notes) (status mark : ℕ) (births : List Birth) (fs : List Filed) (ds : List PlainDatum)
+    → AllByRecursion (IsRecorded handle births) ds →
     flat_map (own_filed n births) (fs ++ receipts_for note status mark ds) ≡ flat_map (own_filed n births) fs ++ cleanings n handle note status ds
 receipts_filed n handle note status mark births fs ds a =
     flat_map-append (own_filed n births) fs (receipts_for note status mark ds) ∙ ap (λ (l : List Cleaned). flat_map (own_filed n births) fs ++ l) (filed_now n handle note status mark births ds a)
 
-new_of_births : (handle : ℕ) (note : Notes) (status mark : ℕ) (births : List Birth) (ds : List PlainDatum) → AllByRecursion (IsRecorded handle births) ds → AllByRecursion (IsOfBirth births) (receipts_for note status mark ds)
+new_of_births : (handle : ℕ) (note : Notes) (status mark : ℕ) (births : List Birth) (ds : List PlainDatum)
+    → AllByRecursion (IsRecorded handle births) ds → AllByRecursion (IsOfBirth births) (receipts_for note status mark ds)
 new_of_births handle note status mark births [] a = tt
 new_of_births handle note status mark births (d ∷ ds) a = ((birth_of d.id handle d.owner d.name d.payload, a.0), new_of_births handle note status mark births ds a.1)
 
-pub filed_of_births : (handle : ℕ) (note : Notes) (status mark : ℕ) (births : List Birth) (fs : List Filed) (ds : List PlainDatum) → AllByRecursion (IsOfBirth births) fs → AllByRecursion (IsRecorded handle births) ds →
+pub filed_of_births : (handle : ℕ) (note : Notes) (status mark : ℕ) (births : List Birth) (fs : List Filed) (ds : List PlainDatum)
+    → AllByRecursion (IsOfBirth births) fs → AllByRecursion (IsRecorded handle births) ds →
     AllByRecursion (IsOfBirth births) (fs ++ receipts_for note status mark ds)
 filed_of_births handle note status mark births fs ds old a = all_appended (IsOfBirth births) fs (receipts_for note status mark ds) old (new_of_births handle note status mark births ds a)
 
@@ -154,18 +162,22 @@ filed_of_births handle note status mark births fs ds old a = all_appended (IsOfB
 abbrev pub IsOwnFiled : ℕ → List Birth → Filed → Type 0
 IsOwnFiled number births f = (b : Birth) × (slice_get births f.receipt.id ≡ Some b) × (b.handle ≡ number)
 
-new_own : (handle : ℕ) (note : Notes) (status mark : ℕ) (births : List Birth) (ds : List PlainDatum) → AllByRecursion (IsRecorded handle births) ds → AllByRecursion (IsOwnFiled handle births) (receipts_for note status mark ds)
+new_own : (handle : ℕ) (note : Notes) (status mark : ℕ) (births : List Birth) (ds : List PlainDatum) → AllByRecursion (IsRecorded handle births) ds
+    → AllByRecursion (IsOwnFiled handle births) (receipts_for note status mark ds)
 new_own handle note status mark births [] a = tt
 new_own handle note status mark births (d ∷ ds) a = ((birth_of d.id handle d.owner d.name d.payload, a.0, refl), new_own handle note status mark births ds a.1)
 
-pub still_own : (number : ℕ) (births more : List Birth) (fs : List Filed) → AllByRecursion (IsOwnFiled number births) fs → AllByRecursion (IsOwnFiled number (births ++ more)) fs
+pub still_own : (number : ℕ) (births more : List Birth) (fs : List Filed) → AllByRecursion (IsOwnFiled number births) fs
+    → AllByRecursion (IsOwnFiled number (births ++ more)) fs
 still_own number births more fs a = all_more (IsOwnFiled number births) (IsOwnFiled number (births ++ more)) (λ f is. (is.0, look_further births more f.receipt.id is.0 is.1, is.2)) fs a
 
-pub filed_own : (handle : ℕ) (note : Notes) (status mark : ℕ) (births : List Birth) (fs : List Filed) (ds : List PlainDatum) → AllByRecursion (IsOwnFiled handle births) fs → AllByRecursion (IsRecorded handle births) ds →
+pub filed_own : (handle : ℕ) (note : Notes) (status mark : ℕ) (births : List Birth) (fs : List Filed) (ds : List PlainDatum)
+    → AllByRecursion (IsOwnFiled handle births) fs → AllByRecursion (IsRecorded handle births) ds →
     AllByRecursion (IsOwnFiled handle births) (fs ++ receipts_for note status mark ds)
 filed_own handle note status mark births fs ds old a = all_appended (IsOwnFiled handle births) fs (receipts_for note status mark ds) old (new_own handle note status mark births ds a)
 
-own_as_cleaned : (n : ℕ) (births : List Birth) (fs : List Filed) → AllByRecursion (IsOwnFiled n births) fs → flat_map (own_filed n births) fs ≡ flat_map (cleaned_as births) fs
+own_as_cleaned : (n : ℕ) (births : List Birth) (fs : List Filed) → AllByRecursion (IsOwnFiled n births) fs
+    → flat_map (own_filed n births) fs ≡ flat_map (cleaned_as births) fs
 own_as_cleaned n births [] a = refl
 own_as_cleaned n births (f ∷ fs) a =
     let b : Birth = a.0.0 in
@@ -182,7 +194,8 @@ left_over [] ys = refl
 left_over (x ∷ xs) ys = left_over xs ys
 
 -- what a call filed, behind what was filed before, of births of its number
-pub cleaned_then : (n : ℕ) (before after : PlainLedger) (added : List Birth) (more : List Filed) → after.births ≡ before.births ++ added → after.filed ≡ before.filed ++ more →
+pub cleaned_then : (n : ℕ) (before after : PlainLedger) (added : List Birth) (more : List Filed) → after.births ≡ before.births ++ added
+    → after.filed ≡ before.filed ++ more →
     AllByRecursion (IsOfBirth before.births) before.filed → AllByRecursion (IsOwnFiled n after.births) more →
     receipts_on n after ≡ receipts_on n before ++ cleaned_behind (length before.filed) after
 cleaned_then n before after added more births filed old own =
@@ -195,7 +208,8 @@ cleaned_then n before after added more births filed old own =
     ∙ ap (λ (fs : List Filed). receipts_on n before ++ flat_map (cleaned_as after.births) fs) (sym behind)
 
 -- in the other order
-pub turned_recorded : (number : ℕ) (births : List Birth) (ds : List PlainDatum) → AllByRecursion (IsRecorded number births) ds → AllByRecursion (IsRecorded number births) (reverse ds)
+pub turned_recorded : (number : ℕ) (births : List Birth) (ds : List PlainDatum) → AllByRecursion (IsRecorded number births) ds
+    → AllByRecursion (IsRecorded number births) (reverse ds)
 turned_recorded number births ds a = all_turned (IsRecorded number births) ds a
 
 pub turned_without_ids : (ds : List PlainDatum) → map datum_without_id (reverse ds) ≡ reverse (map datum_without_id ds)

@@ -55,7 +55,8 @@ owned_of : (added : List Birth) (modules handle : ℕ) → AllByRecursion (IsOf 
 owned_of [] modules handle each = tt
 owned_of (b ∷ added) modules handle each = (each.0.owner_is, owned_of added modules handle each.1)
 
-owned-append : (births added : List Birth) (modules handle : ℕ) → AllByRecursion (λ (b : Birth). b.owner < modules) births → AllByRecursion (IsOf modules handle) added → AllByRecursion (λ (b : Birth). b.owner < modules) (births ++ added)
+owned-append : (births added : List Birth) (modules handle : ℕ) → AllByRecursion (λ (b : Birth). b.owner < modules) births
+    → AllByRecursion (IsOf modules handle) added → AllByRecursion (λ (b : Birth). b.owner < modules) (births ++ added)
 owned-append (b ∷ births) added modules handle owned each = (owned.0, owned-append births added modules handle owned.1 each)
 owned-append [] added modules handle owned each = owned_of added modules handle each
 
@@ -90,7 +91,8 @@ module _ (names : List (List ℕ)) (modules : ℕ) (slots : List PlainSlot) (num
     | false ↦ λ e. others h e
   ] refl
 
-  grown : (note : Notes) → Grows note modules (data_in number (Some old)) before (data_in number (Some new)) after → Grows note modules (lists_of slots number) before (lists_of (with_slot slots number new) number) after
+  grown : (note : Notes) → Grows note modules (data_in number (Some old)) before (data_in number (Some new)) after
+      → Grows note modules (lists_of slots number) before (lists_of (with_slot slots number new) number) after
   grown note g =
       subst (λ (l : PlainDataList). Grows note modules (lists_of slots number) before l after) list_after
       (subst (λ (l : PlainDataList). Grows note modules l before (data_in number (Some new)) after) list_before g)
@@ -101,13 +103,16 @@ module _ (names : List (List ℕ)) (modules : ℕ) (slots : List PlainSlot) (num
   none_gone : (data_in number (Some old)).gone ≡ []
   none_gone = ap (λ (l : PlainDataList). l.gone) (list_before ∙ done.sound.held.clean number)
 
-  ledger_at_end : (note : Notes) (status : ℕ) → IsEndOf note status (data_in number (Some old)) before (data_in number (Some new)) after → after ≡ ledger_after note status (reverse (lists_of slots number).live) before
+  ledger_at_end : (note : Notes) (status : ℕ) → IsEndOf note status (data_in number (Some old)) before (data_in number (Some new)) after
+      → after ≡ ledger_after note status (reverse (lists_of slots number).live) before
   ledger_at_end note status end = end.ledger ∙ ap (λ (l : PlainDataList). ledger_after note status (reverse l.live) before) list_before
 
-  list_at_end : (note : Notes) (status : ℕ) → IsEndOf note status (data_in number (Some old)) before (data_in number (Some new)) after → lists_of (with_slot slots number new) number ≡ clean_list number []
+  list_at_end : (note : Notes) (status : ℕ) → IsEndOf note status (data_in number (Some old)) before (data_in number (Some new)) after
+      → lists_of (with_slot slots number new) number ≡ clean_list number []
   list_at_end note status end = sym list_after ∙ end.list ∙ ap (λ (n : ℕ). clean_list n []) own_number
 
-  untouched : NothingGrows → (note : Notes) → IsUntouched (data_in number (Some old)) before (data_in number (Some new)) after → Grows note modules (data_in number (Some old)) before (data_in number (Some new)) after
+  untouched : NothingGrows → (note : Notes) → IsUntouched (data_in number (Some old)) before (data_in number (Some new)) after
+      → Grows note modules (data_in number (Some old)) before (data_in number (Some new)) after
   untouched nothing note same =
       subst (λ (l : PlainDataList). Grows note modules (data_in number (Some old)) before l after) (sym same.list)
       (subst (λ (l : PlainLedger). Grows note modules (data_in number (Some old)) before (data_in number (Some old)) l) (sym same.ledger) (nothing note modules (data_in number (Some old)) before none_gone))
@@ -129,37 +134,44 @@ module _ (names : List (List ℕ)) (modules : ℕ) (slots : List PlainSlot) (num
 
   -- ---- growth, and the end
 
-  owned_more : (added : List Birth) (handle : ℕ) → AllByRecursion (IsOf modules handle) added → AllByRecursion (λ (b : Birth). b.owner < modules) (before.births ++ added)
+  owned_more : (added : List Birth) (handle : ℕ) → AllByRecursion (IsOf modules handle) added
+      → AllByRecursion (λ (b : Birth). b.owner < modules) (before.births ++ added)
   owned_more added handle each = owned-append before.births added modules handle done.sound.owned each
 
   module _ (note : Notes) where
-    sound_of_growth : GrowthHolds → Grows note modules (data_in number (Some old)) before (data_in number (Some new)) after → IsSound names modules (with_slot slots number new) after
+    sound_of_growth : GrowthHolds → Grows note modules (data_in number (Some old)) before (data_in number (Some new)) after
+        → IsSound names modules (with_slot slots number new) after
     sound_of_growth holds g = record {
       placed = placed_after;
       held = holds note modules 17 number before after (lists_of slots) (lists_of (with_slot slots number new)) done.sound.held below (grown note g) others done.numbered;
       owned = subst (AllByRecursion (λ (b : Birth). b.owner < modules)) (sym g.births) (owned_more g.added (data_in number (Some old)).handle g.each);
     }
 
-    sound_of_end : EndHolds → (status : ℕ) → IsEndOf note status (data_in number (Some old)) before (data_in number (Some new)) after → IsSound names modules (with_slot slots number new) after
+    sound_of_end : EndHolds → (status : ℕ) → IsEndOf note status (data_in number (Some old)) before (data_in number (Some new)) after
+        → IsSound names modules (with_slot slots number new) after
     sound_of_end holds status end = record {
       placed = placed_after;
       held = holds note modules 17 number status before after (lists_of slots) (lists_of (with_slot slots number new)) done.sound.held below (ledger_at_end note status end) (list_at_end note status end) others;
       owned = subst (AllByRecursion (λ (b : Birth). b.owner < modules)) (sym (ap (λ (l : PlainLedger). l.births) end.ledger)) done.sound.owned;
     }
 
-    moves_of_growth : GrowthMoves → Grows note modules (data_in number (Some old)) before (data_in number (Some new)) after → Moves note 17 [] before (lists_of slots) after (lists_of (with_slot slots number new))
+    moves_of_growth : GrowthMoves → Grows note modules (data_in number (Some old)) before (data_in number (Some new)) after
+        → Moves note 17 [] before (lists_of slots) after (lists_of (with_slot slots number new))
     moves_of_growth law g = law note modules 17 number before after (lists_of slots) (lists_of (with_slot slots number new)) below (grown note g) others done.numbered
 
-    moves_of_end : EndMoves → (status : ℕ) → IsEndOf note status (data_in number (Some old)) before (data_in number (Some new)) after → Moves note 17 (ends number status ∷ []) before (lists_of slots) after (lists_of (with_slot slots number new))
+    moves_of_end : EndMoves → (status : ℕ) → IsEndOf note status (data_in number (Some old)) before (data_in number (Some new)) after
+        → Moves note 17 (ends number status ∷ []) before (lists_of slots) after (lists_of (with_slot slots number new))
     moves_of_end law status end = law note 17 number status before after (lists_of slots) (lists_of (with_slot slots number new)) below (ledger_at_end note status end) (list_at_end note status end) others
 
-    moves_of_nothing : NothingMoves → IsUntouched (data_in number (Some old)) before (data_in number (Some new)) after → Moves note 17 [] before (lists_of slots) after (lists_of (with_slot slots number new))
+    moves_of_nothing : NothingMoves → IsUntouched (data_in number (Some old)) before (data_in number (Some new)) after
+        → Moves note 17 [] before (lists_of slots) after (lists_of (with_slot slots number new))
     moves_of_nothing law same = law note 17 before after (lists_of slots) (lists_of (with_slot slots number new)) same.ledger (all_lists same.list)
 
 -- ---- by the place and the call
 
 module _ (growth : GrowthHolds) (ending : EndHolds) (nothing : NothingGrows) (note : Notes) (names : List (List ℕ)) (modules : ℕ) (slots : List PlainSlot) (number : ℕ) where
-  sound_of_open : (h : PlainHandle) (new : PlainSlot) (call : AppCall) (before after : PlainLedger) → IsDone names modules slots number (opened h) new before after
+  sound_of_open : (h : PlainHandle) (new : PlainSlot) (call : AppCall) (before after : PlainLedger)
+      → IsDone names modules slots number (opened h) new before after
       → SpendsAs note modules call (data_in number (Some (opened h))) before (data_in number (Some new)) after → IsSound names modules (with_slot slots number new) after
   sound_of_open h new (calls.End status) before after done end = sound_of_end names modules slots number (opened h) new before after done note ending status end
   sound_of_open h new call before after done g = sound_of_growth names modules slots number (opened h) new before after done note growth g
@@ -171,7 +183,8 @@ module _ (growth : GrowthHolds) (ending : EndHolds) (nothing : NothingGrows) (no
       sound_of_growth names modules slots number (closed conv) new before after done note growth (untouched names modules slots number (closed conv) new before after done nothing note same)
 
 module _ (growth : GrowthMoves) (ending : EndMoves) (nothing : NothingMoves) (note : Notes) (names : List (List ℕ)) (modules : ℕ) (slots : List PlainSlot) (number : ℕ) where
-  moves_of_open : (h : PlainHandle) (new : PlainSlot) (call : AppCall) (before after : PlainLedger) → IsDone names modules slots number (opened h) new before after
+  moves_of_open : (h : PlainHandle) (new : PlainSlot) (call : AppCall) (before after : PlainLedger)
+      → IsDone names modules slots number (opened h) new before after
       → SpendsAs note modules call (data_in number (Some (opened h))) before (data_in number (Some new)) after → Moves note 17 (end_of_call number call) before (lists_of slots) after (lists_of (with_slot slots number new))
   moves_of_open h new (calls.End status) before after done end = moves_of_end names modules slots number (opened h) new before after done note ending status end
   moves_of_open h new call before after done g = moves_of_growth names modules slots number (opened h) new before after done note growth g
@@ -188,11 +201,13 @@ closed_at [] i slot is = absurd (cc)
 closed_at (conv ∷ convs) zero slot is = (conv, cc)
 closed_at (conv ∷ convs) (suc i) slot is = closed_at convs i slot is
 
-closed_slot : (convs : List ConvState) (number : ℕ) (slot : PlainSlot) → slot_at (map closed convs) number ≡ Some slot → (conv : ConvState) × (slot ≡ closed conv)
+closed_slot : (convs : List ConvState) (number : ℕ) (slot : PlainSlot) → slot_at (map closed convs) number ≡ Some slot
+    → (conv : ConvState) × (slot ≡ closed conv)
 closed_slot convs zero slot is = absurd (cc)
 closed_slot convs (suc i) slot is = closed_at convs i slot is
 
-no_data_in : (number : ℕ) (found : Option PlainSlot) → ((slot : PlainSlot) → found ≡ Some slot → (conv : ConvState) × (slot ≡ closed conv)) → data_in number found ≡ clean_list number []
+no_data_in : (number : ℕ) (found : Option PlainSlot) → ((slot : PlainSlot) → found ≡ Some slot → (conv : ConvState) × (slot ≡ closed conv))
+    → data_in number found ≡ clean_list number []
 no_data_in number None is = refl
 no_data_in number (Some slot) is = let c = is slot refl in ap (λ (s : PlainSlot). data_in number (Some s)) c.1
 
@@ -205,14 +220,16 @@ empty_ledger = record { births = []; filed = [] }
 abbrev pub no_lists : Lists
 no_lists = λ (h : ℕ). clean_list h []
 
-closed_are_placed : (names : List (List ℕ)) (convs : List ConvState) (number : ℕ) (slot : PlainSlot) → slot_at (map closed convs) number ≡ Some slot → IsAtPlace names number slot
+closed_are_placed : (names : List (List ℕ)) (convs : List ConvState) (number : ℕ) (slot : PlainSlot) → slot_at (map closed convs) number ≡ Some slot
+    → IsAtPlace names number slot
 closed_are_placed names convs number slot is = let c = closed_slot convs number slot is in subst (IsAtPlace names number) (sym c.1) tt
 
 length-closed : (convs : List ConvState) → length (map closed convs) ≡ length convs
 length-closed [] = refl
 length-closed (conv ∷ convs) = ap suc (length-closed convs)
 
-pub closed_are_sound : GrowthHolds → NothingGrows → ((modules limit : ℕ) → AreHeld modules limit (record { births = []; filed = [] }) (λ (h : ℕ). clean_list h []))
+pub closed_are_sound : GrowthHolds → NothingGrows
+    → ((modules limit : ℕ) → AreHeld modules limit (record { births = []; filed = [] }) (λ (h : ℕ). clean_list h []))
     → (names : List (List ℕ)) (modules : ℕ) (convs : List ConvState) → length convs ≡ 16 → IsSound names modules (map closed convs) (record { births = []; filed = [] })
 closed_are_sound holds nothing at_first names modules convs sixteen =
     let note : Notes = λ (owner : ℕ) (payload : List ℕ) (status : ℕ). 0 in
@@ -229,7 +246,8 @@ none_left : (added : List Birth) → [] ≡ [] ++ added → added ≡ []
 none_left [] e = refl
 none_left (b ∷ added) e = absurd (cc)
 
-pub closed_stand_for_none : NothingMoves → ((note : Notes) (limit : ℕ) → StandFor note limit (record { births = []; filed = [] }) (λ (h : ℕ). clean_list h []) [])
+pub closed_stand_for_none : NothingMoves
+    → ((note : Notes) (limit : ℕ) → StandFor note limit (record { births = []; filed = [] }) (λ (h : ℕ). clean_list h []) [])
     → (note : Notes) (convs : List ConvState) → StandFor note 17 (record { births = []; filed = [] }) (lists_of (map closed convs)) []
 closed_stand_for_none nothing at_first note convs =
     let m = nothing note 17 empty_ledger empty_ledger no_lists (lists_of (map closed convs)) refl (no_data convs) in

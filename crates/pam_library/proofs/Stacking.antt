@@ -73,7 +73,8 @@ code_can funcs.OpenSession flags code = refl
 code_can funcs.CloseSession flags code = refl
 code_can funcs.ChAuthTok flags code = refl
 
-fails_is : (tells : Bool) (func : Func) (flags : ℕ) (h next : PlainHandle) → FailsAs func (all_told h) next → Fails tells (stack_app_call func flags) (opened h) (opened next)
+fails_is : (tells : Bool) (func : Func) (flags : ℕ) (h next : PlainHandle) → FailsAs func (all_told h) next
+    → Fails tells (stack_app_call func flags) (opened h) (opened next)
 fails_is tells funcs.Authenticate flags h next f = f
 fails_is tells funcs.SetCred flags h next f = f
 fails_is tells funcs.AcctMgmt flags h next f = f
@@ -127,12 +128,14 @@ memory_false (Some a) free r n e = cc
 memory_false None true r n e = cc
 memory_false None false r n e = cc
 
-inside_not : (func : Func) (flags : ℕ) (h : PlainHandle) → ◌≡◌ {A = Option Answer} (stack_refusal h.pending func flags) None → stays_inside (Some (opened h)) (stack_app_call func flags) ≡ true → ⊥
+inside_not : (func : Func) (flags : ℕ) (h : PlainHandle) → ◌≡◌ {A = Option Answer} (stack_refusal h.pending func flags) None
+    → stays_inside (Some (opened h)) (stack_app_call func flags) ≡ true → ⊥
 inside_not func flags h none e =
     let r : refusal (Some (opened h)) (stack_app_call func flags) ≡ None = refusal_is func flags h ∙ none in
     inside_false (refusal (Some (opened h)) (stack_app_call func flags)) (needs_outside (stack_app_call func flags)) r (needs_is func flags) e
 
-memory_not : (func : Func) (flags : ℕ) (h : PlainHandle) → ◌≡◌ {A = Option Answer} (stack_refusal h.pending func flags) None → takes_no_memory (Some (opened h)) (stack_app_call func flags) ≡ true → ⊥
+memory_not : (func : Func) (flags : ℕ) (h : PlainHandle) → ◌≡◌ {A = Option Answer} (stack_refusal h.pending func flags) None
+    → takes_no_memory (Some (opened h)) (stack_app_call func flags) ≡ true → ⊥
 memory_not func flags h none e = memory_false (refusal (Some (opened h)) (stack_app_call func flags)) (is_free (stack_app_call func flags)) (refusal_is func flags h ∙ none) (free_is func flags) e
 
 -- an answer alone, as the outcome has it
@@ -147,7 +150,8 @@ pub record IsToldOf (o : Outcome) (filed : ℕ) (code : Code) (h : PlainHandle) 
   pub answer_is : o.answer ≡ answers.Code code
   pub filed_is : o.filed_from ≡ filed
 
-pub only_of : (o : Outcome) (n filed : ℕ) (answer : Answer) → plain_outcome o ≡ answers_only n answer → o.answer ≡ answer → o.filed_from ≡ n → n ≡ filed → IsOnly o filed answer
+pub only_of : (o : Outcome) (n filed : ℕ) (answer : Answer) → plain_outcome o ≡ answers_only n answer → o.answer ≡ answer → o.filed_from ≡ n
+    → n ≡ filed → IsOnly o filed answer
 only_of o n filed answer plain answer_is filed_is same = record { plain = plain ∙ ap (λ (k : ℕ). answers_only k answer) same; answer_is = answer_is; filed_is = filed_is ∙ same }
 
 abbrev pub telling : List Message → List Visit → ℕ → Option Wait → Answer → PlainOutcome
@@ -168,7 +172,8 @@ told_of o said trail n filed wait code h plain answer_is filed_is same said_is t
 
 module _ (players : List Player) (gives : (Code → ℕ → ℕ) → Type 0) (tells world_tells : Bool) (func : Func) (flags : ℕ) (h : PlainHandle) (w : PlainWorld) where
   -- a call that is refused
-  pub stack_refused : (o : Outcome) (refused : Answer) → ((note : Notes) (modules : ℕ) (list : PlainDataList) (ledger : PlainLedger) → list.gone ≡ [] → Grows note modules list ledger list ledger)
+  pub stack_refused : (o : Outcome) (refused : Answer)
+      → ((note : Notes) (modules : ℕ) (list : PlainDataList) (ledger : PlainLedger) → list.gone ≡ [] → Grows note modules list ledger list ledger)
       → h ≡ all_told h → h.names ≡ names_of players → h.room.transaction.datums.gone ≡ []
       → ◌≡◌ {A = Option Answer} (stack_refusal h.pending func flags) (Some refused) → IsOnly o (filed_in w) refused
       → GoesInPlace players gives tells world_tells h.room.transaction.handle (stack_app_call func flags) (opened h) w (Ok o) (opened h) w

@@ -47,7 +47,8 @@ module _ (players : List Player) (gives : (Code → ℕ → ℕ) → Type 0) (te
       at_place : (slot : PlainSlot) → slot ≡ opened h → IsAtPlace (names_of players) number slot
       at_place slot is = subst (IsAtPlace (names_of players) number) (sym is) (record { handle = ap (λ (k : PlainHandle). k.room.transaction.handle) fresh; started_with = names_are })
 
-      step_opens : (o : Outcome) (slot : PlainSlot) → OpensPlace (filed_in w) h o slot → Opens of_start h v → plain_outcome o ≡ (opened_by (names_of players) conv (filed_in w) of_start.world of_start.answer).outcome
+      step_opens : (o : Outcome) (slot : PlainSlot) → OpensPlace (filed_in w) h o slot → Opens of_start h v
+          → plain_outcome o ≡ (opened_by (names_of players) conv (filed_in w) of_start.world of_start.answer).outcome
       step_opens o slot is s =
           is.outcome_is
           ∙ ap (λ (n : List (List ℕ)). record (answers_only (filed_in w) (answers.Code codes.Success)) { missing = missing_from n h.stacks }) names_are
@@ -131,7 +132,8 @@ module _ (players : List Player) (gives : (Code → ℕ → ℕ) → Type 0) (te
       caller = ap (λ (p : PlainProcess). p.caller) process;
     }
 
-    pub start_refuses : (why : Refuse LoadFault) (result : Result Outcome NoMemory) (slot : PlainSlot) (n : ℕ) → n ≡ filed_in w → (IsTrue (tells && world_tells) → Refuses of_start why v)
+    pub start_refuses : (why : Refuse LoadFault) (result : Result Outcome NoMemory) (slot : PlainSlot) (n : ℕ) → n ≡ filed_in w
+        → (IsTrue (tells && world_tells) → Refuses of_start why v)
         → IsRefused n why result → slot ≡ closed conv
         → GoesInPlace players gives tells world_tells number (calls.Start service user) (closed conv) w result slot v
     start_refuses why result slot n same refuses is at = refuses_at why result slot refuses (subst (λ (k : ℕ). IsRefused k why result) same is) at

@@ -61,14 +61,17 @@ module _ (n number : ℕ) where
     pub datums : (r : PlainRoom) → (u r).transaction.datums ≡ r.transaction.datums
     pub handle : (r : PlainRoom) → (u r).transaction.handle ≡ r.transaction.handle
 
-  touched_data : (u : PlainRoom → PlainRoom) → Touches u → (births : List Birth) (r : PlainRoom) → AreRecorded number births r.transaction.handle r.transaction.datums → AreRecorded number births (u r).transaction.handle (u r).transaction.datums
+  touched_data : (u : PlainRoom → PlainRoom) → Touches u → (births : List Birth) (r : PlainRoom)
+      → AreRecorded number births r.transaction.handle r.transaction.datums
+      → AreRecorded number births (u r).transaction.handle (u r).transaction.datums
   touched_data u t births r d = record {
     handle_is = t.handle r ∙ d.handle_is;
     live = subst (λ (l : PlainDataList). AllByRecursion (IsRecorded number births) l.live) (sym (t.datums r)) d.live;
     gone = subst (λ (l : PlainDataList). AllByRecursion (IsRecorded number births) l.gone) (sym (t.datums r)) d.gone;
   }
 
-  pub touched : (u : PlainRoom → PlainRoom) → Touches u → (first second : PlainWorld) (a b : State) → Twins first second a b → Twins first second (record a { room = u a.room }) (record b { room = u b.room })
+  pub touched : (u : PlainRoom → PlainRoom) → Touches u → (first second : PlainWorld) (a b : State) → Twins first second a b
+      → Twins first second (record a { room = u a.room }) (record b { room = u b.room })
   touched u t first second a b w = record {
     room = t.same a.room ∙ ap u w.room ∙ sym (t.same b.room);
     world = w.world;
@@ -84,7 +87,8 @@ module _ (n number : ℕ) where
   abbrev played_of : Plays → PlainCall → PlainRoom → Shown → Played
   played_of plays call r shown = plays call (seen_of r) (named_data r.transaction.datums.live) (record { files = shown.files; failing = λ (k : ℕ). false; clock = shown.clock; root = shown.root; caller = shown.caller })
 
-  played_is : (plays : Plays) (call : PlainCall) (s : State) → NoCallFails s.world.vault → played_in plays call (scene_in s) ≡ played_of plays call (room_without_ids s.room) (shown_to n s.world)
+  played_is : (plays : Plays) (call : PlainCall) (s : State) → NoCallFails s.world.vault
+      → played_in plays call (scene_in s) ≡ played_of plays call (room_without_ids s.room) (shown_to n s.world)
   played_is plays call s quiet =
       let names : named_data s.room.transaction.datums.live ≡ named_data (data_without_ids s.room.transaction.datums).live = sym (named_without_ids s.room.transaction.datums.live) in
       let failing : failing_of s.world.vault ≡ (λ (k : ℕ). false) = fun_ext quiet in
@@ -165,7 +169,8 @@ module _ (n number : ℕ) where
       (sym (cleanings_without_ids n number notes data_replace (list_after p s).gone) ∙ ap (λ (l : PlainDataList). cleanings n number notes data_replace l.gone) (list_is p s)) in
       λ i. record { files = p.files; clock = s.world.clock; root = s.world.process.root; caller = s.world.process.caller; births = births i; receipts = receipts i }
 
-  kept_after : (start : PlainWorld) (notes : Notes) (p : Played) (s : State) → KeptIn start s.world → RecordedIn s.room s.world → KeptIn start (after_play notes p s).world
+  kept_after : (start : PlainWorld) (notes : Notes) (p : Played) (s : State) → KeptIn start s.world → RecordedIn s.room s.world
+      → KeptIn start (after_play notes p s).world
   kept_after start notes p s k d = record {
     quiet = quiet_with_files p.files (after_calls p.calls s.world.vault) (quiet_after p.calls s.world.vault k.quiet);
     clock_is = k.clock_is;
@@ -195,7 +200,8 @@ module _ (n number : ℕ) where
   data_after : (notes : Notes) (p : Played) (s : State) → RecordedIn s.room s.world → RecordedIn (after_play notes p s).room (after_play notes p s).world
   data_after notes p s d = record { handle_is = d.handle_is; live = (set_after p s d).0; gone = tt }
 
-  play_twins : (first second : PlainWorld) (notes : Notes) (p q : Played) (a b : State) → p ≡ q → Twins first second a b → Twins first second (after_play notes p a) (after_play notes q b)
+  play_twins : (first second : PlainWorld) (notes : Notes) (p q : Played) (a b : State) → p ≡ q → Twins first second a b
+      → Twins first second (after_play notes p a) (after_play notes q b)
   play_twins first second notes p q a b same t =
       let room : room_without_ids a.room ≡ room_without_ids b.room = t.room in
       let world : shown_to n a.world ≡ shown_to n b.world = t.world in
@@ -217,7 +223,8 @@ module _ (n number : ℕ) where
     pub answer : x.answer ≡ y.answer
     pub state : Twins first second x.state y.state
 
-  played_twins : (first second : PlainWorld) (players : List Player) (player : Player) (call : PlainCall) (a b : State) → Twins first second a b → AnswerTwins first second (played_by players player call a) (played_by players player call b)
+  played_twins : (first second : PlainWorld) (players : List Player) (player : Player) (call : PlainCall) (a b : State) → Twins first second a b
+      → AnswerTwins first second (played_by players player call a) (played_by players player call b)
   played_twins first second players player call a b t =
       let room : room_without_ids a.room ≡ room_without_ids b.room = t.room in
       let world : shown_to n a.world ≡ shown_to n b.world = t.world in
@@ -228,17 +235,20 @@ module _ (n number : ℕ) where
         state = play_twins first second (notes_of players) (played_in player.plays call (scene_in a)) (played_in player.plays call (scene_in b)) a b same t;
       }
 
-  served_by_twins : (first second : PlainWorld) (players : List Player) (found : Option Player) (k : ℕ) (call : PlainCall) (a b : State) → Twins first second a b → AnswerTwins first second (served_by players found k call a) (served_by players found k call b)
+  served_by_twins : (first second : PlainWorld) (players : List Player) (found : Option Player) (k : ℕ) (call : PlainCall) (a b : State)
+      → Twins first second a b → AnswerTwins first second (served_by players found k call a) (served_by players found k call b)
   served_by_twins first second players (Some player) k call a b t =
       played_twins first second players player call (at_work k a) (at_work k b)
       (touched (λ (r : PlainRoom). record r { transaction = record r.transaction { put_off = false; serving = k } }) (record { same = λ r. refl; datums = λ r. refl; handle = λ r. refl }) first second a b t)
   served_by_twins first second players None k call a b t = record { answer = refl; state = t }
 
-  served_twins : (first second : PlainWorld) (players : List Player) (found : Option ℕ) (call : PlainCall) (a b : State) → Twins first second a b → AnswerTwins first second (served players found call a) (served players found call b)
+  served_twins : (first second : PlainWorld) (players : List Player) (found : Option ℕ) (call : PlainCall) (a b : State) → Twins first second a b
+      → AnswerTwins first second (served players found call a) (served players found call b)
   served_twins first second players (Some k) call a b t = served_by_twins first second players (slice_get players k) k call a b t
   served_twins first second players None call a b t = record { answer = refl; state = t }
 
-  visited_twins : (first second : PlainWorld) (place : ℕ) (path : List ℕ) (x y : Answered) → AnswerTwins first second x y → AnswerTwins first second (visited place path x) (visited place path y)
+  visited_twins : (first second : PlainWorld) (place : ℕ) (path : List ℕ) (x y : Answered) → AnswerTwins first second x y
+      → AnswerTwins first second (visited place path x) (visited place path y)
   visited_twins first second place path x y t =
       let answer : x.answer ≡ y.answer = t.answer in
       let seen : Twins first second (visited place path x).state (visited place path (record y { answer = x.answer })).state =
@@ -250,7 +260,8 @@ module _ (n number : ℕ) where
       }
 
   -- a line that is asked, as a pass sees it
-  pub asked_twins : (first second : PlainWorld) (players : List Player) (func : Func) (flags : ℕ) (rule : Rule) (place : ℕ) (a b : State) → Twins first second a b →
+  pub asked_twins : (first second : PlainWorld) (players : List Player) (func : Func) (flags : ℕ) (rule : Rule) (place : ℕ) (a b : State)
+      → Twins first second a b →
       ((answers_by players func flags rule place a).answer ≡ (answers_by players func flags rule place b).answer)
       × Twins first second (answers_by players func flags rule place a).state (answers_by players func flags rule place b).state
   asked_twins first second players func flags rule place a b t =

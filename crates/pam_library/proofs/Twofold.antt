@@ -39,7 +39,8 @@ module _ (n number : ℕ) (first second : PlainWorld) where
   no_request : (a b : State) → Both a b → Both (record a { room = without_request a.room }) (record b { room = without_request b.room })
   no_request a b t = touched n number without_request (record { same = λ r. refl; datums = λ r. refl; handle = λ r. refl }) first second a b t
 
-  request_twins : (paused : Option (List Code)) (a b : State) → Both a b → Both (state_of (request_behind paused a.room) a.world) (state_of (request_behind paused b.room) b.world)
+  request_twins : (paused : Option (List Code)) (a b : State) → Both a b
+      → Both (state_of (request_behind paused a.room) a.world) (state_of (request_behind paused b.room) b.world)
   request_twins None a b t = no_request a b t
   request_twins (Some past) a b t = t
 
@@ -68,7 +69,8 @@ module _ (n number : ℕ) (first second : PlainWorld) where
     rest : record p { state = q.state } ≡ q
     state : Both p.state q.state
 
-  by_twins : (kind : PassKind) (kept : Option KeptAnswers) (v w : Walked (PassState State)) → WalkedTwins (PassTwins Both) v w → PassedTwins (passed_by kind kept v) (passed_by kind kept w)
+  by_twins : (kind : PassKind) (kept : Option KeptAnswers) (v w : Walked (PassState State)) → WalkedTwins (PassTwins Both) v w
+      → PassedTwins (passed_by kind kept v) (passed_by kind kept w)
   by_twins kind kept v w t =
       let is : record v { state = record v.state { state = w.state.state } } ≡ w = ap (λ (s : PassState State). record v { state = s }) t.state.rest ∙ t.rest in
       subst (λ (x : Walked (PassState State)). PassedTwins (passed_by kind kept v) (passed_by kind kept x)) is (record { rest = refl; state = t.state.state })
@@ -87,13 +89,16 @@ module _ (n number : ℕ) (first second : PlainWorld) where
     pub rest : called c.code (in_room d.handle.room c.handle) d.world ≡ d
     pub state : Both (state_of c.handle.room c.world) (state_of d.handle.room d.world)
 
-  behind_pass : (f g : Passed → Called) (p q : Passed) → PassedTwins p q → ((t : State) → Both p.state t → CalledTwins (f p) (g (record p { state = t }))) → CalledTwins (f p) (g q)
+  behind_pass : (f g : Passed → Called) (p q : Passed) → PassedTwins p q
+      → ((t : State) → Both p.state t → CalledTwins (f p) (g (record p { state = t }))) → CalledTwins (f p) (g q)
   behind_pass f g p q t main = subst (λ (x : Passed). CalledTwins (f p) (g x)) t.rest (main q.state t.state)
 
-  ended_twins : (func : Func) (p : Passed) (t : State) (x : PlainHandle) (r : PlainRoom) → Both p.state t → CalledTwins (ended func p x) (ended func (record p { state = t }) (in_room r x))
+  ended_twins : (func : Func) (p : Passed) (t : State) (x : PlainHandle) (r : PlainRoom) → Both p.state t
+      → CalledTwins (ended func p x) (ended func (record p { state = t }) (in_room r x))
   ended_twins func p t x r both = record { rest = refl; state = request_twins p.paused p.state t both }
 
-  begun_twins : (pending : Option Pending) (func : Func) (a b c d : Called) (f g : Pending → Called) → CalledTwins a b → CalledTwins c d → ((p : Pending) → CalledTwins (f p) (g p)) →
+  begun_twins : (pending : Option Pending) (func : Func) (a b c d : Called) (f g : Pending → Called) → CalledTwins a b → CalledTwins c d
+      → ((p : Pending) → CalledTwins (f p) (g p)) →
       CalledTwins (begun_or_going_on pending func a c f) (begun_or_going_on pending func b d g)
   begun_twins None func a b c d f g aborted begins goes_on = begins
   begun_twins (Some p) func a b c d f g aborted begins goes_on = elim (same_func p.func func) as (λ (x : Bool). CalledTwins (if x then f p else a) (if x then g p else b)) [
@@ -101,7 +106,8 @@ module _ (n number : ℕ) (first second : PlainWorld) where
     | false ↦ aborted
   ]
 
-  changed_twins : (paused : Option (List Code)) (code : Code) (x : PlainHandle) (r : PlainRoom) (v w : PlainWorld) → Both (state_of x.room v) (state_of r w) → CalledTwins (changed paused code x v) (changed paused code (in_room r x) w)
+  changed_twins : (paused : Option (List Code)) (code : Code) (x : PlainHandle) (r : PlainRoom) (v w : PlainWorld)
+      → Both (state_of x.room v) (state_of r w) → CalledTwins (changed paused code x v) (changed paused code (in_room r x) w)
   changed_twins (Some past) code x r v w t = record { rest = refl; state = t }
   changed_twins None code x r v w t = record { rest = refl; state = no_request (state_of (without_its_tokens x.room) v) (state_of (without_its_tokens r) w) (no_tokens (state_of x.room v) (state_of r w) t) }
 
@@ -110,7 +116,9 @@ module _ (n number : ℕ) (first second : PlainWorld) where
     abbrev behind_wait : Code → PlainHandle → PlainWorld → ℕ → Called
     behind_wait code h w asked = let c = waits code asked (wait_of h.delay_on delay code asked) (tokens_cleared h) w in called code (request_forgotten c.handle) c.world
 
-    authenticated_twins : (paused : Option (List Code)) (code : Code) (x : PlainHandle) (r : PlainRoom) (v w : PlainWorld) → Both (state_of x.room v) (state_of r w) → CalledTwins (authenticated delay paused code x v) (authenticated delay paused code (in_room r x) w)
+    authenticated_twins : (paused : Option (List Code)) (code : Code) (x : PlainHandle) (r : PlainRoom) (v w : PlainWorld)
+        → Both (state_of x.room v) (state_of r w)
+        → CalledTwins (authenticated delay paused code x v) (authenticated delay paused code (in_room r x) w)
     authenticated_twins (Some past) code x r v w t = record { rest = refl; state = t }
     authenticated_twins None code x r v w t =
         let asked : ℕ = asked_delay x.room.transaction.delay v.clock.word in
@@ -135,7 +143,8 @@ module _ (n number : ℕ) (first second : PlainWorld) where
     cleared : (f : PlainHandle → PlainWorld → Called) → Goes f → Goes (λ h w. f (tokens_cleared h) w)
     cleared f goes x r v w t = goes (tokens_cleared x) (without_its_tokens r) v w (no_tokens (state_of x.room v) (state_of r w) t)
 
-    begun : (func : Func) (begins : PlainHandle → PlainWorld → Called) (on : Pending → PlainHandle → PlainWorld → Called) → Goes begins → ((p : Pending) → Goes (on p)) →
+    begun : (func : Func) (begins : PlainHandle → PlainWorld → Called) (on : Pending → PlainHandle → PlainWorld → Called) → Goes begins
+        → ((p : Pending) → Goes (on p)) →
         Goes (λ h w. begun_or_going_on h.pending func (called codes.Abort h w) (begins h w) (λ p. on p h w))
     begun func begins on goes goes_on x r v w t =
         begun_twins x.pending func (called codes.Abort x v) (called codes.Abort (in_room r x) w) (begins x v) (begins (in_room r x) w) (λ p. on p x v) (λ p. on p (in_room r x) w)

@@ -73,7 +73,8 @@ steps_by : {E : Type 0} (result : Result Outcome E) (s t : SlotStepped) (slot : 
     → IfOk result (λ o. SlotStepsAs s (plain_outcome o) slot w) → IfOk result (λ o. SlotStepsAs t (plain_outcome o) slot w)
 steps_by result s t slot w e = subst (λ (u : SlotStepped). IfOk result (λ o. SlotStepsAs u (plain_outcome o) slot w)) e
 
-answers_by_none : {E : Type 0} (result : Result Outcome E) (call : AppCall) (r : Option Answer) → r ≡ None → IfOk result (λ o. CanAnswer call o.answer) → IfOk result (λ o. AnswersBy r call o.answer)
+answers_by_none : {E : Type 0} (result : Result Outcome E) (call : AppCall) (r : Option Answer) → r ≡ None
+    → IfOk result (λ o. CanAnswer call o.answer) → IfOk result (λ o. AnswersBy r call o.answer)
 answers_by_none result call r e = subst (λ (s : Option Answer). IfOk result (λ o. AnswersBy s call o.answer)) (sym e)
 
 filed_by : {E : Type 0} (result : Result Outcome E) (n m : ℕ) → n ≡ m → IfOk result (λ o. o.filed_from ≡ n) → IfOk result (λ o. o.filed_from ≡ m)

@@ -24,19 +24,23 @@ use std::alloc::Global;
 impl Library {
     ghost use Rattle.pam_library.specs.Plain.{gear_in};
 
-    /// One call of an application on the transaction of a number (the Application Developers' Guide). What that transaction
-    /// had told before is thrown away, so messages, visits and wait of the outcome are this step's alone.
+    /// One call of an application on the transaction of a number (the Application Developers'
+    /// Guide). What that transaction had told before is thrown away, so messages, visits and wait
+    /// of the outcome are this step's alone.
     ///
-    /// First the number and the place are tested, in this order: a number that isn't 1 to 16 is a bad one; a start finds the
-    /// place open already; any other call but a reply finds it not open. Then a change of token with the flags of its passes
-    /// is SYSTEM_ERR, and a stack call is pending behind another one that was put off. All these change nothing and take no
-    /// memory; nor do an end, a request for a delay, and turning the delay function on or off.
+    /// First the number and the place are tested, in this order: a number that isn't 1 to 16 is a
+    /// bad one; a start finds the place open already; any other call but a reply finds it not open.
+    /// Then a change of token with the flags of its passes is SYSTEM_ERR, and a stack call is
+    /// pending behind another one that was put off. All these change nothing and take no memory;
+    /// nor do an end, a request for a delay, and turning the delay function on or off.
     ///
-    /// A start names a service, and is refused exactly as the configuration is; a reply has at most 512 bytes. Without memory
-    /// a start leaves its place closed with its conversation, a stack call leaves nothing pending, no request for a delay and
-    /// nothing kept of its own, and any other call leaves transaction and world as they were.
+    /// A start names a service, and is refused exactly as the configuration is; a reply has at most
+    /// 512 bytes. Without memory a start leaves its place closed with its conversation, a stack
+    /// call leaves nothing pending, no request for a delay and nothing kept of its own, and any
+    /// other call leaves transaction and world as they were.
     ///
-    /// The births of the world's ledger that have no receipt are exactly the data of the open transactions, before and after.
+    /// The births of the world's ledger that have no receipt are exactly the data of the open
+    /// transactions, before and after.
     pub fn apply(
         &mut self,
         alloc: Global,

@@ -26,10 +26,12 @@ fn place_of_first_open(slots: &[Slot]) -> Option<usize>
 impl Library {
     ghost use Rattle.pam_library.specs.Plain.{gear_in};
 
-    /// Ends the open transaction of the lowest number with this status (`pam_end(3)`), and answers its number; its
-    /// conversation stays in its place. None comes exactly where none is open, and then nothing changes. It takes no memory.
+    /// Ends the open transaction of the lowest number with this status (`pam_end(3)`), and answers
+    /// its number; its conversation stays in its place. None comes exactly where none is open, and
+    /// then nothing changes. It takes no memory.
     ///
-    /// As with `apply`, the births of the world's ledger that have no receipt are exactly the data of the open transactions.
+    /// As with `apply`, the births of the world's ledger that have no receipt are exactly the data
+    /// of the open transactions.
     pub fn close_one(&mut self, world: &mut World, status: u32) -> Option<u32>
         requires { IsSoundFor (⟦<Gear as GearTold>⟧.players (gear_in self.old))
             (⟦<Library as LibraryTold>⟧.slots self.old)

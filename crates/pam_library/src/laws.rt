@@ -65,8 +65,8 @@ pub fn closed_places_stand_for_none()
     data_due::laws::nothing_stands_for_none();
 }
 
-/// What stood for some events stands, after a list of calls of which each moved on, for these events and then the births
-/// and the end of each call, in order.
+/// What stood for some events stands, after a list of calls of which each moved on, for these
+/// events and then the births and the end of each call, in order.
 pub fn calls_stand_for_their_events()
     ensures { (note : Notes) (limit : ℕ) (calls : List Moved) (ledger : PlainLedger) (lists : Lists)
         (events : List Event) →
@@ -105,9 +105,9 @@ pub fn no_call_fails_where_none_is_listed()
     ensures { (vault : VaultState) → vault.fails ≡ [] → NoCallFails vault }
 {}
 
-/// What a call on one number comes to doesn't hang on the others. In two states that are alike for a number, a call on it comes
-/// to the same, and leaves two that are alike; and so does, in one of them, a call on another number that changes no
-/// file. It holds of whatever the modules play.
+/// What a call on one number comes to doesn't hang on the others. In two states that are alike for
+/// a number, a call on it comes to the same, and leaves two that are alike; and so does, in one of
+/// them, a call on another number that changes no file. It holds of whatever the modules play.
 pub fn calls_keep_to_themselves()
     ensures own { (players : List Player) (number_of : Code → ℕ → ℕ) (step : Step)
         (slots others : List PlainSlot) (w v : PlainWorld) →
@@ -122,8 +122,8 @@ pub fn calls_keep_to_themselves()
         (stepped players number_of slots w step).world others v }
 {}
 
-/// A step changes files by what modules play, one after another, and by nothing else. What some plays lead to, and others
-/// lead on from, both lead to together.
+/// A step changes files by what modules play, one after another, and by nothing else. What some
+/// plays lead to, and others lead on from, both lead to together.
 pub fn steps_change_files_by_plays()
     ensures step { (players : List Player) (number_of : Code → ℕ → ℕ) (slots : List PlainSlot)
         (w : PlainWorld) (step : Step) →

@@ -43,8 +43,8 @@ impl Library {
     ghost use Rattle.pam_library.specs.AnyWorld.{conv_of, with_conv};
     ghost use Rattle.pam_library.specs.Slots.{NoneIsOpen, PlainSlot, is_open_at, slot_at, with_slot};
 
-    /// A library of sixteen closed places with these conversations, in order, and fewer than 2^32 modules. Without memory
-    /// gear and conversations are given up.
+    /// A library of sixteen closed places with these conversations, in order, and fewer than 2^32
+    /// modules. Without memory gear and conversations are given up.
     pub fn new(alloc: Global, gear: Gear, convs: Vec<Box<dyn Conv>>) -> Result<Library, NoMemory>
         requires sixteen { length convs.items ≡ 16 }
         ensures slots { IfOk result (λ library. ⟦<Library as LibraryTold>⟧.slots library
@@ -82,8 +82,8 @@ impl Library {
         name_of(&self.gear.mods[owner as usize])
     }
 
-    /// Makes the conversation that of the place with this number, from 1 to 16, be it open or not, and gives the old one
-    /// back. Nothing else changes.
+    /// Makes the conversation that of the place with this number, from 1 to 16, be it open or not,
+    /// and gives the old one back. Nothing else changes.
     pub fn put_conv(&mut self, number: u32, conv: Box<dyn Conv>) -> Box<dyn Conv>
         requires first { 1 ≤ number }
         requires last { number ≤ 16 }

@@ -21,8 +21,8 @@ use pam_handle::{Gear, GearTold, Handle, has_pass_flag};
 use pam_room::{Room, RoomTold, World, WorldTold};
 use std::alloc::Global;
 
-// What a stack call is answered before a stack is run: SYSTEM_ERR for the flags of the two passes of a change of token, and
-// then the call that is pending, where it is another one.
+// What a stack call is answered before a stack is run: SYSTEM_ERR for the flags of the two passes
+// of a change of token, and then the call that is pending, where it is another one.
 fn refusal(handle: &Handle, func: Func, flags: u32) -> Option<Answer>
     ensures { result ≡ stack_refusal (plain_handle ⟦<Room as RoomTold>⟧.plain handle.now).pending
         func flags }

@@ -17,8 +17,8 @@ use pam_handle::{Gear, GearTold, Handle, StartRefused};
 use pam_room::{Room, RoomTold, World, WorldTold};
 use std::alloc::Global;
 
-// Opens a place for a transaction that was started, and tells which modules are missing; without memory for their names the
-// transaction, which has no data yet, is ended again.
+// Opens a place for a transaction that was started, and tells which modules are missing; without
+// memory for their names the transaction, which has no data yet, is ended again.
 fn open(alloc: Global, gear: &Gear, world: &mut World, handle: Handle, filed_from: u64) -> Stepped
     requires ready { IsReadyFor (⟦<Gear as GearTold>⟧.players gear.now)
         (plain_handle ⟦<Room as RoomTold>⟧.plain handle)

@@ -16,7 +16,8 @@ module _ (path bytes : List ℕ) where
   abbrev it : File
   it = record { path = path; bytes = bytes }
 
-  over : (files : List File) (n : ℕ) → n < length files → is_it (get_or files n it) ≡ true → ((k : ℕ) → k < n → is_it (get_or files k it) ≡ false) → file_put path bytes files ≡ set files n it
+  over : (files : List File) (n : ℕ) → n < length files → is_it (get_or files n it) ≡ true → ((k : ℕ) → k < n → is_it (get_or files k it) ≡ false)
+      → file_put path bytes files ≡ set files n it
   over [] n lt here before = absurd (omega arith)
   over (f ∷ fs) zero lt here before = rw here refl
   over (f ∷ fs) (suc n) lt here before =
@@ -58,7 +59,8 @@ module _ (path bytes : List ℕ) where
   put_found [] = rw same refl
   put_found (f ∷ fs) = by (bytes_eq f.path path) refl (put_found fs)
     where
-      by : (b : Bool) → bytes_eq f.path path ≡ b → file_at path (file_put path bytes fs) ≡ Some bytes → file_at path (cond b (it path bytes ∷ fs) (f ∷ file_put path bytes fs)) ≡ Some bytes
+      by : (b : Bool) → bytes_eq f.path path ≡ b → file_at path (file_put path bytes fs) ≡ Some bytes
+          → file_at path (cond b (it path bytes ∷ fs) (f ∷ file_put path bytes fs)) ≡ Some bytes
       by true e below = rw same refl
       by false e below = rw e below
 
@@ -70,7 +72,8 @@ module _ (path bytes : List ℕ) where
     put_others [] = rw not_it refl
     put_others (f ∷ fs) = by (bytes_eq f.path path) refl (put_others fs)
       where
-        by : (b : Bool) → bytes_eq f.path path ≡ b → file_at other (file_put path bytes fs) ≡ file_at other fs → file_at other (cond b (it path bytes ∷ fs) (f ∷ file_put path bytes fs)) ≡ file_at other (f ∷ fs)
+        by : (b : Bool) → bytes_eq f.path path ≡ b → file_at other (file_put path bytes fs) ≡ file_at other fs
+            → file_at other (cond b (it path bytes ∷ fs) (f ∷ file_put path bytes fs)) ≡ file_at other (f ∷ fs)
         by true e below =
             let is : f.path ≡ path = (bytes_eq-Decides f.path path).0 e in
             let passed : bytes_eq f.path other ≡ false = ap (λ (p : List ℕ). bytes_eq p other) is ∙ not_it in

@@ -49,7 +49,8 @@ root_before-other [] e = refl
 root_before-other (b ∷ []) e = rw e refl
 root_before-other (b ∷ c ∷ bs) e = rw (some-other b (c ∷ bs) e) (ap (λ (x : List ℕ). b ∷ x) (root_before-other (c ∷ bs) e))
 
-pub cut_slash : (root front : List ℕ) → pointwise eqb (drop (length root - 1) root) (47 ∷ []) ≡ true → front ≡ take (length root - 1) root → root_before root ≡ root_before front
+pub cut_slash : (root front : List ℕ) → pointwise eqb (drop (length root - 1) root) (47 ∷ []) ≡ true → front ≡ take (length root - 1) root
+    → root_before root ≡ root_before front
 cut_slash root front e f =
     let last : drop (length root - 1) root ≡ 47 ∷ [] = (bytes_eq-Decides _ _).0 e in
     let parts : front ++ 47 ∷ [] ≡ root = rw (f, ← last) (take-append-drop (length root - 1) root) in

@@ -28,8 +28,9 @@ pub fn replace_beside<R: Files>(
     }
 }
 
-// The file may hold secrets: its owner alone may read it, or those who may read the one that it replaces. Its bytes are on
-// the disk before it has the name, so that a machine that stops leaves the one file or the other.
+// The file may hold secrets: its owner alone may read it, or those who may read the one that it
+// replaces. Its bytes are on the disk before it has the name, so that a machine that stops leaves
+// the one file or the other.
 fn write_and_rename<R: Files>(rt: &R, beside: &str, path: &str, bytes: &[u8]) -> io::Result<()> {
     let _ = rt.remove_file(beside);
     let mut file = OpenOptions::new()

@@ -12,8 +12,9 @@ use std::io::Read;
 /// How many bytes are read at once.
 pub const CHUNK: usize = 4096;
 
-/// All that a reader has left, where it is at most so many bytes, read by way of a piece of memory. TooLong comes only where it is more, Failed only
-/// where the reader gave an error, and Absent never.
+/// All that a reader has left, where it is at most so many bytes, read by way of a piece of memory.
+/// TooLong comes only where it is more, Failed only where the reader gave an error, and Absent
+/// never.
 pub fn read_to_limit<F: Read + Drop>(
     alloc: Global,
     source: &mut ReaderSource<F>,

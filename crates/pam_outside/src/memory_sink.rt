@@ -38,7 +38,13 @@ impl MemSink {
     /// from 1, of the writes that are to fail.
     pub fn new(alloc: Global, room: usize, fails: Numbers) -> Result<MemSink, NoMemory>
         ensures { IfOk result
-            (λ sink. sink ≡ record { written = []; room = room; calls = 0; faults = 0; fails = fails }) }
+            (λ sink. sink ≡ record {
+              written = [];
+              room = room;
+              calls = 0;
+              faults = 0;
+              fails = fails;
+            }) }
     {
         Ok(MemSink {
             bytes: Vec::with_capacity(alloc, room)?,

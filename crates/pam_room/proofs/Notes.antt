@@ -4,7 +4,8 @@ use Rattle.data_cleanup.specs.Datum.{PlainDatum}
 use Rattle.data_cleanup.specs.declared.receipt.Receipt.{Receipt}
 use Rattle.pam_room.specs.Module.{Player, notes_of}
 
-pub note_is : {M : Type 0} (player : M → Player) (mods : List M) (i : ℕ) (m : M) → i < length mods → m ≡ get_or mods i m → notes_of (map player mods) i ≡ (player m).note
+pub note_is : {M : Type 0} (player : M → Player) (mods : List M) (i : ℕ) (m : M) → i < length mods → m ≡ get_or mods i m
+    → notes_of (map player mods) i ≡ (player m).note
 note_is player [] i m lt is = absurd (omega (arith, lt))
 note_is player (x ∷ xs) zero m lt is = ap (λ y. (player y).note) (sym is)
 note_is player (x ∷ xs) (suc i) m lt is = note_is player xs i m (omega (arith, lt)) is

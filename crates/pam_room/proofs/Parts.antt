@@ -5,7 +5,8 @@ use Rattle.pam_room.specs.State.{PlainTransaction, PlainProcess, Scene, room_of,
 use Rattle.pam_room.specs.Stays.{Stays}
 use Rattle.pam_room.specs.Module.{LeavesAs, Played, SeenRoom, with_played}
 
-pub parts_played : (p : Played) (old new : Scene) → old.room.transaction.datums.handle ≡ old.room.transaction.handle → LeavesAs p old new → new ≡ with_played p old
+pub parts_played : (p : Played) (old new : Scene) → old.room.transaction.datums.handle ≡ old.room.transaction.handle → LeavesAs p old new
+    → new ≡ with_played p old
 parts_played p old new number l =
     let t = new.room.transaction in
     let items = ap (λ (r : SeenRoom). r.items) l.seen in

@@ -9,7 +9,8 @@ use Rattle.pam_room.specs.State.{Scene, State, scene_in}
 use Rattle.pam_room.specs.Module.{Player, PlaysIn, notes_of}
 use Rattle.pam_room.specs.Serve.{AnswersAs, answer_or_incomplete, at_work, served}
 
-pub player_at : {M : Type 0} (player : M → Player) (mods : List M) (i : ℕ) (m : M) → i < length mods → m ≡ get_or mods i m → slice_get (map player mods) i ≡ Some (player m)
+pub player_at : {M : Type 0} (player : M → Player) (mods : List M) (i : ℕ) (m : M) → i < length mods → m ≡ get_or mods i m
+    → slice_get (map player mods) i ≡ Some (player m)
 player_at player [] i m lt is = absurd (omega (arith, lt))
 player_at player (x ∷ xs) zero m lt is = ap (λ y. Some (player y)) (sym is)
 player_at player (x ∷ xs) (suc i) m lt is = player_at player xs i m (omega (arith, lt)) is
@@ -40,5 +41,6 @@ served_so player mods number m call s mid code datums ledger within is p nap d l
     })
 
 -- nothing waits among the replaced, so all that awaits its cleanup is set
-pub all_await : (modules : ℕ) (ledger : PlainLedger) (list : PlainDataList) → list.gone ≡ [] → AwaitCleanup modules ledger list.live → AwaitCleanup modules ledger (list.gone ++ list.live)
+pub all_await : (modules : ℕ) (ledger : PlainLedger) (list : PlainDataList) → list.gone ≡ [] → AwaitCleanup modules ledger list.live
+    → AwaitCleanup modules ledger (list.gone ++ list.live)
 all_await modules ledger list none a = rw none a

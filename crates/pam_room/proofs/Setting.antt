@@ -8,7 +8,8 @@ use Rattle.data_cleanup.specs.Sets.{IsBy, Sets}
 use Rattle.data_cleanup.specs.declared.datum.Birth.{Birth}
 use Rattle.pam_room.specs.Module.{HasSet, NamedData, births_of}
 
-births-append : (id handle owner : ℕ) (xs ys : List NamedData) → births_of id handle owner (xs ++ ys) ≡ births_of id handle owner xs ++ births_of (id + length xs) handle owner ys
+births-append : (id handle owner : ℕ) (xs ys : List NamedData)
+    → births_of id handle owner (xs ++ ys) ≡ births_of id handle owner xs ++ births_of (id + length xs) handle owner ys
 births-append id handle owner [] ys = ap (λ k. births_of k handle owner ys) (let e : id ≡ id + 0 = omega arith in e)
 births-append id handle owner (x ∷ xs) ys =
     ap (λ (bs : List Birth). birth_of id handle owner x.name x.payload ∷ bs) (
@@ -48,7 +49,8 @@ module _ (owner : ℕ) where
     filed = ap (λ (l : PlainLedger). l.filed) s.ledger;
   }
 
-  pub set_more : (ds es : List NamedData) (x y z : PlainDataList) (a b c : PlainLedger) → HasSet owner ds x a y b → HasSet owner es y b z c → HasSet owner (ds ++ es) x a z c
+  pub set_more : (ds es : List NamedData) (x y z : PlainDataList) (a b c : PlainLedger) → HasSet owner ds x a y b → HasSet owner es y b z c
+      → HasSet owner (ds ++ es) x a z c
   set_more ds es x y z a b c s t =
       let handle = set_handle ds x y a b s in
       let grown : length b.births ≡ length a.births + length ds = ap (λ (l : PlainLedger). length l.births) s.ledger ∙ length-append a.births (births_of (length a.births) x.handle owner ds) ∙ ap (λ n. length a.births + n) (births-length (length a.births) x.handle owner ds) in

@@ -28,10 +28,13 @@ impl WorldTold for World {
     ghost use Rattle.std.specs.Prelude.{◌&&◌};
     ghost use Rattle.pam_room.specs.Plain.{plain_world};
 
-    ghost lent_tells = { λ w. (Vault-box w.vault).vault_tells w.vault.value && (Clock-box w.clock).clock_tells w.clock.value };
+    ghost lent_tells = { λ w. (Vault-box w.vault).vault_tells w.vault.value
+        && (Clock-box w.clock).clock_tells w.clock.value };
 
-    ghost tells = { λ w. ((Vault-box w.vault).vault_tells w.vault.value && (Clock-box w.clock).clock_tells w.clock.value)
+    ghost tells = { λ w. ((Vault-box w.vault).vault_tells w.vault.value
+        && (Clock-box w.clock).clock_tells w.clock.value)
         && (Nap-box w.nap).nap_tells w.nap.value };
 
-    ghost plain = { plain_world (λ b. (Vault-box b).vault_holds b.value) (λ b. (Clock-box b).clock_holds b.value) (λ b. (Nap-box b).nap_holds b.value) };
+    ghost plain = { plain_world (λ b. (Vault-box b).vault_holds b.value) (λ b.
+        (Clock-box b).clock_holds b.value) (λ b. (Nap-box b).nap_holds b.value) };
 }

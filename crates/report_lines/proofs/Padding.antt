@@ -10,6 +10,7 @@ pub numeral_is_padded : (numeral : List ℕ) → padded_integral (format_spec 32
 unfolding padded_integral char_count
 numeral_is_padded numeral = grind (arith, common_steps)
 
-pub status_is_padded : (status : ℕ) → status < 2 ^ 32 → padded_integral (format_spec 32 0 4 8 (2 ^ 64 - 1)) false [] (digits 16 false status) ≡ status_words status
+pub status_is_padded : (status : ℕ) → status < 2 ^ 32
+    → padded_integral (format_spec 32 0 4 8 (2 ^ 64 - 1)) false [] (digits 16 false status) ≡ status_words status
 status_is_padded status small =
     numeral_is_padded (digits 16 false status) ∙ ap (λ (n : ℕ). replicate (8 - length (digits 16 false n)) 48 ++ digits 16 false n) (sym (mod-eq_of_lt small))

@@ -12,7 +12,8 @@ pub fn write_result(
     command: &str,
     words: &str,
 ) -> Result<(), NoMemory>
-    ensures { OnOk result (string_bytes text.new ≡ string_bytes text.old ++ words_text handle command.now words.now) }
+    ensures { OnOk result (string_bytes text.new ≡ string_bytes text.old
+        ++ words_text handle command.now words.now) }
 {
     write!(text, "{handle} {command} {words}\n")?;
     Ok(())
@@ -25,7 +26,8 @@ pub fn write_code_result(
     command: &str,
     code: Code,
 ) -> Result<(), NoMemory>
-    ensures { OnOk result (string_bytes text.new ≡ string_bytes text.old ++ words_text handle command.now (code_words code)) }
+    ensures { OnOk result (string_bytes text.new ≡ string_bytes text.old
+        ++ words_text handle command.now (code_words code)) }
 {
     let name = code_name(code);
     let number = code_number(code);
@@ -40,7 +42,8 @@ pub fn write_refused_result(
     command: &str,
     fault: &LoadFault,
 ) -> Result<(), NoMemory>
-    ensures { OnOk result (string_bytes text.new ≡ string_bytes text.old ++ words_text handle command.now (refused_words fault.now)) }
+    ensures { OnOk result (string_bytes text.new ≡ string_bytes text.old
+        ++ words_text handle command.now (refused_words fault.now)) }
 {
     write!(text, "{handle} {command} ")?;
     write_refused(text, fault)?;
@@ -55,7 +58,8 @@ pub fn write_value_result(
     command: &str,
     value: &Option<Text>,
 ) -> Result<(), NoMemory>
-    ensures { OnOk result (string_bytes text.new ≡ string_bytes text.old ++ words_text handle command.now (value_words value.now)) }
+    ensures { OnOk result (string_bytes text.new ≡ string_bytes text.old
+        ++ words_text handle command.now (value_words value.now)) }
 {
     match value {
         Some(set) => write_set_result(text, handle, command, set),
@@ -69,7 +73,8 @@ fn write_set_result(
     command: &str,
     set: &Text,
 ) -> Result<(), NoMemory>
-    ensures { OnOk result (string_bytes text.new ≡ string_bytes text.old ++ words_text handle command.now (value_words (Some set.now))) }
+    ensures { OnOk result (string_bytes text.new ≡ string_bytes text.old
+        ++ words_text handle command.now (value_words (Some set.now))) }
 {
     write!(text, "{handle} {command} set ")?;
     push_quoted(text, set.bytes())?;
@@ -84,7 +89,8 @@ pub fn write_pending_result(
     command: &str,
     func: Func,
 ) -> Result<(), NoMemory>
-    ensures { OnOk result (string_bytes text.new ≡ string_bytes text.old ++ words_text handle command.now (pending_words func)) }
+    ensures { OnOk result (string_bytes text.new ≡ string_bytes text.old
+        ++ words_text handle command.now (pending_words func)) }
 {
     let name = code_name(Code::Abort);
     let number = code_number(Code::Abort);
@@ -100,7 +106,8 @@ pub fn write_count_result(
     command: &str,
     count: usize,
 ) -> Result<(), NoMemory>
-    ensures { OnOk result (string_bytes text.new ≡ string_bytes text.old ++ words_text handle command.now (number_words count)) }
+    ensures { OnOk result (string_bytes text.new ≡ string_bytes text.old
+        ++ words_text handle command.now (number_words count)) }
 {
     write!(text, "{handle} {command} {count}\n")?;
     Ok(())
@@ -108,7 +115,8 @@ pub fn write_count_result(
 
 /// Adds why a configuration is refused, `refused FILE LINE NAME NUMBER`, the file's name quoted; without a newline.
 pub fn write_refused(text: &mut String, fault: &LoadFault) -> Result<(), NoMemory>
-    ensures { OnOk result (string_bytes text.new ≡ string_bytes text.old ++ refused_words fault.now) }
+    ensures { OnOk result (string_bytes text.new ≡ string_bytes text.old
+        ++ refused_words fault.now) }
 {
     text.push_str("refused ")?;
     push_quoted(text, fault.file.bytes())?;

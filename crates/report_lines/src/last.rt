@@ -11,7 +11,8 @@ pub fn read_fault_line() -> &'static str
     "read fault\n"
 }
 
-/// The last line of a run whose script is refused at this line, counted from 1, with its newline: `script LINE NAME NUMBER`.
+/// The last line of a run whose script is refused at this line, counted from 1, with its newline:
+/// `script LINE NAME NUMBER`.
 pub fn script_line(alloc: Global, line: u32, kind: ScriptKind) -> Result<String, NoMemory>
     ensures { IfOk result (λ text. string_bytes text ≡ script_text line kind) }
 {

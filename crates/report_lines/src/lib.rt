@@ -1,5 +1,5 @@
-//! The lines of a report, each by what it says: their texts, and the code that writes them. What prints a report and what
-//! reads one go by the same.
+//! The lines of a report, each by what it says: their texts, and the code that writes them. What
+//! prints a report and what reads one go by the same.
 #![tactic(auto)]
 
 mod answer;

@@ -13,7 +13,8 @@ pub fn write_said(
     style: Style,
     message: &[u8],
 ) -> Result<(), NoMemory>
-    ensures { OnOk result (string_bytes text.new ≡ string_bytes text.old ++ message_text handle style message.now) }
+    ensures { OnOk result (string_bytes text.new ≡ string_bytes text.old
+        ++ message_text handle style message.now) }
 {
     let style = style.number();
     write!(text, "{handle} say {style} ")?;
@@ -30,7 +31,8 @@ pub fn write_visited(
     module: &[u8],
     answer: Code,
 ) -> Result<(), NoMemory>
-    ensures { OnOk result (string_bytes text.new ≡ string_bytes text.old ++ visit_text handle (seen_at place module.now answer)) }
+    ensures { OnOk result (string_bytes text.new ≡ string_bytes text.old
+        ++ visit_text handle (seen_at place module.now answer)) }
 {
     write!(text, "{handle} line {place} ")?;
     push_quoted(text, module)?;
@@ -51,7 +53,13 @@ pub fn write_cleaned(
     datum: &[u8],
 ) -> Result<(), NoMemory>
     ensures { OnOk result (string_bytes text.new ≡ string_bytes text.old
-        ++ cleanup_text handle (record { id = id; status = status; note = note; owner = owner.now; datum = datum.now })) }
+        ++ cleanup_text handle (record {
+          id = id;
+          status = status;
+          note = note;
+          owner = owner.now;
+          datum = datum.now;
+        })) }
 {
     write!(text, "{handle} clean {id} ")?;
     write_status(text, status)?;
@@ -61,7 +69,8 @@ pub fn write_cleaned(
 
 // The end of a line: both names quoted.
 fn write_names(text: &mut String, owner: &[u8], datum: &[u8]) -> Result<(), NoMemory>
-    ensures { OnOk result (string_bytes text.new ≡ string_bytes text.old ++ names_text owner.now datum.now) }
+    ensures { OnOk result (string_bytes text.new ≡ string_bytes text.old
+        ++ names_text owner.now datum.now) }
 {
     push_quoted(text, owner)?;
     text.push_str(" ")?;
@@ -84,7 +93,8 @@ pub fn write_waited(
     asked: u32,
     wait: u32,
 ) -> Result<(), NoMemory>
-    ensures { OnOk result (string_bytes text.new ≡ string_bytes text.old ++ wait_text handle code asked wait) }
+    ensures { OnOk result (string_bytes text.new ≡ string_bytes text.old
+        ++ wait_text handle code asked wait) }
 {
     write!(text, "{handle} wait ")?;
     write_code(text, code)?;
@@ -94,7 +104,8 @@ pub fn write_waited(
 
 /// Adds the line of a module that is missing, `H note missing MODULE`.
 pub fn write_missing(text: &mut String, handle: u32, module: &[u8]) -> Result<(), NoMemory>
-    ensures { OnOk result (string_bytes text.new ≡ string_bytes text.old ++ missing_text handle module.now) }
+    ensures { OnOk result (string_bytes text.new ≡ string_bytes text.old
+        ++ missing_text handle module.now) }
 {
     write!(text, "{handle} note missing ")?;
     push_quoted(text, module)?;
@@ -104,7 +115,8 @@ pub fn write_missing(text: &mut String, handle: u32, module: &[u8]) -> Result<()
 
 /// Adds the line of a variable, `H env NAME=VALUE`.
 pub fn write_variable(text: &mut String, handle: u32, variable: &[u8]) -> Result<(), NoMemory>
-    ensures { OnOk result (string_bytes text.new ≡ string_bytes text.old ++ variable_text handle variable.now) }
+    ensures { OnOk result (string_bytes text.new ≡ string_bytes text.old
+        ++ variable_text handle variable.now) }
 {
     write!(text, "{handle} env ")?;
     push_quoted(text, variable)?;

@@ -24,7 +24,8 @@ otherwise true h = refl
 otherwise false h = absurd (let e = h refl in cc)
 
 -- each of some digits is below the radix
-pub is_small : (radix : ℕ) (digits : List ℕ) (i : ℕ) → list_all (λ digit. is_digit digit radix) digits ≡ true → i < length digits → digit_value (get_or digits i 0) < radix
+pub is_small : (radix : ℕ) (digits : List ℕ) (i : ℕ) → list_all (λ digit. is_digit digit radix) digits ≡ true → i < length digits
+    → digit_value (get_or digits i 0) < radix
 is_small radix digits i all lt =
     ltb-true _ _ (otherwise (is_digit (get_or digits i 0) radix) (λ e. sym all ∙ list_all_at (λ digit. is_digit digit radix) digits i 0 lt e))
 

@@ -62,18 +62,21 @@ named word m e = by_cases (is_service_name word) refl e
     by_cases true is e = let same : bytes word ≡ m = cc in rw (← same) is
     by_cases false is e = absurd cc
 
-service_named : (words : List (List ℕ)) (m : Meaning) → nat_lt 2 (length words) ≡ true → meaning_at (Wanted forms.Service) 2 words ≡ Ok m → is_service_name (bytes_of m) ≡ true
+service_named : (words : List (List ℕ)) (m : Meaning) → nat_lt 2 (length words) ≡ true → meaning_at (Wanted forms.Service) 2 words ≡ Ok m
+    → is_service_name (bytes_of m) ≡ true
 service_named words m lt e =
     named (get_or words 2 []) m (rw (slice_get-get_or words 2 [] (ltb-true 2 (length words) lt)) at e)
 
-reply_short : (words : List (List ℕ)) (m : Meaning) → nat_lt 2 (length words) ≡ true → meaning_at (Wanted forms.Text) 2 words ≡ Ok m → length (join_with_byte 32 words) ≤ 512 → nat_le (length (bytes_of m)) 512 ≡ true
+reply_short : (words : List (List ℕ)) (m : Meaning) → nat_lt 2 (length words) ≡ true → meaning_at (Wanted forms.Text) 2 words ≡ Ok m
+    → length (join_with_byte 32 words) ≤ 512 → nat_le (length (bytes_of m)) 512 ≡ true
 reply_short words m lt e short =
     let is = rw lt at e in
     let same : bytes (join_with_byte 32 (drop 2 words)) ≡ m = cc in
     rw (← same) (le-leb _ 512 (omega (arith, length-join-drop 2 words, short)))
 
 -- a moment
-at_most_small : (n : ℕ) (m : Meaning) (b : Bool) → nat_le n 1000000000000 ≡ b → ok_or (option_map wide (cond b (Some n) None)) BadNumeral ≡ Ok m → wide_of m ≤ 1000000000000
+at_most_small : (n : ℕ) (m : Meaning) (b : Bool) → nat_le n 1000000000000 ≡ b → ok_or (option_map wide (cond b (Some n) None)) BadNumeral ≡ Ok m
+    → wide_of m ≤ 1000000000000
 at_most_small n m true le e =
     let same : wide n ≡ m = cc in
     rw (← same) (leb-true n 1000000000000 le)
@@ -91,7 +94,8 @@ moment_small (Some word) m e = limited_small (number_of_digits 10 13 word) m e
 
 -- ---- a command's line
 
-made_fit : (command : Command) (words : List (List ℕ)) (said : Meanings) → length (join_with_byte 32 words) ≤ 512 → has_its_words (row_of command).places words ≡ true → meanings_at (row_of command).places words ≡ Ok said → IsFit (line_made command said)
+made_fit : (command : Command) (words : List (List ℕ)) (said : Meanings) → length (join_with_byte 32 words) ≤ 512
+    → has_its_words (row_of command).places words ≡ true → meanings_at (row_of command).places words ≡ Ok said → IsFit (line_made command said)
 made_fit commands.Start words said short has e =
     service_named words said.second (and_parts (nat_lt 2 (length words)) _ has).0 (all_of-second _ _ _ said e)
 made_fit commands.Reply words said short has e =
@@ -114,13 +118,17 @@ made_fit commands.At words said short has e = moment_small (word_at (Wanted form
 made_fit commands.Random words said short has e = tt
 made_fit commands.Caller words said short has e = tt
 
-answer_fit : (command : Command) (words : List (List ℕ)) (line : Line) → length (join_with_byte 32 words) ≤ 512 → has_its_words (row_of command).places words ≡ true → (answer : Result Meanings ScriptKind) → meanings_at (row_of command).places words ≡ answer → line_or_fault command answer ≡ Ok line → IsFit line
+answer_fit : (command : Command) (words : List (List ℕ)) (line : Line) → length (join_with_byte 32 words) ≤ 512
+    → has_its_words (row_of command).places words ≡ true → (answer : Result Meanings ScriptKind) → meanings_at (row_of command).places words ≡ answer
+    → line_or_fault command answer ≡ Ok line → IsFit line
 answer_fit command words line short has (Err fault) is e = absurd cc
 answer_fit command words line short has (Ok said) is e =
     let same : line_made command said ≡ line = cc in
     subst IsFit same (made_fit command words said short has is)
 
-command_fit : (command : Command) (words : List (List ℕ)) (line : Line) → length (join_with_byte 32 words) ≤ 512 → (b : Bool) → has_its_words (row_of command).places words ≡ b → cond b (line_or_fault command (meanings_at (row_of command).places words)) (Err BadWord) ≡ Ok line → IsFit line
+command_fit : (command : Command) (words : List (List ℕ)) (line : Line) → length (join_with_byte 32 words) ≤ 512 → (b : Bool)
+    → has_its_words (row_of command).places words ≡ b
+    → cond b (line_or_fault command (meanings_at (row_of command).places words)) (Err BadWord) ≡ Ok line → IsFit line
 command_fit command words line short true has e = answer_fit command words line short has _ refl e
 command_fit command words line short false has e = absurd cc
 

@@ -31,7 +31,8 @@ all_of-first (Ok a) (Ok b) (Ok c) said e =
 
 -- ---- a number
 
-small_if : (n : ℕ) (m : Meaning) (b : Bool) → nat_le n 4294967295 ≡ b → ok_or (option_map number (if b then Some n else None)) BadNumeral ≡ Ok m → number_of m < 2 ^ 32
+small_if : (n : ℕ) (m : Meaning) (b : Bool) → nat_le n 4294967295 ≡ b → ok_or (option_map number (if b then Some n else None)) BadNumeral ≡ Ok m
+    → number_of m < 2 ^ 32
 small_if n m true le e = let same : number n ≡ m = cc in let small : n ≤ 4294967295 = leb-true n 4294967295 le in subst (λ (x : Meaning). number_of x < 2 ^ 32) same (omega arith)
 small_if n m false le e = absurd cc
 
@@ -50,10 +51,12 @@ step_number said call asked e small =
     let same : ◌≡◌ {A = Asked} (record { number = number_of said.first; call = call }) asked = cc in
     subst (λ (x : Asked). x.number < 2 ^ 32) same small
 
-first_small : (words : List (List ℕ)) (said : Meanings) (second third : Result Meaning ScriptKind) → all_of (meaning_at (Wanted forms.Number) 1 words) second third ≡ Ok said → number_of said.first < 2 ^ 32
+first_small : (words : List (List ℕ)) (said : Meanings) (second third : Result Meaning ScriptKind)
+    → all_of (meaning_at (Wanted forms.Number) 1 words) second third ≡ Ok said → number_of said.first < 2 ^ 32
 first_small words said second third e = number_small (word_at (Wanted forms.Number) 1 words) said.first (all_of-first _ _ _ said e)
 
-made_numbered : (command : Command) (words : List (List ℕ)) (said : Meanings) (asked : Asked) → meanings_at (row_of command).places words ≡ Ok said → line_made command said ≡ Step asked → asked.number < 2 ^ 32
+made_numbered : (command : Command) (words : List (List ℕ)) (said : Meanings) (asked : Asked) → meanings_at (row_of command).places words ≡ Ok said
+    → line_made command said ≡ Step asked → asked.number < 2 ^ 32
 made_numbered commands.Start words said asked e is = step_number said _ asked is (first_small words said _ _ e)
 made_numbered commands.End words said asked e is = step_number said _ asked is (first_small words said _ _ e)
 made_numbered commands.Authenticate words said asked e is = step_number said _ asked is (first_small words said _ _ e)
@@ -74,11 +77,13 @@ made_numbered commands.At words said asked e is = absurd cc
 made_numbered commands.Random words said asked e is = absurd cc
 made_numbered commands.Caller words said asked e is = absurd cc
 
-answer_numbered : (command : Command) (words : List (List ℕ)) (asked : Asked) (answer : Result Meanings ScriptKind) → meanings_at (row_of command).places words ≡ answer → line_or_fault command answer ≡ Ok (Step asked) → asked.number < 2 ^ 32
+answer_numbered : (command : Command) (words : List (List ℕ)) (asked : Asked) (answer : Result Meanings ScriptKind)
+    → meanings_at (row_of command).places words ≡ answer → line_or_fault command answer ≡ Ok (Step asked) → asked.number < 2 ^ 32
 answer_numbered command words asked (Err fault) is e = absurd cc
 answer_numbered command words asked (Ok said) is e = made_numbered command words said asked is (let same : line_made command said ≡ Step asked = cc in same)
 
-command_numbered : (command : Command) (words : List (List ℕ)) (asked : Asked) (b : Bool) → (if b then line_or_fault command (meanings_at (row_of command).places words) else Err BadWord) ≡ Ok (Step asked) → asked.number < 2 ^ 32
+command_numbered : (command : Command) (words : List (List ℕ)) (asked : Asked) (b : Bool)
+    → (if b then line_or_fault command (meanings_at (row_of command).places words) else Err BadWord) ≡ Ok (Step asked) → asked.number < 2 ^ 32
 command_numbered command words asked true e = answer_numbered command words asked _ refl e
 command_numbered command words asked false e = absurd cc
 
@@ -86,7 +91,8 @@ named_numbered : (o : Option Command) (words : List (List ℕ)) (asked : Asked) 
 named_numbered None words asked e = absurd cc
 named_numbered (Some command) words asked e = command_numbered command words asked (has_its_words (row_of command).places words) e
 
-text_if : (b c : Bool) (text : List ℕ) (asked : Asked) → (if b then Err LineTooLong else if c then Ok Blank else command_line text) ≡ Ok (Step asked) → asked.number < 2 ^ 32
+text_if : (b c : Bool) (text : List ℕ) (asked : Asked) → (if b then Err LineTooLong else if c then Ok Blank else command_line text) ≡ Ok (Step asked)
+    → asked.number < 2 ^ 32
 text_if true c text asked e = absurd cc
 text_if false true text asked e = absurd cc
 text_if false false text asked e = named_numbered (command_of_word (first_word text)) (words_of text) asked e

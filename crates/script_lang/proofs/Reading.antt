@@ -52,7 +52,8 @@ without_return-return text =
     rw (before, drop-append_seam, take-append_seam) refl
 
 -- a line that isn't too long, isn't blank and begins with a command's word
-read_by_words : (text word : List ℕ) (command : Command) (words : List (List ℕ)) → words_of text ≡ word ∷ words → command_of_word word ≡ Some command → is_blank text ≡ false → length text ≤ 512 → parsed (text ++ codes "\r") ≡ line_of_command (Some command) (word ∷ words)
+read_by_words : (text word : List ℕ) (command : Command) (words : List (List ℕ)) → words_of text ≡ word ∷ words → command_of_word word ≡ Some command
+    → is_blank text ≡ false → length text ≤ 512 → parsed (text ++ codes "\r") ≡ line_of_command (Some command) (word ∷ words)
 read_by_words text word command words is named plain short =
     rw (without_return-return text, le-ltb 512 (length text) short, plain, is, named) refl
 
@@ -113,15 +114,18 @@ step : ℕ → AppCall → Result Line ScriptKind
 step n call = Ok (lines.Step (record { number = n; call = call }))
 
 module _ (h : List ℕ) (n : ℕ) (reads : number_of_word h ≡ Some n) where
-  start : (service : List ℕ) → is_service_name service ≡ true → line_of_command (Some commands.Start) (codes "start" ∷ h ∷ service ∷ []) ≡ step n (calls.Start service None)
+  start : (service : List ℕ) → is_service_name service ≡ true
+      → line_of_command (Some commands.Start) (codes "start" ∷ h ∷ service ∷ []) ≡ step n (calls.Start service None)
   unfolding step
   start service e = rw (reads, e) refl
 
-  start_user : (service user : List ℕ) → is_service_name service ≡ true → nat_lt 0 (length user) ≡ true → line_of_command (Some commands.Start) (codes "start" ∷ h ∷ service ∷ user ∷ []) ≡ step n (calls.Start service (Some user))
+  start_user : (service user : List ℕ) → is_service_name service ≡ true → nat_lt 0 (length user) ≡ true
+      → line_of_command (Some commands.Start) (codes "start" ∷ h ∷ service ∷ user ∷ []) ≡ step n (calls.Start service (Some user))
   unfolding step
   start_user service user e some = rw (reads, e, some) refl
 
-  end : (word : List ℕ) (status : ℕ) → number_of_word word ≡ Some status → line_of_command (Some commands.End) (codes "end" ∷ h ∷ word ∷ []) ≡ step n (calls.End status)
+  end : (word : List ℕ) (status : ℕ) → number_of_word word ≡ Some status
+      → line_of_command (Some commands.End) (codes "end" ∷ h ∷ word ∷ []) ≡ step n (calls.End status)
   unfolding step
   end word status e = rw (reads, e) refl
 
@@ -129,7 +133,8 @@ module _ (h : List ℕ) (n : ℕ) (reads : number_of_word h ≡ Some n) where
   unfolding step
   set_item item = rw (reads, item_of_word-word item) refl
 
-  set_item_text : (item : ItemName) (text : List ℕ) → line_of_command (Some commands.SetItem) (codes "set_item" ∷ h ∷ item_word item ∷ words_of text) ≡ step n (calls.SetItem item (Some text))
+  set_item_text : (item : ItemName) (text : List ℕ)
+      → line_of_command (Some commands.SetItem) (codes "set_item" ∷ h ∷ item_word item ∷ words_of text) ≡ step n (calls.SetItem item (Some text))
   unfolding step
   set_item_text item text =
       let wanted : nat_lt 2 (suc (suc (suc (length (words_of text))))) ≡ true = lt-ltb 2 _ (omega arith) in
@@ -152,7 +157,8 @@ module _ (h : List ℕ) (n : ℕ) (reads : number_of_word h ≡ Some n) where
       let some : nat_lt 2 (suc (suc (length (words_of text)))) ≡ true = lt-ltb 2 _ (omega (arith, has_word text)) in
       rw (reads, some, join-words_of text) refl
 
-  getenv : (name : List ℕ) → nat_lt 0 (length name) ≡ true → line_of_command (Some commands.GetEnv) (codes "getenv" ∷ h ∷ name ∷ []) ≡ step n (calls.GetEnv name)
+  getenv : (name : List ℕ) → nat_lt 0 (length name) ≡ true
+      → line_of_command (Some commands.GetEnv) (codes "getenv" ∷ h ∷ name ∷ []) ≡ step n (calls.GetEnv name)
   unfolding step
   getenv name some = rw (reads, some) refl
 
@@ -160,7 +166,8 @@ module _ (h : List ℕ) (n : ℕ) (reads : number_of_word h ≡ Some n) where
   unfolding step
   envlist = rw reads refl
 
-  fail_delay : (word : List ℕ) (micros : ℕ) → number_of_word word ≡ Some micros → line_of_command (Some commands.FailDelay) (codes "fail_delay" ∷ h ∷ word ∷ []) ≡ step n (calls.FailDelay micros)
+  fail_delay : (word : List ℕ) (micros : ℕ) → number_of_word word ≡ Some micros
+      → line_of_command (Some commands.FailDelay) (codes "fail_delay" ∷ h ∷ word ∷ []) ≡ step n (calls.FailDelay micros)
   unfolding step
   fail_delay word micros e = rw (reads, e) refl
 
@@ -215,10 +222,12 @@ module _ (word : List ℕ) (n : ℕ) (plain : has_byte 32 word ≡ false) (small
   written_three : (third : List ℕ) → has_byte 32 third ≡ false → words_of (join_with_byte 32 (word ∷ decimal n ∷ third ∷ [])) ≡ word ∷ decimal n ∷ third ∷ []
   written_three third e = written_text third ∙ ap (λ (words : List (List ℕ)). word ∷ decimal n ∷ words) (words_of-alone third e)
 
-  written_four_text : (third text : List ℕ) → has_byte 32 third ≡ false → words_of (join_with_byte 32 (word ∷ decimal n ∷ third ∷ text ∷ [])) ≡ word ∷ decimal n ∷ third ∷ words_of text
+  written_four_text : (third text : List ℕ) → has_byte 32 third ≡ false
+      → words_of (join_with_byte 32 (word ∷ decimal n ∷ third ∷ text ∷ [])) ≡ word ∷ decimal n ∷ third ∷ words_of text
   written_four_text third text e = words_of-join (word ∷ decimal n ∷ third ∷ []) text (three_words third e)
 
-  written_four : (third fourth : List ℕ) → has_byte 32 third ≡ false → has_byte 32 fourth ≡ false → words_of (join_with_byte 32 (word ∷ decimal n ∷ third ∷ fourth ∷ [])) ≡ word ∷ decimal n ∷ third ∷ fourth ∷ []
+  written_four : (third fourth : List ℕ) → has_byte 32 third ≡ false → has_byte 32 fourth ≡ false
+      → words_of (join_with_byte 32 (word ∷ decimal n ∷ third ∷ fourth ∷ [])) ≡ word ∷ decimal n ∷ third ∷ fourth ∷ []
   written_four third fourth e f = written_four_text third fourth e ∙ ap (λ (words : List (List ℕ)). word ∷ decimal n ∷ third ∷ words) (words_of-alone fourth f)
 
 -- ---- the law
@@ -234,7 +243,9 @@ module _ (n : ℕ) (small : n < 2 ^ 32) where
   number-reads = number_of_word-decimal n small
 
   -- by the words of the step's line, and what its command makes of them
-  by_words : (call : AppCall) (command : Command) (words : List (List ℕ)) → words_of (text_of_step (written n call)) ≡ word_of_call call ∷ words → command_of_word (word_of_call call) ≡ Some command → is_blank (text_of_step (written n call)) ≡ false → line_of_command (Some command) (word_of_call call ∷ words) ≡ step n call → ReadsItself n call
+  by_words : (call : AppCall) (command : Command) (words : List (List ℕ)) → words_of (text_of_step (written n call)) ≡ word_of_call call ∷ words
+      → command_of_word (word_of_call call) ≡ Some command → is_blank (text_of_step (written n call)) ≡ false
+      → line_of_command (Some command) (word_of_call call ∷ words) ≡ step n call → ReadsItself n call
   unfolding ReadsItself step
   by_words call command words is named plain makes short =
       read_by_words (text_of_step (written n call)) (word_of_call call) command words is named plain short ∙ makes

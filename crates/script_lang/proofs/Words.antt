@@ -49,7 +49,8 @@ pub words_of-first : (line : List ℕ) (n : ℕ) → IsFirstPlace (Some n) 32 li
 words_of-first line n at = ap words_of at.2 ∙ words_of-word (take n line) (drop (n + 1) line) at.1
 
 -- what stands behind the first word
-pub behind_first : (line : List ℕ) (n : ℕ) → IsFirstPlace (Some n) 32 line → words_of (take (length line - (n + 1)) (drop (n + 1) line)) ≡ drop 1 (words_of line)
+pub behind_first : (line : List ℕ) (n : ℕ) → IsFirstPlace (Some n) 32 line
+    → words_of (take (length line - (n + 1)) (drop (n + 1) line)) ≡ drop 1 (words_of line)
 behind_first line n at =
     let whole : take (length line - (n + 1)) (drop (n + 1) line) ≡ drop (n + 1) line = take_all (length line - (n + 1)) (drop (n + 1) line) (omega (arith, length-drop (n + 1) line)) in
     rw (whole, words_of-first line n at) refl
@@ -115,7 +116,8 @@ module _ (places : List Place) (line : List ℕ) (wanted : ℕ) (least : Option 
   pub text_fits : is_some least ≡ true → list_any is_text places ≡ true → true ≡ has_its_words places (words_of line)
   text_fits e t = let yes = sym enough ∙ e in rw (yes, t) refl
 
-  pub words_fit : (most : Option (List ℕ)) (n : ℕ) → n ≡ most_of places → is_some least ≡ true → list_any is_text places ≡ false → IsBehind most (n + 1) (words_of line) → not (is_some most) ≡ has_its_words places (words_of line)
+  pub words_fit : (most : Option (List ℕ)) (n : ℕ) → n ≡ most_of places → is_some least ≡ true → list_any is_text places ≡ false
+      → IsBehind most (n + 1) (words_of line) → not (is_some most) ≡ has_its_words places (words_of line)
   words_fit most n m e t b =
       let yes = sym enough ∙ e in
       let few = ap not (is_behind most line (n + 1) b) ∙ not_lt (n + 1) (length (words_of line)) in

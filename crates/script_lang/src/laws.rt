@@ -7,7 +7,8 @@ ghost use Rattle.script_lang.specs.Written.{is_writable, line_of};
 
 /// A step that is written as a line is read as itself.
 pub fn written_is_read()
-    ensures { (step : Step) → IsTrue (is_writable step) → parsed (line_of step) ≡ Ok (lines.Step step) }
+    ensures { (step : Step) → IsTrue (is_writable step) →
+        parsed (line_of step) ≡ Ok (lines.Step step) }
 {}
 
 /// The number of a transaction that a line names has 32 bits.

@@ -39,7 +39,8 @@ line_front n place held at = record {
       ∙ looked-line n (take place held) (drop (place + 1) held ++ more) ended at.1;
 }
 
-pub wait_front : (limit n : ℕ) (held : List ℕ) → IsLimit limit n → length held ≤ limit → has_byte 10 held ≡ false → (looked n held false ≡ []) × (length held ≤ 581)
+pub wait_front : (limit n : ℕ) (held : List ℕ) → IsLimit limit n → length held ≤ limit → has_byte 10 held ≡ false
+    → (looked n held false ≡ []) × (length held ≤ 581)
 wait_front limit n held (inl h) le e = (looked-partial n held e (rw (lt-leb 65536 n h.1, le-ltb 513 (length held) (omega (arith, le, h.0))) refl), omega (arith, le, h.0))
 wait_front limit n held (inr h) le e =
     let none = nil_from_length held (omega (arith, le, h.0)) in
@@ -49,7 +50,8 @@ is_over : (limit n : ℕ) (held : List ℕ) → IsLimit limit n → limit < leng
 is_over limit n held (inl h) lt = inr (omega (arith, lt, h.0))
 is_over limit n held (inr h) lt = inl h.1
 
-pub last_front : (limit n : ℕ) (held : List ℕ) → IsLimit limit n → limit < length held → has_byte 10 held ≡ false → (0 < length held) × (looked n held false ≡ held ∷ []) × IsOver n held
+pub last_front : (limit n : ℕ) (held : List ℕ) → IsLimit limit n → limit < length held → has_byte 10 held ≡ false
+    → (0 < length held) × (looked n held false ≡ held ∷ []) × IsOver n held
 last_front limit n held lim lt e =
     let o = is_over limit n held lim lt in
     (omega (arith, lt), looked-last n held false (omega (arith, lt)) e (over n held o), o)

@@ -17,13 +17,15 @@ looked-line n line more ended e =
     rw (cut-line line more e, k) refl
 
 -- the last line, where it is looked at
-looked-one : (n : ℕ) (b : ℕ) (bs : List ℕ) (ended : Bool) → has_byte 10 (b ∷ bs) ≡ false → (ended || leb 65536 n || ltb 513 (length (b ∷ bs))) ≡ true → looked n (b ∷ bs) ended ≡ (b ∷ bs) ∷ []
+looked-one : (n : ℕ) (b : ℕ) (bs : List ℕ) (ended : Bool) → has_byte 10 (b ∷ bs) ≡ false → (ended || leb 65536 n || ltb 513 (length (b ∷ bs))) ≡ true
+    → looked n (b ∷ bs) ended ≡ (b ∷ bs) ∷ []
 unfolding looked last_looked
 looked-one n b bs ended e h =
     let k : n + 0 ≡ n = omega arith in
     rw (cut-part (b ∷ bs) e, k, h) refl
 
-pub looked-last : (n : ℕ) (bytes : List ℕ) (ended : Bool) → 0 < length bytes → has_byte 10 bytes ≡ false → (ended || leb 65536 n || ltb 513 (length bytes)) ≡ true → looked n bytes ended ≡ bytes ∷ []
+pub looked-last : (n : ℕ) (bytes : List ℕ) (ended : Bool) → 0 < length bytes → has_byte 10 bytes ≡ false
+    → (ended || leb 65536 n || ltb 513 (length bytes)) ≡ true → looked n bytes ended ≡ bytes ∷ []
 looked-last n [] ended pos e h = absurd (omega arith)
 looked-last n (b ∷ bs) ended pos e h = looked-one n b bs ended e h
 
@@ -49,7 +51,8 @@ unfolding cut glued
 onto-glued x [] r b e = rw e refl
 onto-glued x (l ∷ ls) r b e = refl
 
-append-step : (x : ℕ) (a b : List ℕ) (t : Bool) → eqb x 10 ≡ t → cut (a ++ b) ≡ glued (cut a) (cut ((cut a).rest ++ b)) → cut ((x ∷ a) ++ b) ≡ glued (cut (x ∷ a)) (cut ((cut (x ∷ a)).rest ++ b))
+append-step : (x : ℕ) (a b : List ℕ) (t : Bool) → eqb x 10 ≡ t → cut (a ++ b) ≡ glued (cut a) (cut ((cut a).rest ++ b))
+    → cut ((x ∷ a) ++ b) ≡ glued (cut (x ∷ a)) (cut ((cut (x ∷ a)).rest ++ b))
 unfolding cut glued
 append-step x a b true e h = rw (e, h) refl
 append-step x a b false e h = rw (e, h) (onto-glued x (cut a).lines (cut a).rest b e)
@@ -95,7 +98,8 @@ cut-before (x ∷ r) b h =
     let both = neither (eqb x 10) (has_byte 10 r) h in
     rw (both.0, cut-before r b both.1) (onto-before x r (cut b).lines (cut b).rest)
 
-pub looked-append : (n : ℕ) (a b : List ℕ) (ended : Bool) → looked n (a ++ b) ended ≡ (cut a).lines ++ looked (n + length (cut a).lines) ((cut a).rest ++ b) ended
+pub looked-append : (n : ℕ) (a b : List ℕ) (ended : Bool)
+    → looked n (a ++ b) ended ≡ (cut a).lines ++ looked (n + length (cut a).lines) ((cut a).rest ++ b) ended
 unfolding looked glued
 looked-append n a b ended =
     let m = cut ((cut a).rest ++ b) in

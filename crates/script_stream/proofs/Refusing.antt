@@ -54,7 +54,8 @@ module _ {State : Type 0} (step : LineStep State) where
   after-refused n c (Ok x) f g k h e = ap (with_text x.1) (h x.0 e)
   after-refused n c (Err j) f g k h e = refl
 
-  core : (ls t u : List (List ℕ)) (n : ℕ) (c : State) (k : ScriptKind) → ((d : State) → (run_items (step_at step) (n + length ls) d t).refused ≡ Some k → run_items (step_at step) (n + length ls) d u ≡ run_items (step_at step) (n + length ls) d t)
+  core : (ls t u : List (List ℕ)) (n : ℕ) (c : State) (k : ScriptKind)
+      → ((d : State) → (run_items (step_at step) (n + length ls) d t).refused ≡ Some k → run_items (step_at step) (n + length ls) d u ≡ run_items (step_at step) (n + length ls) d t)
       → (run_items (step_at step) n c (ls ++ t)).refused ≡ Some k → run_items (step_at step) n c (ls ++ u) ≡ run_items (step_at step) n c (ls ++ t)
   unfolding run_items
   core [] t u n c k h e =
@@ -65,7 +66,8 @@ module _ {State : Type 0} (step : LineStep State) where
       after-refused n c (step_at step n c l) (λ d. run_items (step_at step) (n + 1) d (ls ++ t)) (λ d. run_items (step_at step) (n + 1) d (ls ++ u)) k
       (λ x r. core ls t u (n + 1) x k (rw z at h) r) e
 
-  last_by : (d : State) (n x : ℕ) (xs more : List ℕ) (ended : Bool) (k : ScriptKind) (t : Bool) → (leb 65536 n || ltb 513 (length (x ∷ xs))) ≡ t → has_byte 10 (x ∷ xs) ≡ false
+  last_by : (d : State) (n x : ℕ) (xs more : List ℕ) (ended : Bool) (k : ScriptKind) (t : Bool) → (leb 65536 n || ltb 513 (length (x ∷ xs))) ≡ t
+      → has_byte 10 (x ∷ xs) ≡ false
       → (run_items (step_at step) n d (last_looked n (x ∷ xs) false)).refused ≡ Some k → run_items (step_at step) n d (looked n ((x ∷ xs) ++ more) ended) ≡ run_items (step_at step) n d (last_looked n (x ∷ xs) false)
   unfolding run_items last_looked
   last_by d n x xs more ended k true h e q =
@@ -83,7 +85,8 @@ module _ {State : Type 0} (step : LineStep State) where
   last-stays d n (x ∷ xs) more ended k e q = last_by d n x xs more ended k _ refl e q
 
   -- what is refused among some bytes is refused, whatever stands behind them, and with the same text before it
-  pub run-stays : (n : ℕ) (c : State) (taken more : List ℕ) (ended : Bool) (k : ScriptKind) → (run_of step n c taken false).refused ≡ Some k → run_of step n c (taken ++ more) ended ≡ run_of step n c taken false
+  pub run-stays : (n : ℕ) (c : State) (taken more : List ℕ) (ended : Bool) (k : ScriptKind) → (run_of step n c taken false).refused ≡ Some k
+      → run_of step n c (taken ++ more) ended ≡ run_of step n c taken false
   unfolding run_of_items looked
   run-stays n c taken more ended k e =
       let m = n + length (cut taken).lines in

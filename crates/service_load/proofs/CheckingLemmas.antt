@@ -8,10 +8,13 @@ use Rattle.service_load.specs.Answers.{with_front}
 use Rattle.service_load.specs.Checking.{checked_entries, GivesFields}
 use Rattle.service_load.specs.Entry.{entry_of, entry_of_tokens}
 
-pub adds_entry : (in_folder : Bool) (line : ℕ) (fields : List Token) (own : List RawRule) (old new : List Entry) (entry : Entry) → GivesFields (Some fields) line own → entry_of_tokens line in_folder fields ≡ Ok entry → new ≡ old ++ entry ∷ [] → with_front old (checked_entries in_folder own) ≡ Ok new
+pub adds_entry : (in_folder : Bool) (line : ℕ) (fields : List Token) (own : List RawRule) (old new : List Entry) (entry : Entry)
+    → GivesFields (Some fields) line own → entry_of_tokens line in_folder fields ≡ Ok entry → new ≡ old ++ entry ∷ []
+    → with_front old (checked_entries in_folder own) ≡ Ok new
 unfolding entry_of
 adds_entry in_folder line fields own old new entry gives is added = rw (gives, is, added) refl
 
-pub adds_fault : (in_folder : Bool) (line : ℕ) (fields : List Token) (own : List RawRule) (kind : FaultKind) → GivesFields (Some fields) line own → entry_of_tokens line in_folder fields ≡ Err kind → checked_entries in_folder own ≡ Err (record { line = line; kind = kind })
+pub adds_fault : (in_folder : Bool) (line : ℕ) (fields : List Token) (own : List RawRule) (kind : FaultKind) → GivesFields (Some fields) line own
+    → entry_of_tokens line in_folder fields ≡ Err kind → checked_entries in_folder own ≡ Err (record { line = line; kind = kind })
 unfolding entry_of
 adds_fault in_folder line fields own kind gives is = rw (gives, is) refl

@@ -60,7 +60,8 @@ more_left old left e n m steps fewer counted = omega (arith, ap length steps, fe
 pub grows_none : (level : ℕ) (was : Loader) (s : Stack) → level ≤ 16 → Grows level was was s s
 grows_none level was s low = record { within = low; lines = refl; few = λ few. few; deep = λ n le left. le }
 
-pub grows_line : (level : ℕ) (is : Loader) (now : Stack) (rule : Rule) → level ≤ 16 → is.lines < 4096 → Grows level is (record is { lines = is.lines + 1 }) now (joined now (line rule none))
+pub grows_line : (level : ℕ) (is : Loader) (now : Stack) (rule : Rule) → level ≤ 16 → is.lines < 4096
+    → Grows level is (record is { lines = is.lines + 1 }) now (joined now (line rule none))
 grows_line level is now rule low few = record {
   within = low;
   lines = omega (arith, lines-joined now (line rule none));
@@ -69,7 +70,8 @@ grows_line level is now rule low few = record {
 }
 
 -- by a file that is brought in, one level deeper
-pub grows_in : (level : ℕ) (is on : Loader) (now inner : Stack) (as_substack : Bool) → Grows (level + 1) is on none inner → Grows level is on now (joined now (brought_in as_substack inner))
+pub grows_in : (level : ℕ) (is on : Loader) (now inner : Stack) (as_substack : Bool) → Grows (level + 1) is on none inner
+    → Grows level is on now (joined now (brought_in as_substack inner))
 grows_in level is on now inner true g = record {
   within = omega (arith, g.within);
   lines = omega (arith, g.lines, lines-joined now (sub inner none));
@@ -86,7 +88,8 @@ grows_in level is on now inner false g = record {
 }
 
 -- by one entry after another
-pub grows_on : (level : ℕ) (was is on : Loader) (before now after : Stack) → Grows level was is before now → Grows level is on now after → Grows level was on before after
+pub grows_on : (level : ℕ) (was is on : Loader) (before now after : Stack) → Grows level was is before now → Grows level is on now after
+    → Grows level was on before after
 grows_on level was is on before now after g h = record {
   within = g.within;
   lines = omega (arith, g.lines, h.lines);
@@ -106,7 +109,8 @@ module _ (texts : List ℕ → Option (List ℕ)) (fails : List ℕ) where
   on-same (Err s) f g same = refl
 
   -- along some items and those behind them
-  pub look-append : (counts : Counts) (xs ys : List Item) → look texts fails counts (xs ++ ys) ≡ going_on (look texts fails counts xs) (λ c. look texts fails c ys)
+  pub look-append : (counts : Counts) (xs ys : List Item)
+      → look texts fails counts (xs ++ ys) ≡ going_on (look texts fails counts xs) (λ c. look texts fails c ys)
   unfolding look
   look-append counts [] ys = refl
   look-append counts (x ∷ xs) ys =
@@ -132,37 +136,44 @@ module _ (texts : List ℕ → Option (List ℕ)) (fails : List ℕ) where
     its_nodes = entry_nodes_at texts level type e
 
     -- an entry whose items were passed, and whose nodes were added
-    pub going_past : (on : Counts) (after : Stack) → Going was is level type name all (e ∷ left) before now → look texts fails is its_items ≡ Ok on → after ≡ joined now its_nodes → Going was on level type name all left before after
+    pub going_past : (on : Counts) (after : Stack) → Going was is level type name all (e ∷ left) before now → look texts fails is its_items ≡ Ok on
+        → after ≡ joined now its_nodes → Going was on level type name all left before after
     going_past on after g past added = record {
       looks = g.looks ∙ look_past is on its_items (entries_items texts level type name left) past;
       nodes = g.nodes ∙ sym (joined-joined now its_nodes (entries_nodes texts level type left)) ∙ ap (λ (s : Stack). joined s (entries_nodes texts level type left)) (sym added);
     }
 
     -- an entry that stops the look
-    pub going_stops : (s : Stop) → Going was is level type name all (e ∷ left) before now → look texts fails is its_items ≡ Err s → look texts fails was (entries_items texts level type name all) ≡ Err s
+    pub going_stops : (s : Stop) → Going was is level type name all (e ∷ left) before now → look texts fails is its_items ≡ Err s
+        → look texts fails was (entries_items texts level type name all) ≡ Err s
     going_stops s g stops = g.looks ∙ look_stops is s its_items (entries_items texts level type name left) stops
 
   -- a line, which fits or is one too many
-  look_line : (counts : Counts) (name : List ℕ) (number : ℕ) → counts.lines < 4096 → look texts fails counts (made name number ∷ []) ≡ Ok (record counts { lines = counts.lines + 1 })
+  look_line : (counts : Counts) (name : List ℕ) (number : ℕ) → counts.lines < 4096
+      → look texts fails counts (made name number ∷ []) ≡ Ok (record counts { lines = counts.lines + 1 })
   unfolding look
   look_line counts name number few = rw (lt-leb 4096 counts.lines few) refl
 
-  look_line_over : (counts : Counts) (name : List ℕ) (number : ℕ) → 4096 ≤ counts.lines → look texts fails counts (made name number ∷ []) ≡ Err (record { fault = fault_at name number TooManyLines; calls = counts.calls })
+  look_line_over : (counts : Counts) (name : List ℕ) (number : ℕ) → 4096 ≤ counts.lines
+      → look texts fails counts (made name number ∷ []) ≡ Err (record { fault = fault_at name number TooManyLines; calls = counts.calls })
   unfolding look
   look_line_over counts name number many = rw (le-leb 4096 counts.lines many) refl
 
   -- where the file that an entry brings in stops the load, so does the entry
-  pub file_stops : (r : Refuse LoadFault) (is on : Counts) (items its : List Item) → its ≡ items → Looks {A = Bool} (Err r) (look texts fails is items) on → Looks {A = Option Inclusion} (Err r) (look texts fails is its) on
+  pub file_stops : (r : Refuse LoadFault) (is on : Counts) (items its : List Item) → its ≡ items
+      → Looks {A = Bool} (Err r) (look texts fails is items) on → Looks {A = Option Inclusion} (Err r) (look texts fails is its) on
   file_stops (refusals.Named f) is on items its same looks = rw same looks
   file_stops refusals.NoMemory is on items its same looks = tt
 
   -- where one entry stops the load, so do all
-  pub all_stop : (r : Refuse LoadFault) (was is on : Counts) (level : ℕ) (type : RuleType) (name : List ℕ) (all left : List Entry) (before now : Stack) (e : Entry) → Going was is level type name all (e ∷ left) before now
+  pub all_stop : (r : Refuse LoadFault) (was is on : Counts) (level : ℕ) (type : RuleType) (name : List ℕ) (all left : List Entry) (before now : Stack) (e : Entry)
+      → Going was is level type name all (e ∷ left) before now
       → Looks {A = Option Inclusion} (Err r) (look texts fails is (entry_items_at texts level type name e)) on → Looks {A = Bool} (Err r) (look texts fails was (entries_items texts level type name all)) on
   all_stop (refusals.Named f) was is on level type name all left before now e g looks = going_stops was is level type name all left before now e (record { fault = f; calls = on.calls }) g looks
   all_stop refusals.NoMemory was is on level type name all left before now e g looks = tt
 
-  line_stops : (r : Refuse LoadFault) (was is : Loader) (before after : Stack) (vault : VaultState) (name : List ℕ) (number : ℕ) (rule : Rule) → AddsLine {A = Option Inclusion} (Err r) was is before after name number rule
+  line_stops : (r : Refuse LoadFault) (was is : Loader) (before after : Stack) (vault : VaultState) (name : List ℕ) (number : ℕ) (rule : Rule)
+      → AddsLine {A = Option Inclusion} (Err r) was is before after name number rule
       → Looks {A = Option Inclusion} (Err r) (look texts fails (counts_of was vault) (made name number ∷ [])) (counts_of is vault)
   line_stops (refusals.Named f) was is before after vault name number rule adds = rw adds.2 (look_line_over (counts_of was vault) name number adds.0)
   line_stops refusals.NoMemory was is before after vault name number rule adds = tt
@@ -175,26 +186,31 @@ module _ (texts : List ℕ → Option (List ℕ)) (fails : List ℕ) where
     abbrev nodes_if : Bool → Content → Stack
     nodes_if serving content = cond serving (content_nodes (λ file. nodes_at texts (level + 1) type (plain_file file)) content) none
 
-    pub taking_stops : (serving : Bool) (content : Content) (r : Refuse LoadFault) → TakesContent serving content (Err r) was is before after name number → Looks {A = Option Inclusion} (Err r) (look texts fails (counts_of was vault) (items_if serving content)) (counts_of is vault)
+    pub taking_stops : (serving : Bool) (content : Content) (r : Refuse LoadFault)
+        → TakesContent serving content (Err r) was is before after name number
+        → Looks {A = Option Inclusion} (Err r) (look texts fails (counts_of was vault) (items_if serving content)) (counts_of is vault)
     taking_stops false content r takes = absurd cc
     taking_stops true (Line rule) r takes = line_stops r was is before after vault name number rule takes.0
     taking_stops true (Include file) r takes = absurd cc
     taking_stops true (Substack file) r takes = absurd cc
 
-    pub taking_looks : (serving : Bool) (content : Content) → TakesContent serving content (Ok None) was is before after name number → look texts fails (counts_of was vault) (items_if serving content) ≡ Ok (counts_of is vault)
+    pub taking_looks : (serving : Bool) (content : Content) → TakesContent serving content (Ok None) was is before after name number
+        → look texts fails (counts_of was vault) (items_if serving content) ≡ Ok (counts_of is vault)
     unfolding look
     taking_looks false content takes = rw takes.1 refl
     taking_looks true (Line rule) takes = rw takes.0.1 (look_line (counts_of was vault) name number takes.0.0)
     taking_looks true (Include file) takes = absurd cc
     taking_looks true (Substack file) takes = absurd cc
 
-    pub taking_adds : (serving : Bool) (content : Content) → TakesContent serving content (Ok None) was is before after name number → after ≡ joined before (nodes_if serving content)
+    pub taking_adds : (serving : Bool) (content : Content) → TakesContent serving content (Ok None) was is before after name number
+        → after ≡ joined before (nodes_if serving content)
     taking_adds false content takes = takes.2 ∙ sym (joined-none before)
     taking_adds true (Line rule) takes = takes.0.2
     taking_adds true (Include file) takes = absurd cc
     taking_adds true (Substack file) takes = absurd cc
 
-    pub taking_grows : (serving : Bool) (content : Content) → level ≤ 16 → TakesContent serving content (Ok None) was is before after name number → Grows level was is before after
+    pub taking_grows : (serving : Bool) (content : Content) → level ≤ 16 → TakesContent serving content (Ok None) was is before after name number
+        → Grows level was is before after
     taking_grows false content low takes = rw (takes.1, takes.2) (grows_none level was before low)
     taking_grows true (Line rule) low takes = rw (takes.0.1, takes.0.2) (grows_line level was before rule low takes.0.0)
     taking_grows true (Include file) low takes = absurd cc
@@ -210,17 +226,20 @@ module _ (texts : List ℕ → Option (List ℕ)) (fails : List ℕ) where
     same_inclusion : (i j : Inclusion) → ◌≡◌ {A = Result (Option Inclusion) (Refuse LoadFault)} (Ok (Some i)) (Ok (Some j)) → i ≡ j
     same_inclusion i j e = cc
 
-    pub taking_file : (serving : Bool) (content : Content) (i : Inclusion) → TakesContent serving content (Ok (Some i)) was is before after name number → BringsIn serving content i
+    pub taking_file : (serving : Bool) (content : Content) (i : Inclusion)
+        → TakesContent serving content (Ok (Some i)) was is before after name number → BringsIn serving content i
     taking_file false content i takes = absurd cc
     taking_file true (Line rule) i takes = absurd cc
     taking_file true (Include file) i takes = let same = same_inclusion i (record { line = number; file = plain_file file; as_substack = false }) takes.0 in record { items = rw same refl; nodes = rw same refl; loader = takes.1; stack = takes.2 }
     taking_file true (Substack file) i takes = let same = same_inclusion i (record { line = number; file = plain_file file; as_substack = true }) takes.0 in record { items = rw same refl; nodes = rw same refl; loader = takes.1; stack = takes.2 }
 
-  pub going_none : (was : Counts) (level : ℕ) (type : RuleType) (name : List ℕ) (all : List Entry) (before : Stack) → Going was was level type name all all before before
+  pub going_none : (was : Counts) (level : ℕ) (type : RuleType) (name : List ℕ) (all : List Entry) (before : Stack)
+      → Going was was level type name all all before before
   going_none was level type name all before = record { looks = refl; nodes = refl }
 
   -- all entries were gone through
-  going_end : (was is : Counts) (level : ℕ) (type : RuleType) (name : List ℕ) (all : List Entry) (before now : Stack) → Going was is level type name all [] before now → look texts fails was (entries_items texts level type name all) ≡ Ok is
+  going_end : (was is : Counts) (level : ℕ) (type : RuleType) (name : List ℕ) (all : List Entry) (before now : Stack)
+      → Going was is level type name all [] before now → look texts fails was (entries_items texts level type name all) ≡ Ok is
   unfolding look
   going_end was is level type name all before now g = g.looks
 
@@ -241,7 +260,8 @@ since r root first old new was is items before after added only brings =
     record { looks = b.looks; nodes = b.nodes; stays = b.stays }
 
 -- what a file that is brought in brings
-pub file_since : (r : Result Bool (Refuse LoadFault)) (root : List ℕ) (first old new : VaultState) (was is : Loader) (level : ℕ) (type : RuleType) (name : List ℕ) (i : Inclusion) (inner : Stack) → OnlyCalls first old
+pub file_since : (r : Result Bool (Refuse LoadFault)) (root : List ℕ) (first old new : VaultState) (was is : Loader) (level : ℕ) (type : RuleType) (name : List ℕ) (i : Inclusion) (inner : Stack)
+    → OnlyCalls first old
     → Brings r (texts_of root old) old new was is (items_at (texts_of root old) (level + 1) type (by_rule name i.line) i.file) none inner (nodes_at (texts_of root old) (level + 1) type i.file)
     → Since r root first old new was is (items_at (texts_of root first) (level + 1) type (by_rule name i.line) i.file) none inner (nodes_at (texts_of root first) (level + 1) type i.file)
 file_since r root first old new was is level type name i inner =
@@ -258,7 +278,9 @@ module _ (root : List ℕ) (first old now : VaultState) (was opened is : Loader)
   whole = Brings {A = Bool} (Ok true) (texts_of root first) first now was is (items_at (texts_of root first) level type opener file) before after (nodes_at (texts_of root first) level type file)
 
   -- and gone through to its end
-  pub brings_all : IsOpened → Going (texts_of root first) first.fails (counts_of opened old) (counts_of is now) level type file.name entries [] before after → OnlyCalls first now → whole
+  pub brings_all : IsOpened
+      → Going (texts_of root first) first.fails (counts_of opened old) (counts_of is now) level type file.name entries [] before after
+      → OnlyCalls first now → whole
   brings_all opens g only = record {
     looks = opens.0 ∙ going_end (texts_of root first) first.fails (counts_of opened old) (counts_of is now) level type file.name entries before after g;
     nodes = sym (joined-none after) ∙ sym g.nodes ∙ ap (λ (s : Stack). joined before s) (sym opens.1);
@@ -266,13 +288,16 @@ module _ (root : List ℕ) (first old now : VaultState) (was opened is : Loader)
   }
 
   -- or up to an entry that stopped the load
-  pub brings_stop : (r : Refuse LoadFault) → IsOpened → Looks {A = Bool} (Err r) (look (texts_of root first) first.fails (counts_of opened old) (entries_items (texts_of root first) level type file.name entries)) (counts_of is now) → OnlyCalls first now
+  pub brings_stop : (r : Refuse LoadFault) → IsOpened
+      → Looks {A = Bool} (Err r) (look (texts_of root first) first.fails (counts_of opened old) (entries_items (texts_of root first) level type file.name entries)) (counts_of is now)
+      → OnlyCalls first now
       → Brings {A = Bool} (Err r) (texts_of root first) first now was is (items_at (texts_of root first) level type opener file) before after (nodes_at (texts_of root first) level type file)
   brings_stop (refusals.Named f) opens looks only = record { looks = opens.0 ∙ looks; nodes = tt; stays = only }
   brings_stop refusals.NoMemory opens looks only = record { looks = tt; nodes = tt; stays = only }
 
   -- it isn't there, and needn't be
-  pub brings_absent : Opens (texts_of root first) (Ok None) first.fails (counts_of was first) (counts_of is now) level type opener file → after ≡ before → OnlyCalls first now
+  pub brings_absent : Opens (texts_of root first) (Ok None) first.fails (counts_of was first) (counts_of is now) level type opener file
+      → after ≡ before → OnlyCalls first now
       → Brings {A = Bool} (Ok false) (texts_of root first) first now was is (items_at (texts_of root first) level type opener file) before after (nodes_at (texts_of root first) level type file)
   unfolding look
   brings_absent opens same only = record { looks = opens.0; nodes = same ∙ sym (joined-none before) ∙ ap (λ (s : Stack). joined before s) (sym opens.1); stays = only }

@@ -24,14 +24,16 @@ if_other : (b : Bool) (x y : Option ControlFault) → is_other x ≡ true → is
 if_other true x y e f = e
 if_other false x y e f = f
 
-if_action : (b : Bool) (x y : Result Action ControlFault) → is_other (result_err x) ≡ true → is_other (result_err y) ≡ true → is_other (result_err (cond b x y)) ≡ true
+if_action : (b : Bool) (x y : Result Action ControlFault) → is_other (result_err x) ≡ true → is_other (result_err y) ≡ true
+    → is_other (result_err (cond b x y)) ≡ true
 if_action true x y e f = e
 if_action false x y e f = f
 
 jump_other : (n : ℕ) → is_other (result_err (jump_of n)) ≡ true
 jump_other n = if_action (eqb n 0) (Err (record { kind = ZeroJump })) (cond (leb n 255) (Ok (actions.Jump n)) (Err (record { kind = BadAction }))) refl (if_action (leb n 255) (Ok (actions.Jump n)) (Err (record { kind = BadAction })) refl refl)
 
-named_other : (o : Option Action) (b : Bool) (n : ℕ) → is_other (result_err (elim o [ Some action ↦ Ok action | None ↦ cond b (jump_of n) (Err (record { kind = BadAction })) ])) ≡ true
+named_other : (o : Option Action) (b : Bool) (n : ℕ)
+    → is_other (result_err (elim o [ Some action ↦ Ok action | None ↦ cond b (jump_of n) (Err (record { kind = BadAction })) ])) ≡ true
 named_other (Some action) b n = refl
 named_other None b n = if_action b (jump_of n) (Err (record { kind = BadAction })) (jump_other n) refl
 
@@ -50,7 +52,9 @@ not-true false e = refl
 same_fault : (g f : ControlFault) → ◌≡◌ {A = Result (List Action) ControlFault} (Err g) (Err f) → g ≡ f
 same_fault g f e = cc
 
-first_other : (o : Option ControlFault) (rest : List ControlFault) (all : List Entry) (f : ControlFault) → is_other o ≡ true → (control_unless rest all ≡ Err f → is_read_failed f.kind ≡ false) → control_unless (cons_option o rest) all ≡ Err f → is_read_failed f.kind ≡ false
+first_other : (o : Option ControlFault) (rest : List ControlFault) (all : List Entry) (f : ControlFault) → is_other o ≡ true
+    → (control_unless rest all ≡ Err f → is_read_failed f.kind ≡ false) → control_unless (cons_option o rest) all ≡ Err f
+    → is_read_failed f.kind ≡ false
 first_other None rest all f other more e = more e
 first_other (Some g) rest all f other more e = rw (← same_fault g f e) (not-true (is_read_failed g.kind) other)
 

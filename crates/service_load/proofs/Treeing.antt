@@ -63,7 +63,9 @@ module _ (root : List ℕ) (first : VaultState) (was : Loader) (own other : Rule
   begins = refl
 
   -- the service has nodes of the type
-  pub makes_own : (made : Nodes) (now : VaultState) (is : Loader) → look texts first.fails fresh (items_at texts 0 type as_service own) ≡ Ok (counts_of is now) → stack_of made.vec.items ≡ nodes_at texts 0 type own → eqb (count (stack_of made.vec.items)) 0 ≡ false → OnlyCalls first now
+  pub makes_own : (made : Nodes) (now : VaultState) (is : Loader)
+      → look texts first.fails fresh (items_at texts 0 type as_service own) ≡ Ok (counts_of is now)
+      → stack_of made.vec.items ≡ nodes_at texts 0 type own → eqb (count (stack_of made.vec.items)) 0 ≡ false → OnlyCalls first now
       → Makes (Ok made) texts first now was is own other type
   makes_own made now is looks made_is some only =
       let some_own : eqb (count (nodes texts 17 type own)) 0 ≡ false = rw made_is at some in
@@ -73,7 +75,8 @@ module _ (root : List ℕ) (first : VaultState) (was : Loader) (own other : Rule
         stays = only;
       }
 
-  pub stop_own : (r : Refuse LoadFault) (now : VaultState) (is : Loader) → Looks {A = Bool} (Err r) (look texts first.fails fresh (items_at texts 0 type as_service own)) (counts_of is now) → OnlyCalls first now
+  pub stop_own : (r : Refuse LoadFault) (now : VaultState) (is : Loader)
+      → Looks {A = Bool} (Err r) (look texts first.fails fresh (items_at texts 0 type as_service own)) (counts_of is now) → OnlyCalls first now
       → Makes (Err r) texts first now was is own other type
   stop_own (refusals.Named f) now is looks only = record { looks = begins ∙ look_stops texts first.fails fresh (record { fault = f; calls = now.calls }) (items_at texts 0 type as_service own) others looks; made = tt; stays = only }
   stop_own refusals.NoMemory now is looks only = record { looks = tt; made = tt; stays = only }
@@ -89,7 +92,9 @@ module _ (root : List ℕ) (first : VaultState) (was : Loader) (own other : Rule
         ∙ rw (empty_own, opener_is there (is_absent (held texts own)) own.name there_is) refl
 
     -- the nodes are those of `other`
-    pub makes_other : (made : Nodes) → look texts first.fails (counts_of half mid) (items_at texts 0 type opener other) ≡ Ok (counts_of is now) → stack_of made.vec.items ≡ joined stack (nodes_at texts 0 type other) → OnlyCalls first now → Makes (Ok made) texts first now was is own other type
+    pub makes_other : (made : Nodes) → look texts first.fails (counts_of half mid) (items_at texts 0 type opener other) ≡ Ok (counts_of is now)
+        → stack_of made.vec.items ≡ joined stack (nodes_at texts 0 type other) → OnlyCalls first now
+        → Makes (Ok made) texts first now was is own other type
     makes_other made looks made_is only =
         let empty_own : eqb (count (nodes texts 17 type own)) 0 ≡ true = rw stack_is at empty in
         record {
@@ -98,12 +103,15 @@ module _ (root : List ℕ) (first : VaultState) (was : Loader) (own other : Rule
           stays = only;
         }
 
-    pub stop_other : (r : Refuse LoadFault) → Looks {A = Bool} (Err r) (look texts first.fails (counts_of half mid) (items_at texts 0 type opener other)) (counts_of is now) → OnlyCalls first now → Makes (Err r) texts first now was is own other type
+    pub stop_other : (r : Refuse LoadFault)
+        → Looks {A = Bool} (Err r) (look texts first.fails (counts_of half mid) (items_at texts 0 type opener other)) (counts_of is now)
+        → OnlyCalls first now → Makes (Err r) texts first now was is own other type
     stop_other (refusals.Named f) looks only = record { looks = on_to_other ∙ looks; made = tt; stays = only }
     stop_other refusals.NoMemory looks only = record { looks = tt; made = tt; stays = only }
 
 -- what the file of `other` brings, said of the vault as it was
-pub other_since : (r : Result Bool (Refuse LoadFault)) (root : List ℕ) (first mid now : VaultState) (half is : Loader) (own other : RuleFile) (type : RuleType) (there : Bool) (before after : Stack) → OnlyCalls first mid
+pub other_since : (r : Result Bool (Refuse LoadFault)) (root : List ℕ) (first mid now : VaultState) (half is : Loader) (own other : RuleFile) (type : RuleType) (there : Bool) (before after : Stack)
+    → OnlyCalls first mid
     → Brings r (texts_of root mid) mid now half is (items_at (texts_of root mid) 0 type (cond there as_other (as_last own.name)) other) before after (nodes_at (texts_of root mid) 0 type other)
     → Since r root first mid now half is (items_at (texts_of root first) 0 type (cond there as_other (as_last own.name)) other) before after (nodes_at (texts_of root first) 0 type other)
 other_since r root first mid now half is own other type there before after =
@@ -115,7 +123,8 @@ pub only_only : (a b c : VaultState) → OnlyCalls a b → OnlyCalls b c → Onl
 only_only a b c one two = two ∙ ap (λ (v : VaultState). record v { calls = c.calls }) one
 
 -- a later tree, said of the vault as it was
-pub makes_since : (r : Result Nodes (Refuse LoadFault)) (root : List ℕ) (first old new : VaultState) (was is : Loader) (own other : RuleFile) (type : RuleType) → OnlyCalls first old → Makes r (texts_of root old) old new was is own other type
+pub makes_since : (r : Result Nodes (Refuse LoadFault)) (root : List ℕ) (first old new : VaultState) (was is : Loader) (own other : RuleFile) (type : RuleType)
+    → OnlyCalls first old → Makes r (texts_of root old) old new was is own other type
     → Makes r (texts_of root first) (record first { calls = old.calls }) new was is own other type
 makes_since r root first old new was is own other type only makes =
     let P : VaultState → Type 0 = λ v. Makes r (texts_of root v) v new was is own other type in
@@ -127,18 +136,21 @@ pub record Along (r : Result Nodes (Refuse LoadFault)) (root : List ℕ) (first 
   pub made : IfOk r (λ made. stack_of made.vec.items ≡ stack)
   pub stays : OnlyCalls first new
 
-pub first_tree : (r : Result Nodes (Refuse LoadFault)) (root : List ℕ) (first new : VaultState) (was is : Loader) (own other : RuleFile) (type : RuleType) → Makes r (texts_of root first) first new was is own other type
+pub first_tree : (r : Result Nodes (Refuse LoadFault)) (root : List ℕ) (first new : VaultState) (was is : Loader) (own other : RuleFile) (type : RuleType)
+    → Makes r (texts_of root first) first new was is own other type
     → Along r root first new (counts_of was first) (tree_items (texts_of root first) own other type) is (tree_from (texts_of root first) own other type)
 first_tree r root first new was is own other type m = record { looks = m.looks; made = m.made; stays = m.stays }
 
-looks_on : (r : Result Nodes (Refuse LoadFault)) (texts : List ℕ → Option (List ℕ)) (fails : List ℕ) (start mid now : Counts) (before items : List Item) → look texts fails start before ≡ Ok mid
+looks_on : (r : Result Nodes (Refuse LoadFault)) (texts : List ℕ → Option (List ℕ)) (fails : List ℕ) (start mid now : Counts) (before items : List Item)
+    → look texts fails start before ≡ Ok mid
     → Looks r (look texts fails mid items) now → Looks r (look texts fails start (before ++ items)) now
 looks_on (Ok made) texts fails start mid now before items past l = look_past texts fails start mid before items past ∙ l
 looks_on (Err (refusals.Named f)) texts fails start mid now before items past l = look_past texts fails start mid before items past ∙ l
 looks_on (Err refusals.NoMemory) texts fails start mid now before items past l = tt
 
 -- a later tree
-pub next_tree : (r : Result Nodes (Refuse LoadFault)) (root : List ℕ) (first old new : VaultState) (start : Counts) (before : List Item) (was is : Loader) (own other : RuleFile) (type : RuleType) → OnlyCalls first old
+pub next_tree : (r : Result Nodes (Refuse LoadFault)) (root : List ℕ) (first old new : VaultState) (start : Counts) (before : List Item) (was is : Loader) (own other : RuleFile) (type : RuleType)
+    → OnlyCalls first old
     → look (texts_of root first) first.fails start before ≡ Ok (counts_of was old) → Makes r (texts_of root old) old new was is own other type
     → Along r root first new start (before ++ tree_items (texts_of root first) own other type) is (tree_from (texts_of root first) own other type)
 next_tree r root first old new start before was is own other type only past makes =
@@ -150,7 +162,8 @@ next_tree r root first old new start before was is own other type only past make
     }
 
 -- a refusal in a tree, unless memory ran out, is the first fault of the whole load
-pub stops_whole : (r : Refuse LoadFault) (root : List ℕ) (first new : VaultState) (own other : RuleFile) (start : Counts) (along rest : List Item) (is : Loader) (one : Stack) → along ++ rest ≡ trees_items (texts_of root first) own other
+pub stops_whole : (r : Refuse LoadFault) (root : List ℕ) (first new : VaultState) (own other : RuleFile) (start : Counts) (along rest : List Item) (is : Loader) (one : Stack)
+    → along ++ rest ≡ trees_items (texts_of root first) own other
     → Along (Err r) root first new start along is one → LoadsBy (Err r) (look (texts_of root first) first.fails start (trees_items (texts_of root first) own other)) new (tree_from (texts_of root first) own other)
 stops_whole (refusals.Named f) root first new own other start along rest is one e a =
     ap (look (texts_of root first) first.fails start) (sym e) ∙ look_stops (texts_of root first) first.fails start (record { fault = f; calls = new.calls }) along rest a.looks
@@ -186,7 +199,8 @@ loads_four root first v w x new own other start k l m is auth account password s
 
 -- ---- the whole load
 
-pub loads_all : (result : Result Trees (Refuse LoadFault)) (first mid new : VaultState) (root service path : List ℕ) (found : Bool) → is_failing first ≡ false → found ≡ is_folder path first.files → path ≡ path_of root folder_name → mid ≡ counted first
+pub loads_all : (result : Result Trees (Refuse LoadFault)) (first mid new : VaultState) (root service path : List ℕ) (found : Bool)
+    → is_failing first ≡ false → found ≡ is_folder path first.files → path ≡ path_of root folder_name → mid ≡ counted first
     → LoadsFrom result found mid new root service → Loads result first new root service
 loads_all result first mid new root service path found fine found_is path_is called loads =
     let P : VaultState → Type 0 = λ v. LoadsFrom result found v new root service in

@@ -18,7 +18,8 @@ pub(crate) fn entries_in(
     file: &RuleFile,
     text: &[u8],
 ) -> Result<Option<Entries>, Refuse<LexFault>>
-    ensures answer { Answers result (entries_held (is_in_folder file.now) (held_text file.now.service (Some text.now))) }
+    ensures answer { Answers result (entries_held (is_in_folder file.now)
+        (held_text file.now.service (Some text.now))) }
     ensures kinds { IfNamed result (λ fault. is_read_failed fault.kind ≡ false) }
 {
     let rules = rules(alloc, text)?;
@@ -61,7 +62,8 @@ fn add_rule(
 
 // The fields of a rule without its service, where it is one of those that are meant.
 fn fields_of<'a>(file: &RuleFile, rule: &'a RawRule) -> Option<&'a [Token]>
-    ensures { GivesFields (option_copied result) rule.now.line (own_rule file.now.service rule.now) }
+    ensures { GivesFields (option_copied result) rule.now.line
+        (own_rule file.now.service rule.now) }
 {
     let tokens = rule.tokens.items();
     match &file.service {

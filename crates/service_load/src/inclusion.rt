@@ -20,7 +20,8 @@ impl Inclusion {
     /// Adds the nodes of the file to those of the file with the rule.
     pub(crate) fn bring_in(self, mut inner: Nodes, nodes: &mut Nodes) -> Result<(), NoMemory>
         ensures { OnOk result (stack_of nodes.new.vec.items ≡
-            joined (stack_of nodes.old.vec.items) (brought_in self.as_substack (stack_of inner.vec.items))) }
+            joined (stack_of nodes.old.vec.items) (brought_in self.as_substack
+            (stack_of inner.vec.items))) }
     {
         if self.as_substack {
             nodes.push(Node::Sub(inner))

@@ -40,14 +40,16 @@ impl Model for Kept {
 impl KeptFile {
     // Whether it is of a file of this form, with this text.
     fn is_of(&self, file: &RuleFile, text: &[u8]) -> bool
-        ensures { IsTrue result → (self.now.service ≡ file.now.service) × (self.now.text ≡ text.now) }
+        ensures { IsTrue result → (self.now.service ≡ file.now.service) × (self.now.text
+            ≡ text.now) }
     {
         self.text.bytes() == text && is_same(&self.service, &file.service)
     }
 
     // A copy of its entries that serve a type.
     fn entries_for(&self, alloc: Global, rule_type: RuleType) -> Result<Option<Entries>, NoMemory>
-        ensures { IfOk result (λ entries. entries ≡ option_map (served rule_type) self.now.entries) }
+        ensures { IfOk result (λ entries. entries ≡ option_map
+            (served rule_type) self.now.entries) }
     {
         match &self.entries {
             None => Ok(None),
@@ -92,7 +94,8 @@ impl Kept {
 
     // What is kept of a file with this text.
     fn found(&self, file: &RuleFile, text: &[u8]) -> Option<&KeptFile>
-        ensures { IfSome result (λ kept. (kept.now.service ≡ file.now.service) × (kept.now.text ≡ text.now)) }
+        ensures { IfSome result (λ kept. (kept.now.service ≡ file.now.service) × (kept.now.text
+            ≡ text.now)) }
     {
         for kept in self.files.items() {
             if kept.is_of(file, text) {

@@ -5,7 +5,8 @@ ghost use Rattle.service_load.specs.Order.{Item, openings_in};
 /// Where a look meets no fault, it has counted one opening and one call of the vault for each file that is
 /// opened along its items, whatever these are.
 pub fn each_opening_is_a_call()
-    ensures { (texts : List ℕ → Option (List ℕ)) (fails : List ℕ) (before after : Counts) (items : List Item) →
+    ensures { (texts : List ℕ → Option (List ℕ)) (fails : List ℕ) (before after : Counts)
+        (items : List Item) →
         before.calls ≤ 2 ^ 64 - 1 → look texts fails before items ≡ Ok after →
         (after.openings ≡ before.openings + openings_in items) ×
         (after.calls ≡ min (before.calls + openings_in items) (2 ^ 64 - 1)) }

@@ -60,12 +60,15 @@ impl Loader {
         ensures counted { self.new ≡ record self.old { openings = self.old.openings + 1 } }
         ensures tells { vault_tells vault.new ≡ vault_tells vault.old }
         ensures told { IsTrue (vault_tells vault.old) → Answers result
-            (opened_answer (fails_next (vault_holds vault.old).calls (vault_holds vault.old).fails) file.now.name
+            (opened_answer (fails_next (vault_holds vault.old).calls
+            (vault_holds vault.old).fails) file.now.name
             (result_map (option_map (served rule_type))
-            (entries_held (is_in_folder file.now) (held (texts_of root.now (vault_holds vault.old)) file.now)))) }
+            (entries_held (is_in_folder file.now) (held (texts_of root.now
+            (vault_holds vault.old)) file.now)))) }
         ensures calls { IsTrue (vault_tells vault.old) →
             IfCalled result (vault_holds vault.new ≡ counted (vault_holds vault.old)) }
-        ensures stays { IsTrue (vault_tells vault.old) → OnlyCalls (vault_holds vault.old) (vault_holds vault.new) }
+        ensures stays { IsTrue (vault_tells vault.old) →
+            OnlyCalls (vault_holds vault.old) (vault_holds vault.new) }
         ensures faults { CountsFaults result (vault_faults vault.old) (vault_faults vault.new) }
     {
         self.openings += 1;
@@ -97,10 +100,13 @@ impl Loader {
         ensures lines { self.new.lines ≡ self.old.lines }
         ensures level { OnOk result (at.entry.level ≤ 16) }
         ensures tells { vault_tells vault.new ≡ vault_tells vault.old }
-        ensures told { IsTrue (vault_tells vault.old) → Opens (texts_of at.entry.root.now (vault_holds vault.old)) result
+        ensures told { IsTrue (vault_tells vault.old) →
+            Opens (texts_of at.entry.root.now (vault_holds vault.old)) result
             (vault_holds vault.old).fails (counts_of self.old (vault_holds vault.old))
-            (counts_of self.new (vault_holds vault.new)) at.entry.level at.entry.rule_type (opener_of opener.entry) file.now }
-        ensures stays { IsTrue (vault_tells vault.old) → OnlyCalls (vault_holds vault.old) (vault_holds vault.new) }
+            (counts_of self.new (vault_holds vault.new)) at.entry.level at.entry.rule_type
+            (opener_of opener.entry) file.now }
+        ensures stays { IsTrue (vault_tells vault.old) →
+            OnlyCalls (vault_holds vault.old) (vault_holds vault.new) }
         ensures faults { CountsFaults result (vault_faults vault.old) (vault_faults vault.new) }
     {
         if at.level > MAX_LEVEL {
@@ -130,7 +136,8 @@ impl Loader {
         rule: Rule,
         nodes: &mut Nodes,
     ) -> Result<(), Refuse<LoadFault>>
-        ensures { AddsLine result self.old self.new (stack_of nodes.old.vec.items) (stack_of nodes.new.vec.items)
+        ensures { AddsLine result self.old self.new (stack_of nodes.old.vec.items)
+            (stack_of nodes.new.vec.items)
             name.now line rule }
     {
         if self.lines >= MAX_LINES {
@@ -151,7 +158,8 @@ impl Loader {
         entry: Entry,
         nodes: &mut Nodes,
     ) -> Result<Option<Inclusion>, Refuse<LoadFault>>
-        ensures { TakesEntry result self.old self.new (stack_of nodes.old.vec.items) (stack_of nodes.new.vec.items)
+        ensures { TakesEntry result self.old self.new (stack_of nodes.old.vec.items)
+            (stack_of nodes.new.vec.items)
             rule_type name.now entry }
     {
         if !entry.serves(rule_type) {
@@ -186,13 +194,17 @@ impl Loader {
         requires { at.level ≤ 17 }
         ensures tells { vault_tells vault.new ≡ vault_tells vault.old }
         ensures told { IsTrue (vault_tells vault.old) → Brings result
-            (texts_of at.entry.root.now (vault_holds vault.old)) (vault_holds vault.old) (vault_holds vault.new)
+            (texts_of at.entry.root.now (vault_holds vault.old)) (vault_holds vault.old)
+            (vault_holds vault.new)
             self.old self.new
-            (items_at (texts_of at.entry.root.now (vault_holds vault.old)) at.entry.level at.entry.rule_type (opener_of opener.entry) file.now)
+            (items_at (texts_of at.entry.root.now (vault_holds vault.old)) at.entry.level
+            at.entry.rule_type (opener_of opener.entry) file.now)
             (stack_of nodes.old.vec.items) (stack_of nodes.new.vec.items)
-            (nodes_at (texts_of at.entry.root.now (vault_holds vault.old)) at.entry.level at.entry.rule_type file.now) }
+            (nodes_at (texts_of at.entry.root.now (vault_holds vault.old)) at.entry.level
+            at.entry.rule_type file.now) }
         ensures there { IsTrue (vault_tells vault.old) → IfOk result (λ there.
-            there ≡ not (is_absent (held (texts_of at.entry.root.now (vault_holds vault.old)) file.now))) }
+            there ≡ not (is_absent (held (texts_of at.entry.root.now
+            (vault_holds vault.old)) file.now))) }
         ensures grows { OnOk result (Grows at.entry.level self.old self.new
             (stack_of nodes.old.vec.items) (stack_of nodes.new.vec.items)) }
         ensures faults { CountsFaults result (vault_faults vault.old) (vault_faults vault.new) }
@@ -229,7 +241,8 @@ impl Loader {
     ) -> Result<Nodes, Refuse<LoadFault>>
         ensures tells { vault_tells vault.new ≡ vault_tells vault.old }
         ensures told { IsTrue (vault_tells vault.old) → Makes result
-            (texts_of root.now (vault_holds vault.old)) (vault_holds vault.old) (vault_holds vault.new)
+            (texts_of root.now (vault_holds vault.old)) (vault_holds vault.old)
+            (vault_holds vault.new)
             self.old self.new own.now other.now rule_type }
         ensures bounded { IfOk result (λ nodes. IsBounded (stack_of nodes.vec.items)) }
         ensures faults { CountsFaults result (vault_faults vault.old) (vault_faults vault.new) }
@@ -261,10 +274,13 @@ impl Loader {
     ) -> Result<Trees, Refuse<LoadFault>>
         ensures tells { vault_tells vault.new ≡ vault_tells vault.old }
         ensures told { IsTrue (vault_tells vault.old) → LoadsBy result
-            (look (texts_of root.now (vault_holds vault.old)) (vault_holds vault.old).fails (counts_of self.old (vault_holds vault.old))
+            (look (texts_of root.now (vault_holds vault.old)) (vault_holds vault.old).fails
+            (counts_of self.old (vault_holds vault.old))
             (trees_items (texts_of root.now (vault_holds vault.old)) own.now other.now))
-            (vault_holds vault.new) (tree_from (texts_of root.now (vault_holds vault.old)) own.now other.now) }
-        ensures stays { IsTrue (vault_tells vault.old) → OnlyCalls (vault_holds vault.old) (vault_holds vault.new) }
+            (vault_holds vault.new) (tree_from (texts_of root.now
+            (vault_holds vault.old)) own.now other.now) }
+        ensures stays { IsTrue (vault_tells vault.old) →
+            OnlyCalls (vault_holds vault.old) (vault_holds vault.new) }
         ensures bounded { IfOk result (λ trees. AreBounded trees) }
         ensures faults { CountsFaults result (vault_faults vault.old) (vault_faults vault.new) }
     {

@@ -40,7 +40,8 @@ pub fn load(
     ensures tells { vault_tells vault.new ≡ vault_tells vault.old }
     ensures told { IsTrue (vault_tells vault.old) →
         Loads result (vault_holds vault.old) (vault_holds vault.new) root.now service.now }
-    ensures stays { IsTrue (vault_tells vault.old) → OnlyCalls (vault_holds vault.old) (vault_holds vault.new) }
+    ensures stays { IsTrue (vault_tells vault.old) →
+        OnlyCalls (vault_holds vault.old) (vault_holds vault.new) }
     ensures bounded { IfOk result (λ trees. AreBounded trees) }
     ensures faults { CountsFaults result (vault_faults vault.old) (vault_faults vault.new) }
 {
@@ -62,8 +63,10 @@ fn load_from(
 ) -> Result<Trees, Refuse<LoadFault>>
     ensures tells { vault_tells vault.new ≡ vault_tells vault.old }
     ensures told { IsTrue (vault_tells vault.old) →
-        LoadsFrom result is_folder (vault_holds vault.old) (vault_holds vault.new) root.now service.now }
-    ensures stays { IsTrue (vault_tells vault.old) → OnlyCalls (vault_holds vault.old) (vault_holds vault.new) }
+        LoadsFrom result is_folder (vault_holds vault.old)
+        (vault_holds vault.new) root.now service.now }
+    ensures stays { IsTrue (vault_tells vault.old) →
+        OnlyCalls (vault_holds vault.old) (vault_holds vault.new) }
     ensures bounded { IfOk result (λ trees. AreBounded trees) }
     ensures faults { CountsFaults result (vault_faults vault.old) (vault_faults vault.new) }
 {

@@ -9,7 +9,8 @@ use Rattle.service_print.specs.declared.file.File.{File}
 use Rattle.service_print.specs.Tokens.{ended, text_of}
 use Rattle.service_print.specs.Printed.{rule_line, substack_line, numbered, subs_in, list_lines, substack_file, substack_files}
 
-pub length-substack_files : (service : List ℕ) (type : RuleType) (number : ℕ) (stack : Stack) → length (substack_files service type number stack) ≡ subs_in stack
+pub length-substack_files : (service : List ℕ) (type : RuleType) (number : ℕ) (stack : Stack)
+    → length (substack_files service type number stack) ≡ subs_in stack
 unfolding substack_files
 length-substack_files service type number none = refl
 length-substack_files service type number (line rule rest) = length-substack_files service type number rest
@@ -39,11 +40,13 @@ adding_line service type all old_text old_files here rest rule text new files wa
     }
 
 -- a file that was put in its place before those inside it
-placed : (files inner : List File) (empty file : File) (number : ℕ) → number ≡ length files → set ((files ++ empty ∷ []) ++ inner) number file ≡ files ++ file ∷ inner
+placed : (files inner : List File) (empty file : File) (number : ℕ) → number ≡ length files
+    → set ((files ++ empty ∷ []) ++ inner) number file ≡ files ++ file ∷ inner
 placed files inner empty file number is = ap (λ (fs : List File). set fs number file) (append_assoc files (empty ∷ []) inner) ∙ set_at files empty inner file number (sym is)
 
 -- the file of a substack, made of its parts
-whole : (service : List ℕ) (type : RuleType) (inner : Stack) (inner_text : List ℕ) (first number behind : ℕ) (file : File) → number ≡ first → behind ≡ first + 1 → inner_text ≡ text_of (list_lines service type behind inner)
+whole : (service : List ℕ) (type : RuleType) (inner : Stack) (inner_text : List ℕ) (first number behind : ℕ) (file : File) → number ≡ first
+    → behind ≡ first + 1 → inner_text ≡ text_of (list_lines service type behind inner)
     → file ≡ record { name = numbered service number; text = inner_text } → file ≡ substack_file service type first inner
 whole service type inner inner_text first number behind file counted next inside is = is ∙ rw (counted, inside, next) refl
 

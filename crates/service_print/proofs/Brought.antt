@@ -28,11 +28,13 @@ pub record Split (texts : List ℕ → Option (List ℕ)) (fails : List ℕ) (be
   pub first : look texts fails before front ≡ Ok between
   pub second : look texts fails between more ≡ Ok after
 
-through : (result : Result Counts Stop) (more : Counts → Result Counts Stop) (after : Counts) → going_on result more ≡ Ok after → (between : Counts) × (result ≡ Ok between) × (more between ≡ Ok after)
+through : (result : Result Counts Stop) (more : Counts → Result Counts Stop) (after : Counts) → going_on result more ≡ Ok after
+    → (between : Counts) × (result ≡ Ok between) × (more between ≡ Ok after)
 through (Ok counts) more after is = (counts, refl, is)
 through (Err stop) more after is = absurd cc
 
-pub split : (texts : List ℕ → Option (List ℕ)) (fails : List ℕ) (before : Counts) (front more : List Item) (after : Counts) → look texts fails before (front ++ more) ≡ Ok after → Split texts fails before front more after
+pub split : (texts : List ℕ → Option (List ℕ)) (fails : List ℕ) (before : Counts) (front more : List Item) (after : Counts)
+    → look texts fails before (front ++ more) ≡ Ok after → Split texts fails before front more after
 split texts fails before front more after is =
     let parts = through (look texts fails before front) (λ c. look texts fails c more) after (sym (look-append texts fails before front more) ∙ is) in
     record { between = parts.0; first = parts.1; second = parts.2 }
@@ -41,7 +43,8 @@ pub nothing_met : (texts : List ℕ → Option (List ℕ)) (fails : List ℕ) (b
 unfolding look
 nothing_met texts fails before after is = cc
 
-one_met : (texts : List ℕ → Option (List ℕ)) (fails : List ℕ) (before after : Counts) (item : Item) → look texts fails before (item ∷ []) ≡ Ok after → behind texts fails before item ≡ Ok after
+one_met : (texts : List ℕ → Option (List ℕ)) (fails : List ℕ) (before after : Counts) (item : Item) → look texts fails before (item ∷ []) ≡ Ok after
+    → behind texts fails before item ≡ Ok after
 unfolding look
 one_met texts fails before after item is =
     let parts = through (behind texts fails before item) (λ c. Ok c) after is in
@@ -77,7 +80,8 @@ depth-joined (sub inner rest) b n one other =
 brings_nothing : (before after : Counts) (levels : ℕ) → before ≡ after → Brings before after none levels 0
 brings_nothing before after levels same = subst (λ (c : Counts). Brings before c none levels 0) same (record { lines = sym (add-zero before.lines); openings = omega arith; deep = omega arith; few = λ h. h; short = λ h. h })
 
-brings_both : (before between after : Counts) (a b : Stack) (levels : ℕ) → Brings before between a levels 0 → Brings between after b levels 0 → Brings before after (joined a b) levels 0
+brings_both : (before between after : Counts) (a b : Stack) (levels : ℕ) → Brings before between a levels 0 → Brings between after b levels 0
+    → Brings before after (joined a b) levels 0
 brings_both before between after a b levels one other = record {
   lines = omega (arith, one.lines, other.lines, lines_in-joined a b);
   openings = omega (arith, one.openings, other.openings, subs_in-joined a b);
@@ -104,7 +108,8 @@ pub record Made (before after : Counts) : Type 0 where
   pub lines : after.lines ≡ before.lines + 1
   pub openings : after.openings ≡ before.openings
 
-line_made : (texts : List ℕ → Option (List ℕ)) (fails : List ℕ) (before after : Counts) (name : List ℕ) (number : ℕ) → behind texts fails before (made name number) ≡ Ok after → Made before after
+line_made : (texts : List ℕ → Option (List ℕ)) (fails : List ℕ) (before after : Counts) (name : List ℕ) (number : ℕ)
+    → behind texts fails before (made name number) ≡ Ok after → Made before after
 line_made texts fails before after name number is =
     let parts = past (nat_le 4096 before.lines) _ _ after is in
     let same : record before { lines = before.lines + 1 } ≡ after = let e = parts.1 in cc in
@@ -130,7 +135,8 @@ held_passed counts after file opener absent is = absent_passed counts after open
 held_passed counts after file opener (faulty fault) is = absurd cc
 held_passed counts after file opener (holds rules) is = cc
 
-file_opened : (texts : List ℕ → Option (List ℕ)) (fails : List ℕ) (before after : Counts) (file : _) (level : ℕ) (opener : Opener) → behind texts fails before (opening file level opener) ≡ Ok after → Opened before after
+file_opened : (texts : List ℕ → Option (List ℕ)) (fails : List ℕ) (before after : Counts) (file : _) (level : ℕ) (opener : Opener)
+    → behind texts fails before (opening file level opener) ≡ Ok after → Opened before after
 file_opened texts fails before after file level opener is =
     let low = past (nat_lt 16 level) _ _ after is in
     let few = past (nat_le 256 before.openings) _ _ after low.1 in
@@ -142,11 +148,13 @@ file_opened texts fails before after file level opener is =
       lines = ap (λ (c : Counts). c.lines) (sym same);
     }
 
-rule_passed : (counts after : Counts) (name : List ℕ) (number : ℕ) (read : Result _ FaultKind) → checked_rule counts name number read ≡ Ok after → (counts ≡ after) × (is_ok read ≡ true)
+rule_passed : (counts after : Counts) (name : List ℕ) (number : ℕ) (read : Result _ FaultKind) → checked_rule counts name number read ≡ Ok after
+    → (counts ≡ after) × (is_ok read ≡ true)
 rule_passed counts after name number (Ok entry) is = (let same : counts ≡ after = cc in same, refl)
 rule_passed counts after name number (Err kind) is = absurd cc
 
-rules_passed : (texts : List ℕ → Option (List ℕ)) (fails : List ℕ) (before after : Counts) (file : _) (rules : List RawRule) → look texts fails before (map (checked file) rules) ≡ Ok after → (before ≡ after) × (all_fine (is_in_folder file) rules ≡ true)
+rules_passed : (texts : List ℕ → Option (List ℕ)) (fails : List ℕ) (before after : Counts) (file : _) (rules : List RawRule)
+    → look texts fails before (map (checked file) rules) ≡ Ok after → (before ≡ after) × (all_fine (is_in_folder file) rules ≡ true)
 rules_passed texts fails before after file [] is = (nothing_met texts fails before after is, refl)
 rules_passed texts fails before after file (rule ∷ rules) is =
     let parts = split texts fails before (checked file rule ∷ []) (map (checked file) rules) after is in
@@ -162,7 +170,8 @@ FilesBring texts fails levels = (type : RuleType) (opener : Opener) (file : _) (
 brings_line : (before after : Counts) (rule : Rule) (levels : ℕ) → Made before after → Brings before after (line rule none) levels 0
 brings_line before after rule levels is = record { lines = omega (arith, is.lines); openings = omega (arith, is.openings); deep = omega arith; few = λ h. omega (arith, is.openings, h); short = λ h. omega (arith, is.lines, is.few) }
 
-meant_bring : (texts : List ℕ → Option (List ℕ)) (fails : List ℕ) (levels : ℕ) → FilesBring texts fails levels → (type : RuleType) (name : List ℕ) (number : ℕ) (meaning : Meaning) (before after : Counts)
+meant_bring : (texts : List ℕ → Option (List ℕ)) (fails : List ℕ) (levels : ℕ) → FilesBring texts fails levels
+    → (type : RuleType) (name : List ℕ) (number : ℕ) (meaning : Meaning) (before after : Counts)
     → look texts fails before (meant_items texts levels type name number meaning) ≡ Ok after → Brings before after (meant_nodes (λ n. nodes texts levels type (plain_file n)) type meaning) levels 0
 meant_bring texts fails levels files type name number nothing before after is = brings_nothing before after levels (nothing_met texts fails before after is)
 meant_bring texts fails levels files type name number (a_line own rule) before after is =
@@ -181,7 +190,8 @@ meant_bring texts fails levels files type name number (a_substack own file) befo
       | inr n ↦ rw n (brings_nothing before after levels (nothing_met texts fails before after (rw n at is)))
     ]
 
-rules_bring : (texts : List ℕ → Option (List ℕ)) (fails : List ℕ) (levels : ℕ) → FilesBring texts fails levels → (in_folder : Bool) (type : RuleType) (name : List ℕ) (rules : List RawRule) → list_all good_rule rules ≡ true → (before after : Counts)
+rules_bring : (texts : List ℕ → Option (List ℕ)) (fails : List ℕ) (levels : ℕ) → FilesBring texts fails levels
+    → (in_folder : Bool) (type : RuleType) (name : List ℕ) (rules : List RawRule) → list_all good_rule rules ≡ true → (before after : Counts)
     → look texts fails before (items_from texts levels in_folder type name rules) ≡ Ok after → Brings before after (nodes_from (λ n. nodes texts levels type (plain_file n)) in_folder type rules) levels 0
 rules_bring texts fails levels files in_folder type name [] good before after is = brings_nothing before after levels (nothing_met texts fails before after is)
 rules_bring texts fails levels files in_folder type name (rule ∷ rules) good before after is =
@@ -194,7 +204,8 @@ rules_bring texts fails levels files in_folder type name (rule ∷ rules) good b
     (meant_bring texts fails levels files type name rule.line means.meaning before parts.between parts.first)
     (rules_bring texts fails levels files in_folder type name rules goods.1 parts.between after parts.second))
 
-brings_opened : (before between after : Counts) (stack : Stack) (levels : ℕ) → Opened before between → Brings between after stack levels 0 → Brings before after stack (suc levels) 1
+brings_opened : (before between after : Counts) (stack : Stack) (levels : ℕ) → Opened before between → Brings between after stack levels 0
+    → Brings before after stack (suc levels) 1
 brings_opened before between after stack levels is more = record {
   lines = omega (arith, is.lines, more.lines);
   openings = omega (arith, is.openings, more.openings);
@@ -203,7 +214,8 @@ brings_opened before between after stack levels is more = record {
   short = λ h. more.short (omega (arith, is.lines, h));
 }
 
-where_fine : (texts : List ℕ → Option (List ℕ)) (fails : List ℕ) (before after : Counts) (fine : Bool) (met : List Item) → fine ≡ true → look texts fails before (cond fine met []) ≡ Ok after → look texts fails before met ≡ Ok after
+where_fine : (texts : List ℕ → Option (List ℕ)) (fails : List ℕ) (before after : Counts) (fine : Bool) (met : List Item) → fine ≡ true
+    → look texts fails before (cond fine met []) ≡ Ok after → look texts fails before met ≡ Ok after
 where_fine texts fails before after true met is looked = looked
 where_fine texts fails before after false met is looked = absurd (false≢true is)
 
@@ -224,7 +236,8 @@ files_bring reading texts fails (suc levels) = λ type opener file before after 
 
 -- ---- trees
 
-begun : (texts : List ℕ → Option (List ℕ)) (fails : List ℕ) (before after : Counts) → look texts fails before (begin ∷ []) ≡ Ok after → record before { lines = 0 } ≡ after
+begun : (texts : List ℕ → Option (List ℕ)) (fails : List ℕ) (before after : Counts) → look texts fails before (begin ∷ []) ≡ Ok after
+    → record before { lines = 0 } ≡ after
 begun texts fails before after is = let met = one_met texts fails before after begin is in cc
 
 -- a tree was made
@@ -238,7 +251,8 @@ extra_opening : (b : Bool) → cond {A = ℕ} b 1 0 ≤ 1
 extra_opening true = omega arith
 extra_opening false = omega arith
 
-own_tree : (before start after : Counts) (own : Stack) → record before { lines = 0 } ≡ start → Brings start after own 17 1 → eqb (count own) 0 ≡ false → Tree before after own
+own_tree : (before start after : Counts) (own : Stack) → record before { lines = 0 } ≡ start → Brings start after own 17 1 → eqb (count own) 0 ≡ false
+    → Tree before after own
 own_tree before start after own begins is some =
     let openings : start.openings ≡ before.openings = ap (λ (c : Counts). c.openings) (sym begins) in
     let lines : start.lines ≡ 0 = ap (λ (c : Counts). c.lines) (sym begins) in
@@ -250,7 +264,8 @@ own_tree before start after own begins is some =
       deep = omega (arith, is.deep);
     }
 
-other_tree : (before start middle after : Counts) (own other : Stack) → record before { lines = 0 } ≡ start → Brings start middle own 17 1 → Brings middle after other 17 1 → Tree before after other
+other_tree : (before start middle after : Counts) (own other : Stack) → record before { lines = 0 } ≡ start → Brings start middle own 17 1
+    → Brings middle after other 17 1 → Tree before after other
 other_tree before start middle after own other begins is more =
     let openings : start.openings ≡ before.openings = ap (λ (c : Counts). c.openings) (sym begins) in
     let lines : start.lines ≡ 0 = ap (λ (c : Counts). c.lines) (sym begins) in
@@ -263,7 +278,8 @@ other_tree before start middle after own other begins is more =
       deep = omega (arith, more.deep);
     }
 
-by_count : Reading → (texts : List ℕ → Option (List ℕ)) (fails : List ℕ) (own other : _) (type : RuleType) (before start middle after : Counts) → record before { lines = 0 } ≡ start → Brings start middle (nodes texts 17 type own) 17 1
+by_count : Reading → (texts : List ℕ → Option (List ℕ)) (fails : List ℕ) (own other : _) (type : RuleType) (before start middle after : Counts)
+    → record before { lines = 0 } ≡ start → Brings start middle (nodes texts 17 type own) 17 1
     → (empty : Bool) → eqb (count (nodes texts 17 type own)) 0 ≡ empty → look texts fails middle (cond empty (items texts 17 type (other_opener texts own) other) []) ≡ Ok after
     → Tree before after (cond empty (nodes texts 17 type other) (nodes texts 17 type own))
 by_count reading texts fails own other type before start middle after begins own_brings true is looked =
@@ -272,7 +288,8 @@ by_count reading texts fails own other type before start middle after begins own
     subst (λ (c : Counts). Tree before c (nodes texts 17 type own)) (nothing_met texts fails middle after looked) (own_tree before start middle (nodes texts 17 type own) begins own_brings is)
 
 -- the stack of a type, and the openings behind it
-pub tree_brings : Reading → (texts : List ℕ → Option (List ℕ)) (fails : List ℕ) (own other : _) (type : RuleType) (before after : Counts) → look texts fails before (tree_items texts own other type) ≡ Ok after
+pub tree_brings : Reading → (texts : List ℕ → Option (List ℕ)) (fails : List ℕ) (own other : _) (type : RuleType) (before after : Counts)
+    → look texts fails before (tree_items texts own other type) ≡ Ok after
     → Tree before after (tree_of (nodes texts 17 type own) (nodes texts 17 type other))
 tree_brings reading texts fails own other type before after is =
     let first = split texts fails before (begin ∷ []) _ after is in

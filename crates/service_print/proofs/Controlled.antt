@@ -27,14 +27,16 @@ abbrev stops : (ℕ → Bool) → List ℕ → Bool
 stops test [] = true
 stops test (b ∷ bs) = test b
 
-cut_at : (test : ℕ → Bool) (front rest : List ℕ) → list_all (λ b. not (test b)) front ≡ true → stops test rest ≡ true → position_or_len test (front ++ rest) ≡ length front
+cut_at : (test : ℕ → Bool) (front rest : List ℕ) → list_all (λ b. not (test b)) front ≡ true → stops test rest ≡ true
+    → position_or_len test (front ++ rest) ≡ length front
 cut_at test [] [] none stop = refl
 cut_at test [] (b ∷ bs) none stop = rw stop refl
 cut_at test (c ∷ front) rest none stop =
     let parts = and_parts (not (test c)) (list_all (λ b. not (test b)) front) none in
     rw (parts.0, cut_at test front rest parts.1 stop) (omega arith)
 
-cut_front : (test : ℕ → Bool) (front rest : List ℕ) → list_all (λ b. not (test b)) front ≡ true → stops test rest ≡ true → before_first test (front ++ rest) ≡ front
+cut_front : (test : ℕ → Bool) (front rest : List ℕ) → list_all (λ b. not (test b)) front ≡ true → stops test rest ≡ true
+    → before_first test (front ++ rest) ≡ front
 cut_front test front rest none stop = ap (λ n. take n (front ++ rest)) (cut_at test front rest none stop) ∙ take-append_seam front rest
 
 cut_rest : (test : ℕ → Bool) (front rest : List ℕ) → list_all (λ b. not (test b)) front ≡ true → stops test rest ≡ true → from_first test (front ++ rest) ≡ rest
@@ -46,7 +48,8 @@ no_white_first : (text rest : List ℕ) → begins_some is_action text ≡ true 
 no_white_first [] rest some = absurd cc
 no_white_first (b ∷ bs) rest some = rw (not-true (is_white b) some) refl
 
-first_entry_is : (name action rest : List ℕ) → list_all is_name name ≡ true → list_all is_action action ≡ true → begins_some is_action action ≡ true → stops is_white rest ≡ true
+first_entry_is : (name action rest : List ℕ) → list_all is_name name ≡ true → list_all is_action action ≡ true → begins_some is_action action ≡ true
+    → stops is_white rest ≡ true
     → first_entry (name ++ 61 ∷ (action ++ rest)) ≡ record { entry = record { name = name; action = action }; rest = rest }
 first_entry_is name action rest named acts some stop =
     let front : before_first ends_name (name ++ 61 ∷ (action ++ rest)) ≡ name = cut_front ends_name name (61 ∷ (action ++ rest)) named refl in
@@ -66,11 +69,13 @@ unfolding entries_behind
 behind_front [] rest = refl
 behind_front (b ∷ front) rest = behind_front front rest
 
-black_first : (b : ℕ) (bs : List ℕ) (found : FirstEntry) → is_white b ≡ false → first_entry (b ∷ bs) ≡ found → entries_behind 0 (b ∷ bs) ≡ found.entry ∷ entries_behind (length bs - length found.rest) bs
+black_first : (b : ℕ) (bs : List ℕ) (found : FirstEntry) → is_white b ≡ false → first_entry (b ∷ bs) ≡ found
+    → entries_behind 0 (b ∷ bs) ≡ found.entry ∷ entries_behind (length bs - length found.rest) bs
 unfolding entries_behind
 black_first b bs found black read = ap (λ (w : Bool). elim w [ true ↦ entries_behind 0 bs | false ↦ (first_entry (b ∷ bs)).entry ∷ entries_behind (length bs - length (first_entry (b ∷ bs)).rest) bs ]) black ∙ ap (λ (f : FirstEntry). f.entry ∷ entries_behind (length bs - length f.rest) bs) read
 
-one_entry : (first : ℕ) (more name action rest : List ℕ) → name ++ 61 ∷ action ≡ first ∷ more → is_white first ≡ false → first_entry ((name ++ 61 ∷ action) ++ rest) ≡ record { entry = record { name = name; action = action }; rest = rest }
+one_entry : (first : ℕ) (more name action rest : List ℕ) → name ++ 61 ∷ action ≡ first ∷ more → is_white first ≡ false
+    → first_entry ((name ++ 61 ∷ action) ++ rest) ≡ record { entry = record { name = name; action = action }; rest = rest }
     → entries_behind 0 ((name ++ 61 ∷ action) ++ rest) ≡ record { name = name; action = action } ∷ entries_behind 0 rest
 unfolding entries_behind
 one_entry first more name action rest is black found =
@@ -121,14 +126,16 @@ behind_stops : (texts : List (List ℕ)) → stops is_white (flat_map behind_spa
 behind_stops [] = refl
 behind_stops (text ∷ texts) = refl
 
-behind_entries : (control : List Action) (codes : List Code) → all_fine control codes ≡ true → entries_behind 0 (flat_map behind_space (map (entry_text control) codes)) ≡ map (entry_record control) codes
+behind_entries : (control : List Action) (codes : List Code) → all_fine control codes ≡ true
+    → entries_behind 0 (flat_map behind_space (map (entry_text control) codes)) ≡ map (entry_record control) codes
 behind_entries control [] fine = no_entries
 behind_entries control (code ∷ codes) fine =
     let parts = and_parts (is_fine (action_at control code)) (all_fine control codes) fine in
     let rest = flat_map behind_space (map (entry_text control) codes) in
     space_first (entry_text control code ++ rest) ∙ a_code control code rest parts.0 (behind_stops (map (entry_text control) codes)) ∙ ap (λ (es : List Entry). entry_record control code ∷ es) (behind_entries control codes parts.1)
 
-spaced_entries : (control : List Action) (codes : List Code) → all_fine control codes ≡ true → entries_behind 0 (spaced (map (entry_text control) codes)) ≡ map (entry_record control) codes
+spaced_entries : (control : List Action) (codes : List Code) → all_fine control codes ≡ true
+    → entries_behind 0 (spaced (map (entry_text control) codes)) ≡ map (entry_record control) codes
 spaced_entries control [] fine = no_entries
 spaced_entries control (code ∷ codes) fine =
     let parts = and_parts (is_fine (action_at control code)) (all_fine control codes) fine in
@@ -176,7 +183,8 @@ names_word code named = rw (code_word-named named) refl
 abbrev last_found : List Action → Code → List Code → Option Entry → Option Entry
 last_found control code codes before = last_or before (filter (λ (entry : Entry). names code entry.name) (map (entry_record control) (filter (has_entry control) codes)))
 
-kept : (control : List Action) (code c : Code) (codes : List Code) (before : Option Entry) → has_entry control c ≡ true → eqb (number_of c) (number_of code) ≡ true
+kept : (control : List Action) (code c : Code) (codes : List Code) (before : Option Entry) → has_entry control c ≡ true
+    → eqb (number_of c) (number_of code) ≡ true
     → last_found control code (c ∷ codes) before ≡ last_found control code codes (Some (entry_record control c))
 kept control code c codes before has same = rw has (rw (names_word code c ∙ same) refl)
 
@@ -209,7 +217,8 @@ found_among control code (c ∷ codes) before has =
       | inr n ↦ passed control code c codes before n ∙ found_among control code codes before has ∙ rw n refl
     ]
 
-none_among : (control : List Action) (code : Code) (codes : List Code) (before : Option Entry) → has_entry control code ≡ false → last_found control code codes before ≡ before
+none_among : (control : List Action) (code : Code) (codes : List Code) (before : Option Entry) → has_entry control code ≡ false
+    → last_found control code codes before ≡ before
 none_among control code [] before has = refl
 none_among control code (c ∷ codes) before has =
     elim (cases_Bool (eqb (number_of c) (number_of code))) [
@@ -224,7 +233,8 @@ in_codes Success = refl
 in_codes code = refl
 
 -- the action of a code among the entries of a control
-action_found : (control : List Action) (codes : List Code) (code : Code) → list_any (λ c. eqb (number_of c) (number_of code)) codes ≡ true → is_fine (action_at control code) ≡ true
+action_found : (control : List Action) (codes : List Code) (code : Code) → list_any (λ c. eqb (number_of c) (number_of code)) codes ≡ true
+    → is_fine (action_at control code) ≡ true
     → action_among (map (entry_record control) (filter (has_entry control) codes)) code ≡ action_at control code
 action_found control codes code among fine =
     let entries = map (entry_record control) (filter (has_entry control) codes) in
@@ -271,7 +281,8 @@ map_same f g (x ∷ xs) same = rw (same x, map_same f g xs same) refl
 
 -- ---- controls in brackets
 
-settled : (control : List Action) (entries : List Entry) → length control ≡ 32 → filter_map fault_of_entry entries ≡ [] → ((code : Code) → action_among entries code ≡ action_at control code)
+settled : (control : List Action) (entries : List Entry) → length control ≡ 32 → filter_map fault_of_entry entries ≡ []
+    → ((code : Code) → action_among entries code ≡ action_at control code)
     → control_of_entries entries ≡ Ok control
 settled control entries length_is fine same =
     ap (λ (faults : List ControlFault). control_unless faults entries) fine ∙ ap Ok (map_same (action_among entries) (action_at control) all_codes same ∙ each_action control length_is)
@@ -285,7 +296,8 @@ fine_codes : (control : List Action) (codes : List Code) → list_all is_fine co
 fine_codes control [] fine = refl
 fine_codes control (code ∷ codes) fine = and_from (is_fine (action_at control code)) (all_fine control codes) (fine_at control (number_of code) fine) (fine_codes control codes fine)
 
-bracket_among : (control : List Action) (codes : List Code) → ((code : Code) → list_any (λ c. eqb (number_of c) (number_of code)) codes ≡ true) → length control ≡ 32 → list_all is_fine control ≡ true
+bracket_among : (control : List Action) (codes : List Code) → ((code : Code) → list_any (λ c. eqb (number_of c) (number_of code)) codes ≡ true)
+    → length control ≡ 32 → list_all is_fine control ≡ true
     → control_of true (spaced (entries_among control codes)) ≡ Ok control
 unfolding entries_among entries_in
 bracket_among control codes among length_is fine =
@@ -294,5 +306,6 @@ bracket_among control codes among length_is fine =
     ∙ settled control (map (entry_record control) (filter (has_entry control) codes)) length_is (entries_fine control (filter (has_entry control) codes) some) (λ code. action_found control codes code (among code) (fine_at control (number_of code) fine))
 
 -- a control that is written in brackets reads back
-pub bracket_reads : (control : List Action) → length control ≡ 32 → list_all is_fine control ≡ true → control_of true (spaced (entries_among control all_codes)) ≡ Ok control
+pub bracket_reads : (control : List Action) → length control ≡ 32 → list_all is_fine control ≡ true
+    → control_of true (spaced (entries_among control all_codes)) ≡ Ok control
 bracket_reads control = bracket_among control all_codes in_codes

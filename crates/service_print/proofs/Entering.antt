@@ -12,11 +12,13 @@ abbrev pub spaced_on : Bool → List (List ℕ) → List ℕ
 spaced_on true fields = spaced fields
 spaced_on false fields = flat_map behind_space fields
 
-pub entries_among-some : (control : List Action) (code : Code) (codes : List Code) → has_entry control code ≡ true → entries_among control (code ∷ codes) ≡ entry_text control code ∷ entries_among control codes
+pub entries_among-some : (control : List Action) (code : Code) (codes : List Code) → has_entry control code ≡ true
+    → entries_among control (code ∷ codes) ≡ entry_text control code ∷ entries_among control codes
 unfolding entries_among
 entries_among-some control code codes has = ap (λ b. map (entry_text control) (cond b (code ∷ filter (has_entry control) codes) (filter (has_entry control) codes))) has
 
-pub entries_among-none : (control : List Action) (code : Code) (codes : List Code) → has_entry control code ≡ false → entries_among control (code ∷ codes) ≡ entries_among control codes
+pub entries_among-none : (control : List Action) (code : Code) (codes : List Code) → has_entry control code ≡ false
+    → entries_among control (code ∷ codes) ≡ entries_among control codes
 unfolding entries_among
 entries_among-none control code codes has = ap (λ b. map (entry_text control) (cond b (code ∷ filter (has_entry control) codes) (filter (has_entry control) codes))) has
 
@@ -25,7 +27,8 @@ unfolding entries_among
 entries_among-end control = refl
 
 -- an entry was written, with a space before it unless it is the first
-pub one_more : (is_first : Bool) (line entry : List ℕ) (more : List (List ℕ)) → line ++ spaced_on is_first (entry ∷ more) ≡ ((line ++ spaced_on is_first (entry ∷ [])) ++ spaced_on false more)
+pub one_more : (is_first : Bool) (line entry : List ℕ) (more : List (List ℕ))
+    → line ++ spaced_on is_first (entry ∷ more) ≡ ((line ++ spaced_on is_first (entry ∷ [])) ++ spaced_on false more)
 one_more true line entry more = simp append_assoc
 one_more false line entry more = simp append_assoc
 
@@ -50,7 +53,8 @@ entering_none control codes i default is_first line all so_far within has =
     let here : entries_among control (drop i codes) ≡ entries_among control (drop (i + 1) codes) = ap (entries_among control) (drop_more codes i default within) ∙ entries_among-none control (get_or codes i default) (drop (i + 1) codes) has in
     ap (λ (es : List (List ℕ)). line ++ spaced_on is_first es) (sym here) ∙ so_far
 
-pub entering_end : (control : List Action) (codes : List Code) (is_first : Bool) (line all : List ℕ) → line ++ spaced_on is_first (entries_among control codes) ≡ all → codes ≡ [] → line ≡ all
+pub entering_end : (control : List Action) (codes : List Code) (is_first : Bool) (line all : List ℕ)
+    → line ++ spaced_on is_first (entries_among control codes) ≡ all → codes ≡ [] → line ≡ all
 unfolding entries_among
 entering_end control codes true line all so_far none = sym (append-nil line) ∙ ap (λ (cs : List Code). line ++ spaced_on true (entries_among control cs)) (sym none) ∙ so_far
 entering_end control codes false line all so_far none = sym (append-nil line) ∙ ap (λ (cs : List Code). line ++ spaced_on false (entries_among control cs)) (sym none) ∙ so_far

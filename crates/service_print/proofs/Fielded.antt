@@ -51,7 +51,8 @@ pub record IsPlainTest (test : ℕ → Bool) : Type 0 where
 pub plain_by : (test : ℕ → Bool) → IsPlainTest test → (b : ℕ) → test b ≡ true → is_plain b ≡ true
 plain_by test fails b passes = rw (apart test b 32 fails.space passes, apart test b 9 fails.tab passes, apart test b 13 fails.return passes, apart test b 35 fails.hash passes, apart test b 10 fails.newline passes) refl
 
-pub plain_text_by : (test : ℕ → Bool) → IsPlainTest test → test 91 ≡ false → (b : ℕ) (bs : List ℕ) → list_all test (b ∷ bs) ≡ true → is_plain_text (b ∷ bs) ≡ true
+pub plain_text_by : (test : ℕ → Bool) → IsPlainTest test → test 91 ≡ false → (b : ℕ) (bs : List ℕ) → list_all test (b ∷ bs) ≡ true
+    → is_plain_text (b ∷ bs) ≡ true
 plain_text_by test fails bracket b bs all =
     let first = (and_parts (test b) (list_all test bs) all).0 in
     and_from (not (eqb b 91)) (list_all is_plain (b ∷ bs)) (not_from_false (eqb b 91) (apart test b 91 bracket first)) (weaken test is_plain (plain_by test fails) (b ∷ bs) all)
@@ -70,7 +71,8 @@ unescaped (b ∷ bs) all =
 
 -- ---- controls
 
-agreeing : (a b : List Action) (codes : List Code) → list_all (λ code. same_action (action_at a code) (action_at b code)) codes ≡ true → map (action_at a) codes ≡ map (action_at b) codes
+agreeing : (a b : List Action) (codes : List Code) → list_all (λ code. same_action (action_at a code) (action_at b code)) codes ≡ true
+    → map (action_at a) codes ≡ map (action_at b) codes
 agreeing a b [] same = refl
 agreeing a b (code ∷ codes) same =
     let parts = and_parts (same_action (action_at a code) (action_at b code)) (list_all (λ c. same_action (action_at a c) (action_at b c)) codes) same in
@@ -136,19 +138,22 @@ entry_bytes control code fine =
     list_all-append is_word_byte (code_word code) (61 ∷ action_word (action_at control code))
     ∙ and_from (list_all is_word_byte (code_word code)) (list_all is_word_byte (61 ∷ action_word (action_at control code))) (code_word-bytes code) (action_reads (action_at control code) fine).word
 
-behind_bytes : (control : List Action) (codes : List Code) → list_all is_fine control ≡ true → list_all is_word_byte (flat_map behind_space (map (entry_text control) codes)) ≡ true
+behind_bytes : (control : List Action) (codes : List Code) → list_all is_fine control ≡ true
+    → list_all is_word_byte (flat_map behind_space (map (entry_text control) codes)) ≡ true
 behind_bytes control [] fine = refl
 behind_bytes control (code ∷ codes) fine =
     list_all-append is_word_byte (entry_text control code) (flat_map behind_space (map (entry_text control) codes))
     ∙ and_from (list_all is_word_byte (entry_text control code)) (list_all is_word_byte (flat_map behind_space (map (entry_text control) codes))) (entry_bytes control code (fine_at control _ fine)) (behind_bytes control codes fine)
 
-spaced_bytes : (control : List Action) (codes : List Code) → list_all is_fine control ≡ true → list_all is_word_byte (spaced (map (entry_text control) codes)) ≡ true
+spaced_bytes : (control : List Action) (codes : List Code) → list_all is_fine control ≡ true
+    → list_all is_word_byte (spaced (map (entry_text control) codes)) ≡ true
 spaced_bytes control [] fine = refl
 spaced_bytes control (code ∷ codes) fine =
     list_all-append is_word_byte (entry_text control code) (flat_map behind_space (map (entry_text control) codes))
     ∙ and_from (list_all is_word_byte (entry_text control code)) (list_all is_word_byte (flat_map behind_space (map (entry_text control) codes))) (entry_bytes control code (fine_at control _ fine)) (behind_bytes control codes fine)
 
-entries_bytes : (control : List Action) (codes : List Code) → list_all is_fine control ≡ true → list_all is_word_byte (spaced (entries_among control codes)) ≡ true
+entries_bytes : (control : List Action) (codes : List Code) → list_all is_fine control ≡ true
+    → list_all is_word_byte (spaced (entries_among control codes)) ≡ true
 unfolding entries_among
 entries_bytes control codes fine = spaced_bytes control (filter (has_entry control) codes) fine
 
@@ -156,7 +161,8 @@ keyword_token : (control : List Action) (word : List ℕ) → keyword_of control
 unfolding control_text
 keyword_token control word found is = record { writes = rw found refl; sound = is.sound; set = is.set; reads = is.reads; no_include = is.no_include; no_substack = is.no_substack }
 
-bracketed_token : (control : List Action) → length control ≡ 32 → list_all is_fine control ≡ true → keyword_of control ≡ None → IsControlToken control (bracket_token (spaced (entries_among control all_codes)))
+bracketed_token : (control : List Action) → length control ≡ 32 → list_all is_fine control ≡ true → keyword_of control ≡ None
+    → IsControlToken control (bracket_token (spaced (entries_among control all_codes)))
 unfolding control_text
 bracketed_token control length_is fine none =
     let text = spaced (entries_among control all_codes) in
@@ -170,7 +176,8 @@ bracketed_token control length_is fine none =
       no_substack = refl;
     }
 
-token_is : (control : List Action) (o : Option (List ℕ)) → length control ≡ 32 → list_all is_fine control ≡ true → keyword_of control ≡ o → IsControlToken control (token_by control o)
+token_is : (control : List Action) (o : Option (List ℕ)) → length control ≡ 32 → list_all is_fine control ≡ true → keyword_of control ≡ o
+    → IsControlToken control (token_by control o)
 token_is control (Some word) length_is fine found = keyword_token control word found (keyword_is control word length_is found)
 token_is control None length_is fine found = bracketed_token control length_is fine found
 
@@ -225,7 +232,8 @@ not_both : (a b : Bool) → not (a && b) ≡ true → a ≡ true → b ≡ false
 not_both true b is first = not-true b is
 not_both false b is first = absurd (false≢true first)
 
-by_brackets : (text : List ℕ) (bracketed : Bool) → wants_brackets text ≡ bracketed → list_all is_inner text ≡ true → not (wants_brackets text && last_is 92 text) ≡ true → cond bracketed (is_inner_text text) (is_plain_text text) ≡ true
+by_brackets : (text : List ℕ) (bracketed : Bool) → wants_brackets text ≡ bracketed → list_all is_inner text ≡ true
+    → not (wants_brackets text && last_is 92 text) ≡ true → cond bracketed (is_inner_text text) (is_plain_text text) ≡ true
 by_brackets text true wants inner last = and_from (list_all is_inner text) (not (last_is 92 text)) inner (not_from_false (last_is 92 text) (not_both (wants_brackets text) (last_is 92 text) last wants))
 by_brackets text false wants inner last = plain_sound text wants inner
 

@@ -34,7 +34,8 @@ paths_apart root a b other same = other (front_same (codes "/etc/pam.d/") a b (f
 pub found_first : (root : List ℕ) (file : File) (files : List File) → file_at (path_in root file.name) (map (placed_file root) (file ∷ files)) ≡ Some file.text
 found_first root file files = rw ((bytes_eq-Decides (path_in root file.name) (path_in root file.name)).1 refl) refl
 
-pub found_later : (root name : List ℕ) (file : File) (files : List File) → (file.name ≡ name → ⊥) → file_at (path_in root name) (map (placed_file root) (file ∷ files)) ≡ file_at (path_in root name) (map (placed_file root) files)
+pub found_later : (root name : List ℕ) (file : File) (files : List File) → (file.name ≡ name → ⊥)
+    → file_at (path_in root name) (map (placed_file root) (file ∷ files)) ≡ file_at (path_in root name) (map (placed_file root) files)
 found_later root name file files other = rw (not_equal (path_in root file.name) (path_in root name) (paths_apart root file.name name other)) refl
 
 -- numbers tell the files of substacks apart
@@ -56,7 +57,8 @@ abbrev pub Numbered : List ℕ → ℕ → List File → Type 0
 Numbered service number [] = Unit {0}
 Numbered service number (file ∷ files) = (file.name ≡ numbered service number) × Numbered service (number + 1) files
 
-numbered-append : (service : List ℕ) (number next : ℕ) (front more : List File) → Numbered service number front → next ≡ number + length front → Numbered service next more → Numbered service number (front ++ more)
+numbered-append : (service : List ℕ) (number next : ℕ) (front more : List File) → Numbered service number front → next ≡ number + length front
+    → Numbered service next more → Numbered service number (front ++ more)
 numbered-append service number next [] more one is other = subst (λ n. Numbered service n more) (is ∙ add-zero number) other
 numbered-append service number next (file ∷ front) more one is other = (one.0, numbered-append service (number + 1) next front more one.1 (omega arith) other)
 
@@ -70,7 +72,8 @@ files_numbered type service number (sub inner rest) = (
       (files_numbered type service (number + 1) inner) (omega (arith, length-substack_files service type (number + 1) inner)) (files_numbered type service (number + 1 + subs_in inner) rest),
 )
 
-pub all_numbered : (stack : RuleType → Stack) (service : List ℕ) (number : ℕ) (types : List RuleType) → Numbered service number (all_substack_files stack service number types)
+pub all_numbered : (stack : RuleType → Stack) (service : List ℕ) (number : ℕ) (types : List RuleType)
+    → Numbered service number (all_substack_files stack service number types)
 all_numbered stack service number [] = tt
 all_numbered stack service number (type ∷ types) =
     numbered-append service number (number + subs_in (stack type)) (substack_files service type number (stack type)) (all_substack_files stack service (number + subs_in (stack type)) types)
@@ -91,13 +94,15 @@ abbrev Passed : List ℕ → List ℕ → ℕ → List File → Type 0
 Passed root service number front =
     (m : ℕ) (more : List File) → number ≤ m → m < 256 → file_at (path_in root (numbered service m)) (map (placed_file root) (front ++ more)) ≡ file_at (path_in root (numbered service m)) (map (placed_file root) more)
 
-passed_one : (root service : List ℕ) (number : ℕ) (front : List File) (file : File) → number < 256 → Passed root service number front → file.name ≡ numbered service number → Passed root service (number + 1) (front ++ file ∷ [])
+passed_one : (root service : List ℕ) (number : ℕ) (front : List File) (file : File) → number < 256 → Passed root service number front
+    → file.name ≡ numbered service number → Passed root service (number + 1) (front ++ file ∷ [])
 passed_one root service number front file few passed named = λ m more above small.
     ap (λ (fs : List File). file_at (path_in root (numbered service m)) (map (placed_file root) fs)) (append_assoc front (file ∷ []) more)
     ∙ passed m (file ∷ more) (omega arith) small
     ∙ found_later root (numbered service m) file more (λ same. numbers_apart service number m few small (λ e. omega arith) (sym named ∙ same))
 
-pub all_found : (root service : List ℕ) (number : ℕ) (all front files : List File) → all ≡ front ++ files → number + length files ≤ 256 → Passed root service number front → Numbered service number files → AllThere (texts_in root all) files
+pub all_found : (root service : List ℕ) (number : ℕ) (all front files : List File) → all ≡ front ++ files → number + length files ≤ 256
+    → Passed root service number front → Numbered service number files → AllThere (texts_in root all) files
 all_found root service number all front [] is few passed numbers = tt
 all_found root service number all front (file ∷ files) is few passed numbers =
     let here : texts_in root all (in_the_folder file.name) ≡ Some file.text =

@@ -19,10 +19,12 @@ pub record IsPrinting (stack : RuleType → Stack) (service : List ℕ) (types :
   pub texts : text ++ text_of (all_lines stack service (length files) types) ≡ service_text stack service
   pub filed : files ++ all_substack_files stack service (length files) types ≡ empty_file ∷ all_substack_files stack service 1 all_types
 
-pub printing_start : (stack : RuleType → Stack) (service text : List ℕ) (none files : List File) (empty : File) → text ≡ [] → none ≡ [] → empty ≡ empty_file → files ≡ none ++ empty ∷ [] → IsPrinting stack service all_types text files
+pub printing_start : (stack : RuleType → Stack) (service text : List ℕ) (none files : List File) (empty : File) → text ≡ [] → none ≡ []
+    → empty ≡ empty_file → files ≡ none ++ empty ∷ [] → IsPrinting stack service all_types text files
 printing_start stack service text none files empty text_is none_is empty_is files_is = rw (text_is, files_is, none_is, empty_is) (record { texts = refl; filed = refl })
 
-pub printing_step : (stack : RuleType → Stack) (service : List ℕ) (type : RuleType) (types : List RuleType) (text new : List ℕ) (files more : List File) → IsPrinting stack service (type ∷ types) text files
+pub printing_step : (stack : RuleType → Stack) (service : List ℕ) (type : RuleType) (types : List RuleType) (text new : List ℕ) (files more : List File)
+    → IsPrinting stack service (type ∷ types) text files
     → new ≡ text ++ text_of (list_lines service type (length files) (stack type)) → more ≡ files ++ substack_files service type (length files) (stack type) → IsPrinting stack service types new more
 printing_step stack service type types text new files more was added filed =
     let number : length more ≡ length files + subs_in (stack type) = omega (arith, ap length filed, length-append files (substack_files service type (length files) (stack type)), length-substack_files service type (length files) (stack type)) in
@@ -44,7 +46,8 @@ printing_step stack service type types text new files more was added filed =
           ∙ was.filed;
     }
 
-pub printing_end : (stack : RuleType → Stack) (service text name : List ℕ) (files : List File) → IsPrinting stack service [] text files → name ≡ service → set files 0 (record { name = name; text = text }) ≡ printed stack service
+pub printing_end : (stack : RuleType → Stack) (service text name : List ℕ) (files : List File) → IsPrinting stack service [] text files
+    → name ≡ service → set files 0 (record { name = name; text = text }) ≡ printed stack service
 unfolding printed
 printing_end stack service text name files was named =
     let texts = sym (append-nil text) ∙ was.texts in

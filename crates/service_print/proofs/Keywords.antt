@@ -15,5 +15,6 @@ four false false true d = refl
 four false false false true = refl
 four false false false false = refl
 
-pub keyword_words : (control : List Action) → option_map keyword_word (find (λ keyword. stands_for (keyword_word keyword) control) all_keywords) ≡ keyword_of control
+pub keyword_words : (control : List Action)
+    → option_map keyword_word (find (λ keyword. stands_for (keyword_word keyword) control) all_keywords) ≡ keyword_of control
 keyword_words control = four (stands_for (codes "required") control) (stands_for (codes "requisite") control) (stands_for (codes "sufficient") control) (stands_for (codes "optional") control)

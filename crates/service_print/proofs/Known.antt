@@ -51,7 +51,8 @@ abbrev fine_result : Result Action ControlFault → Bool
 fine_result (Ok action) = is_fine action
 fine_result (Err why) = true
 
-six_fine : (a b c d e f : Bool) → fine_option (cond a (Some actions.Ignore) (cond b (Some actions.Bad) (cond c (Some actions.Die) (cond d (Some actions.Ok) (cond e (Some actions.Done) (cond f (Some actions.Reset) None)))))) ≡ true
+six_fine : (a b c d e f : Bool)
+    → fine_option (cond a (Some actions.Ignore) (cond b (Some actions.Bad) (cond c (Some actions.Die) (cond d (Some actions.Ok) (cond e (Some actions.Done) (cond f (Some actions.Reset) None)))))) ≡ true
 six_fine true b c d e f = refl
 six_fine false true c d e f = refl
 six_fine false false true d e f = refl
@@ -78,7 +79,8 @@ jump_fine n =
       ]
     ]
 
-word_fine : (word : List ℕ) (named : Option Action) (rest : Result Action ControlFault) → fine_option named ≡ true → fine_result rest ≡ true → fine_result (elim named [ Some action ↦ Ok action | None ↦ rest ]) ≡ true
+word_fine : (word : List ℕ) (named : Option Action) (rest : Result Action ControlFault) → fine_option named ≡ true → fine_result rest ≡ true
+    → fine_result (elim named [ Some action ↦ Ok action | None ↦ rest ]) ≡ true
 word_fine word None rest one other = other
 word_fine word (Some action) rest one other = one
 
@@ -115,7 +117,8 @@ pub record IsControl (control : List Action) : Type 0 where
   pub each : length control ≡ 32
   pub fine : list_all is_fine control ≡ true
 
-unless_control : (faults : List ControlFault) (entries : List ControlEntry) (control : List Action) → control_unless faults entries ≡ Ok control → IsControl control
+unless_control : (faults : List ControlFault) (entries : List ControlEntry) (control : List Action) → control_unless faults entries ≡ Ok control
+    → IsControl control
 unless_control [] entries control is =
     let same : map (action_among entries) all_codes ≡ control = cc in
     record { each = ap length (sym same); fine = ap (list_all is_fine) (sym same) ∙ among_fine entries all_codes }
@@ -125,7 +128,8 @@ abbrev is_control : Option (List Action) → Bool
 is_control None = true
 is_control (Some control) = eqb (length control) 32 && list_all is_fine control
 
-four_controls : (a b c d : Bool) → is_control (option_map control_of_keyword (cond a (Some Required) (cond b (Some Requisite) (cond c (Some Sufficient) (cond d (Some Optional) None))))) ≡ true
+four_controls : (a b c d : Bool)
+    → is_control (option_map control_of_keyword (cond a (Some Required) (cond b (Some Requisite) (cond c (Some Sufficient) (cond d (Some Optional) None))))) ≡ true
 four_controls true b c d = refl
 four_controls false true c d = refl
 four_controls false false true d = refl
@@ -178,7 +182,8 @@ good_texts (token ∷ tokens) good =
     let parts = and_parts (is_good token) (list_all is_good tokens) good in
     and_from (can_stand token.text) (can_stand_all (map (λ (t : Token). t.text) tokens)) parts.0 (good_texts tokens parts.1)
 
-known_module : (in_folder : Bool) (rule : RawRule) (own : Option RuleType) (silent : Bool) (control : List Action) (tokens : List Token) → IsControl control → list_all is_good tokens ≡ true
+known_module : (in_folder : Bool) (rule : RawRule) (own : Option RuleType) (silent : Bool) (control : List Action) (tokens : List Token)
+    → IsControl control → list_all is_good tokens ≡ true
     → entry_of in_folder rule ≡ entry_at rule.line own (with_control silent (Ok control) tokens) → Known in_folder rule
 known_module in_folder rule own silent control [] is good read = at_fault in_folder rule _ read
 known_module in_folder rule own silent control (token ∷ tokens) is good read =
@@ -193,7 +198,8 @@ known_module in_folder rule own silent control (token ∷ tokens) is good read =
       writes = record { each = is.each; fine = is.fine; path = parts.0; args = good_texts tokens parts.1 };
     }
 
-known_control : (in_folder : Bool) (rule : RawRule) (own : Option RuleType) (silent bracketed : Bool) (text : List ℕ) (control : Result (List Action) ControlFault) (tokens : List Token) → control_of bracketed text ≡ control
+known_control : (in_folder : Bool) (rule : RawRule) (own : Option RuleType) (silent bracketed : Bool) (text : List ℕ) (control : Result (List Action) ControlFault) (tokens : List Token)
+    → control_of bracketed text ≡ control
     → list_all is_good tokens ≡ true → entry_of in_folder rule ≡ entry_at rule.line own (with_control silent control tokens) → Known in_folder rule
 known_control in_folder rule own silent bracketed text (Ok control) tokens reads good read = known_module in_folder rule own silent control tokens (control_read bracketed text control reads) good read
 known_control in_folder rule own silent bracketed text (Err why) tokens reads good read = at_fault in_folder rule _ read
@@ -238,12 +244,14 @@ known_type in_folder rule own silent (token ∷ next ∷ more) good read =
       ]
     ]
 
-known_field : (in_folder : Bool) (rule : RawRule) (token : Token) (tokens : List Token) (field : Option _) → list_all is_good tokens ≡ true → entry_of in_folder rule ≡ with_type rule.line field tokens → Known in_folder rule
+known_field : (in_folder : Bool) (rule : RawRule) (token : Token) (tokens : List Token) (field : Option _) → list_all is_good tokens ≡ true
+    → entry_of in_folder rule ≡ with_type rule.line field tokens → Known in_folder rule
 known_field in_folder rule token tokens None good read = at_fault in_folder rule _ read
 known_field in_folder rule token tokens (Some field) good read = known_type in_folder rule (Some field.rule_type) field.silent tokens good read
 
 -- Debian's addition
-known_debian : (rule : RawRule) (tokens : List Token) → list_all is_good tokens ≡ true → (token : Token) → rule.tokens ≡ token ∷ tokens → is_word (codes "@include") token ≡ true → Known true rule
+known_debian : (rule : RawRule) (tokens : List Token) → list_all is_good tokens ≡ true → (token : Token) → rule.tokens ≡ token ∷ tokens
+    → is_word (codes "@include") token ≡ true → Known true rule
 unfolding entry_of
 known_debian rule [] good token is word =
     let read : entry_of true rule ≡ Err MissingField = rw (is, word) refl in
@@ -274,7 +282,8 @@ known in_folder rule good = known_tokens in_folder rule rule.tokens refl good
 
 -- ---- files
 
-own_good : (service : List ℕ) (number : ℕ) (tokens : List Token) → list_all is_good tokens ≡ true → list_all good_rule (rule_without service number tokens) ≡ true
+own_good : (service : List ℕ) (number : ℕ) (tokens : List Token) → list_all is_good tokens ≡ true
+    → list_all good_rule (rule_without service number tokens) ≡ true
 own_good service number [] good = refl
 own_good service number (token ∷ tokens) good =
     let more = (and_parts (is_good token) (list_all is_good tokens) good).1 in
@@ -294,11 +303,13 @@ conf_good : (rules : List RawRule) → list_all good_rule rules ≡ true → lis
 conf_good [] good = refl
 conf_good (rule ∷ rules) good = good
 
-for_good : (service : Option (List ℕ)) (rules : List RawRule) → list_all good_rule rules ≡ true → list_all good_rule (rules_held (held_for service rules)) ≡ true
+for_good : (service : Option (List ℕ)) (rules : List RawRule) → list_all good_rule rules ≡ true
+    → list_all good_rule (rules_held (held_for service rules)) ≡ true
 for_good None rules good = owns_good None rules good
 for_good (Some service) rules good = conf_good (own_rules (Some service) rules) (owns_good (Some service) rules good)
 
-answer_good : Reading → (service : Option (List ℕ)) (text : List ℕ) (answer : Result (List RawRule) LexFault) → answer_to text ≡ answer → list_all good_rule (rules_held (held_answer service answer)) ≡ true
+answer_good : Reading → (service : Option (List ℕ)) (text : List ℕ) (answer : Result (List RawRule) LexFault) → answer_to text ≡ answer
+    → list_all good_rule (rules_held (held_answer service answer)) ≡ true
 answer_good reading service text (Ok rules) is = for_good service rules (text_good reading text rules is)
 answer_good reading service text (Err why) is = refl
 
@@ -313,13 +324,16 @@ joined_writable none b one other = other
 joined_writable (line rule rest) b one other = (one.0, joined_writable rest b one.1 other)
 joined_writable (sub inner rest) b one other = (one.0, joined_writable rest b one.1 other)
 
-meant_writable : (deeper : List ℕ → Stack) → ((name : List ℕ) → AllWritable (deeper name)) → (type : RuleType) (meaning : Meaning) → Writes meaning → AllWritable (meant_nodes deeper type meaning)
+meant_writable : (deeper : List ℕ → Stack) → ((name : List ℕ) → AllWritable (deeper name)) → (type : RuleType) (meaning : Meaning) → Writes meaning
+    → AllWritable (meant_nodes deeper type meaning)
 meant_writable deeper each type nothing writes = tt
 meant_writable deeper each type (a_line own rule) writes = elim (serves type own) as (λ (b : Bool). AllWritable (cond b (line rule none) none)) [ true ↦ (writes, tt) | false ↦ tt ]
 meant_writable deeper each type (an_include own file) writes = elim (serves type own) as (λ (b : Bool). AllWritable (cond b (deeper file) none)) [ true ↦ each file | false ↦ tt ]
 meant_writable deeper each type (a_substack own file) writes = elim (serves type own) as (λ (b : Bool). AllWritable (cond b (sub (deeper file) none) none)) [ true ↦ (each file, tt) | false ↦ tt ]
 
-rules_writable : (deeper : List ℕ → Stack) → ((name : List ℕ) → AllWritable (deeper name)) → (in_folder : Bool) (type : RuleType) (rules : List RawRule) → list_all good_rule rules ≡ true → AllWritable (nodes_from deeper in_folder type rules)
+rules_writable : (deeper : List ℕ → Stack) → ((name : List ℕ) → AllWritable (deeper name))
+    → (in_folder : Bool) (type : RuleType) (rules : List RawRule) → list_all good_rule rules ≡ true
+    → AllWritable (nodes_from deeper in_folder type rules)
 rules_writable deeper each in_folder type [] good = tt
 rules_writable deeper each in_folder type (rule ∷ rules) good =
     let parts = and_parts (good_rule rule) (list_all good_rule rules) good in

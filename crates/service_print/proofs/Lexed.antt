@@ -16,14 +16,16 @@ use Rattle.service_print.proofs.Spelled.{last_is, ends_in-last, is_inner, is_pla
 
 -- ---- every byte of a line
 
-escaped_all : (test : ℕ → Bool) (text : List ℕ) → test 92 ≡ true → test 93 ≡ true → list_all test text ≡ true → list_all test (flat_map escaped_byte text) ≡ true
+escaped_all : (test : ℕ → Bool) (text : List ℕ) → test 92 ≡ true → test 93 ≡ true → list_all test text ≡ true
+    → list_all test (flat_map escaped_byte text) ≡ true
 escaped_all test [] backslash closing all = refl
 escaped_all test (b ∷ bs) backslash closing all =
     let parts = and_parts (test b) (list_all test bs) all in
     let more = escaped_all test bs backslash closing parts.1 in
     elim (cases_Bool (eqb b 93)) [ inl y ↦ rw (y, backslash, closing) more | inr n ↦ rw (n, parts.0) more ]
 
-brackets_all : (test : ℕ → Bool) (text : List ℕ) → test 91 ≡ true → test 92 ≡ true → test 93 ≡ true → list_all test text ≡ true → list_all test (in_brackets text) ≡ true
+brackets_all : (test : ℕ → Bool) (text : List ℕ) → test 91 ≡ true → test 92 ≡ true → test 93 ≡ true → list_all test text ≡ true
+    → list_all test (in_brackets text) ≡ true
 brackets_all test text opening backslash closing all =
     and_from (test 91) (list_all test (flat_map escaped_byte text ++ 93 ∷ [])) opening
     (list_all-append test (flat_map escaped_byte text) (93 ∷ []) ∙ and_from (list_all test (flat_map escaped_byte text)) (test 93 && true) (escaped_all test text backslash closing all) (and_from (test 93) true closing refl))
@@ -35,21 +37,24 @@ pub record Passes (test : ℕ → Bool) : Type 0 where
   pub closing : test 93 ≡ true
   pub space : test 32 ≡ true
 
-choice_all : (test : ℕ → Bool) → Passes test → (bracketed : Bool) (text : List ℕ) → list_all test text ≡ true → list_all test (cond bracketed (in_brackets text) text) ≡ true
+choice_all : (test : ℕ → Bool) → Passes test → (bracketed : Bool) (text : List ℕ) → list_all test text ≡ true
+    → list_all test (cond bracketed (in_brackets text) text) ≡ true
 choice_all test passes true text all = brackets_all test text passes.opening passes.backslash passes.closing all
 choice_all test passes false text all = all
 
 abbrev pub all_bytes : (ℕ → Bool) → Token → Bool
 all_bytes test token = list_all test token.text
 
-behind_all : (test : ℕ → Bool) → Passes test → (tokens : List Token) → list_all (all_bytes test) tokens ≡ true → list_all test (flat_map behind_space (map written tokens)) ≡ true
+behind_all : (test : ℕ → Bool) → Passes test → (tokens : List Token) → list_all (all_bytes test) tokens ≡ true
+    → list_all test (flat_map behind_space (map written tokens)) ≡ true
 behind_all test passes [] all = refl
 behind_all test passes (token ∷ tokens) all =
     let parts = and_parts (all_bytes test token) (list_all (all_bytes test) tokens) all in
     and_from (test 32) (list_all test (written token ++ flat_map behind_space (map written tokens))) passes.space
     (list_all-append test (written token) (flat_map behind_space (map written tokens)) ∙ and_from (list_all test (written token)) (list_all test (flat_map behind_space (map written tokens))) (choice_all test passes token.bracketed token.text parts.0) (behind_all test passes tokens parts.1))
 
-fields_all : (test : ℕ → Bool) → Passes test → (token : Token) (tokens : List Token) → list_all (all_bytes test) (token ∷ tokens) ≡ true → list_all test (fields_text token tokens) ≡ true
+fields_all : (test : ℕ → Bool) → Passes test → (token : Token) (tokens : List Token) → list_all (all_bytes test) (token ∷ tokens) ≡ true
+    → list_all test (fields_text token tokens) ≡ true
 fields_all test passes token tokens all =
     let parts = and_parts (all_bytes test token) (list_all (all_bytes test) tokens) all in
     list_all-append test (written token) (flat_map behind_space (map written tokens))
@@ -239,7 +244,8 @@ last_space_all : (test : ℕ → Bool) → test 32 ≡ true → (spaced : Bool) 
 last_space_all test space true = and_from (test 32) true space refl
 last_space_all test space false = refl
 
-pub closed_all : (test : ℕ → Bool) → Passes test → (fields : Fields) → list_all (all_bytes test) (tokens_in fields) ≡ true → list_all test (closed_line fields) ≡ true
+pub closed_all : (test : ℕ → Bool) → Passes test → (fields : Fields) → list_all (all_bytes test) (tokens_in fields) ≡ true
+    → list_all test (closed_line fields) ≡ true
 closed_all test passes fields all =
     list_all-append test (line_text fields) (last_space (line_text fields))
     ∙ and_from (list_all test (line_text fields)) (list_all test (last_space (line_text fields))) (fields_all test passes fields.first fields.more all) (last_space_all test passes.space (ends_in 92 (line_text fields)))
@@ -269,7 +275,8 @@ line_fine number fields short =
     let few : length (spelling (body_pieces fields)) ≤ 4096 = omega (arith, ap length (body_pieces-bytes fields), leb-true (length (closed_line fields)) 4096 short) in
     rw (le-ltb 4096 (length (spelling (body_pieces fields))) few, body_pieces-closed fields) refl
 
-none_fault : (number : ℕ) (lines : List Fields) → list_all is_sound_line lines ≡ true → list_all is_short_line lines ≡ true → first_fault (numbered number (map body_pieces lines ++ [] ∷ [])) ≡ None
+none_fault : (number : ℕ) (lines : List Fields) → list_all is_sound_line lines ≡ true → list_all is_short_line lines ≡ true
+    → first_fault (numbered number (map body_pieces lines ++ [] ∷ [])) ≡ None
 none_fault number [] sound short = refl
 none_fault number (fields ∷ lines) sound short =
     let sounds = and_parts (is_sound_line fields) (list_all is_sound_line lines) sound in
@@ -277,7 +284,8 @@ none_fault number (fields ∷ lines) sound short =
     ap first_fault (numbered_next number fields (map body_pieces lines ++ [] ∷ []) sounds.0)
     ∙ rw (line_fine number fields shorts.0) (none_fault (number + 1) lines sounds.1 shorts.1)
 
-all_rules : (number : ℕ) (lines : List Fields) → list_all is_sound_line lines ≡ true → flat_map line_rules (numbered number (map body_pieces lines ++ [] ∷ [])) ≡ raw_rules number lines
+all_rules : (number : ℕ) (lines : List Fields) → list_all is_sound_line lines ≡ true
+    → flat_map line_rules (numbered number (map body_pieces lines ++ [] ∷ [])) ≡ raw_rules number lines
 all_rules number [] sound = refl
 all_rules number (fields ∷ lines) sound =
     let sounds = and_parts (is_sound_line fields) (list_all is_sound_line lines) sound in
@@ -287,7 +295,8 @@ all_rules number (fields ∷ lines) sound =
 abbrev pub OneReading : Type 0
 OneReading = (text : List ℕ) (pieces : List Piece) → IsReading text pieces → pieces ≡ pieces_of text
 
-lines_answer : OneReading → (lines : List Fields) → list_all is_sound_line lines ≡ true → list_all is_short_line lines ≡ true → answer_at 1 (lines_text lines) ≡ Ok (raw_rules 1 lines)
+lines_answer : OneReading → (lines : List Fields) → list_all is_sound_line lines ≡ true → list_all is_short_line lines ≡ true
+    → answer_at 1 (lines_text lines) ≡ Ok (raw_rules 1 lines)
 unfolding answer_at
 lines_answer only lines sound short =
     rw (← only (lines_text lines) (text_pieces lines) (text_reading lines sound), text_lines lines, none_fault 1 lines sound short, all_rules 1 lines sound) refl
@@ -318,7 +327,8 @@ text_set (fields ∷ lines) all =
     list_all-append is_set (ended (line_text fields)) (lines_text lines) ∙ and_from (list_all is_set (ended (line_text fields))) (list_all is_set (lines_text lines)) here (text_set lines parts.1)
 
 -- the rules of a printed text
-pub text_answer : OneReading → (lines : List Fields) → list_all is_sound_line lines ≡ true → list_all is_set_line lines ≡ true → list_all is_short_line lines ≡ true → length (lines_text lines) ≤ 65536
+pub text_answer : OneReading → (lines : List Fields) → list_all is_sound_line lines ≡ true → list_all is_set_line lines ≡ true
+    → list_all is_short_line lines ≡ true → length (lines_text lines) ≤ 65536
     → answer_to (lines_text lines) ≡ Ok (raw_rules 1 lines)
 unfolding answer_to
 text_answer only lines sound set short few =

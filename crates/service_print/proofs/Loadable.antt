@@ -31,7 +31,8 @@ record Trees (before after : Counts) (stack : RuleType → Stack) (types : List 
   few : before.openings ≤ 256 → after.openings ≤ 256
   bounded : BoundedAll stack types
 
-trees_bring : Reading → (texts : List ℕ → Option (List ℕ)) (fails : List ℕ) (own other : _) (types : List RuleType) (before after : Counts) → look texts fails before (flat_map (tree_items texts own other) types) ≡ Ok after
+trees_bring : Reading → (texts : List ℕ → Option (List ℕ)) (fails : List ℕ) (own other : _) (types : List RuleType) (before after : Counts)
+    → look texts fails before (flat_map (tree_items texts own other) types) ≡ Ok after
     → Trees before after (λ type. tree_of (nodes texts 17 type own) (nodes texts 17 type other)) types
 trees_bring reading texts fails own other [] before after is =
     let same : before.openings ≡ after.openings = ap (λ (c : Counts). c.openings) (nothing_met texts fails before after is) in
@@ -58,14 +59,16 @@ bounded_depth stack all Account = all.2.1
 bounded_depth stack all Password = all.2.2.1
 bounded_depth stack all Session = all.2.2.2.1
 
-tree_writable : Reading → (texts : List ℕ → Option (List ℕ)) (own other : _) (type : RuleType) → AllWritable (tree_of (nodes texts 17 type own) (nodes texts 17 type other))
+tree_writable : Reading → (texts : List ℕ → Option (List ℕ)) (own other : _) (type : RuleType)
+    → AllWritable (tree_of (nodes texts 17 type own) (nodes texts 17 type other))
 tree_writable reading texts own other type =
     elim (eqb (count (nodes texts 17 type own)) 0) as (λ (b : Bool). AllWritable (cond b (nodes texts 17 type other) (nodes texts 17 type own))) [
       | true ↦ nodes_writable reading texts 17 type other
       | false ↦ nodes_writable reading texts 17 type own
     ]
 
-same_openings : (one other : RuleType → Stack) (types : List RuleType) → ((type : RuleType) → one type ≡ other type) → openings_of one types ≡ openings_of other types
+same_openings : (one other : RuleType → Stack) (types : List RuleType) → ((type : RuleType) → one type ≡ other type)
+    → openings_of one types ≡ openings_of other types
 same_openings one other [] same = refl
 same_openings one other (type ∷ types) same = ap (λ (s : Stack). openings_for s + openings_of one types) (same type) ∙ ap (λ n. openings_for (other type) + n) (same_openings one other types same)
 
@@ -74,7 +77,8 @@ pub record IsLoadable (stack : RuleType → Stack) : Type 0 where
   pub printable : IsPrintable stack
   pub few : openings_of stack all_types ≤ 256
 
-looked_loadable : Reading → (texts : List ℕ → Option (List ℕ)) (fails : List ℕ) (in_folder : Bool) (service : List ℕ) (calls : ℕ) (counts : Counts) (stack : RuleType → Stack)
+looked_loadable : Reading
+    → (texts : List ℕ → Option (List ℕ)) (fails : List ℕ) (in_folder : Bool) (service : List ℕ) (calls : ℕ) (counts : Counts) (stack : RuleType → Stack)
     → look texts fails (record { calls = calls; openings = 0; lines = 0 }) (order texts in_folder service) ≡ Ok counts → ((type : RuleType) → tree texts in_folder service type ≡ stack type) → IsLoadable stack
 looked_loadable reading texts fails in_folder service calls counts stack looked same =
     let own = service_file in_folder service in

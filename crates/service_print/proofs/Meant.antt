@@ -44,7 +44,8 @@ items_from texts levels in_folder type name rules = items_of (items texts levels
 
 -- a rule has this meaning
 pub record IsMeant (in_folder : Bool) (rule : RawRule) (meaning : Meaning) : Type 0 where
-  pub nodes : (deeper : List ℕ → Stack) (type : RuleType) (rules : List RawRule) → nodes_from deeper in_folder type (rule ∷ rules) ≡ joined (meant_nodes deeper type meaning) (nodes_from deeper in_folder type rules)
+  pub nodes : (deeper : List ℕ → Stack) (type : RuleType) (rules : List RawRule)
+      → nodes_from deeper in_folder type (rule ∷ rules) ≡ joined (meant_nodes deeper type meaning) (nodes_from deeper in_folder type rules)
   pub items : (texts : List ℕ → Option (List ℕ)) (levels : ℕ) (type : RuleType) (name : List ℕ) (rules : List RawRule)
       → items_from texts levels in_folder type name (rule ∷ rules) ≡ meant_items texts levels type name rule.line meaning ++ items_from texts levels in_folder type name rules
   pub fine : is_ok (entry_of in_folder rule) ≡ is_meant meaning

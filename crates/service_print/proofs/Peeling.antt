@@ -20,12 +20,15 @@ node_on-Sub inner rest =
     let row = row_in (Sub inner) in
     ap (λ (s : Stack). sub s rest) (row_stack-items row.0 row.1 ∙ ap stack_of (items_hidden-the_row-Node-0 inner.vec))
 
-peeled : (nodes : List Node) (i : ℕ) (node : Node) → i < length nodes → node ≡ get_or nodes i node → stack_of (drop i nodes) ≡ node_on node (stack_of (drop (i + 1) nodes))
+peeled : (nodes : List Node) (i : ℕ) (node : Node) → i < length nodes → node ≡ get_or nodes i node
+    → stack_of (drop i nodes) ≡ node_on node (stack_of (drop (i + 1) nodes))
 peeled nodes i node within is = ap stack_of (drop_more nodes i node within ∙ ap (λ (n : Node). n ∷ drop (i + 1) nodes) (sym is))
 
-pub peeled_line : (nodes : List Node) (i : ℕ) (node : Node) (rule : Rule) → i < length nodes → node ≡ get_or nodes i node → node ≡ Line rule → stack_of (drop i nodes) ≡ line rule (stack_of (drop (i + 1) nodes))
+pub peeled_line : (nodes : List Node) (i : ℕ) (node : Node) (rule : Rule) → i < length nodes → node ≡ get_or nodes i node → node ≡ Line rule
+    → stack_of (drop i nodes) ≡ line rule (stack_of (drop (i + 1) nodes))
 peeled_line nodes i node rule within is which = peeled nodes i node within is ∙ ap (λ (n : Node). node_on n (stack_of (drop (i + 1) nodes))) which
 
-pub peeled_sub : (nodes : List Node) (i : ℕ) (node : Node) (inner : Nodes) → i < length nodes → node ≡ get_or nodes i node → node ≡ Sub inner → stack_of (drop i nodes) ≡ sub (stack_of inner.vec.items) (stack_of (drop (i + 1) nodes))
+pub peeled_sub : (nodes : List Node) (i : ℕ) (node : Node) (inner : Nodes) → i < length nodes → node ≡ get_or nodes i node → node ≡ Sub inner
+    → stack_of (drop i nodes) ≡ sub (stack_of inner.vec.items) (stack_of (drop (i + 1) nodes))
 peeled_sub nodes i node inner within is which =
     peeled nodes i node within is ∙ ap (λ (n : Node). node_on n (stack_of (drop (i + 1) nodes))) which ∙ node_on-Sub inner (stack_of (drop (i + 1) nodes))

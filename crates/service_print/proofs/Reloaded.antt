@@ -59,14 +59,16 @@ numbered_not_other service number same = false≢true (sym (ap (has_byte 46) sam
 
 -- ---- `other`
 
-no_other : (root service : List ℕ) (number : ℕ) (files : List File) → Numbered service number files → file_at (path_in root (codes "other")) (map (placed_file root) files) ≡ None
+no_other : (root service : List ℕ) (number : ℕ) (files : List File) → Numbered service number files
+    → file_at (path_in root (codes "other")) (map (placed_file root) files) ≡ None
 no_other root service number [] numbers = refl
 no_other root service number (file ∷ files) numbers =
     found_later root (codes "other") file files (λ same. numbered_not_other service number (sym numbers.0 ∙ same)) ∙ no_other root service (number + 1) files numbers.1
 
 -- ---- the files
 
-all_files_length : (stack : RuleType → Stack) (service : List ℕ) (number : ℕ) (types : List RuleType) → length (all_substack_files stack service number types) ≡ all_subs stack service types
+all_files_length : (stack : RuleType → Stack) (service : List ℕ) (number : ℕ) (types : List RuleType)
+    → length (all_substack_files stack service number types) ≡ all_subs stack service types
 all_files_length stack service number [] = refl
 all_files_length stack service number (type ∷ types) =
     omega (arith, length-append (substack_files service type number (stack type)) (all_substack_files stack service (number + subs_in (stack type)) types), length-substack_files service type number (stack type), all_files_length stack service (number + subs_in (stack type)) types)
@@ -81,7 +83,8 @@ subs_few stack service few = omega (arith, few_subs stack service all_types, few
 abbrev service_file_of : (RuleType → Stack) → List ℕ → File
 service_file_of stack service = record { name = service; text = service_text stack service }
 
-printed_is : (stack : RuleType → Stack) (service : List ℕ) → printed stack service ≡ service_file_of stack service ∷ all_substack_files stack service 1 all_types
+printed_is : (stack : RuleType → Stack) (service : List ℕ)
+    → printed stack service ≡ service_file_of stack service ∷ all_substack_files stack service 1 all_types
 unfolding printed
 printed_is stack service = refl
 
@@ -130,7 +133,8 @@ folder_there root file files =
 no_failing : (calls : ℕ) (fails : List ℕ) → fails ≡ [] → fails_next calls fails ≡ false
 no_failing calls fails none = rw none (and_right _ false refl)
 
-loaded_by : (vault : VaultState) (root service : List ℕ) (texts : List ℕ → Option (List ℕ)) (counts : Counts) → is_failing vault ≡ false → has_folder vault root ≡ true → texts_of root vault ≡ texts → vault.fails ≡ []
+loaded_by : (vault : VaultState) (root service : List ℕ) (texts : List ℕ → Option (List ℕ)) (counts : Counts) → is_failing vault ≡ false
+    → has_folder vault root ≡ true → texts_of root vault ≡ texts → vault.fails ≡ []
     → look texts [] (record { calls = next_count vault.calls; openings = 0; lines = 0 }) (order texts true service) ≡ Ok counts → loaded vault root service ≡ Ok counts
 loaded_by vault root service texts counts works folder same no_fails looked =
     let start : Counts = record { calls = next_count vault.calls; openings = 0; lines = 0 } in
@@ -139,7 +143,8 @@ loaded_by vault root service texts counts works folder same no_fails looked =
     ∙ ap (λ (t : List ℕ → Option (List ℕ)). look t [] start (order t true service)) same
     ∙ looked)
 
-loads_to : OneReading → (stack : RuleType → Stack) (vault : VaultState) (root service : List ℕ) → IsPrintable stack → openings_of stack all_types ≤ 256 → IsServiceName service → str_to_ascii_lowercase service ≡ service
+loads_to : OneReading → (stack : RuleType → Stack) (vault : VaultState) (root service : List ℕ) → IsPrintable stack
+    → openings_of stack all_types ≤ 256 → IsServiceName service → str_to_ascii_lowercase service ≡ service
     → vault.files ≡ map (placed_file root) (service_file_of stack service ∷ all_substack_files stack service 1 all_types) → vault.fails ≡ [] → list_all is_short (service_file_of stack service ∷ all_substack_files stack service 1 all_types) ≡ true
     → LoadsTo vault root service stack
 loads_to only stack vault root service is few name lower files no_fails short =
@@ -160,7 +165,8 @@ loads_to only stack vault root service is few name lower files no_fails short =
     }
 
 -- what was printed loads to the same stacks
-pub reload : OneReading → (stack : RuleType → Stack) (vault : VaultState) (root service : List ℕ) → IsPrintable stack → openings_of stack all_types ≤ 256 → IsLowerName service
+pub reload : OneReading → (stack : RuleType → Stack) (vault : VaultState) (root service : List ℕ) → IsPrintable stack
+    → openings_of stack all_types ≤ 256 → IsLowerName service
     → HoldsJust vault root (printed stack service) → list_all is_short (printed stack service) ≡ true → LoadsTo vault root service stack
 reload only stack vault root service is few name holds short =
     loads_to only stack vault root service is few (service_name_is service name.name) name.lower

@@ -61,13 +61,15 @@ module _ (texts : List ℕ → Option (List ℕ)) (service : List ℕ) (stack : 
   absent_nodes type gone = rw gone refl
 
   -- what `other` comes to where it is asked for
-  other_nodes : Stands texts service stack → IsPrintable stack → (type : RuleType) → count (stack type) ≡ 0 → nodes texts 17 type (plain_file (in_the_folder (codes "other"))) ≡ stack type
+  other_nodes : Stands texts service stack → IsPrintable stack → (type : RuleType) → count (stack type) ≡ 0
+      → nodes texts 17 type (plain_file (in_the_folder (codes "other"))) ≡ stack type
   other_nodes stands is type empty = elim stands.other [
     | inl gone ↦ absent_nodes type gone ∙ sym (no_count (stack type) empty)
     | inr same ↦ ap (λ (s : List ℕ). nodes texts 17 type (plain_file (in_the_folder s))) (sym same) ∙ own_nodes stands is type
   ]
 
-  pub tree_is : Stands texts service stack → IsPrintable stack → str_to_ascii_lowercase service ≡ service → (type : RuleType) → tree texts true service type ≡ stack type
+  pub tree_is : Stands texts service stack → IsPrintable stack → str_to_ascii_lowercase service ≡ service → (type : RuleType)
+      → tree texts true service type ≡ stack type
   tree_is stands is lower type =
       let own : nodes texts 17 type (plain_file (in_the_folder (str_to_ascii_lowercase service))) ≡ stack type = ap (λ (s : List ℕ). nodes texts 17 type (plain_file (in_the_folder s))) lower ∙ own_nodes stands is type in
       ap (λ (s : Stack). tree_of s (nodes texts 17 type (plain_file (in_the_folder (codes "other"))))) own
@@ -78,7 +80,8 @@ module _ (texts : List ℕ → Option (List ℕ)) (service : List ℕ) (stack : 
 
   -- ---- the look
 
-  pass_own : Stands texts service stack → IsPrintable stack → (type : RuleType) (opener : Opener) (calls openings : ℕ) → openings + 1 + subs_in (stack type) ≤ 256
+  pass_own : Stands texts service stack → IsPrintable stack → (type : RuleType) (opener : Opener) (calls openings : ℕ)
+      → openings + 1 + subs_in (stack type) ≤ 256
       → Passes texts (counts_with calls openings 0) (items texts 17 type opener (plain_file (in_the_folder service))) (openings + 1 + subs_in (stack type)) (lines_in (stack type))
   pass_own stands is type opener calls openings few =
       let part = part_of stack service type in
@@ -131,10 +134,12 @@ module _ (texts : List ℕ → Option (List ℕ)) (service : List ℕ) (stack : 
   abbrev items_of_tree : RuleType → List Item
   items_of_tree type = tree_items texts (plain_file (in_the_folder service)) (plain_file (in_the_folder (codes "other"))) type
 
-  tree_with_other : Stands texts service stack → IsPrintable stack → (type : RuleType) → eqb (count (stack type)) 0 ≡ true → items_of_tree type ≡ begin ∷ (own_file_items type ++ other_file_items type)
+  tree_with_other : Stands texts service stack → IsPrintable stack → (type : RuleType) → eqb (count (stack type)) 0 ≡ true
+      → items_of_tree type ≡ begin ∷ (own_file_items type ++ other_file_items type)
   tree_with_other stands is type empty = rw (own_nodes stands is type, empty, own_present stands) refl
 
-  tree_alone : Stands texts service stack → IsPrintable stack → (type : RuleType) → eqb (count (stack type)) 0 ≡ false → items_of_tree type ≡ begin ∷ own_file_items type
+  tree_alone : Stands texts service stack → IsPrintable stack → (type : RuleType) → eqb (count (stack type)) 0 ≡ false
+      → items_of_tree type ≡ begin ∷ own_file_items type
   tree_alone stands is type some = rw (own_nodes stands is type, some) (ap (λ (is : List Item). begin ∷ is) (append-nil (own_file_items type)))
 
   -- one tree, by whether its stack is empty
@@ -181,7 +186,9 @@ module _ (texts : List ℕ → Option (List ℕ)) (service : List ℕ) (stack : 
       let whole = pass-append texts (counts_with calls openings lines) (items_of_tree type) (flat_map items_of_tree types) (openings + openings_for (stack type)) (lines_in (stack type)) (openings + openings_for (stack type) + openings_of stack types) more.0 one more.1 in
       (more.0, subst (λ n. Passes texts (counts_with calls openings lines) (flat_map items_of_tree (type ∷ types)) n more.0) (add_assoc openings (openings_for (stack type)) (openings_of stack types)) whole)
 
-  ordered : str_to_ascii_lowercase service ≡ service → (calls : ℕ) (ends : Counts) → look texts [] (counts_with calls 0 0) (flat_map items_of_tree all_types) ≡ Ok ends → look texts [] (counts_with calls 0 0) (order texts true service) ≡ Ok ends
+  ordered : str_to_ascii_lowercase service ≡ service → (calls : ℕ) (ends : Counts)
+      → look texts [] (counts_with calls 0 0) (flat_map items_of_tree all_types) ≡ Ok ends
+      → look texts [] (counts_with calls 0 0) (order texts true service) ≡ Ok ends
   ordered lower calls ends looked =
       ap (λ (s : List ℕ). look texts [] (counts_with calls 0 0) (flat_map (tree_items texts (plain_file (in_the_folder s)) (plain_file (in_the_folder (codes "other")))) all_types)) lower ∙ looked
 

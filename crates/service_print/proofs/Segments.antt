@@ -34,7 +34,8 @@ no_newline_byte (b ∷ bs) all =
 abbrev is_short_text : List ℕ → Bool
 is_short_text text = nat_le (length text) 4096
 
-lines_short : (fs : List Fields) → list_all is_sound_line fs ≡ true → list_all is_short_text (lines_of (lines_text fs)) ≡ true → list_all is_short_line fs ≡ true
+lines_short : (fs : List Fields) → list_all is_sound_line fs ≡ true → list_all is_short_text (lines_of (lines_text fs)) ≡ true
+    → list_all is_short_line fs ≡ true
 lines_short [] sound short = refl
 lines_short (f ∷ fs) sound short =
     let parts = and_parts (is_sound_line f) (list_all is_sound_line fs) sound in
@@ -48,7 +49,8 @@ lines_short (f ∷ fs) sound short =
     and_from (is_short_line f) (list_all is_short_line fs) shorts.0 (lines_short fs parts.1 shorts.1)
 
 -- a file of such lines, where it is there and short
-pub short_file : OneReading → (texts : List ℕ → Option (List ℕ)) (file : File) (fs : List Fields) (ts : List (List ℕ)) (ms : List Meaning) → AreLines fs ts ms → list_all is_meant ms ≡ true → file.text ≡ text_of ts
+pub short_file : OneReading → (texts : List ℕ → Option (List ℕ)) (file : File) (fs : List Fields) (ts : List (List ℕ)) (ms : List Meaning)
+    → AreLines fs ts ms → list_all is_meant ms ≡ true → file.text ≡ text_of ts
     → is_short file ≡ true → texts (in_the_folder file.name) ≡ Some file.text → IsFile texts (in_the_folder file.name) ms
 short_file only texts file fs ts ms are meant text short there =
     let parts = and_parts (nat_le (length file.text) 65536) (list_all is_short_text (lines_of file.text)) short in
@@ -58,7 +60,8 @@ short_file only texts file fs ts ms are meant text short there =
 
 -- ---- the files of the substacks stand
 
-pub stack_files_stand : OneReading → (texts : List ℕ → Option (List ℕ)) (type : RuleType) (service : List ℕ) (number : ℕ) (stack : Stack) → IsServiceName service → AllWritable stack → number + subs_in stack ≤ 256
+pub stack_files_stand : OneReading → (texts : List ℕ → Option (List ℕ)) (type : RuleType) (service : List ℕ) (number : ℕ) (stack : Stack)
+    → IsServiceName service → AllWritable stack → number + subs_in stack ≤ 256
     → AllThere texts (substack_files service type number stack) → list_all is_short (substack_files service type number stack) ≡ true → Stand texts type service number stack
 unfolding substack_files
 stack_files_stand only texts type service number none is writable few there short = tt
@@ -91,7 +94,8 @@ module _ (stack : RuleType → Stack) (service : List ℕ) where
   all_subs [] = 0
   all_subs (type ∷ types) = subs_in (stack type) + all_subs types
 
-  pub service_lines : (number : ℕ) (types : List RuleType) → IsServiceName service → ((type : RuleType) → AllWritable (stack type)) → number + all_subs types ≤ 256
+  pub service_lines : (number : ℕ) (types : List RuleType) → IsServiceName service → ((type : RuleType) → AllWritable (stack type))
+      → number + all_subs types ≤ 256
       → AreLines (all_fields number types) (all_lines stack service number types) (all_meanings number types)
   service_lines number [] is writable few = tt
   service_lines number (type ∷ types) is writable few =
@@ -107,12 +111,14 @@ module _ (stack : RuleType → Stack) (service : List ℕ) where
 
 -- ---- what other types' lines bring
 
-foreign_nodes : (deeper : List ℕ → Stack) (own type : RuleType) (service : List ℕ) (number : ℕ) (stack : Stack) → same_type own type ≡ false → meanings_nodes deeper own (meanings_from type service number stack) ≡ none
+foreign_nodes : (deeper : List ℕ → Stack) (own type : RuleType) (service : List ℕ) (number : ℕ) (stack : Stack) → same_type own type ≡ false
+    → meanings_nodes deeper own (meanings_from type service number stack) ≡ none
 foreign_nodes deeper own type service number none other = refl
 foreign_nodes deeper own type service number (line rule rest) other = rw other (foreign_nodes deeper own type service number rest other)
 foreign_nodes deeper own type service number (sub inner rest) other = rw other (foreign_nodes deeper own type service (number + 1 + subs_in inner) rest other)
 
-foreign_items : (texts : List ℕ → Option (List ℕ)) (levels : ℕ) (own type : RuleType) (name : List ℕ) (first : ℕ) (service : List ℕ) (number : ℕ) (stack : Stack) → same_type own type ≡ false
+foreign_items : (texts : List ℕ → Option (List ℕ)) (levels : ℕ) (own type : RuleType) (name : List ℕ) (first : ℕ) (service : List ℕ) (number : ℕ) (stack : Stack)
+    → same_type own type ≡ false
     → meanings_items texts levels own name first (meanings_from type service number stack) ≡ []
 foreign_items texts levels own type name first service number none other = refl
 foreign_items texts levels own type name first service number (line rule rest) other = rw other (foreign_items texts levels own type name (first + 1) service number rest other)
@@ -128,7 +134,8 @@ joined-none none = refl
 joined-none (line rule rest) = ap (line rule) (joined-none rest)
 joined-none (sub inner rest) = ap (sub inner) (joined-none rest)
 
-nodes-append : (deeper : List ℕ → Stack) (type : RuleType) (ms ns : List Meaning) → meanings_nodes deeper type (ms ++ ns) ≡ joined (meanings_nodes deeper type ms) (meanings_nodes deeper type ns)
+nodes-append : (deeper : List ℕ → Stack) (type : RuleType) (ms ns : List Meaning)
+    → meanings_nodes deeper type (ms ++ ns) ≡ joined (meanings_nodes deeper type ms) (meanings_nodes deeper type ns)
 nodes-append deeper type [] ns = refl
 nodes-append deeper type (m ∷ ms) ns = ap (joined (meant_nodes deeper type m)) (nodes-append deeper type ms ns) ∙ sym (joined-assoc (meant_nodes deeper type m) (meanings_nodes deeper type ms) (meanings_nodes deeper type ns))
 
@@ -151,24 +158,30 @@ module _ (stack : RuleType → Stack) (service : List ℕ) where
   -- among these stacks, of which the first substack has this number, a type has its own part
   pub record IsPart (own : RuleType) (number : ℕ) (types : List RuleType) : Type 0 where
     pub start : ℕ
-    pub nodes : (deeper : List ℕ → Stack) → meanings_nodes deeper own (all_meanings stack service number types) ≡ meanings_nodes deeper own (meanings_from own service start (stack own))
-    pub items : (texts : List ℕ → Option (List ℕ)) (levels : ℕ) (name : List ℕ) (first : ℕ) → SameItems texts levels own name (meanings_items texts levels own name first (all_meanings stack service number types)) start
+    pub nodes : (deeper : List ℕ → Stack)
+        → meanings_nodes deeper own (all_meanings stack service number types) ≡ meanings_nodes deeper own (meanings_from own service start (stack own))
+    pub items : (texts : List ℕ → Option (List ℕ)) (levels : ℕ) (name : List ℕ) (first : ℕ)
+        → SameItems texts levels own name (meanings_items texts levels own name first (all_meanings stack service number types)) start
     pub within : start + subs_in (stack own) ≤ number + all_subs stack service types
-    pub there : (texts : List ℕ → Option (List ℕ)) → AllThere texts (all_substack_files stack service number types) → AllThere texts (substack_files service own start (stack own))
-    pub short : list_all is_short (all_substack_files stack service number types) ≡ true → list_all is_short (substack_files service own start (stack own)) ≡ true
+    pub there : (texts : List ℕ → Option (List ℕ)) → AllThere texts (all_substack_files stack service number types)
+        → AllThere texts (substack_files service own start (stack own))
+    pub short : list_all is_short (all_substack_files stack service number types) ≡ true
+        → list_all is_short (substack_files service own start (stack own)) ≡ true
 
   -- types that are all others
   abbrev pub all_other : RuleType → List RuleType → Bool
   all_other own types = list_all (λ type. not (same_type own type)) types
 
-  others_nodes : (deeper : List ℕ → Stack) (own : RuleType) (number : ℕ) (types : List RuleType) → all_other own types ≡ true → meanings_nodes deeper own (all_meanings stack service number types) ≡ none
+  others_nodes : (deeper : List ℕ → Stack) (own : RuleType) (number : ℕ) (types : List RuleType) → all_other own types ≡ true
+      → meanings_nodes deeper own (all_meanings stack service number types) ≡ none
   others_nodes deeper own number [] other = refl
   others_nodes deeper own number (type ∷ types) other =
       let parts = and_parts (not (same_type own type)) (all_other own types) other in
       nodes-append deeper own (meanings_from type service number (stack type)) (all_meanings stack service (number + subs_in (stack type)) types)
       ∙ rw (foreign_nodes deeper own type service number (stack type) (not-true (same_type own type) parts.0)) (others_nodes deeper own (number + subs_in (stack type)) types parts.1)
 
-  others_items : (texts : List ℕ → Option (List ℕ)) (levels : ℕ) (own : RuleType) (name : List ℕ) (first number : ℕ) (types : List RuleType) → all_other own types ≡ true → meanings_items texts levels own name first (all_meanings stack service number types) ≡ []
+  others_items : (texts : List ℕ → Option (List ℕ)) (levels : ℕ) (own : RuleType) (name : List ℕ) (first number : ℕ) (types : List RuleType)
+      → all_other own types ≡ true → meanings_items texts levels own name first (all_meanings stack service number types) ≡ []
   others_items texts levels own name first number [] other = refl
   others_items texts levels own name first number (type ∷ types) other =
       let parts = and_parts (not (same_type own type)) (all_other own types) other in
@@ -196,7 +209,8 @@ module _ (stack : RuleType → Stack) (service : List ℕ) where
         short = λ all. (and_parts (list_all is_short files) (list_all is_short more) (sym (list_all-append is_short files more) ∙ all)).0;
       }
 
-  part_later : (own type : RuleType) (number : ℕ) (types : List RuleType) → same_type own type ≡ false → IsPart own (number + subs_in (stack type)) types → IsPart own number (type ∷ types)
+  part_later : (own type : RuleType) (number : ℕ) (types : List RuleType) → same_type own type ≡ false
+      → IsPart own (number + subs_in (stack type)) types → IsPart own number (type ∷ types)
   part_later own type number types other part =
       let here = meanings_from type service number (stack type) in
       let later = all_meanings stack service (number + subs_in (stack type)) types in

@@ -194,7 +194,8 @@ piece_of-within token = elim token.bracketed as (λ (b : Bool). is_newline (cond
 pub piece_of-closed : (token : Token) → is_open (piece_of token) ≡ false
 piece_of-closed token = elim token.bracketed as (λ (b : Bool). is_open (cond b (bracket (units_of token.text)) (plain token.text)) ≡ false) [ true ↦ refl | false ↦ refl ]
 
-plain_stands : (text rest : List ℕ) → is_plain_text text ≡ true → goes_on rest ≡ false → (last_is 92 text ≡ true → join_after_backslash rest ≡ None) → stands (plain text) rest ≡ true
+plain_stands : (text rest : List ℕ) → is_plain_text text ≡ true → goes_on rest ≡ false → (last_is 92 text ≡ true → join_after_backslash rest ≡ None)
+    → stands (plain text) rest ≡ true
 plain_stands [] rest is ends last = absurd (false≢true is)
 plain_stands (b ∷ bs) rest is ends last =
     let parts = and_parts (not (eqb b 91)) (list_all is_plain (b ∷ bs)) is in
@@ -212,7 +213,8 @@ piece_stands true text rest is ends last =
     units_of-stand text rest parts.0 (not-true (last_is 92 text) parts.1)
 piece_stands false text rest is ends last = plain_stands text rest is ends last
 
-piece_of-stands : (token : Token) (rest : List ℕ) → is_sound token ≡ true → goes_on rest ≡ false → (last_is 92 (written token) ≡ true → join_after_backslash rest ≡ None) → stands (piece_of token) rest ≡ true
+piece_of-stands : (token : Token) (rest : List ℕ) → is_sound token ≡ true → goes_on rest ≡ false
+    → (last_is 92 (written token) ≡ true → join_after_backslash rest ≡ None) → stands (piece_of token) rest ≡ true
 piece_of-stands token rest = piece_stands token.bracketed token.text rest
 
 -- ---- lines
@@ -261,7 +263,8 @@ some_plain : (text : List ℕ) → is_plain_text text ≡ true → IsSome text
 some_plain [] is = absurd (false≢true is)
 some_plain (b ∷ bs) is = record { first = b; more = bs; is = refl }
 
-some_written : (bracketed : Bool) (text : List ℕ) → cond bracketed (is_inner_text text) (is_plain_text text) ≡ true → IsSome (cond bracketed (in_brackets text) text)
+some_written : (bracketed : Bool) (text : List ℕ) → cond bracketed (is_inner_text text) (is_plain_text text) ≡ true
+    → IsSome (cond bracketed (in_brackets text) text)
 some_written true text is = record { first = 91; more = flat_map escaped_byte text ++ 93 ∷ []; is = refl }
 some_written false text is = some_plain text is
 
@@ -269,7 +272,8 @@ pub written-some : (token : Token) → is_sound token ≡ true → IsSome (writt
 written-some token is = some_written token.bracketed token.text is
 
 -- the last byte of a line is that of its last token
-last_behind : (a : ℕ) (front : List ℕ) (token : Token) (tokens : List Token) → is_sound token ≡ true → last_is a (front ++ 32 ∷ fields_text token tokens) ≡ last_is a (fields_text token tokens)
+last_behind : (a : ℕ) (front : List ℕ) (token : Token) (tokens : List Token) → is_sound token ≡ true
+    → last_is a (front ++ 32 ∷ fields_text token tokens) ≡ last_is a (fields_text token tokens)
 last_behind a front token tokens sound =
     let some = written-some token sound in
     let is : fields_text token tokens ≡ some.first ∷ (some.more ++ flat_map behind_space (map written tokens)) = ap (λ (t : List ℕ). t ++ flat_map behind_space (map written tokens)) some.is in

@@ -43,7 +43,8 @@ stack_lines type service number (line rule rest) is writable few = (rule_is_line
 stack_lines type service number (sub inner rest) is writable few =
     (substack_is_line type service number is (omega arith), stack_lines type service (number + 1 + subs_in inner) rest is writable.1 (omega arith))
 
-pub lines-append : (fs gs : List Fields) (ts us : List (List ℕ)) (ms ns : List Meaning) → AreLines fs ts ms → AreLines gs us ns → AreLines (fs ++ gs) (ts ++ us) (ms ++ ns)
+pub lines-append : (fs gs : List Fields) (ts us : List (List ℕ)) (ms ns : List Meaning) → AreLines fs ts ms → AreLines gs us ns
+    → AreLines (fs ++ gs) (ts ++ us) (ms ++ ns)
 lines-append [] gs [] us [] ns one other = other
 lines-append (f ∷ fs) gs (t ∷ ts) us (m ∷ ms) ns one other = (one.0, lines-append fs gs ts us ms ns one.1 other)
 lines-append [] gs [] us (m ∷ ms) ns one other = absurd one
@@ -69,7 +70,8 @@ meanings_items texts levels type name number (meaning ∷ meanings) = meant_item
 -- these rules mean this
 pub record RulesMean (rules : List RawRule) (meanings : List Meaning) (number : ℕ) : Type 0 where
   pub nodes : (deeper : List ℕ → Stack) (type : RuleType) → nodes_from deeper true type rules ≡ meanings_nodes deeper type meanings
-  pub items : (texts : List ℕ → Option (List ℕ)) (levels : ℕ) (type : RuleType) (name : List ℕ) → items_from texts levels true type name rules ≡ meanings_items texts levels type name number meanings
+  pub items : (texts : List ℕ → Option (List ℕ)) (levels : ℕ) (type : RuleType) (name : List ℕ)
+      → items_from texts levels true type name rules ≡ meanings_items texts levels type name number meanings
   pub fine : list_all is_meant meanings ≡ true → all_fine true rules ≡ true
 
 rules_mean : (fs : List Fields) (ts : List (List ℕ)) (ms : List Meaning) (number : ℕ) → AreLines fs ts ms → RulesMean (raw_rules number fs) ms number
@@ -127,7 +129,8 @@ pub record IsFile (texts : List ℕ → Option (List ℕ)) (name : List ℕ) (me
   pub mean : RulesMean rules meanings 1
   pub meant : list_all is_meant meanings ≡ true
 
-pub is_file : OneReading → (texts : List ℕ → Option (List ℕ)) (name : List ℕ) (fs : List Fields) (ts : List (List ℕ)) (ms : List Meaning) → AreLines fs ts ms → list_all is_meant ms ≡ true
+pub is_file : OneReading → (texts : List ℕ → Option (List ℕ)) (name : List ℕ) (fs : List Fields) (ts : List (List ℕ)) (ms : List Meaning)
+    → AreLines fs ts ms → list_all is_meant ms ≡ true
     → list_all is_short_line fs ≡ true → length (text_of ts) ≤ 65536 → texts name ≡ Some (text_of ts) → IsFile texts name ms
 is_file only texts name fs ts ms are meant short few there =
     let same = lines_text_is fs ts ms are in

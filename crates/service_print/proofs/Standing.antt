@@ -34,7 +34,8 @@ same_type-self type = refl
 
 -- ---- the stack
 
-pub stack_stands : (texts : List ℕ → Option (List ℕ)) (type : RuleType) (service : List ℕ) (number levels : ℕ) (stack : Stack) → depth stack ≤ levels → Stand texts type service number stack
+pub stack_stands : (texts : List ℕ → Option (List ℕ)) (type : RuleType) (service : List ℕ) (number levels : ℕ) (stack : Stack) → depth stack ≤ levels
+    → Stand texts type service number stack
     → meanings_nodes (λ name. nodes texts levels type (plain_file name)) type (meanings_from type service number stack) ≡ stack
 stack_stands texts type service number levels none deep stand = refl
 stack_stands texts type service number levels (line rule rest) deep stand =
@@ -58,11 +59,13 @@ pub record Passes (texts : List ℕ → Option (List ℕ)) (before : Counts) (it
 abbrev pub counts_with : ℕ → ℕ → ℕ → Counts
 counts_with calls openings lines = record { calls = calls; openings = openings; lines = lines }
 
-going_through : (result : Result Counts Stop) (front both more : Counts → Result Counts Stop) → ((c : Counts) → both c ≡ going_on (front c) more) → going_on result both ≡ going_on (going_on result front) more
+going_through : (result : Result Counts Stop) (front both more : Counts → Result Counts Stop) → ((c : Counts) → both c ≡ going_on (front c) more)
+    → going_on result both ≡ going_on (going_on result front) more
 going_through (Ok counts) front both more each = each counts
 going_through (Err stop) front both more each = refl
 
-pub look-append : (texts : List ℕ → Option (List ℕ)) (fails : List ℕ) (before : Counts) (front more : List Item) → look texts fails before (front ++ more) ≡ going_on (look texts fails before front) (λ c. look texts fails c more)
+pub look-append : (texts : List ℕ → Option (List ℕ)) (fails : List ℕ) (before : Counts) (front more : List Item)
+    → look texts fails before (front ++ more) ≡ going_on (look texts fails before front) (λ c. look texts fails c more)
 unfolding look
 look-append texts fails before [] more = refl
 look-append texts fails before (item ∷ items) more =
@@ -80,12 +83,14 @@ unfolding look
 pass_none texts calls openings lines = record { calls = calls; looks = refl }
 
 -- a line is made
-pass_line : (texts : List ℕ → Option (List ℕ)) (name : List ℕ) (number calls openings lines : ℕ) → lines < 4096 → Passes texts (counts_with calls openings lines) (made name number ∷ []) openings (lines + 1)
+pass_line : (texts : List ℕ → Option (List ℕ)) (name : List ℕ) (number calls openings lines : ℕ) → lines < 4096
+    → Passes texts (counts_with calls openings lines) (made name number ∷ []) openings (lines + 1)
 unfolding look
 pass_line texts name number calls openings lines few = record { calls = calls; looks = rw (lt-leb 4096 lines few) refl }
 
 -- a file is opened that is there
-pub pass_opening : (texts : List ℕ → Option (List ℕ)) (name : List ℕ) (level : ℕ) (opener : Opener) (calls openings lines : ℕ) (rules : List RawRule) → level ≤ 16 → openings < 256 → held texts (plain_file name) ≡ holds rules
+pub pass_opening : (texts : List ℕ → Option (List ℕ)) (name : List ℕ) (level : ℕ) (opener : Opener) (calls openings lines : ℕ) (rules : List RawRule)
+    → level ≤ 16 → openings < 256 → held texts (plain_file name) ≡ holds rules
     → Passes texts (counts_with calls openings lines) (opening (plain_file name) level opener ∷ []) (openings + 1) lines
 unfolding look
 pass_opening texts name level opener calls openings lines rules low few there = record {
@@ -97,12 +102,14 @@ checked_fine : (counts : Counts) (name : List ℕ) (number : ℕ) (read : Result
 checked_fine counts name number (Ok entry) fine = refl
 checked_fine counts name number (Err kind) fine = absurd (false≢true fine)
 
-pass_rule : (texts : List ℕ → Option (List ℕ)) (name : List ℕ) (calls openings lines : ℕ) (rule : RawRule) → is_ok (entry_of true rule) ≡ true → Passes texts (counts_with calls openings lines) (checked (plain_file name) rule ∷ []) openings lines
+pass_rule : (texts : List ℕ → Option (List ℕ)) (name : List ℕ) (calls openings lines : ℕ) (rule : RawRule) → is_ok (entry_of true rule) ≡ true
+    → Passes texts (counts_with calls openings lines) (checked (plain_file name) rule ∷ []) openings lines
 unfolding look
 pass_rule texts name calls openings lines rule fine = record { calls = calls; looks = ap (λ (r : Result Counts Stop). going_on r (λ c. Ok c)) (checked_fine (counts_with calls openings lines) name rule.line (entry_of true rule) fine) }
 
 -- rules without a fault are checked
-pub pass_rules : (texts : List ℕ → Option (List ℕ)) (name : List ℕ) (calls openings lines : ℕ) (rules : List RawRule) → all_fine true rules ≡ true → Passes texts (counts_with calls openings lines) (map (checked (plain_file name)) rules) openings lines
+pub pass_rules : (texts : List ℕ → Option (List ℕ)) (name : List ℕ) (calls openings lines : ℕ) (rules : List RawRule) → all_fine true rules ≡ true
+    → Passes texts (counts_with calls openings lines) (map (checked (plain_file name)) rules) openings lines
 pass_rules texts name calls openings lines [] fine = pass_none texts calls openings lines
 pass_rules texts name calls openings lines (rule ∷ rules) fine =
     let parts = and_parts (is_ok (entry_of true rule)) (all_fine true rules) fine in

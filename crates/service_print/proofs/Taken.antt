@@ -56,7 +56,8 @@ run_on run rest stand =
     let third = and_parts (not (at_line_end run) && not (begins_with 91 run) && all_go_on run rest) (not (goes_on rest)) stand in
     (and_parts (not (at_line_end run) && not (begins_with 91 run)) (all_go_on run rest) third.0).1
 
-can_stand_by : (text : List ℕ) → list_all is_inner text ≡ true → list_all is_set text ≡ true → (wants_brackets text && last_is 92 text) ≡ false → can_stand text ≡ true
+can_stand_by : (text : List ℕ) → list_all is_inner text ≡ true → list_all is_set text ≡ true → (wants_brackets text && last_is 92 text) ≡ false
+    → can_stand text ≡ true
 can_stand_by text inner set last = and_from (list_all is_inner text && list_all is_set text) (not (wants_brackets text && last_is 92 text)) (and_from (list_all is_inner text) (list_all is_set text) inner set) (not_from_false (wants_brackets text && last_is 92 text) last)
 
 run_can : (run rest : List ℕ) → stands (plain run) rest ≡ true → list_all is_set run ≡ true → can_stand run ≡ true
@@ -116,7 +117,8 @@ units_last (unit ∷ next ∷ units) rest stand =
     let is : units_text (next ∷ units) ≡ one.byte ∷ units_text units = ap (λ (t : List ℕ). t ++ units_text units) one.is in
     ap (λ (t : List ℕ). last_is 92 (unit_text unit ++ t)) is ∙ last_is-append 92 one.byte (unit_text unit) (units_text units) ∙ ap (last_is 92) (sym is) ∙ units_last (next ∷ units) rest parts.1
 
-units_can : (units : List BracketUnit) (rest : List ℕ) → units_stand units (93 ∷ rest) ≡ true → list_all is_set (units_bytes units) ≡ true → can_stand (units_text units) ≡ true
+units_can : (units : List BracketUnit) (rest : List ℕ) → units_stand units (93 ∷ rest) ≡ true → list_all is_set (units_bytes units) ≡ true
+    → can_stand (units_text units) ≡ true
 units_can units rest stand set =
     can_stand_by (units_text units) (units_inner units (93 ∷ rest) stand) (units_set units set)
     (and_right (wants_brackets (units_text units)) (last_is 92 (units_text units)) (units_last units rest stand))
@@ -141,7 +143,8 @@ piece_good (bracket units) rest stand set =
 piece_good (open_bracket units) rest stand set = refl
 piece_good (comment text) rest stand set = refl
 
-pieces_good : (pieces : List Piece) (rest : List ℕ) → all_stand pieces rest ≡ true → list_all is_set (spelling pieces) ≡ true → list_all good_piece pieces ≡ true
+pieces_good : (pieces : List Piece) (rest : List ℕ) → all_stand pieces rest ≡ true → list_all is_set (spelling pieces) ≡ true
+    → list_all good_piece pieces ≡ true
 pieces_good [] rest stand set = refl
 pieces_good (piece ∷ pieces) rest stand set =
     let stands_all = and_parts (stands piece (spelling pieces ++ rest)) (all_stand pieces rest) stand in
@@ -153,7 +156,8 @@ pieces_good (piece ∷ pieces) rest stand set =
 abbrev good_line : List Piece → Bool
 good_line pieces = list_all good_piece pieces
 
-in_front_good : (piece : Piece) (lines : List (List Piece)) → good_piece piece ≡ true → list_all good_line lines ≡ true → list_all good_line (in_front piece lines) ≡ true
+in_front_good : (piece : Piece) (lines : List (List Piece)) → good_piece piece ≡ true → list_all good_line lines ≡ true
+    → list_all good_line (in_front piece lines) ≡ true
 in_front_good piece [] good all = and_from (good_line (piece ∷ [])) true (and_from (good_piece piece) true good refl) refl
 in_front_good piece (l ∷ ls) good all =
     let parts = and_parts (good_line l) (list_all good_line ls) all in
@@ -181,7 +185,8 @@ rule_at_good : (number : ℕ) (tokens : List Token) → list_all is_good tokens 
 rule_at_good number [] good = refl
 rule_at_good number (token ∷ tokens) good = and_from (list_all is_good (token ∷ tokens)) true good refl
 
-rules_good : (number : ℕ) (lines : List (List Piece)) → list_all good_line lines ≡ true → list_all good_rule (flat_map line_rules (numbered number lines)) ≡ true
+rules_good : (number : ℕ) (lines : List (List Piece)) → list_all good_line lines ≡ true
+    → list_all good_rule (flat_map line_rules (numbered number lines)) ≡ true
 rules_good number [] good = refl
 rules_good number (l ∷ ls) good =
     let parts = and_parts (good_line l) (list_all good_line ls) good in
@@ -211,7 +216,8 @@ lexed_good reading text rules set answer =
     let same = given_rules (first_fault (numbered 1 (lines_of_pieces (pieces_of text)))) (flat_map line_rules (numbered 1 (lines_of_pieces (pieces_of text)))) rules answer in
     ap (list_all good_rule) (sym same) ∙ rules_good 1 (lines_of_pieces (pieces_of text)) (lines_good (pieces_of text) (pieces_good (pieces_of text) [] read.stand bytes))
 
-unless_good : Reading → (text : List ℕ) (rules : List RawRule) (o : Option ℕ) → nul_line 1 text ≡ o → answer_unless_nul o text ≡ Ok rules → list_all good_rule rules ≡ true
+unless_good : Reading → (text : List ℕ) (rules : List RawRule) (o : Option ℕ) → nul_line 1 text ≡ o → answer_unless_nul o text ≡ Ok rules
+    → list_all good_rule rules ≡ true
 unless_good reading text rules None none answer = lexed_good reading text rules (all_set 1 text none) answer
 unless_good reading text rules (Some n) none answer = absurd cc
 

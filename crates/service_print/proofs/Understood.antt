@@ -76,7 +76,8 @@ rule_written type rule is =
     let control = control_token_is rule.control is.each is.fine in
     rw (control.writes, (text_token_is rule.path is.path).writes, text_tokens_written rule.args is.args) refl
 
-rule_means : (type : RuleType) (rule : Rule) (number : ℕ) → IsWritable rule → IsMeant true (record { line = number; tokens = tokens_in (rule_tokens type rule) }) (a_line (Some type) rule)
+rule_means : (type : RuleType) (rule : Rule) (number : ℕ) → IsWritable rule
+    → IsMeant true (record { line = number; tokens = tokens_in (rule_tokens type rule) }) (a_line (Some type) rule)
 unfolding entry_of
 rule_means type rule number is =
     let first = type_token_is rule.silent type in
@@ -140,7 +141,8 @@ substack_written : (type : RuleType) (name : List ℕ) → line_text (substack_t
 unfolding substack_line
 substack_written type name = refl
 
-substack_means : (type : RuleType) (name : List ℕ) (number : ℕ) → named_file name ≡ in_the_folder name → IsMeant true (record { line = number; tokens = tokens_in (substack_tokens type name) }) (a_substack (Some type) (in_the_folder name))
+substack_means : (type : RuleType) (name : List ℕ) (number : ℕ) → named_file name ≡ in_the_folder name
+    → IsMeant true (record { line = number; tokens = tokens_in (substack_tokens type name) }) (a_substack (Some type) (in_the_folder name))
 unfolding entry_of
 substack_means type name number named =
     let first = type_token_is false type in

@@ -32,7 +32,8 @@ fn keyword_of(control: &Control) -> Option<Keyword>
 }
 
 fn keyword_among(control: &Control) -> Option<Keyword>
-    ensures { result ≡ find (λ keyword. stands_for (keyword_word keyword) control.now) all_keywords }
+    ensures { result ≡ find (λ keyword. stands_for
+        (keyword_word keyword) control.now) all_keywords }
 {
     ALL_KEYWORDS
         .iter()
@@ -57,7 +58,8 @@ fn same_control(control: &Control, other: &Control) -> bool
 
 // Whether two controls have the same action for each of these codes.
 fn agree_at(codes: &[Code], control: &Control, other: &Control) -> bool
-    ensures { result ≡ list_all (λ code. same_action (action_at control.now code) (action_at other.now code)) codes.now }
+    ensures { result ≡ list_all (λ code. same_action (action_at control.now code)
+        (action_at other.now code)) codes.now }
 {
     codes.iter().all(|code| same_action(control.action(*code), other.action(*code)))
 }
@@ -75,7 +77,8 @@ fn add_entries(
     control: &Control,
     line: &mut Vec<u8>,
 ) -> Result<(), NoMemory>
-    ensures { OnOk result (line.new.items ≡ line.old.items ++ spaced (entries_among control.now codes.now)) }
+    ensures { OnOk result (line.new.items ≡ line.old.items
+        ++ spaced (entries_among control.now codes.now)) }
 {
     let mut is_first = true;
     for code in codes {

@@ -25,7 +25,8 @@ pub fn printed_is_loaded()
     // The same of three calls: `load`, `print`, and `load` again.
     ensures calls { (trees : Trees) (origin behind : VaultState) (origin_root once : List ℕ) →
         Loads (Ok trees) origin behind origin_root once →
-        (again : Result Trees (Refuse LoadFault)) (vault after : VaultState) (root service : List ℕ) →
+        (again : Result Trees (Refuse LoadFault)) (vault after : VaultState)
+        (root service : List ℕ) →
         IsLowerName service → HoldsJust vault root (printed (stacks_in trees) service) →
         list_all is_short (printed (stacks_in trees) service) ≡ true →
         Loads again vault after root service → Gives again (stacks_in trees) }

@@ -61,9 +61,11 @@ fn add_stack(
     files: &mut Vec<File>,
 ) -> Result<(), NoMemory>
     ensures lines { OnOk result (text.new.items ≡ text.old.items
-        ++ text_of (list_lines service.now rule_type (length files.old.items) (stacks_in trees.now rule_type))) }
+        ++ text_of (list_lines service.now rule_type (length files.old.items)
+        (stacks_in trees.now rule_type))) }
     ensures files { OnOk result (files.new.items ≡ files.old.items
-        ++ substack_files service.now rule_type (length files.old.items) (stacks_in trees.now rule_type)) }
+        ++ substack_files service.now rule_type (length files.old.items)
+        (stacks_in trees.now rule_type)) }
 {
     add_nodes(alloc, service, rule_type, trees.of(rule_type), text, files)
 }

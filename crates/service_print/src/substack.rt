@@ -44,7 +44,8 @@ fn add_rule_line(
     rule: &Rule,
     text: &mut Vec<u8>,
 ) -> Result<(), NoMemory>
-    ensures { OnOk result (text.new.items ≡ text.old.items ++ ended (rule_line rule_type rule.now)) }
+    ensures { OnOk result (text.new.items ≡ text.old.items
+        ++ ended (rule_line rule_type rule.now)) }
 {
     let line = rule_line(alloc, rule_type, rule)?;
     add_line(&line, text)
@@ -53,7 +54,8 @@ fn add_rule_line(
 /// Fills the file that has this place. It takes no memory.
 pub fn fill(number: usize, name: Vec<u8>, text: Vec<u8>, files: &mut Vec<File>)
     requires { number < length files.old.items }
-    ensures { files.new.items ≡ slice_set files.old.items number (record { name = name.items; text = text.items }) }
+    ensures { files.new.items ≡ slice_set files.old.items number
+        (record { name = name.items; text = text.items }) }
 {
     files[number] = File {
         name: Text::from_vec(name),
@@ -72,9 +74,11 @@ pub fn add_nodes(
     files: &mut Vec<File>,
 ) -> Result<(), NoMemory>
     ensures lines { OnOk result (text.new.items ≡ text.old.items
-        ++ text_of (list_lines service.now rule_type (length files.old.items) (stack_of nodes.now.vec.items))) }
+        ++ text_of (list_lines service.now rule_type (length files.old.items)
+        (stack_of nodes.now.vec.items))) }
     ensures files { OnOk result (files.new.items ≡ files.old.items
-        ++ substack_files service.now rule_type (length files.old.items) (stack_of nodes.now.vec.items)) }
+        ++ substack_files service.now rule_type (length files.old.items)
+        (stack_of nodes.now.vec.items)) }
 {
     for node in &nodes.vec {
         match node {

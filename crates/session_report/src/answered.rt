@@ -17,7 +17,8 @@ pub(crate) fn write_answer(
     command: &str,
     answer: &Answer,
 ) -> Result<(), NoMemory>
-    ensures { OnOk result (string_bytes text.new ≡ string_bytes text.old ++ answer_text handle command.now answer.now) }
+    ensures { OnOk result (string_bytes text.new ≡ string_bytes text.old
+        ++ answer_text handle command.now answer.now) }
 {
     match answer {
         Answer::Code(code) => write_code_result(text, handle, command, *code),
@@ -39,14 +40,16 @@ fn write_environment(
     command: &str,
     variables: &[Text],
 ) -> Result<(), NoMemory>
-    ensures { OnOk result (string_bytes text.new ≡ string_bytes text.old ++ environment_text handle command.now variables.now) }
+    ensures { OnOk result (string_bytes text.new ≡ string_bytes text.old
+        ++ environment_text handle command.now variables.now) }
 {
     write_variables(text, handle, variables)?;
     write_count_result(text, handle, command, variables.len())
 }
 
 fn write_variables(text: &mut String, handle: u32, variables: &[Text]) -> Result<(), NoMemory>
-    ensures { OnOk result (string_bytes text.new ≡ string_bytes text.old ++ flat_map (variable_text handle) variables.now) }
+    ensures { OnOk result (string_bytes text.new ≡ string_bytes text.old
+        ++ flat_map (variable_text handle) variables.now) }
 {
     for variable in variables {
         write_variable(text, handle, variable)?;
@@ -55,7 +58,8 @@ fn write_variables(text: &mut String, handle: u32, variables: &[Text]) -> Result
 }
 
 fn write_variable(text: &mut String, handle: u32, variable: &Text) -> Result<(), NoMemory>
-    ensures { OnOk result (string_bytes text.new ≡ string_bytes text.old ++ variable_text handle variable.now) }
+    ensures { OnOk result (string_bytes text.new ≡ string_bytes text.old
+        ++ variable_text handle variable.now) }
 {
     report_lines::write_variable(text, handle, variable.bytes())
 }

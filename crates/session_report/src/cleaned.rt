@@ -18,9 +18,12 @@ pub(crate) fn write_cleanups(
     ledger: &Ledger,
     filed_from: u64,
 ) -> Result<(), NoMemory>
-    requires owned { AreOwned (length (⟦<Gear as GearTold>⟧.players (gear_in library.now))) ledger.now.births }
+    requires owned { AreOwned (length (⟦<Gear as GearTold>⟧.players
+        (gear_in library.now))) ledger.now.births }
     requires from { filed_from ≤ length ledger.now.filed }
-    ensures { OnOk result (string_bytes text.new ≡ string_bytes text.old ++ cleanups_text handle (names_of (⟦<Gear as GearTold>⟧.players (gear_in library.now))) ledger.now filed_from) }
+    ensures { OnOk result (string_bytes text.new ≡ string_bytes text.old
+        ++ cleanups_text handle (names_of (⟦<Gear as GearTold>⟧.players
+        (gear_in library.now))) ledger.now filed_from) }
 {
     data_cleanup::laws::ledger_is_sound(ledger);
     let births = ledger.births();
@@ -38,9 +41,12 @@ fn write_filed(
     births: &Births,
     filed: &Filed,
 ) -> Result<(), NoMemory>
-    requires owned { AreOwned (length (⟦<Gear as GearTold>⟧.players (gear_in library.now))) births.now }
+    requires owned { AreOwned (length (⟦<Gear as GearTold>⟧.players
+        (gear_in library.now))) births.now }
     requires born { filed.now.receipt.id < length births.now }
-    ensures { OnOk result (string_bytes text.new ≡ string_bytes text.old ++ filed_text handle (names_of (⟦<Gear as GearTold>⟧.players (gear_in library.now))) births.now filed.now) }
+    ensures { OnOk result (string_bytes text.new ≡ string_bytes text.old
+        ++ filed_text handle (names_of (⟦<Gear as GearTold>⟧.players
+        (gear_in library.now))) births.now filed.now) }
 {
     let birth = births.at(filed.receipt.id as usize);
     let owner = library.module_name(birth.owner);
@@ -54,7 +60,8 @@ fn write_cleanup(
     owner: &[u8],
     datum: &[u8],
 ) -> Result<(), NoMemory>
-    ensures { OnOk result (string_bytes text.new ≡ string_bytes text.old ++ cleanup_text handle receipt.now owner.now datum.now) }
+    ensures { OnOk result (string_bytes text.new ≡ string_bytes text.old
+        ++ cleanup_text handle receipt.now owner.now datum.now) }
 {
     write_cleaned(
         text,

@@ -22,9 +22,12 @@ pub fn closing_report(
     filed_from: u64,
     status: Code,
 ) -> Result<String, NoMemory>
-    requires owned { AreOwned (length (⟦<Gear as GearTold>⟧.players (gear_in library.now))) ledger.now.births }
+    requires owned { AreOwned (length (⟦<Gear as GearTold>⟧.players
+        (gear_in library.now))) ledger.now.births }
     requires from { filed_from ≤ length ledger.now.filed }
-    ensures { IfOk result (λ text. string_bytes text ≡ closing_text (names_of (⟦<Gear as GearTold>⟧.players (gear_in library.now))) handle status ledger.now filed_from) }
+    ensures { IfOk result (λ text. string_bytes text
+        ≡ closing_text (names_of (⟦<Gear as GearTold>⟧.players
+        (gear_in library.now))) handle status ledger.now filed_from) }
 {
     let mut text = String::new(alloc);
     write_cleanups(&mut text, handle, library, ledger, filed_from)?;

@@ -7,5 +7,6 @@ ghost use Rattle.session_report.specs.Step.{step_text};
 
 /// Does nothing. Its contract: a reply that was offered has no line.
 pub fn offered_reply_is_silent()
-    ensures { (names : List (List ℕ)) (step : Step) (ledger : PlainLedger) → step_text names step (answers_only (length ledger.filed) answers.Nothing) ledger ≡ [] }
+    ensures { (names : List (List ℕ)) (step : Step) (ledger : PlainLedger) →
+        step_text names step (answers_only (length ledger.filed) answers.Nothing) ledger ≡ [] }
 {}

@@ -10,7 +10,8 @@ pub(crate) fn write_all_missing(
     handle: u32,
     names: &[Text],
 ) -> Result<(), NoMemory>
-    ensures { OnOk result (string_bytes text.new ≡ string_bytes text.old ++ all_missing_text handle names.now) }
+    ensures { OnOk result (string_bytes text.new ≡ string_bytes text.old
+        ++ all_missing_text handle names.now) }
 {
     for name in names {
         write_missing(text, handle, name)?;
@@ -19,7 +20,8 @@ pub(crate) fn write_all_missing(
 }
 
 fn write_missing(text: &mut String, handle: u32, name: &Text) -> Result<(), NoMemory>
-    ensures { OnOk result (string_bytes text.new ≡ string_bytes text.old ++ missing_text handle name.now) }
+    ensures { OnOk result (string_bytes text.new ≡ string_bytes text.old
+        ++ missing_text handle name.now) }
 {
     report_lines::write_missing(text, handle, name.bytes())
 }

@@ -10,7 +10,8 @@ use std::alloc::Global;
 
 /// The line of a step's result alone, as `1 authenticate SUCCESS 0`, with its newline: nothing of what the step told.
 pub fn result_report(alloc: Global, step: &Step, answer: &Answer) -> Result<String, NoMemory>
-    ensures { IfOk result (λ text. string_bytes text ≡ answer_text step.now.number (word_of_call step.now.call) answer.now) }
+    ensures { IfOk result (λ text. string_bytes text
+        ≡ answer_text step.now.number (word_of_call step.now.call) answer.now) }
 {
     let mut text = String::new(alloc);
     write_answer(&mut text, step.number, call_word(&step.call), answer)?;

@@ -11,7 +11,8 @@ pub(crate) fn write_messages(
     handle: u32,
     messages: &[Message],
 ) -> Result<(), NoMemory>
-    ensures { OnOk result (string_bytes text.new ≡ string_bytes text.old ++ messages_text handle «messages».now) }
+    ensures { OnOk result (string_bytes text.new ≡ string_bytes text.old
+        ++ messages_text handle «messages».now) }
 {
     for message in messages {
         write_message(text, handle, message)?;
@@ -20,7 +21,8 @@ pub(crate) fn write_messages(
 }
 
 fn write_message(text: &mut String, handle: u32, message: &Message) -> Result<(), NoMemory>
-    ensures { OnOk result (string_bytes text.new ≡ string_bytes text.old ++ message_text handle message.now) }
+    ensures { OnOk result (string_bytes text.new ≡ string_bytes text.old
+        ++ message_text handle message.now) }
 {
     write_said(text, handle, message.style, message.text.bytes())
 }

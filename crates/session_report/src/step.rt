@@ -18,9 +18,9 @@ use pam_library::{Library, Outcome};
 use script_lang::call_word;
 use std::alloc::Global;
 
-/// The lines of a step, each with its newline: what was said, the lines that were visited, the cleanups, the wait, the
-/// missing modules, and the result. Library and ledger are those after the step, of which the outcome tells. A reply that
-/// was offered has no line.
+/// The lines of a step, each with its newline: what was said, the lines that were visited, the
+/// cleanups, the wait, the missing modules, and the result. Library and ledger are those after the
+/// step, of which the outcome tells. A reply that was offered has no line.
 pub fn step_report(
     alloc: Global,
     library: &Library,
@@ -28,9 +28,12 @@ pub fn step_report(
     step: &Step,
     outcome: &Outcome,
 ) -> Result<String, NoMemory>
-    requires owned { AreOwned (length (⟦<Gear as GearTold>⟧.players (gear_in library.now))) ledger.now.births }
+    requires owned { AreOwned (length (⟦<Gear as GearTold>⟧.players
+        (gear_in library.now))) ledger.now.births }
     requires from { outcome.now.filed_from ≤ length ledger.now.filed }
-    ensures { IfOk result (λ text. string_bytes text ≡ step_text (names_of (⟦<Gear as GearTold>⟧.players (gear_in library.now))) step.now (plain_outcome outcome.now) ledger.now) }
+    ensures { IfOk result (λ text. string_bytes text
+        ≡ step_text (names_of (⟦<Gear as GearTold>⟧.players (gear_in library.now))) step.now
+        (plain_outcome outcome.now) ledger.now) }
 {
     let handle = step.number;
     let command = call_word(&step.call);

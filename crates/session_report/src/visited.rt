@@ -8,7 +8,8 @@ use report_lines::write_visited;
 
 /// Adds a line for each visit, in order.
 pub(crate) fn write_visits(text: &mut String, handle: u32, visits: &[Visit]) -> Result<(), NoMemory>
-    ensures { OnOk result (string_bytes text.new ≡ string_bytes text.old ++ visits_text handle visits.now) }
+    ensures { OnOk result (string_bytes text.new ≡ string_bytes text.old
+        ++ visits_text handle visits.now) }
 {
     for visit in visits {
         write_visit(text, handle, visit)?;
@@ -17,7 +18,8 @@ pub(crate) fn write_visits(text: &mut String, handle: u32, visits: &[Visit]) -> 
 }
 
 fn write_visit(text: &mut String, handle: u32, visit: &Visit) -> Result<(), NoMemory>
-    ensures { OnOk result (string_bytes text.new ≡ string_bytes text.old ++ visit_text handle visit.now) }
+    ensures { OnOk result (string_bytes text.new ≡ string_bytes text.old
+        ++ visit_text handle visit.now) }
 {
     let module = module_name(visit.path.bytes());
     write_visited(text, handle, visit.place, module, visit.answer)

@@ -10,7 +10,8 @@ pub(crate) fn write_waited(
     handle: u32,
     waited: &Option<Wait>,
 ) -> Result<(), NoMemory>
-    ensures { OnOk result (string_bytes text.new ≡ string_bytes text.old ++ waited_text handle waited.now) }
+    ensures { OnOk result (string_bytes text.new ≡ string_bytes text.old
+        ++ waited_text handle waited.now) }
 {
     match waited {
         Some(wait) => write_wait(text, handle, wait),
@@ -19,7 +20,8 @@ pub(crate) fn write_waited(
 }
 
 fn write_wait(text: &mut String, handle: u32, waited: &Wait) -> Result<(), NoMemory>
-    ensures { OnOk result (string_bytes text.new ≡ string_bytes text.old ++ wait_text handle waited.now) }
+    ensures { OnOk result (string_bytes text.new ≡ string_bytes text.old
+        ++ wait_text handle waited.now) }
 {
     report_lines::write_waited(text, handle, waited.code, waited.asked, waited.wait)
 }

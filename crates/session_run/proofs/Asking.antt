@@ -24,7 +24,8 @@ use Rattle.session_run.proofs.Serving.{long_line}
 -- ---- what was found
 
 -- what is left of the text, before and after bytes were taken
-pub all_left : (found : Result Found Failed) (n : ℕ) (before held : List ℕ) (x y : SourceState) → Finds looked IsOver found n before held x y → before ++ x.left ≡ held ++ y.left
+pub all_left : (found : Result Found Failed) (n : ℕ) (before held : List ℕ) (x y : SourceState) → Finds looked IsOver found n before held x y
+    → before ++ x.left ≡ held ++ y.left
 all_left found n before held x y f =
     ap (λ (l : List ℕ). before ++ l) f.source ∙ sym (append_assoc before f.got y.left) ∙ ap (λ (h : List ℕ). h ++ y.left) (sym f.held_is)
 
@@ -52,12 +53,14 @@ module _ (all : AllLooked) (n length_of_line size : ℕ) (before held : List ℕ
 not_both : (r : Result Asked ScriptKind) (asked : Asked) → r ≡ Err LineTooLong → r ≡ Ok asked → ⊥
 not_both r asked e f = (cc)
 
-rest_whole : AllLooked → (n : ℕ) (before held left : List ℕ) (ended : Bool) → left ≡ [] → ended ≡ true → looked n held ended ≡ held ∷ [] → lines_of (held ++ left) ≡ held ∷ []
+rest_whole : AllLooked → (n : ℕ) (before held left : List ℕ) (ended : Bool) → left ≡ [] → ended ≡ true → looked n held ended ≡ held ∷ []
+    → lines_of (held ++ left) ≡ held ∷ []
 rest_whole all n before held left ended none end seen =
     ap lines_of (ap (λ (l : List ℕ). held ++ l) none ∙ append-nil held) ∙ sym (all n held) ∙ ap (looked n held) (sym end) ∙ seen
 
 -- the last line of a told text whose end was seen
-pub rest_lines : AllLooked → (n : ℕ) (before held : List ℕ) (x y : SourceState) → (finds : Finds looked IsOver (Ok Rest) n before held x y) → finds.ended.ended ≡ true → lines_of (before ++ x.left) ≡ held ∷ []
+pub rest_lines : AllLooked → (n : ℕ) (before held : List ℕ) (x y : SourceState) → (finds : Finds looked IsOver (Ok Rest) n before held x y)
+    → finds.ended.ended ≡ true → lines_of (before ++ x.left) ≡ held ∷ []
 rest_lines all n before held x y finds end =
     ap lines_of (all_left (Ok Rest) n before held x y finds) ∙ rest_whole all n before held y.left finds.ended.ended (finds.ended.at_end end) end finds.ended.seen
 
@@ -108,10 +111,12 @@ asks_before a b p number status h = record {
 
 -- ---- behind the lines
 
-pub by_ending : (tells : Bool) (text : List ℕ) (ending : Ending) (code : Code) → code ≡ ending_status ending → (number status : ℕ) → HasStatus code number status → IsEndOfRun tells text number status
+pub by_ending : (tells : Bool) (text : List ℕ) (ending : Ending) (code : Code) → code ≡ ending_status ending → (number status : ℕ)
+    → HasStatus code number status → IsEndOfRun tells text number status
 by_ending tells text ending code e number status is told = inl (inl (ending, is ∙ ap number_of e))
 
-pub by_stop : (tells : Bool) (text : List ℕ) (stop : Stop) (code : Code) → code ≡ stop_status stop → (number status : ℕ) → HasStatus code number status → IsEndOfRun tells text number status
+pub by_stop : (tells : Bool) (text : List ℕ) (stop : Stop) (code : Code) → code ≡ stop_status stop → (number status : ℕ)
+    → HasStatus code number status → IsEndOfRun tells text number status
 by_stop tells text stop code e number status is told = inl (inr (stop, is ∙ ap number_of e))
 
 pub by_line : (tells : Bool) (text : List ℕ) → (number status : ℕ) → IsEndIn tells text number status → IsEndOfRun tells text number status

@@ -19,12 +19,14 @@ use Rattle.session_run.specs.SideBySide.{TellsSteps, report_of_steps, step_of, s
 
 module _ (setting : Setting) where
   -- a line that was applied is one by what it is read as
-  by_tests : (many long : Bool) (r : Result (RunState × List ℕ) ScriptKind) (x : RunState × List ℕ) → cond many (Err TooManyLines) (cond long (Err LineTooLong) r) ≡ Ok x → r ≡ Ok x
+  by_tests : (many long : Bool) (r : Result (RunState × List ℕ) ScriptKind) (x : RunState × List ℕ)
+      → cond many (Err TooManyLines) (cond long (Err LineTooLong) r) ≡ Ok x → r ≡ Ok x
   by_tests true long r x e = absurd cc
   by_tests false true r x e = absurd cc
   by_tests false false r x e = e
 
-  pub as_read : (n : ℕ) (s : RunState) (line : List ℕ) (x : RunState × List ℕ) → step_at (line_step setting) n s line ≡ Ok x → applied_or_refused setting s (parsed line) ≡ Ok x
+  pub as_read : (n : ℕ) (s : RunState) (line : List ℕ) (x : RunState × List ℕ) → step_at (line_step setting) n s line ≡ Ok x
+      → applied_or_refused setting s (parsed line) ≡ Ok x
   unfolding step_at line_step
   as_read n s line x e = by_tests (leb 65536 n) (ltb 513 (length line)) (line_step setting s line) x e
 
@@ -44,7 +46,8 @@ module _ (setting : Setting) where
   one_slots s (Ok (lines.Caller caller)) x e = ap (λ (y : RunState × List ℕ). y.0.slots) (one e)
   one_slots s (Err kind) x e = absurd cc
 
-  one_text : (s : RunState) (p : Result Line ScriptKind) (x : RunState × List ℕ) → applied_or_refused setting s p ≡ Ok x → report_of_steps setting s.slots (step_of s p) ≡ x.1
+  one_text : (s : RunState) (p : Result Line ScriptKind) (x : RunState × List ℕ) → applied_or_refused setting s p ≡ Ok x
+      → report_of_steps setting s.slots (step_of s p) ≡ x.1
   one_text s (Ok lines.Blank) x e = ap (λ (y : RunState × List ℕ). y.1) (one e)
   one_text s (Ok (lines.Step step)) x e = append-nil _ ∙ ap (λ (y : RunState × List ℕ). y.1) (one e)
   one_text s (Ok (lines.At moment)) x e = ap (λ (y : RunState × List ℕ). y.1) (one e)
@@ -54,14 +57,16 @@ module _ (setting : Setting) where
 
   -- ---- some steps, and others behind them
 
-  slots-append : (xs ys : List Met) (slots : List PlainSlot) → slots_after setting.players setting.delay slots (xs ++ ys) ≡ slots_after setting.players setting.delay (slots_after setting.players setting.delay slots xs) ys
+  slots-append : (xs ys : List Met) (slots : List PlainSlot)
+      → slots_after setting.players setting.delay slots (xs ++ ys) ≡ slots_after setting.players setting.delay (slots_after setting.players setting.delay slots xs) ys
   slots-append [] ys slots = refl
   slots-append (x ∷ xs) ys slots = slots-append xs ys (stepped setting.players setting.delay slots x.world x.step).slots
 
   abbrev told : List PlainSlot → Met → List ℕ
   told slots m = let t = stepped setting.players setting.delay slots m.world m.step in step_text (names_of setting.players) m.step t.outcome t.world.process.ledger
 
-  report-append : (xs ys : List Met) (slots : List PlainSlot) → report_of_steps setting slots (xs ++ ys) ≡ report_of_steps setting slots xs ++ report_of_steps setting (slots_after setting.players setting.delay slots xs) ys
+  report-append : (xs ys : List Met) (slots : List PlainSlot)
+      → report_of_steps setting slots (xs ++ ys) ≡ report_of_steps setting slots xs ++ report_of_steps setting (slots_after setting.players setting.delay slots xs) ys
   report-append [] ys slots = refl
   report-append (x ∷ xs) ys slots =
       let next : List PlainSlot = (stepped setting.players setting.delay slots x.world x.step).slots in
@@ -86,7 +91,8 @@ module _ (setting : Setting) where
   slots_in n s [] = refl
   slots_in n s (l ∷ ls) = slots_by n s l ls (λ t. slots_in (n + 1) t ls) (step_at (line_step setting) n s l) refl
 
-  text_by : (n : ℕ) (s : RunState) (l : List ℕ) (ls : List (List ℕ)) → ((t : RunState) → (rest_of n ls t).text ≡ report_of_steps setting t.slots (steps_in setting (n + 1) t ls))
+  text_by : (n : ℕ) (s : RunState) (l : List ℕ) (ls : List (List ℕ))
+      → ((t : RunState) → (rest_of n ls t).text ≡ report_of_steps setting t.slots (steps_in setting (n + 1) t ls))
       → (r : Result (RunState × List ℕ) ScriptKind) → step_at (line_step setting) n s l ≡ r
       → (after n s r (rest_of n ls)).text ≡ report_of_steps setting s.slots (steps_behind setting s l r (λ t. steps_in setting (n + 1) t ls))
   text_by n s l ls next (Ok x) e =
@@ -98,7 +104,8 @@ module _ (setting : Setting) where
       ∙ sym (report-append (step_of s (parsed l)) behind s.slots)
   text_by n s l ls next (Err kind) e = refl
 
-  pub text_in : (n : ℕ) (s : RunState) (ls : List (List ℕ)) → (run_lines (line_step setting) n s ls).text ≡ report_of_steps setting s.slots (steps_in setting n s ls)
+  pub text_in : (n : ℕ) (s : RunState) (ls : List (List ℕ))
+      → (run_lines (line_step setting) n s ls).text ≡ report_of_steps setting s.slots (steps_in setting n s ls)
   unfolding steps_in run_items
   text_in n s [] = refl
   text_in n s (l ∷ ls) = text_by n s l ls (λ t. text_in (n + 1) t ls) (step_at (line_step setting) n s l) refl
@@ -109,6 +116,7 @@ module _ (setting : Setting) where
   unfolding run_of_items
   tells_steps s bytes ended = text_in 0 s (looked 0 bytes ended)
 
-  pub slots_of : (s : RunState) (bytes : List ℕ) (ended : Bool) → slots_after setting.players setting.delay s.slots (steps_of setting s bytes ended) ≡ (run_of (line_step setting) 0 s bytes ended).last.slots
+  pub slots_of : (s : RunState) (bytes : List ℕ) (ended : Bool)
+      → slots_after setting.players setting.delay s.slots (steps_of setting s bytes ended) ≡ (run_of (line_step setting) 0 s bytes ended).last.slots
   unfolding run_of_items
   slots_of s bytes ended = slots_in 0 s (looked 0 bytes ended)

@@ -13,7 +13,8 @@ use Rattle.session_run.specs.State.{Setting, RunState}
 use Rattle.session_run.specs.Whole.{Completes, RunsScript}
 
 module _ (setting : Setting) (start end : RunState) (x y : SourceState) (p q : SinkState) (a b c d : ℕ) where
-  pub completes : (result : Result Ending Stop) → RunsScript setting result start end x y p q → IfOk result (λ (ending : Ending). RisesIf (has_read_fault (Ok (Some ending))) a b) → RisesIf (has_write_fault result) c d
+  pub completes : (result : Result Ending Stop) → RunsScript setting result start end x y p q
+      → IfOk result (λ (ending : Ending). RisesIf (has_read_fault (Ok (Some ending))) a b) → RisesIf (has_write_fault result) c d
       → Completes setting result start x.left (Rose a b) (Rose c d)
   completes (Ok Done) r read written = λ accepted no_read no_write. inl refl
   completes (Ok ReadFault) r read written = λ accepted no_read no_write. absurd (no_read read)

@@ -83,10 +83,12 @@ ok_unwritten t p = record { text = []; written = sym (append-nil p.written); cal
 pub err_unwritten : {T : Type 0} (stop : Stop) (p : SinkState) → WritesSome {T = T} (Err stop) p p
 err_unwritten stop p = record { text = []; written = sym (append-nil p.written); calls = omega arith; calls_ok = tt }
 
-pub all_written : {T : Type 0} (t : T) (u : Unit {0}) (text : List ℕ) (p q : SinkState) → WritesWhole {T = Unit {0}} (Ok u) text p q → WritesSome {T = T} (Ok t) p q
+pub all_written : {T : Type 0} (t : T) (u : Unit {0}) (text : List ℕ) (p q : SinkState) → WritesWhole {T = Unit {0}} (Ok u) text p q
+    → WritesSome {T = T} (Ok t) p q
 all_written t u text p q w = record { text = w.front; written = w.written; calls = w.calls; calls_ok = w.calls_ok }
 
-pub front_written : {T : Type 0} (failed : Failed) (text : List ℕ) (p q : SinkState) → WritesWhole {T = Unit {0}} (Err failed) text p q → WritesSome {T = T} (Err WriteFault) p q
+pub front_written : {T : Type 0} (failed : Failed) (text : List ℕ) (p q : SinkState) → WritesWhole {T = Unit {0}} (Err failed) text p q
+    → WritesSome {T = T} (Err WriteFault) p q
 front_written failed text p q w = record { text = w.front; written = w.written; calls = w.calls; calls_ok = tt }
 
 pub ok_as : {T U : Type 0} (t : T) (u : U) (p q : SinkState) → WritesSome {T = T} (Ok t) p q → WritesSome {T = U} (Ok u) p q
@@ -95,7 +97,8 @@ ok_as t u p q w = record { text = w.text; written = w.written; calls = w.calls; 
 pub err_as : {T U : Type 0} (stop : Stop) (p q : SinkState) → WritesSome {T = T} (Err stop) p q → WritesSome {T = U} (Err stop) p q
 err_as stop p q w = record { text = w.text; written = w.written; calls = w.calls; calls_ok = tt }
 
-pub ok_then : {T U V : Type 0} (t : T) (u : U) (v : V) (p q r : SinkState) → WritesSome {T = T} (Ok t) p q → WritesSome {T = U} (Ok u) q r → WritesSome {T = V} (Ok v) p r
+pub ok_then : {T U V : Type 0} (t : T) (u : U) (v : V) (p q r : SinkState) → WritesSome {T = T} (Ok t) p q → WritesSome {T = U} (Ok u) q r
+    → WritesSome {T = V} (Ok v) p r
 ok_then t u v p q r a b = record {
   text = a.text ++ b.text;
   written = b.written ∙ ap (λ (x : List ℕ). x ++ b.text) a.written ∙ append_assoc p.written a.text b.text;
@@ -103,7 +106,8 @@ ok_then t u v p q r a b = record {
   calls_ok = omega (arith, a.calls_ok, b.calls_ok, length-append a.text b.text);
 }
 
-pub err_then : {T U V : Type 0} (t : T) (stop : Stop) (p q r : SinkState) → WritesSome {T = T} (Ok t) p q → WritesSome {T = U} (Err stop) q r → WritesSome {T = V} (Err stop) p r
+pub err_then : {T U V : Type 0} (t : T) (stop : Stop) (p q r : SinkState) → WritesSome {T = T} (Ok t) p q → WritesSome {T = U} (Err stop) q r
+    → WritesSome {T = V} (Err stop) p r
 err_then t stop p q r a b = record {
   text = a.text ++ b.text;
   written = b.written ∙ ap (λ (x : List ℕ). x ++ b.text) a.written ∙ append_assoc p.written a.text b.text;
@@ -114,7 +118,8 @@ err_then t stop p q r a b = record {
 pub script_stopped : (stop : Stop) (p q : SinkState) → WritesSome {T = Ending} (Err stop) p q → WritesScript p q
 script_stopped stop p q w = record { text = w.text; written = w.written; calls = w.calls }
 
-pub script_written : (players : List Player) (ending : Ending) (n : ℕ) (result : Result (Unit {0}) Stop) (s t : RunState) (p q r : SinkState) → WritesSome {T = Ending} (Ok ending) p q → EndsWith players ending n result s t q r → WritesScript p r
+pub script_written : (players : List Player) (ending : Ending) (n : ℕ) (result : Result (Unit {0}) Stop) (s t : RunState) (p q r : SinkState)
+    → WritesSome {T = Ending} (Ok ending) p q → EndsWith players ending n result s t q r → WritesScript p r
 script_written players ending n result s t p q r a b =
     let words : List ℕ = closings_text b.whole ++ b.part in
     record {

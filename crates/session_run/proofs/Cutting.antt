@@ -44,7 +44,8 @@ module _ (setting : Setting) (law : CallsStand setting) where
   Goes Is s t = ProceedsBy Is (notes_of setting.players) s.world.process.ledger (lists_of s.slots) t.world.process.ledger (lists_of t.slots)
 
   -- lines, and then calls
-  lines_then : (Is : ℕ → ℕ → Type 0) (m : ℕ) (s t u : RunState) (input : List ℕ) (others : List (List ℕ)) (p q : SinkState) → Served setting 0 m s t input others p q → (g : Goes Is t u)
+  lines_then : (Is : ℕ → ℕ → Type 0) (m : ℕ) (s t u : RunState) (input : List ℕ) (others : List (List ℕ)) (p q : SinkState)
+      → Served setting 0 m s t input others p q → (g : Goes Is t u)
       → StandOn (notes_of setting.players) (line_events setting s (take m (lines_of input)) ++ events_of t.world.process.ledger g.went.calls) s u
   lines_then Is m s t u input others p q w g = λ events stand.
       let front = lines_stand setting law w.served m s t w.text w.lead events stand in
@@ -52,7 +53,8 @@ module _ (setting : Setting) (law : CallsStand setting) where
       rw (first_lines setting m s t input others p q w, ← append_assoc events (line_events setting s w.served) (events_of t.world.process.ledger g.went.calls))
       (rw (g.went.ledger, g.went.lists_are) at whole)
 
-  pub cut_short : (status : Code) (s t u : RunState) (input text : List ℕ) (p q : SinkState) → Broken setting 0 s t input p q → Goes (HasStatus status) t u → q.written ≡ p.written ++ text → StandsCut setting status s u input text
+  pub cut_short : (status : Code) (s t u : RunState) (input text : List ℕ) (p q : SinkState) → Broken setting 0 s t input p q
+      → Goes (HasStatus status) t u → q.written ≡ p.written ++ text → StandsCut setting status s u input text
   cut_short status s t u input text p q b closing written =
       let others : List (List ℕ) = drop b.lines (lines_of input) in
       let behind : others ≡ b.others = last_lines setting b.lines s b.middle input b.others p b.sink b.served in
@@ -72,7 +74,8 @@ module _ (setting : Setting) (law : CallsStand setting) where
         stand = lines_then (IsLaterEnd status others) b.lines s b.middle u input b.others p b.sink w all;
       }
 
-  pub cut_behind : (status stopped : Code) (m : ℕ) (s t v : RunState) (ledger : PlainLedger) (lists : Lists) (input : List ℕ) (p q : SinkState) → (others : List (List ℕ)) × Served setting 0 m s t input others p q
+  pub cut_behind : (status stopped : Code) (m : ℕ) (s t v : RunState) (ledger : PlainLedger) (lists : Lists) (input : List ℕ) (p q : SinkState)
+      → (others : List (List ℕ)) × Served setting 0 m s t input others p q
       → ProceedsBy (HasStatus status) (notes_of setting.players) t.world.process.ledger (lists_of t.slots) ledger lists
       → ProceedsBy (HasStatus stopped) (notes_of setting.players) ledger lists v.world.process.ledger (lists_of v.slots)
       → StandsBehind setting status stopped m s v input

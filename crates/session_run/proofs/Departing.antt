@@ -67,11 +67,13 @@ module _ (setting : Setting) (status : Code) where
   left_behind (closed conv) = closed conv
   left_behind (opened h) = closed h.room.conv
 
-  ends_place : (x : PlainSlot) (front slots : List PlainSlot) (w : PlainWorld) → by_place (suc (length front)) (state_of (front ++ x ∷ slots) w) (Some x) ≡ state_of (front ++ left_behind x ∷ slots) (world_left setting.players status x w)
+  ends_place : (x : PlainSlot) (front slots : List PlainSlot) (w : PlainWorld)
+      → by_place (suc (length front)) (state_of (front ++ x ∷ slots) w) (Some x) ≡ state_of (front ++ left_behind x ∷ slots) (world_left setting.players status x w)
   ends_place (closed conv) front slots w = ap (λ (l : List PlainSlot). state_of l w) (set_at_front front slots (closed conv) (closed conv))
   ends_place (opened h) front slots w = ap (λ (l : List PlainSlot). state_of l (world_behind setting.players status h w)) (set_at_front front slots (opened h) (closed h.room.conv))
 
-  pub ends_next : (x : PlainSlot) (front slots : List PlainSlot) (i : ℕ) (w : PlainWorld) → i ≡ length front → end_at (suc i) (state_of (front ++ x ∷ slots) w) ≡ state_of (front ++ left_behind x ∷ slots) (world_left setting.players status x w)
+  pub ends_next : (x : PlainSlot) (front slots : List PlainSlot) (i : ℕ) (w : PlainWorld) → i ≡ length front
+      → end_at (suc i) (state_of (front ++ x ∷ slots) w) ≡ state_of (front ++ left_behind x ∷ slots) (world_left setting.players status x w)
   ends_next x front slots i w at =
       ap (λ (j : ℕ). end_at (suc j) (state_of (front ++ x ∷ slots) w)) at
       ∙ by_found (suc (length front)) (state_of (front ++ x ∷ slots) w) (Some x) (at_front front slots x)
@@ -143,7 +145,8 @@ module _ (setting : Setting) (status : Code) where
     ends_alike zero i s t h = h
     ends_alike (suc k) i s t h = ends_alike k (suc i) (end_at (suc i) s) (end_at (suc i) t) (end_alike (suc i) s t (nat_eq (suc i) number) refl h)
 
-    pub closed_alike : (s t : RunState) → Alike setting number s t → Alike setting number (all_closed setting.players status s) (all_closed setting.players status t)
+    pub closed_alike : (s t : RunState) → Alike setting number s t
+        → Alike setting number (all_closed setting.players status s) (all_closed setting.players status t)
     closed_alike s t h =
         let k : ℕ = length s.slots + length t.slots in
         subst (λ (x : RunState). Alike setting number x (all_closed setting.players status t)) (sym (all_by_calls s k (omega arith)))

@@ -49,7 +49,8 @@ module _ (setting : Setting)
   line_goes n s line =
       either s (nat_le 65536 n) (Err TooManyLines) _ tt (either s (nat_lt 513 (length line)) (Err LineTooLong) _ tt (parsed_goes s (parsed line)))
 
-  behind : (n : ℕ) (s : RunState) (ls : List (List ℕ)) (r : Result (RunState × List ℕ) ScriptKind) → LineGoes s r → ((t : RunState) → Goes t (run_lines (line_step setting) (n + 1) t ls).last)
+  behind : (n : ℕ) (s : RunState) (ls : List (List ℕ)) (r : Result (RunState × List ℕ) ScriptKind) → LineGoes s r
+      → ((t : RunState) → Goes t (run_lines (line_step setting) (n + 1) t ls).last)
       → Goes s (after n s r (λ t. run_lines (line_step setting) (n + 1) t ls)).last
   behind n s ls (Ok x) g more = together setting.players _ _ _ g (more x.0)
   behind n s ls (Err kind) g more = ([], refl)

@@ -28,28 +28,33 @@ module _ (setting : Setting) where
   abbrev note : Notes
   note = notes_of setting.players
 
-  pub lead-append : (xs ys : List (List ℕ)) (n m k : ℕ) (s t u : RunState) (ta tb : List ℕ) → LeadOn setting n s xs m t ta → LeadOn setting m t ys k u tb → LeadOn setting n s (xs ++ ys) k u (ta ++ tb)
+  pub lead-append : (xs ys : List (List ℕ)) (n m k : ℕ) (s t u : RunState) (ta tb : List ℕ) → LeadOn setting n s xs m t ta
+      → LeadOn setting m t ys k u tb → LeadOn setting n s (xs ++ ys) k u (ta ++ tb)
   lead-append [] ys n m k s t u ta tb a b = rw (a.2, ← a.0, ← a.1) b
   lead-append (x ∷ xs) ys n m k s t u ta tb a b =
       (a.0, a.1, a.2 ++ tb, ap (λ (l : List ℕ). l ++ tb) a.3 ∙ append_assoc a.1 a.2 tb, a.4, a.5, lead-append xs ys (n + 1) m k a.0 t u a.2 tb a.6 b)
 
-  calls_move : (ls : List (List ℕ)) (n m : ℕ) (s t : RunState) (text : List ℕ) → LeadOn setting n s ls m t text → MoveOn note 17 s.world.process.ledger (lists_of s.slots) (line_calls setting n s ls)
+  calls_move : (ls : List (List ℕ)) (n m : ℕ) (s t : RunState) (text : List ℕ) → LeadOn setting n s ls m t text
+      → MoveOn note 17 s.world.process.ledger (lists_of s.slots) (line_calls setting n s ls)
   unfolding line_calls
   calls_move [] n m s t text a = tt
   calls_move (l ∷ ls) n m s t text a = rw a.4 (a.5, calls_move ls (n + 1) m a.0 t a.2 a.6)
 
-  ledger_is : (ls : List (List ℕ)) (n m : ℕ) (s t : RunState) (text : List ℕ) → LeadOn setting n s ls m t text → last_ledger s.world.process.ledger (line_calls setting n s ls) ≡ t.world.process.ledger
+  ledger_is : (ls : List (List ℕ)) (n m : ℕ) (s t : RunState) (text : List ℕ) → LeadOn setting n s ls m t text
+      → last_ledger s.world.process.ledger (line_calls setting n s ls) ≡ t.world.process.ledger
   unfolding line_calls
   ledger_is [] n m s t text a = ap (λ (x : RunState). x.world.process.ledger) (sym a.1)
   ledger_is (l ∷ ls) n m s t text a = rw a.4 (ledger_is ls (n + 1) m a.0 t a.2 a.6)
 
-  lists_are : (ls : List (List ℕ)) (n m : ℕ) (s t : RunState) (text : List ℕ) → LeadOn setting n s ls m t text → last_lists (lists_of s.slots) (line_calls setting n s ls) ≡ lists_of t.slots
+  lists_are : (ls : List (List ℕ)) (n m : ℕ) (s t : RunState) (text : List ℕ) → LeadOn setting n s ls m t text
+      → last_lists (lists_of s.slots) (line_calls setting n s ls) ≡ lists_of t.slots
   unfolding line_calls
   lists_are [] n m s t text a = ap (λ (x : RunState). lists_of x.slots) (sym a.1)
   lists_are (l ∷ ls) n m s t text a = rw a.4 (lists_are ls (n + 1) m a.0 t a.2 a.6)
 
   -- they come to that
-  pub lead_runs : (ls : List (List ℕ)) (n m : ℕ) (s t : RunState) (text : List ℕ) → LeadOn setting n s ls m t text → run_lines (line_step setting) n s ls ≡ come_to text t m None
+  pub lead_runs : (ls : List (List ℕ)) (n m : ℕ) (s t : RunState) (text : List ℕ) → LeadOn setting n s ls m t text
+      → run_lines (line_step setting) n s ls ≡ come_to text t m None
   unfolding run_items
   lead_runs [] n m s t text a = rw (a.0, a.1, a.2) refl
   lead_runs (l ∷ ls) n m s t text a = rw (a.4, lead_runs ls (n + 1) m a.0 t a.2 a.6, a.3) refl
@@ -58,7 +63,8 @@ module _ (setting : Setting) where
   CallsStand = (note : Notes) (limit : ℕ) (calls : List Moved) (ledger : PlainLedger) (lists : Lists) (events : List Event) → StandFor note limit ledger lists events → MoveOn note limit ledger lists calls
       → StandFor note limit (last_ledger ledger calls) (last_lists lists calls) (events ++ events_of ledger calls)
 
-  pub lines_stand : CallsStand → (ls : List (List ℕ)) (m : ℕ) (s t : RunState) (text : List ℕ) → LeadOn setting 0 s ls m t text → StandOn note (line_events setting s ls) s t
+  pub lines_stand : CallsStand → (ls : List (List ℕ)) (m : ℕ) (s t : RunState) (text : List ℕ) → LeadOn setting 0 s ls m t text
+      → StandOn note (line_events setting s ls) s t
   lines_stand law ls m s t text a = λ events stand.
       rw (ledger_is ls 0 m s t text a, lists_are ls 0 m s t text a) at
       (law note 17 (line_calls setting 0 s ls) s.world.process.ledger (lists_of s.slots) events stand (calls_move ls 0 m s t text a))
@@ -94,7 +100,8 @@ others [] rest x y (suc i) differs = refl
 others (z ∷ front) rest x y zero differs = refl
 others (z ∷ front) rest x y (suc i) differs = others front rest x y i (λ e. differs (ap suc e))
 
-other_lists : (front rest : List PlainSlot) (x y : PlainSlot) (h : ℕ) → nat_eq h (length front + 1) ≡ false → lists_of (front ++ x ∷ rest) h ≡ lists_of (front ++ y ∷ rest) h
+other_lists : (front rest : List PlainSlot) (x y : PlainSlot) (h : ℕ) → nat_eq h (length front + 1) ≡ false
+    → lists_of (front ++ x ∷ rest) h ≡ lists_of (front ++ y ∷ rest) h
 other_lists front rest x y zero differs = refl
 other_lists front rest x y (suc i) differs = ap (data_in (suc i)) (others front rest x y i (λ (e : i ≡ length front). grind (arith, nat_tests)))
 
@@ -133,7 +140,8 @@ module _ (players : List Player) (code : Code) where
   one_longer : (front : List PlainSlot) (x : PlainSlot) → length (front ++ x ∷ []) ≡ length front + 1
   one_longer front x = length-append front (x ∷ [])
 
-  behind : EndStands → (slots front : List PlainSlot) (w : PlainWorld) (events : List Event) → length front + length slots ≤ 16 → Stand w (front ++ slots) events → Behind front slots w events
+  behind : EndStands → (slots front : List PlainSlot) (w : PlainWorld) (events : List Event) → length front + length slots ≤ 16
+      → Stand w (front ++ slots) events → Behind front slots w events
   unfolding closings_behind
   behind law [] front w events few stand = rw (append-nil events) stand
   behind law (closed conv ∷ slots) front w events few stand =
@@ -150,12 +158,15 @@ module _ (players : List Player) (code : Code) where
       let rest : Behind front2 slots v more = behind law slots front2 v more (omega (arith, few, one_longer front x)) stand2 in
       rw (moved_over front slots x, one_longer front x, append_assoc events (ends (length front + 1) (number_of code) ∷ []) (closing_events (length front + 1 + 1) (number_of code) slots)) at rest
 
-  pub closings_stand : EndStands → (s : RunState) → length s.slots ≤ 16 → StandOn (notes_of players) (closing_events 1 (number_of code) s.slots) s (all_closed players code s)
+  pub closings_stand : EndStands → (s : RunState) → length s.slots ≤ 16
+      → StandOn (notes_of players) (closing_events 1 (number_of code) s.slots) s (all_closed players code s)
   closings_stand law s few = λ events stand. behind law s.slots [] s.world events (omega (arith, few)) stand
 
 -- ---- a whole run
 
-pub run_stands : (setting : Setting) (code : Code) → CallsStand setting → EndStands setting.players code → (m : ℕ) (s t end : RunState) (input : List ℕ) (others : List (List ℕ)) (p q : SinkState) → Served setting 0 m s t input others p q → length t.slots ≤ 16
+pub run_stands : (setting : Setting) (code : Code) → CallsStand setting → EndStands setting.players code
+    → (m : ℕ) (s t end : RunState) (input : List ℕ) (others : List (List ℕ)) (p q : SinkState) → Served setting 0 m s t input others p q
+    → length t.slots ≤ 16
     → end ≡ all_closed setting.players code t → StandOn (notes_of setting.players) (run_events setting code s input m t) s end
 run_stands setting code calls law m s t end input others p q w few e = λ events stand.
     let front = lines_stand setting calls w.served m s t w.text w.lead events stand in

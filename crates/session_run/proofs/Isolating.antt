@@ -77,12 +77,14 @@ abbrev pub seen : Came → Seen
 seen c = record { step = c.step; told = told_in c.outcome; cleaned = cleaned_behind c.outcome.filed_from c.ledger }
 
 module _ (setting : Setting) where
-  by_length : (b : Bool) (s : RunState) (line : List ℕ) → nat_lt 513 (length line) ≡ b → (if b then Err LineTooLong else line_step setting s line) ≡ applied_or_refused setting s (parsed line)
+  by_length : (b : Bool) (s : RunState) (line : List ℕ) → nat_lt 513 (length line) ≡ b
+      → (if b then Err LineTooLong else line_step setting s line) ≡ applied_or_refused setting s (parsed line)
   unfolding line_step
   by_length true s line e = sym (ap (applied_or_refused setting s) (long_line line (ltb-true 513 (length line) e)))
   by_length false s line e = refl
 
-  step_is : (n : ℕ) (s : RunState) (line : List ℕ) → step_at (line_step setting) n s line ≡ counted (nat_le 65536 n) (applied_or_refused setting s (parsed line))
+  step_is : (n : ℕ) (s : RunState) (line : List ℕ)
+      → step_at (line_step setting) n s line ≡ counted (nat_le 65536 n) (applied_or_refused setting s (parsed line))
   unfolding step_at
   step_is n s line = ap (λ (r : Result (RunState × List ℕ) ScriptKind). counted (nat_le 65536 n) r) (by_length (nat_lt 513 (length line)) s line refl)
 
@@ -224,7 +226,8 @@ cleanups_seen handle names births (f ∷ fs) = by (slice_get births f.receipt.id
     rest : List Cleaned
     rest = flat_map (cleaned_as births) fs
 
-    by : (found : Option Birth) → flat_map (filed_text_with (λ (id : ℕ). []) handle names births) fs ≡ flat_map (cleaned_text handle names) (flat_map (cleaned_as births) fs) →
+    by : (found : Option Birth)
+        → flat_map (filed_text_with (λ (id : ℕ). []) handle names births) fs ≡ flat_map (cleaned_text handle names) (flat_map (cleaned_as births) fs) →
         receipt_text_with (λ (id : ℕ). []) handle names f.receipt found ++ flat_map (filed_text_with (λ (id : ℕ). []) handle names births) fs
         ≡ flat_map (cleaned_text handle names) (cleaned_by found f.receipt ++ flat_map (cleaned_as births) fs)
     by None same = same
@@ -281,7 +284,8 @@ module _ (setting : Setting) (number : ℕ) where
   abbrev names : List (List ℕ)
   names = names_of setting.players
 
-  text_line : (many : Bool) (s : RunState) (p : Result Line ScriptKind) (f : RunState → List (List ℕ)) (g : RunState → List Came) → ((t : RunState) → f t ≡ map (text_of names) (g t)) →
+  text_line : (many : Bool) (s : RunState) (p : Result Line ScriptKind) (f : RunState → List (List ℕ)) (g : RunState → List Came)
+      → ((t : RunState) → f t ≡ map (text_of names) (g t)) →
       came_behind (counted many (applied_or_refused setting s p)) (λ text. if is_on number (step_in p) then text ∷ [] else []) f
       ≡ map (text_of names) (came_behind (counted many (applied_or_refused setting s p)) (λ text. came_by setting number s (step_in p)) g)
   text_line true s p f g more = refl
@@ -298,7 +302,8 @@ module _ (setting : Setting) (number : ℕ) where
   text_line false s (Ok (lines.Random word)) f g more = more (applied setting s (lines.Random word)).0
   text_line false s (Ok (lines.Caller caller)) f g more = more (applied setting s (lines.Caller caller)).0
 
-  pub texts_are : (n : ℕ) (s : RunState) (script : List (List ℕ)) → texts_among setting number n s script ≡ map (text_of (names_of setting.players)) (came_among setting number n s script)
+  pub texts_are : (n : ℕ) (s : RunState) (script : List (List ℕ))
+      → texts_among setting number n s script ≡ map (text_of (names_of setting.players)) (came_among setting number n s script)
   texts_are n s [] = refl
   texts_are n s (l ∷ ls) =
       let f : RunState → List (List ℕ) = λ t. texts_among setting number (n + 1) t ls in

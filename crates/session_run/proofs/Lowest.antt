@@ -34,7 +34,8 @@ module _ (players : List Player) (status : Code) where
     after : List PlainSlot
     parts : slots ≡ before ++ opened h ∷ after
     number_is : number ≡ n + length before
-    skip : (front rest : List PlainSlot) (w : PlainWorld) → closings_behind players status front (before ++ rest) w ≡ closings_behind players status (front ++ before) rest w
+    skip : (front rest : List PlainSlot) (w : PlainWorld)
+        → closings_behind players status front (before ++ rest) w ≡ closings_behind players status (front ++ before) rest w
 
   opens_here : (n number : ℕ) (g h : PlainHandle) (slots : List PlainSlot) → n ≡ number → g ≡ h → Opens n (opened g ∷ slots) number h
   opens_here n number g h slots e f = record {
@@ -45,7 +46,8 @@ module _ (players : List Player) (status : Code) where
     skip = λ front rest w. ap (λ (l : List PlainSlot). closings_behind players status l rest w) (sym (append-nil front));
   }
 
-  opens_later : (n number : ℕ) (conv : ConvState) (h : PlainHandle) (slots : List PlainSlot) → Opens (n + 1) slots number h → Opens n (closed conv ∷ slots) number h
+  opens_later : (n number : ℕ) (conv : ConvState) (h : PlainHandle) (slots : List PlainSlot) → Opens (n + 1) slots number h
+      → Opens n (closed conv ∷ slots) number h
   unfolding closings_behind
   opens_later n number conv h slots o = record {
     before = closed conv ∷ o.before;
@@ -91,13 +93,15 @@ module _ (players : List Player) (status : Code) where
         receipts = omega (arith, length-append w.process.ledger.filed (receipts_for (notes_of players) (number_of status) (length w.process.ledger.births) (reverse h.room.transaction.datums.live)));
       }
 
-  by_found : (slots : List PlainSlot) (w : PlainWorld) (c : ClosedOne) (o : Option (ℕ × PlainHandle)) → first_open 1 slots ≡ o → option_map (ended slots w) o ≡ Some c → Ended slots w c
+  by_found : (slots : List PlainSlot) (w : PlainWorld) (c : ClosedOne) (o : Option (ℕ × PlainHandle)) → first_open 1 slots ≡ o
+      → option_map (ended slots w) o ≡ Some c → Ended slots w c
   by_found slots w c None e f = absurd cc
   by_found slots w c (Some found) e f =
       let is : ended slots w found ≡ c = cc in
       subst (λ (x : ClosedOne). Ended slots w x) is (by_parts slots w found.0 found.1 (find 1 slots found.0 found.1 e))
 
-  pub closes_one : (slots : List PlainSlot) (w : PlainWorld) (c : ClosedOne) → closed_one (notes_of players) (number_of status) slots w ≡ Some c → Ended slots w c
+  pub closes_one : (slots : List PlainSlot) (w : PlainWorld) (c : ClosedOne) → closed_one (notes_of players) (number_of status) slots w ≡ Some c
+      → Ended slots w c
   unfolding closed_one
   closes_one slots w c e = by_found slots w c (first_open 1 slots) refl e
 
@@ -108,11 +112,13 @@ module _ (players : List Player) (status : Code) where
   none_behind n front (closed conv ∷ slots) w e = none_behind (n + 1) (front ++ closed conv ∷ []) slots w e
   none_behind n front (opened h ∷ slots) w e = absurd cc
 
-  none_found : (slots : List PlainSlot) (w : PlainWorld) (o : Option (ℕ × PlainHandle)) → first_open 1 slots ≡ o → option_map (ended slots w) o ≡ None → first_open 1 slots ≡ None
+  none_found : (slots : List PlainSlot) (w : PlainWorld) (o : Option (ℕ × PlainHandle)) → first_open 1 slots ≡ o → option_map (ended slots w) o ≡ None
+      → first_open 1 slots ≡ None
   none_found slots w None e f = e
   none_found slots w (Some found) e f = absurd cc
 
-  pub closes_none : (slots : List PlainSlot) (w : PlainWorld) → closed_one (notes_of players) (number_of status) slots w ≡ None → closings players status (state_of slots w) ≡ []
+  pub closes_none : (slots : List PlainSlot) (w : PlainWorld) → closed_one (notes_of players) (number_of status) slots w ≡ None
+      → closings players status (state_of slots w) ≡ []
   unfolding closed_one
   closes_none slots w e = none_behind 1 [] slots w (none_found slots w (first_open 1 slots) refl e)
 
@@ -134,14 +140,16 @@ module _ (players : List Player) (status : Code) where
 
   -- ---- what an end of the lowest one answers
 
-  ends_by : (number : ℕ) (slots next : List PlainSlot) (w v : PlainWorld) (o : Option ClosedOne) → closed_one (notes_of players) (number_of status) slots w ≡ o → ClosesAs o (Some number) slots w next v
+  ends_by : (number : ℕ) (slots next : List PlainSlot) (w v : PlainWorld) (o : Option ClosedOne)
+      → closed_one (notes_of players) (number_of status) slots w ≡ o → ClosesAs o (Some number) slots w next v
       → EndsNext players status number (state_of slots w) (state_of next v)
   ends_by number slots next w v None e h = absurd (let none = h.0 in cc)
   ends_by number slots next w v (Some c) e h =
       let n : number ≡ c.number = (let same = h.0 in cc) in
       rw (n, h.1, h.2) (closes_one slots w c e)
 
-  pub ends_next : (number : ℕ) (slots next : List PlainSlot) (w v : PlainWorld) → ClosesAs (closed_one (notes_of players) (number_of status) slots w) (Some number) slots w next v
+  pub ends_next : (number : ℕ) (slots next : List PlainSlot) (w v : PlainWorld)
+      → ClosesAs (closed_one (notes_of players) (number_of status) slots w) (Some number) slots w next v
       → EndsNext players status number (state_of slots w) (state_of next v)
   ends_next number slots next w v h = ends_by number slots next w v _ refl h
 
@@ -149,20 +157,24 @@ module _ (players : List Player) (status : Code) where
   stays_by slots next w v None h = rw (h.1, h.2) refl
   stays_by slots next w v (Some c) h = absurd (let some = h.0 in cc)
 
-  pub stays_none : (slots next : List PlainSlot) (w v : PlainWorld) → ClosesAs (closed_one (notes_of players) (number_of status) slots w) None slots w next v → state_of next v ≡ state_of slots w
+  pub stays_none : (slots next : List PlainSlot) (w v : PlainWorld)
+      → ClosesAs (closed_one (notes_of players) (number_of status) slots w) None slots w next v → state_of next v ≡ state_of slots w
   stays_none slots next w v h = stays_by slots next w v _ h
 
-  pub receipts_by : (answer : Option ℕ) (slots next : List PlainSlot) (w v : PlainWorld) → ClosesAs (closed_one (notes_of players) (number_of status) slots w) answer slots w next v
+  pub receipts_by : (answer : Option ℕ) (slots next : List PlainSlot) (w v : PlainWorld)
+      → ClosesAs (closed_one (notes_of players) (number_of status) slots w) answer slots w next v
       → length w.process.ledger.filed ≤ length v.process.ledger.filed
   receipts_by None slots next w v h = rw (ap (λ (t : RunState). t.world) (stays_none slots next w v h)) (omega arith)
   receipts_by (Some number) slots next w v h = (ends_next number slots next w v h).receipts
 
-  pub some_ends : (answer : Option ℕ) (slots next : List PlainSlot) (w v : PlainWorld) → ClosesAs (closed_one (notes_of players) (number_of status) slots w) answer slots w next v
+  pub some_ends : (answer : Option ℕ) (slots next : List PlainSlot) (w v : PlainWorld)
+      → ClosesAs (closed_one (notes_of players) (number_of status) slots w) answer slots w next v
       → IfSome answer (λ (number : ℕ). EndsNext players status number (state_of slots w) (state_of next v))
   some_ends None slots next w v h = tt
   some_ends (Some number) slots next w v h = ends_next number slots next w v h
 
-  pub none_stays : (answer : Option ℕ) (slots next : List PlainSlot) (w v : PlainWorld) → ClosesAs (closed_one (notes_of players) (number_of status) slots w) answer slots w next v
+  pub none_stays : (answer : Option ℕ) (slots next : List PlainSlot) (w v : PlainWorld)
+      → ClosesAs (closed_one (notes_of players) (number_of status) slots w) answer slots w next v
       → IfNone answer (state_of next v ≡ state_of slots w)
   none_stays None slots next w v h = stays_none slots next w v h
   none_stays (Some number) slots next w v h = tt

@@ -109,7 +109,8 @@ module _ (setting : Setting) (status : Code) where
           is = e.is ∙ ap (λ (l : List PlainSlot). state_of (e.front ++ l) (place_of s)) (splits s.slots k x at);
         }
 
-    both_open : (s t : RunState) (h g : PlainHandle) → Alike setting (suc k) s t → slice_get s.slots k ≡ Some (opened h) → slice_get t.slots k ≡ Some (opened g) →
+    both_open : (s t : RunState) (h g : PlainHandle) → Alike setting (suc k) s t → slice_get s.slots k ≡ Some (opened h)
+        → slice_get t.slots k ≡ Some (opened g) →
         text_by s (Some (opened h)) ≡ text_by t (Some (opened g))
     both_open s t h g alike first second =
         let a : Reached s (opened h) = reached s (opened h) first in
@@ -154,7 +155,8 @@ module _ (setting : Setting) (status : Code) where
       ap (λ (f : Filed → List ℕ). flat_map f (drop n ledger.filed) ++ words_text number (codes "closed") (code_words status))
       (fun_ext (λ (f : Filed). by f.receipt (slice_get ledger.births f.receipt.id)))
     where
-      by : (r : Receipt) (found : Option Birth) → receipt_text number (names_of setting.players) r found ≡ receipt_text_with number_words number (names_of setting.players) r found
+      by : (r : Receipt) (found : Option Birth)
+          → receipt_text number (names_of setting.players) r found ≡ receipt_text_with number_words number (names_of setting.players) r found
       by r None = refl
       by r (Some b) = refl
 
@@ -212,7 +214,8 @@ module _ (setting : Setting) (status : Code) where
 
 -- ---- all that both runs have in common
 
-pub goes_as_alone : OwnCalls → OtherCalls → (setting : Setting) (number n : ℕ) (s : RunState) (script : List (List ℕ)) → IsQuietStart s → LeaveFiles setting number n s script → GoesAsAlone setting number n s script
+pub goes_as_alone : OwnCalls → OtherCalls → (setting : Setting) (number n : ℕ) (s : RunState) (script : List (List ℕ)) → IsQuietStart s
+    → LeaveFiles setting number n s script → GoesAsAlone setting number n s script
 goes_as_alone own other setting number n s script start stays =
     let cs : List Came = came_among setting number n s script in
     let ds : List Came = came_among setting number n s (alone number script) in

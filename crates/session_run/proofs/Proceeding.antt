@@ -20,10 +20,12 @@ use Rattle.session_run.specs.AnyWorld.{AllEndsAre, ProceedsBy}
 
 -- ---- receipts stay
 
-grown : (note : Notes) (modules : ℕ) (old new : PlainDataList) (before after : PlainLedger) → Grows note modules old before new after → length before.filed ≤ length after.filed
+grown : (note : Notes) (modules : ℕ) (old new : PlainDataList) (before after : PlainLedger) → Grows note modules old before new after
+    → length before.filed ≤ length after.filed
 grown note modules old new before after g = rw g.filed (omega (arith, length-append before.filed g.receipts))
 
-spent : (note : Notes) (modules : ℕ) (call : AppCall) (old new : PlainDataList) (before after : PlainLedger) → SpendsAs note modules call old before new after → length before.filed ≤ length after.filed
+spent : (note : Notes) (modules : ℕ) (call : AppCall) (old new : PlainDataList) (before after : PlainLedger)
+    → SpendsAs note modules call old before new after → length before.filed ≤ length after.filed
 spent note modules (calls.End status) old new before after e = rw e.ledger (omega (arith, length-append before.filed (receipts_for note status (length before.births) (reverse old.live))))
 spent note modules (calls.Start service user) old new before after g = grown note modules old new before after g
 spent note modules (calls.Authenticate flags) old new before after g = grown note modules old new before after g
@@ -41,7 +43,8 @@ spent note modules (calls.FailDelay micros) old new before after g = grown note 
 spent note modules (calls.DelayFn on) old new before after g = grown note modules old new before after g
 spent note modules (calls.Reply text) old new before after g = grown note modules old new before after g
 
-pub receipts_stay : (note : Notes) (modules : ℕ) (slot : Option PlainSlot) (call : AppCall) (old new : PlainDataList) (before after : PlainLedger) → SpendsAt note modules slot call old before new after → length before.filed ≤ length after.filed
+pub receipts_stay : (note : Notes) (modules : ℕ) (slot : Option PlainSlot) (call : AppCall) (old new : PlainDataList) (before after : PlainLedger)
+    → SpendsAt note modules slot call old before new after → length before.filed ≤ length after.filed
 receipts_stay note modules None call old new before after u = rw u.ledger (omega arith)
 receipts_stay note modules (Some (closed conv)) call old new before after u = rw u.ledger (omega arith)
 receipts_stay note modules (Some (opened h)) call old new before after s = spent note modules call old new before after s
@@ -52,13 +55,15 @@ module _ (Is : ℕ → ℕ → Type 0) (note : Notes) where
   pub nothing_done : (before after : PlainLedger) (lists next : Lists) → after ≡ before → next ≡ lists → ProceedsBy Is note before lists after next
   nothing_done before after lists next l e = record { went = record { calls = []; moves = tt; ledger = sym l; lists_are = sym e }; ends_are = tt }
 
-  pub one_call : (before after : PlainLedger) (lists next : Lists) (ended : List Event) → Moves note 17 ended before lists after next → EndsAre Is ended → ProceedsBy Is note before lists after next
+  pub one_call : (before after : PlainLedger) (lists next : Lists) (ended : List Event) → Moves note 17 ended before lists after next
+      → EndsAre Is ended → ProceedsBy Is note before lists after next
   one_call before after lists next ended m are = record {
     went = record { calls = record { ended = ended; ledger = after; lists = next } ∷ []; moves = (m, tt); ledger = refl; lists_are = refl };
     ends_are = (are, tt);
   }
 
-  moves-append : (xs ys : List Moved) (ledger : PlainLedger) (lists : Lists) → MoveOn note 17 ledger lists xs → MoveOn note 17 (last_ledger ledger xs) (last_lists lists xs) ys → MoveOn note 17 ledger lists (xs ++ ys)
+  moves-append : (xs ys : List Moved) (ledger : PlainLedger) (lists : Lists) → MoveOn note 17 ledger lists xs
+      → MoveOn note 17 (last_ledger ledger xs) (last_lists lists xs) ys → MoveOn note 17 ledger lists (xs ++ ys)
   moves-append [] ys ledger lists a b = b
   moves-append (x ∷ xs) ys ledger lists a b = (a.0, moves-append xs ys x.ledger x.lists a.1 b)
 
@@ -96,11 +101,13 @@ module _ (Is Are : ℕ → ℕ → Type 0) (so : (number status : ℕ) → Is nu
   all_so [] are = tt
   all_so (m ∷ calls) are = (ends_so m.ended are.0, all_so calls are.1)
 
-  pub proceeds_so : (note : Notes) (before after : PlainLedger) (lists next : Lists) → ProceedsBy Is note before lists after next → ProceedsBy Are note before lists after next
+  pub proceeds_so : (note : Notes) (before after : PlainLedger) (lists next : Lists) → ProceedsBy Is note before lists after next
+      → ProceedsBy Are note before lists after next
   proceeds_so note before after lists next p = record { went = p.went; ends_are = all_so p.went.calls p.ends_are }
 
 -- the end that a call is, if it is one
-pub call_ends : (slot : Option PlainSlot) (number : ℕ) (call : AppCall) → EndsAre (IsEndStep (record { number = number; call = call })) (end_at slot number call)
+pub call_ends : (slot : Option PlainSlot) (number : ℕ) (call : AppCall)
+    → EndsAre (IsEndStep (record { number = number; call = call })) (end_at slot number call)
 call_ends None number call = tt
 call_ends (Some (closed conv)) number call = tt
 call_ends (Some (opened h)) number (calls.End status) = (refl, tt)

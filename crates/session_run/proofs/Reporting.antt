@@ -23,7 +23,8 @@ last-append s (x ∷ xs) c = last-append x.state xs c
 module _ (players : List Player) (status : Code) where
   -- ---- one of them
 
-  as_text_of_end : (number : ℕ) (s t : RunState) (text : List ℕ) (names : List (List ℕ)) (filed : ℕ) → text ≡ closing_text names number status t.world.process.ledger filed → names ≡ names_of players
+  as_text_of_end : (number : ℕ) (s t : RunState) (text : List ℕ) (names : List (List ℕ)) (filed : ℕ)
+      → text ≡ closing_text names number status t.world.process.ledger filed → names ≡ names_of players
       → filed ≡ length s.world.process.ledger.filed → text ≡ text_of_end players status number s.world t.world
   as_text_of_end number s t text names filed e n f = rw (← n, ← f) e
 

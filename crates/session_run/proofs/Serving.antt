@@ -39,7 +39,8 @@ failed_place true b call old new told fails = fails
 failed_place false b call old new told fails = absurd cc
 
 module _ (setting : Setting) where
-  by_length : (b : Bool) (s : RunState) (line : List ℕ) → ltb 513 (length line) ≡ b → cond b (Err LineTooLong) (line_step setting s line) ≡ line_step setting s line
+  by_length : (b : Bool) (s : RunState) (line : List ℕ) → ltb 513 (length line) ≡ b
+      → cond b (Err LineTooLong) (line_step setting s line) ≡ line_step setting s line
   unfolding line_step
   by_length true s line e = sym (ap (applied_or_refused setting s) (long_line line (ltb-true 513 (length line) e)))
   by_length false s line e = refl
@@ -52,24 +53,28 @@ module _ (setting : Setting) where
   unfolding step_at
   too_many n s line le = rw (le-leb 65536 n le) refl
 
-  pub refused : (n : ℕ) (s : RunState) (line : List ℕ) (kind : ScriptKind) → n < 65536 → parsed line ≡ Err kind → step_at (line_step setting) n s line ≡ Err kind
+  pub refused : (n : ℕ) (s : RunState) (line : List ℕ) (kind : ScriptKind) → n < 65536 → parsed line ≡ Err kind
+      → step_at (line_step setting) n s line ≡ Err kind
   unfolding line_step
   refused n s line kind lt e = at_line n s line lt ∙ ap (applied_or_refused setting s) e
 
-  pub accepted : (n : ℕ) (s : RunState) (line : List ℕ) (l : Line) → n < 65536 → parsed line ≡ Ok l → step_at (line_step setting) n s line ≡ Ok (applied setting s l)
+  pub accepted : (n : ℕ) (s : RunState) (line : List ℕ) (l : Line) → n < 65536 → parsed line ≡ Ok l
+      → step_at (line_step setting) n s line ≡ Ok (applied setting s l)
   unfolding line_step
   accepted n s line l lt e = at_line n s line lt ∙ ap (applied_or_refused setting s) e
 
   -- ---- a call
 
   -- one that was applied
-  pub called_line : (n : ℕ) (s : RunState) (line : List ℕ) (step : Step) (outcome : PlainOutcome) (slots : List PlainSlot) (world : PlainWorld) (text : List ℕ) (names : List (List ℕ)) → n < 65536 → parsed line ≡ Ok (lines.Step step)
+  pub called_line : (n : ℕ) (s : RunState) (line : List ℕ) (step : Step) (outcome : PlainOutcome) (slots : List PlainSlot) (world : PlainWorld) (text : List ℕ) (names : List (List ℕ))
+      → n < 65536 → parsed line ≡ Ok (lines.Step step)
       → StepsAs (stepped setting.players setting.delay s.slots s.world step) outcome slots world → text ≡ step_text names step outcome world.process.ledger → names ≡ names_of setting.players
       → step_at (line_step setting) n s line ≡ Ok (state_of slots world, text)
   called_line n s line step outcome slots world text names lt asked a t m = rw (t, m, a.outcome_is, a.slots_is, a.world_is) (accepted n s line (lines.Step step) lt asked)
 
   -- one that was applied, and there was no memory for its lines
-  pub applied_only : (n : ℕ) (s : RunState) (line : List ℕ) (step : Step) (outcome : PlainOutcome) (slots : List PlainSlot) (world : PlainWorld) → n < 65536 → parsed line ≡ Ok (lines.Step step)
+  pub applied_only : (n : ℕ) (s : RunState) (line : List ℕ) (step : Step) (outcome : PlainOutcome) (slots : List PlainSlot) (world : PlainWorld)
+      → n < 65536 → parsed line ≡ Ok (lines.Step step)
       → StepsAs (stepped setting.players setting.delay s.slots s.world step) outcome slots world → IsBegun (line_step setting) (Fails setting) n line s (state_of slots world)
   applied_only n s line step outcome slots world lt asked a = record {
     after = state_of slots world;

@@ -27,7 +27,9 @@ module _ (setting : Setting) where
   pub none_served : (n : ℕ) (s : RunState) (input : List ℕ) (p : SinkState) → (others : List (List ℕ)) × Served setting n n s s input others p p
   none_served n s input p = (lines_of input, record { served = []; among = refl; number = omega arith; text = []; written = sym (append-nil p.written); lead = (refl, refl, refl) })
 
-  pub refused_served : (kind : ScriptKind) (n : ℕ) (line : List ℕ) (s t : RunState) (p q : SinkState) (input : List ℕ) → ServesTold (line_step setting) (Fails setting) (Ok (Some kind)) n line s t p q → (others : List (List ℕ)) × Served setting n n s t input others p q
+  pub refused_served : (kind : ScriptKind) (n : ℕ) (line : List ℕ) (s t : RunState) (p q : SinkState) (input : List ℕ)
+      → ServesTold (line_step setting) (Fails setting) (Ok (Some kind)) n line s t p q
+      → (others : List (List ℕ)) × Served setting n n s t input others p q
   refused_served kind n line s t p q input told =
       (lines_of input, record { served = []; among = refl; number = omega arith; text = told.text; written = told.written; lead = (refl, told.served.1, told.served.2) })
 
@@ -61,7 +63,8 @@ module _ (setting : Setting) where
 
   -- ---- the last line, without a newline
 
-  accepted_short : (s : RunState) (line : List ℕ) (x : RunState × List ℕ) → parsed line ≡ Err LineTooLong → applied_or_refused setting s (parsed line) ≡ Ok x → ⊥
+  accepted_short : (s : RunState) (line : List ℕ) (x : RunState × List ℕ) → parsed line ≡ Err LineTooLong
+      → applied_or_refused setting s (parsed line) ≡ Ok x → ⊥
   accepted_short s line x long e =
       let f : applied_or_refused setting s (Err LineTooLong) ≡ Ok x = sym (ap (applied_or_refused setting s) long) ∙ e in
       (cc)
@@ -72,12 +75,14 @@ module _ (setting : Setting) where
       (cc)
   too_long n s held x (inr long) e = accepted_short s held x (long_line held long) (as_read setting n s held x e)
 
-  rest_by : AllLooked → (n : ℕ) (before held : List ℕ) (s : RunState) (a : RunState × List ℕ) (x y : SourceState) → (finds : Finds looked IsOver (Ok Rest) n before held x y)
+  rest_by : AllLooked → (n : ℕ) (before held : List ℕ) (s : RunState) (a : RunState × List ℕ) (x y : SourceState)
+      → (finds : Finds looked IsOver (Ok Rest) n before held x y)
       → step_at (line_step setting) n s held ≡ Ok a → (finds.ended.ended ≡ true) ⊎ IsOver n held → lines_of (before ++ x.left) ≡ held ∷ []
   rest_by all n before held s a x y finds applied (inl end) = rest_lines all n before held x y finds end
   rest_by all n before held s a x y finds applied (inr over) = absurd (too_long n s held a over applied)
 
-  pub rest_served : AllLooked → (n : ℕ) (before held : List ℕ) (s t : RunState) (p q : SinkState) (x y : SourceState) → Finds looked IsOver (Ok Rest) n before held x y
+  pub rest_served : AllLooked → (n : ℕ) (before held : List ℕ) (s t : RunState) (p q : SinkState) (x y : SourceState)
+      → Finds looked IsOver (Ok Rest) n before held x y
       → ServesTold (line_step setting) (Fails setting) (Ok None) n held s t p q
       → MovesBy (notes_of setting.players) s.slots held s.world.process.ledger t.world.process.ledger t.slots
       → (others : List (List ℕ)) × Served setting n (n + 1) s t (before ++ x.left) others p q
@@ -89,7 +94,8 @@ module _ (setting : Setting) where
   pub nothing_served : (n : ℕ) (s : RunState) (input rest : List ℕ) (p : SinkState) → n ≡ 0 → rest ≡ input → Served setting 0 n s s input (lines_of rest) p p
   nothing_served n s input rest p zero same = record { served = []; among = ap lines_of (sym same); number = omega (arith, zero); text = []; written = sym (append-nil p.written); lead = (zero, refl, refl) }
 
-  pub served_on : (n m k : ℕ) (s t u : RunState) (input rest : List ℕ) (others : List (List ℕ)) (p q r : SinkState) → Served setting n m s t input (lines_of rest) p q → Served setting m k t u rest others q r → Served setting n k s u input others p r
+  pub served_on : (n m k : ℕ) (s t u : RunState) (input rest : List ℕ) (others : List (List ℕ)) (p q r : SinkState)
+      → Served setting n m s t input (lines_of rest) p q → Served setting m k t u rest others q r → Served setting n k s u input others p r
   served_on n m k s t u input rest others p q r a b = record {
     served = a.served ++ b.served;
     among = a.among ∙ ap (λ (ls : List (List ℕ)). a.served ++ ls) b.among ∙ sym (append_assoc a.served b.served others);
@@ -99,10 +105,12 @@ module _ (setting : Setting) where
     lead = lead-append setting a.served b.served n m k s t u a.text b.text a.lead b.lead;
   }
 
-  pub served_to : (n m k : ℕ) (s t u : RunState) (input rest : List ℕ) (p q r : SinkState) → Served setting n m s t input (lines_of rest) p q → (others : List (List ℕ)) × Served setting m k t u rest others q r → (others : List (List ℕ)) × Served setting n k s u input others p r
+  pub served_to : (n m k : ℕ) (s t u : RunState) (input rest : List ℕ) (p q r : SinkState) → Served setting n m s t input (lines_of rest) p q
+      → (others : List (List ℕ)) × Served setting m k t u rest others q r → (others : List (List ℕ)) × Served setting n k s u input others p r
   served_to n m k s t u input rest p q r a b = (b.0, served_on n m k s t u input rest b.0 p q r a b.1)
 
-  pub broken_on : (n m : ℕ) (s t u : RunState) (input rest : List ℕ) (p q r : SinkState) → Served setting n m s t input (lines_of rest) p q → Broken setting m t u rest q r → Broken setting n s u input p r
+  pub broken_on : (n m : ℕ) (s t u : RunState) (input rest : List ℕ) (p q r : SinkState) → Served setting n m s t input (lines_of rest) p q
+      → Broken setting m t u rest q r → Broken setting n s u input p r
   broken_on n m s t u input rest p q r a b = record {
     lines = b.lines;
     middle = b.middle;

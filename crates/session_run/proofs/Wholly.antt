@@ -20,11 +20,13 @@ module _ (players : List Player) (ending : Ending) (n : ℕ) where
   -- ---- what is ended and written behind the lines
 
   -- the closings stopped
-  cut_short : (stop : Stop) (s t : RunState) (whole others : List Closing) (part : List ℕ) → ClosesTo players (ending_status ending) (Err stop) s t whole others part → EndsTo players ending n (Err stop) s t whole others part
+  cut_short : (stop : Stop) (s t : RunState) (whole others : List Closing) (part : List ℕ)
+      → ClosesTo players (ending_status ending) (Err stop) s t whole others part → EndsTo players ending n (Err stop) s t whole others part
   cut_short stop s t whole [] part h = absurd h
   cut_short stop s t whole (c ∷ cs) part h = h
 
-  pub stopped_closing : (stop : Stop) (s t : RunState) (p q : SinkState) → Closes players (ending_status ending) (Err stop) s t p q → EndsWith players ending n (Err stop) s t p q
+  pub stopped_closing : (stop : Stop) (s t : RunState) (p q : SinkState) → Closes players (ending_status ending) (Err stop) s t p q
+      → EndsWith players ending n (Err stop) s t p q
   stopped_closing stop s t p q c = record { whole = c.whole; others = c.others; among = c.among; part = c.part; written = c.written; to = cut_short stop s t c.whole c.others c.part c.to; calls = c.calls }
 
   -- all are ended, and then comes the last line
@@ -40,7 +42,8 @@ module _ (players : List Player) (ending : Ending) (n : ℕ) where
         let ok : q.calls ≤ p.calls + length (closings_text c.whole) = rw closed_text at c.calls_ok in
         omega (arith, ok, w, length-append (closings_text c.whole) part)
 
-    pub line_written : (u : Unit {0}) (text : List ℕ) → text ≡ last_line ending n → WritesWhole {T = Unit {0}} (Ok u) text q r → EndsWith players ending n (Ok u) s t p r
+    pub line_written : (u : Unit {0}) (text : List ℕ) → text ≡ last_line ending n → WritesWhole {T = Unit {0}} (Ok u) text q r
+        → EndsWith players ending n (Ok u) s t p r
     line_written u text is w = record {
       whole = c.whole;
       others = c.others;
@@ -51,7 +54,8 @@ module _ (players : List Player) (ending : Ending) (n : ℕ) where
       calls = counted w.front w.calls;
     }
 
-    pub line_cut : (failed : Failed) (text : List ℕ) → NoneIsOpen t.slots → text ≡ last_line ending n → WritesWhole {T = Unit {0}} (Err failed) text q r → EndsWith players ending n (Err WriteFault) s t p r
+    pub line_cut : (failed : Failed) (text : List ℕ) → NoneIsOpen t.slots → text ≡ last_line ending n
+        → WritesWhole {T = Unit {0}} (Err failed) text q r → EndsWith players ending n (Err WriteFault) s t p r
     line_cut failed text none is w = record {
       whole = c.whole;
       others = [];
@@ -63,7 +67,8 @@ module _ (players : List Player) (ending : Ending) (n : ℕ) where
     }
 
   -- there was no memory for it
-  pub line_unwritten : (s t : RunState) (p q : SinkState) (done : Unit {0}) → Closes players (ending_status ending) (Ok done) s t p q → NoneIsOpen t.slots → EndsWith players ending n (Err NoMemory) s t p q
+  pub line_unwritten : (s t : RunState) (p q : SinkState) (done : Unit {0}) → Closes players (ending_status ending) (Ok done) s t p q
+      → NoneIsOpen t.slots → EndsWith players ending n (Err NoMemory) s t p q
   line_unwritten s t p q done c none = record {
     whole = c.whole;
     others = [];
@@ -76,30 +81,36 @@ module _ (players : List Player) (ending : Ending) (n : ℕ) where
 
   -- ---- the state behind a stop
 
-  ended_all : (s : RunState) (whole : List Closing) → closings players (ending_status ending) s ≡ whole ++ [] → last_state s whole ≡ all_closed players (ending_status ending) s
+  ended_all : (s : RunState) (whole : List Closing) → closings players (ending_status ending) s ≡ whole ++ []
+      → last_state s whole ≡ all_closed players (ending_status ending) s
   ended_all s whole e = ap (last_state s) (sym (append-nil whole) ∙ sym e)
 
-  stops_in : (stop : Stop) (s t u : RunState) (whole others : List Closing) (part : List ℕ) → closings players (ending_status ending) s ≡ whole ++ others → EndsTo players ending n (Err stop) s t whole others part
+  stops_in : (stop : Stop) (s t u : RunState) (whole others : List Closing) (part : List ℕ)
+      → closings players (ending_status ending) s ≡ whole ++ others → EndsTo players ending n (Err stop) s t whole others part
       → u ≡ all_closed players (stop_status stop) t → StopsIn players stop ending n s u others part
   stops_in stop s t u whole [] part among to e = (to.0, e ∙ none_left players (stop_status stop) t.slots t.world to.2 ∙ to.1 ∙ ended_all s whole among)
   stops_in stop s t u whole (c ∷ cs) part among to e = (to.0, e ∙ ap (all_closed players (stop_status stop)) to.1)
 
-  pub stops_closing : (stop : Stop) (s t u : RunState) (p q : SinkState) → (w : EndsWith players ending n (Err stop) s t p q) → u ≡ all_closed players (stop_status stop) t → StopsClosing players stop ending n s u (closings_text w.whole ++ w.part)
+  pub stops_closing : (stop : Stop) (s t u : RunState) (p q : SinkState) → (w : EndsWith players ending n (Err stop) s t p q)
+      → u ≡ all_closed players (stop_status stop) t → StopsClosing players stop ending n s u (closings_text w.whole ++ w.part)
   stops_closing stop s t u p q w e = record { whole = w.whole; others = w.others; among = w.among; part = w.part; written = refl; stopped = stops_in stop s t u w.whole w.others w.part w.among w.to e }
 
-  pub words_whole : (s t : RunState) (p q : SinkState) (done : Unit {0}) → (w : EndsWith players ending n (Ok done) s t p q) → closings_text w.whole ++ w.part ≡ last_words players ending n s
+  pub words_whole : (s t : RunState) (p q : SinkState) (done : Unit {0}) → (w : EndsWith players ending n (Ok done) s t p q)
+      → closings_text w.whole ++ w.part ≡ last_words players ending n s
   words_whole s t p q done w =
       let all : w.whole ≡ closings players (ending_status ending) s = sym (append-nil w.whole) ∙ ap (λ (x : List Closing). w.whole ++ x) (sym w.to.0) ∙ sym w.among in
       ap (λ (x : List ℕ). closings_text w.whole ++ x) w.to.1 ∙ ap (λ (x : List Closing). closings_text x ++ last_line ending n) all
 
-  pub all_ended : (s t : RunState) (p q : SinkState) (done : Unit {0}) → EndsWith players ending n (Ok done) s t p q → t ≡ all_closed players (ending_status ending) s
+  pub all_ended : (s t : RunState) (p q : SinkState) (done : Unit {0}) → EndsWith players ending n (Ok done) s t p q
+      → t ≡ all_closed players (ending_status ending) s
   all_ended s t p q done w = w.to.2 ∙ ended_all s w.whole (rw w.to.0 at w.among)
 
 -- ---- the whole run
 
 module _ (setting : Setting) (start : RunState) (x y : SourceState) (p q : SinkState) where
   -- it stopped among its lines
-  pub stopped_lines : (stop : Stop) (n : ℕ) (t u : RunState) → Runs (line_step setting) (Fails setting) (Err stop) n start t x y p q → u ≡ all_closed setting.players (stop_status stop) t
+  pub stopped_lines : (stop : Stop) (n : ℕ) (t u : RunState) → Runs (line_step setting) (Fails setting) (Err stop) n start t x y p q
+      → u ≡ all_closed setting.players (stop_status stop) t
       → ((text : List ℕ) → q.written ≡ p.written ++ text → StandsCut setting (stop_status stop) start u x.left text) → RunsScript setting (Err stop) start u x y p q
   stopped_lines stop n t u r e stands = record {
     taken = r.taken;
@@ -145,7 +156,8 @@ module _ (setting : Setting) (start : RunState) (x y : SourceState) (p q : SinkS
           writes = writes words w.calls;
         }
 
-    pub stopped_behind : (stop : Stop) (u : RunState) → EndsWith setting.players ending n (Err stop) s t q z → u ≡ all_closed setting.players (stop_status stop) t
+    pub stopped_behind : (stop : Stop) (u : RunState) → EndsWith setting.players ending n (Err stop) s t q z
+        → u ≡ all_closed setting.players (stop_status stop) t
         → StandsBehind setting (ending_status ending) (stop_status stop) n start u x.left → RunsScript setting (Err stop) start u x y p z
     stopped_behind stop u w e stands =
         let words = closings_text w.whole ++ w.part in

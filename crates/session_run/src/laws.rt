@@ -29,10 +29,11 @@ pub fn proceeding_stands()
     pam_library::laws::calls_stand_for_their_events();
 }
 
-/// A transaction goes as it would alone. In a run where no call of the vault is to fail, and where no step on another number
-/// changes a file, the steps on a number tell and answer what they do in the run of the script in which each step on another
-/// number is a blank line, from the same start; and its births and receipts are the same, in their order and but for ids and
-/// marks. It holds of whatever the modules play. It does nothing: its contract is a law about the definitions.
+/// A transaction goes as it would alone. In a run where no call of the vault is to fail, and where
+/// no step on another number changes a file, the steps on a number tell and answer what they do in
+/// the run of the script in which each step on another number is a blank line, from the same start;
+/// and its births and receipts are the same, in their order and but for ids and marks. It holds of
+/// whatever the modules play. It does nothing: its contract is a law about the definitions.
 pub fn transactions_go_as_alone()
     ensures goes { (setting : Setting) (number n : ℕ) (s : RunState) (script : List (List ℕ)) →
         IsQuietStart s → LeaveFiles setting number n s script →
@@ -47,7 +48,8 @@ pub fn transactions_go_as_alone()
 
     // The lines of the closings are those of each number, in order.
     ensures closings { (setting : Setting) (status : Code) (s : RunState) →
-        closings_text (closings setting.players status s) ≡ all_closing_texts setting.players status s }
+        closings_text (closings setting.players status s)
+        ≡ all_closing_texts setting.players status s }
 
     // The lines of the script of one number, as a text.
     ensures script { (number : ℕ) (text : List ℕ) →
@@ -56,9 +58,10 @@ pub fn transactions_go_as_alone()
     pam_library::laws::calls_keep_to_themselves();
 }
 
-/// What the lines among some bytes come to, number by number. The place of a number behind them, and the outcomes of the
-/// steps on it, are what its own steps come to alone, each in the world as it stood before it (`alone`). What is reported of the
-/// lines is what is told of these steps and of the others, in order (`steps`). It does nothing: its contract is a law.
+/// What the lines among some bytes come to, number by number. The place of a number behind them,
+/// and the outcomes of the steps on it, are what its own steps come to alone, each in the world as
+/// it stood before it (`alone`). What is reported of the lines is what is told of these steps and
+/// of the others, in order (`steps`). It does nothing: its contract is a law.
 pub fn numbers_stand_side_by_side()
     ensures alone { (setting : Setting) (start : RunState) (bytes : List ℕ) (ended : Bool)
         (number : ℕ) (slot : PlainSlot) →

@@ -28,11 +28,12 @@ use std::alloc::Global;
 
 /// Runs a script. Each line is applied to the transactions and its report written before the next one is looked at.
 ///
-/// Behind the last line every open transaction is ended, the lowest number first, each reported before the next: with
-/// SUCCESS at the end of the input; with SYSTEM_ERR where the source failed, and then `read fault` is written; with ABORT
-/// where a line was refused, and then which line and why. Where a write failed nothing more is written, and the
-/// transactions that are open are ended with SYSTEM_ERR; where memory was wanting likewise, with BUF_ERR. So no transaction
-/// is open afterwards, whatever is answered.
+/// Behind the last line every open transaction is ended, the lowest number first, each reported
+/// before the next: with SUCCESS at the end of the input; with SYSTEM_ERR where the source failed,
+/// and then `read fault` is written; with ABORT where a line was refused, and then which line and
+/// why. Where a write failed nothing more is written, and the transactions that are open are ended
+/// with SYSTEM_ERR; where memory was wanting likewise, with BUF_ERR. So no transaction is open
+/// afterwards, whatever is answered.
 pub fn run_script<S: Source, K: Sink>(
     alloc: Global,
     library: &mut Library,
@@ -69,8 +70,8 @@ pub fn run_script<S: Source, K: Sink>(
         (Rose (S.source_faults source.old) (S.source_faults source.new))
         (Rose (K.sink_faults sink.old) (K.sink_faults sink.new)) }
 
-    // Where the source alone tells: how often it was read, and how the run ends by the bytes of the script. Where the sink alone does:
-    // how often it was written.
+    // Where the source alone tells: how often it was read, and how the run ends by the bytes of the
+    // script. Where the sink alone does: how often it was written.
     ensures reads { IsTrue (S.source_tells source.old) →
         ReadsScript result (S.source_holds source.old) (S.source_holds source.new) }
     ensures writes { IsTrue (K.sink_tells sink.old) →

@@ -41,11 +41,15 @@ pub(crate) fn find(
     ensures tells { vault_tells vault.new ≡ vault_tells vault.old }
     ensures told { IsTrue (vault_tells vault.old) →
         IfOk result (λ found. IsTally found (tally_of (vault_holds vault.old) root.now user.now)) }
-    ensures calls { IsTrue (vault_tells vault.old) → OnOk result (vault_holds vault.new ≡ counted (vault_holds vault.old)) }
+    ensures calls { IsTrue (vault_tells vault.old) →
+        OnOk result (vault_holds vault.new ≡ counted (vault_holds vault.old)) }
     ensures no_calls { IsTrue (vault_tells vault.old) →
-        OnErr result ((vault_holds vault.new ≡ counted (vault_holds vault.old)) ⊎ (vault_holds vault.new ≡ vault_holds vault.old)) }
-    ensures unread { IfOk result (λ found. found.tallied ≡ Tallied.Unread → Rose (vault_faults vault.old) (vault_faults vault.new)) }
-    ensures read { IfOk result (λ found. found.tallied ≢ Tallied.Unread → vault_faults vault.new ≡ vault_faults vault.old) }
+        OnErr result ((vault_holds vault.new ≡ counted (vault_holds vault.old))
+        ⊎ (vault_holds vault.new ≡ vault_holds vault.old)) }
+    ensures unread { IfOk result (λ found. found.tallied ≡ Tallied.Unread →
+        Rose (vault_faults vault.old) (vault_faults vault.new)) }
+    ensures read { IfOk result (λ found. found.tallied ≢ Tallied.Unread →
+        vault_faults vault.new ≡ vault_faults vault.old) }
 {
     let path = tally_path(alloc, root, user)?;
     match read_file(vault, alloc, path.bytes(), TALLY_LIMIT) {

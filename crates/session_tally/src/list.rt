@@ -24,15 +24,20 @@ pub fn list_failures<K: Sink>(
     ensures sink_tells { K.sink_tells out.new ≡ K.sink_tells out.old }
     ensures vault_tells { vault_tells vault.new ≡ vault_tells vault.old }
     ensures told { IsTrue (K.sink_tells out.old) → IsTrue (vault_tells vault.old) →
-        Lists result (tally_of (vault_holds vault.old) root.now user.now) (K.sink_holds out.old) (K.sink_holds out.new) }
+        Lists result (tally_of (vault_holds vault.old) root.now user.now) (K.sink_holds out.old)
+        (K.sink_holds out.new) }
     // One call of the vault, or, where there was no memory for its path, none.
     ensures one_call { IsTrue (vault_tells vault.old) →
-        (vault_holds vault.new ≡ counted (vault_holds vault.old)) ⊎ ((result ≡ Err Stop.NoMemory) × (vault_holds vault.new ≡ vault_holds vault.old)) }
+        (vault_holds vault.new ≡ counted (vault_holds vault.old)) ⊎ ((result ≡ Err Stop.NoMemory)
+        × (vault_holds vault.new ≡ vault_holds vault.old)) }
     // The causes, in any world: it is unread only where the vault failed, and the vault fails with no other answer but
     // where the line that says so can't be written.
-    ensures unread { result ≡ Ok Tallied.Unread → Rose (vault_faults vault.old) (vault_faults vault.new) }
-    ensures read { (result ≡ Ok Tallied.Listed) ⊎ (result ≡ Ok Tallied.Damaged) → vault_faults vault.new ≡ vault_faults vault.old }
-    ensures faults { RisesIf (has_write_fault result) (K.sink_faults out.old) (K.sink_faults out.new) }
+    ensures unread { result ≡ Ok Tallied.Unread →
+        Rose (vault_faults vault.old) (vault_faults vault.new) }
+    ensures read { (result ≡ Ok Tallied.Listed) ⊎ (result ≡ Ok Tallied.Damaged) →
+        vault_faults vault.new ≡ vault_faults vault.old }
+    ensures faults { RisesIf (has_write_fault result) (K.sink_faults out.old)
+        (K.sink_faults out.new) }
 {
     match find(alloc, root, user, vault) {
         Err(NoMemory) => Err(Stop::NoMemory),

@@ -28,7 +28,8 @@ take_fits (suc n) (b ∷ bs) h =
     let parts = left_false (is_forbidden b) (has_forbidden bs) h in
     rw parts.0 (take_fits n bs parts.1)
 
-before_step : (x : Bool) (b : ℕ) (bs : List ℕ) → has_forbidden (b ∷ bs) ≡ false → (has_forbidden bs ≡ false → has_forbidden (before bs) ≡ false) → has_forbidden (cond x [] (b ∷ before bs)) ≡ false
+before_step : (x : Bool) (b : ℕ) (bs : List ℕ) → has_forbidden (b ∷ bs) ≡ false → (has_forbidden bs ≡ false → has_forbidden (before bs) ≡ false)
+    → has_forbidden (cond x [] (b ∷ before bs)) ≡ false
 unfolding has_forbidden
 before_step true b bs h rest = refl
 before_step false b bs h rest =
@@ -121,7 +122,8 @@ made_fine : (r : Result Asked SettingFault) (key : List ℕ) → is_ok r ≡ tru
 made_fine (Ok a) key e = refl
 made_fine (Err fault) key e = e
 
-pub plain_fine : (m : Method) (rounds : Option ℕ) (n number : ℕ) (key : List ℕ) → IfSome rounds (λ r. r ≤ 1000000) → is_ok (crypted (prefix m ++ rounds_text rounds ++ characters n number) key) ≡ true
+pub plain_fine : (m : Method) (rounds : Option ℕ) (n number : ℕ) (key : List ℕ) → IfSome rounds (λ r. r ≤ 1000000)
+    → is_ok (crypted (prefix m ++ rounds_text rounds ++ characters n number) key) ≡ true
 plain_fine m rounds n number key h =
     let c = characters n number in
     let whole : asked (prefix m ++ rounds_text rounds ++ c) ≡ asked_of m (rounds_text rounds ++ c) = ap asked (append_assoc (prefix m) (rounds_text rounds) c) ∙ behind_prefix m (rounds_text rounds ++ c) in

@@ -22,7 +22,8 @@ module _ (kept : KeptAnswers) where
   abbrev All_kept : Met → Type 0
   All_kept m = (place : ℕ) → IsOn place m.places → is_some (kept place) ≡ true
 
-  has_onto : (next : Next) (f : ℕ → Met) (now : Bool) → ((n : ℕ) → All_kept (f n) → (f n).lacks ≡ false) → All_kept (onto next f (met now)) → (onto next f (met now)).lacks ≡ false
+  has_onto : (next : Next) (f : ℕ → Met) (now : Bool) → ((n : ℕ) → All_kept (f n) → (f n).lacks ≡ false) → All_kept (onto next f (met now))
+      → (onto next f (met now)).lacks ≡ false
   has_onto (after n) f now each all = each n all
   has_onto stop f now each all = refl
 

@@ -17,13 +17,15 @@ module _ (State : Type 0) where
   state_if true x y P p q = p
   state_if false x y P p q = q
 
-  pub state_onward : (next : Next) (f : ℕ → Walked State) (h : Walked State) (P : State → Type 0) → ((n : ℕ) → P (f n).state) → P h.state → P (onward next f h).state
+  pub state_onward : (next : Next) (f : ℕ → Walked State) (h : Walked State) (P : State → Type 0) → ((n : ℕ) → P (f n).state) → P h.state
+      → P (onward next f h).state
   state_onward (after n) f h P each here = each n
   state_onward stop f h P each here = here
 
 module _ (State : Type 0) (kind : PassKind) (serve : Serving State) where
   -- what each line keeps, a walk keeps
-  pub walk_keeps : (P : ℕ → State → Type 0) → ((rule : Rule) (at : ℕ) (s : State) → P at s → P (at + 1) (serve rule at s).state) → ((at later : ℕ) (s : State) → at ≤ later → P at s → P later s)
+  pub walk_keeps : (P : ℕ → State → Type 0) → ((rule : Rule) (at : ℕ) (s : State) → P at s → P (at + 1) (serve rule at s).state)
+      → ((at later : ℕ) (s : State) → at ≤ later → P at s → P later s)
       → (t : Stack) (n at : ℕ) (entry o : Opinion) (s : State) → P at s → P (at + lines_in t) (walk kind serve n t at entry o s).state
   walk_keeps P step up none n at entry o s p = up at (at + 0) s (omega arith) p
   walk_keeps P step up (line rule rest) (suc n) at entry o s p =
@@ -53,7 +55,8 @@ pub record Tells (State : Type 0) (serve : Serving State) (kept : KeptAnswers) (
   pub low : (rule : Rule) (at : ℕ) (s : State) → Low at s → Low (at + 1) (serve rule at s).state
   pub up : (at later : ℕ) (s : State) → at ≤ later → Low at s → Low later s
   pub back : (rule : Rule) (at : ℕ) (s : State) → Ok (serve rule at s).state → Ok s
-  pub agrees : (rule : Rule) (at : ℕ) (s : State) (k : Code) → Low at s → Ok (serve rule at s).state → (serve rule at s).stopped ≡ false → kept at ≡ Some k → (serve rule at s).deciding ≡ k
+  pub agrees : (rule : Rule) (at : ℕ) (s : State) (k : Code) → Low at s → Ok (serve rule at s).state → (serve rule at s).stopped ≡ false
+      → kept at ≡ Some k → (serve rule at s).deciding ≡ k
 
 -- each line visited has a kept answer
 abbrev pub Finds : (State : Type 0) (serve : Serving State) (kept : KeptAnswers) (Low : ℕ → State → Type 0) (Ok : State → Type 0) → Type 0

@@ -38,7 +38,8 @@ jumped_same : (kind : PassKind) (i : Impression) (status p : Code) → negative_
 jumped_same kinds.Keep i status p = refl
 jumped_same kind i status p = if_same _ _ _ _ refl (good_same i status p)
 
-pub acted_negative : (kind : PassKind) (a : Action) (p k : Code) (entry o : Opinion) → negative_opinion (acted kind a p k entry o) ≡ negative_after a (negative_opinion entry) (negative_opinion o)
+pub acted_negative : (kind : PassKind) (a : Action) (p k : Code) (entry o : Opinion)
+    → negative_opinion (acted kind a p k entry o) ≡ negative_after a (negative_opinion entry) (negative_opinion o)
 acted_negative kind actions.Ignore p k entry o = refl
 acted_negative kind actions.Ok p k entry o = good_by_same k o.impression o.status p
 acted_negative kind actions.Done p k entry o = good_by_same k o.impression o.status p
@@ -51,7 +52,8 @@ done_next : (b : Bool) → ◌≡◌ {A = Next} (if not b then stop else after 0
 done_next true = refl
 done_next false = refl
 
-pub next_of-is : (a : Action) (left : ℕ) (new : Opinion) (entry now : Bool) → negative_opinion new ≡ negative_after a entry now → next_of a left new ≡ next_by a left now
+pub next_of-is : (a : Action) (left : ℕ) (new : Opinion) (entry now : Bool) → negative_opinion new ≡ negative_after a entry now
+    → next_of a left new ≡ next_by a left now
 next_of-is actions.Ignore left new entry now is = refl
 next_of-is actions.Ok left new entry now is = refl
 next_of-is actions.Done left new entry now is = done_next (negative_opinion new) ∙ ap (λ b. if b then after 0 else stop) is
@@ -64,7 +66,8 @@ jump_negative : (b : Bool) (new : Opinion) (now : Bool) → negative_opinion new
 jump_negative true new now is = is
 jump_negative false new now is = refl
 
-pub settled_negative : (a : Action) (left : ℕ) (new : Opinion) (entry now : Bool) → negative_opinion new ≡ negative_after a entry now → negative_opinion (settled a left new) ≡ negative_behind a left entry now
+pub settled_negative : (a : Action) (left : ℕ) (new : Opinion) (entry now : Bool) → negative_opinion new ≡ negative_after a entry now
+    → negative_opinion (settled a left new) ≡ negative_behind a left entry now
 settled_negative actions.Ignore left new entry now is = is
 settled_negative actions.Ok left new entry now is = is
 settled_negative actions.Done left new entry now is = is

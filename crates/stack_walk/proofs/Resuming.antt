@@ -33,11 +33,13 @@ module _ (State : Type 0) (kind : PassKind) (kept : KeptAnswers) where
   abbrev walk_by : Answering State → ℕ → Stack → ℕ → Opinion → Opinion → PassState State → Walked (PassState State)
   walk_by answering = walk kind (serving kind kept answering)
 
-  line_grows : (answering : Answering State) (rule : Rule) (at : ℕ) (g : PassState State) (b : Bool) → (serving kind kept answering rule at g).stopped ≡ b → Grown g.visits (serving kind kept answering rule at g).state.visits
+  line_grows : (answering : Answering State) (rule : Rule) (at : ℕ) (g : PassState State) (b : Bool)
+      → (serving kind kept answering rule at g).stopped ≡ b → Grown g.visits (serving kind kept answering rule at g).state.visits
   line_grows answering rule at g true is = grown_same _ _ (unvisited State kind kept answering rule at g.past g.visits g.state is)
   line_grows answering rule at g false is = (visit at (serving kind kept answering rule at g).answer ∷ [], visited State kind kept answering rule at g.past g.visits g.state is)
 
-  grows : (answering : Answering State) (t : Stack) (n at : ℕ) (entry o : Opinion) (g : PassState State) → Grown g.visits (walk_by answering n t at entry o g).state.visits
+  grows : (answering : Answering State) (t : Stack) (n at : ℕ) (entry o : Opinion) (g : PassState State)
+      → Grown g.visits (walk_by answering n t at entry o g).state.visits
   grows answering t n at entry o g =
       walk_keeps (PassState State) kind (serving kind kept answering) (λ (at : ℕ) (x : PassState State). Grown g.visits x.visits)
       (λ rule at x grown. grown_by g.visits x.visits _ grown (line_grows answering rule at x _ refl)) (λ at later x le grown. grown) t n at entry o g (grown_same _ _ refl)

@@ -53,7 +53,8 @@ decides_kept : (State : Type 0) (kept : KeptAnswers) (answering : Answering Stat
 decides_kept State kept answering rule at [] vs s k is = ap (λ (o : Option Code). unwrap_or o (answering rule at s).answer) is
 decides_kept State kept answering rule at (p ∷ past) vs s k is = ap (λ (o : Option Code). unwrap_or o p) is
 
-pub follow_tells : (State : Type 0) (kept : KeptAnswers) (answering : Answering State) → Tells (PassState State) (serving kinds.Follow kept answering) kept seen (Any_at State) (Any State)
+pub follow_tells : (State : Type 0) (kept : KeptAnswers) (answering : Answering State)
+    → Tells (PassState State) (serving kinds.Follow kept answering) kept seen (Any_at State) (Any State)
 follow_tells State kept answering = record {
   on = λ rule at g is. ap places_of (visited State kinds.Follow kept answering rule at g.past g.visits g.state is) ∙ places-add g.visits at _;
   off = λ rule at g is. ap places_of (unvisited State kinds.Follow kept answering rule at g.past g.visits g.state is);
@@ -69,7 +70,8 @@ decides_present : (State : Type 0) (before : KeptAnswers) (answering : Answering
 decides_present State before answering rule at [] vs s = refl
 decides_present State before answering rule at (p ∷ past) vs s = refl
 
-visits_past : (b : Bool) (vs : List Visit) (at : ℕ) (p : Code) (place : ℕ) → at + 1 ≤ place → kept_in vs place ≡ None → kept_in (if b then vs else vs ++ visit at p ∷ []) place ≡ None
+visits_past : (b : Bool) (vs : List Visit) (at : ℕ) (p : Code) (place : ℕ) → at + 1 ≤ place → kept_in vs place ≡ None
+    → kept_in (if b then vs else vs ++ visit at p ∷ []) place ≡ None
 visits_past true vs at p place le is = is
 visits_past false vs at p place le is = kept-past vs at place p le is
 
@@ -88,7 +90,8 @@ served_still State before answering rule at [] vs s place k is = visits_still (i
 served_still State before answering rule at (p ∷ past) vs s place k is = kept-still vs _ place k is
 
 module _ (State : Type 0) (kept before : KeptAnswers) (answering : Answering State) where
-  kept_here : (rule : Rule) (at : ℕ) (g : PassState State) → Below State at g → Agrees State kept (serving kinds.Keep before answering rule at g).state → (serving kinds.Keep before answering rule at g).stopped ≡ false
+  kept_here : (rule : Rule) (at : ℕ) (g : PassState State) → Below State at g
+      → Agrees State kept (serving kinds.Keep before answering rule at g).state → (serving kinds.Keep before answering rule at g).stopped ≡ false
       → kept at ≡ Some (serving kinds.Keep before answering rule at g).deciding
   kept_here rule at g low ok runs =
       let all : (serving kinds.Keep before answering rule at g).state.visits ≡ g.visits ++ visit at (serving kinds.Keep before answering rule at g).answer ∷ [] =

@@ -78,7 +78,8 @@ module _ (State : Type 0) where
     visits_if : (b c : Bool) (x y : List Visit) → b ≡ c → (if b then x else y) ≡ (if c then x else y)
     visits_if b c x y is = ap (λ (d : Bool). if d then x else y) is
 
-    line_resumes : (rule : Rule) (at : ℕ) (past : List Code) (visits : List Visit) (s : State) → LineResumes (served_past kind kept answering rule at past visits s) rule at visits
+    line_resumes : (rule : Rule) (at : ℕ) (past : List Code) (visits : List Visit) (s : State)
+        → LineResumes (served_past kind kept answering rule at past visits s) rule at visits
     line_resumes rule at [] visits s = record {
       on = λ e. visits_if (is_incomplete (answering rule at s).answer) false visits (visits ++ visit at (answering rule at s).answer ∷ []) e;
       off = λ e. visits_if (is_incomplete (answering rule at s).answer) true visits (visits ++ visit at (answering rule at s).answer ∷ []) e;

@@ -35,8 +35,8 @@ impl Opinion {
         }
     }
 
-    /// After the action that a line's deciding answer picked; `answer` is its present one, and `entry` the opinion at the
-    /// entry of its list.
+    /// After the action that a line's deciding answer picked; `answer` is its present one, and
+    /// `entry` the opinion at the entry of its list.
     pub fn after(
         self,
         kind: PassKind,

@@ -14,7 +14,8 @@ module _ (path : List ℕ) (players : List Player) (alone : FaillockAloneWrites 
   FollowsOn before after = (calls : List Served) × Follow path (file_at path before) calls (file_at path after)
 
   -- a call, and what follows
-  by_module : (plays : Plays) (c : ModuleCall) (before after : List File) → (plays ≡ faillock_plays) ⊎ LeavesFile path plays → c.sight.files ≡ before → FollowsOn (plays c.call c.room c.held c.sight).files after → FollowsOn before after
+  by_module : (plays : Plays) (c : ModuleCall) (before after : List File) → (plays ≡ faillock_plays) ⊎ LeavesFile path plays → c.sight.files ≡ before
+      → FollowsOn (plays c.call c.room c.held c.sight).files after → FollowsOn before after
   by_module plays c before after (inl same) at more =
       let did = one path c.call c.room c.held c.sight in
       let next : FollowsOn (faillock_plays c.call c.room c.held c.sight).files after = subst (λ (p : Plays). FollowsOn (p c.call c.room c.held c.sight).files after) same more in

@@ -1,5 +1,5 @@
-//! Tests of a conversation over a terminal, where reader or writer fails, and over pipes of the system. It has no functions of
-//! its own.
+//! Tests of a conversation over a terminal, where reader or writer fails, and over pipes of the
+//! system. It has no functions of its own.
 #![tactic(auto)]
 
 #[cfg(test)]

@@ -28,7 +28,8 @@ invariant-loop-walker g l =
     let world_start : Bool = ((goal.Vault-dyn g (l.fn.world.vault.vtable, l.fn.world.vault.value)).vault_tells l.fn.world.vault.value && (goal.Clock-dyn g (l.fn.world.clock.vtable, l.fn.world.clock.value)).clock_tells l.fn.world.clock.value)
     && (goal.Nap-dyn g (l.fn.world.nap.vtable, l.fn.world.nap.value)).nap_tells l.fn.world.nap.value in
     (visits : List Visit) × record {
-      goes : IsTrue (room_start && world_start) → walk_on l.request.kind (serving l.request.kind (by_place l.follows) answers) l.fn.chain.nodes l.walker (pass_state l.supplies.given.past visits now)
+      goes : IsTrue (room_start && world_start)
+          → walk_on l.request.kind (serving l.request.kind (by_place l.follows) answers) l.fn.chain.nodes l.walker (pass_state l.supplies.given.past visits now)
           ≡ pass_after l.request.kind (by_place l.follows) answers l.fn.chain.nodes l.fn.supplies.given.past start;
       progress : Progress l.keeps l.supplies.given.taken l.walker.at visits;
       few : length l.supplies.given.taken ≤ l.walker.at;

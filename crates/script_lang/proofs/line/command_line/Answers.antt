@@ -9,7 +9,8 @@ use Rattle.script_lang.specs.Value.{meanings_of}
 use Rattle.script_lang.specs.Line.{IsRefusal, command_line}
 use Rattle.script_lang.proofs.line.command_line.Goals as goal
 
-no_memory : (r : Result Line (Refuse ScriptKind)) (answer : Result Line ScriptKind) (line : Line) → IsErrAnd r (λ e. e ≡ refusals.NoMemory) → answer ≡ Ok line → IfErr r (λ refusal. IsRefusal refusal answer)
+no_memory : (r : Result Line (Refuse ScriptKind)) (answer : Result Line ScriptKind) (line : Line) → IsErrAnd r (λ e. e ≡ refusals.NoMemory)
+    → answer ≡ Ok line → IfErr r (λ refusal. IsRefusal refusal answer)
 no_memory (Ok l) answer line none e = absurd none
 no_memory (Err refusal) answer line none e = rw none (line, e)
 

@@ -5,10 +5,12 @@ use Rattle.service_print.proofs.Entering.{spaced_on, entering_some, entering_non
 use Rattle.service_print.proofs.control.add_entries.Goals as goal
 use Rattle.service_print.proofs.control.add_entries.Goals.{then-has_entry+in_ok-add_entry, then-not-is_first+in_ok-push, else-not-is_first, else-has_entry}
 
-spaced_entry : (line first new entry : List ℕ) (is_first : Bool) → is_first ≡ false → first ≡ line ++ 32 ∷ [] → new ≡ first ++ entry → new ≡ line ++ spaced_on is_first (entry ∷ [])
+spaced_entry : (line first new entry : List ℕ) (is_first : Bool) → is_first ≡ false → first ≡ line ++ 32 ∷ [] → new ≡ first ++ entry
+    → new ≡ line ++ spaced_on is_first (entry ∷ [])
 spaced_entry line first new entry is_first which one other = rw (which, other, one) (simp (append_assoc, append-nil))
 
-first_entry : (line first new entry : List ℕ) (is_first : Bool) → is_first ≡ true → first ≡ line → new ≡ first ++ entry → new ≡ line ++ spaced_on is_first (entry ∷ [])
+first_entry : (line first new entry : List ℕ) (is_first : Bool) → is_first ≡ true → first ≡ line → new ≡ first ++ entry
+    → new ≡ line ++ spaced_on is_first (entry ∷ [])
 first_entry line first new entry is_first which one other = rw (which, other, one) (simp append-nil)
 
 pub loop-code-preserved : goal.loop-code-preserved

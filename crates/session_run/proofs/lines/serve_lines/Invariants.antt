@@ -36,17 +36,21 @@ invariant-loop-ending g l =
       world_tells : world_now ≡ world_start;
       sink_tells : g.K.Sink.sink_tells l.sink ≡ g.K.Sink.sink_tells l.fn.sink;
       source_tells : g.S.Source.source_tells l.source ≡ g.S.Source.source_tells l.fn.source;
-      told : (delay : Code → ℕ → ℕ) → (delay_told.ghosts g.dyn-2).delay_is (gear_in l.fn.library).delay delay → lib_start && world_start ≡ true → g.S.Source.source_tells l.fn.source ≡ true → g.K.Sink.sink_tells l.fn.sink ≡ true →
+      told : (delay : Code → ℕ → ℕ) → (delay_told.ghosts g.dyn-2).delay_is (gear_in l.fn.library).delay delay → lib_start && world_start ≡ true
+          → g.S.Source.source_tells l.fn.source ≡ true → g.K.Sink.sink_tells l.fn.sink ≡ true →
           (let setting = setting_of players_start delay in
           Turns (line_step setting) (Fails setting) (Ok None) 0 l.lines start now [] l.reader (g.S.Source.source_holds l.fn.source) (g.S.Source.source_holds l.source) (g.K.Sink.sink_holds l.fn.sink) (g.K.Sink.sink_holds l.sink));
-      served : (delay : Code → ℕ → ℕ) → (delay_told.ghosts g.dyn-2).delay_is (gear_in l.fn.library).delay delay → lib_start && world_start ≡ true → g.S.Source.source_tells l.fn.source ≡ true → g.K.Sink.sink_tells l.fn.sink ≡ true →
+      served : (delay : Code → ℕ → ℕ) → (delay_told.ghosts g.dyn-2).delay_is (gear_in l.fn.library).delay delay → lib_start && world_start ≡ true
+          → g.S.Source.source_tells l.fn.source ≡ true → g.K.Sink.sink_tells l.fn.sink ≡ true →
           Served (setting_of players_start delay) 0 l.lines start now (g.S.Source.source_holds l.fn.source).left (lines_of (l.reader ++ (g.S.Source.source_holds l.source).left)) (g.K.Sink.sink_holds l.fn.sink) (g.K.Sink.sink_holds l.sink);
-      reads : g.S.Source.source_tells l.fn.source ≡ true → ReadsTurn (Ok None) 0 l.lines [] l.reader (g.S.Source.source_holds l.fn.source) (g.S.Source.source_holds l.source);
+      reads : g.S.Source.source_tells l.fn.source ≡ true
+          → ReadsTurn (Ok None) 0 l.lines [] l.reader (g.S.Source.source_holds l.fn.source) (g.S.Source.source_holds l.source);
       writes : g.K.Sink.sink_tells l.fn.sink ≡ true → WritesSome {T = ℕ} (Ok 0) (g.K.Sink.sink_holds l.fn.sink) (g.K.Sink.sink_holds l.sink);
       few : l.lines ≤ 65536;
       source_faults : g.S.Source.source_faults l.source ≡ g.S.Source.source_faults l.fn.source;
       sink_faults : g.K.Sink.sink_faults l.sink ≡ g.K.Sink.sink_faults l.fn.sink;
-      leads : g.S.Source.source_tells l.fn.source ≡ true → LeadsTo (g.S.Source.source_holds l.fn.source).left (l.reader ++ (g.S.Source.source_holds l.source).left);
+      leads : g.S.Source.source_tells l.fn.source ≡ true
+          → LeadsTo (g.S.Source.source_holds l.fn.source).left (l.reader ++ (g.S.Source.source_holds l.source).left);
       proceeds : ProceedsBy (IsEndIn (g.S.Source.source_tells l.fn.source) (g.S.Source.source_holds l.fn.source).left) (notes_of players_start) l.fn.world.process.ledger (lists_of start.slots) l.world.process.ledger (lists_of now.slots);
       sound : IsSound (names_of players) (length players) now.slots l.world.process.ledger;
     }

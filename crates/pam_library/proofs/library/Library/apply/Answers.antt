@@ -41,7 +41,8 @@ step-slot-requires-clause-ready g c = ready_at _ _ _ _ c.args.step.now.number _ 
     (omega (arith, c.if-number-eq0.false)) (omega (arith, c.if-number-eq0.false, c.if-len-number.false, c.len.ensures)) c.remove-slot.ensures.value)
 
 -- the slot was taken out, and what became of it stands in its place
-stepped_in : (g : given.Over) (c : goal.After-ledger_is_sound g) → IsReplaced c.args.self.now.slots.items c.insert.new.self.items c.args.step.now.number c.remove-slot.result c.step-slot.result.slot
+stepped_in : (g : given.Over) (c : goal.After-ledger_is_sound g)
+    → IsReplaced c.args.self.now.slots.items c.insert.new.self.items c.args.step.now.number c.remove-slot.result c.step-slot.result.slot
 stepped_in g c =
     let ok : is_ok c.insert.result ≡ true = search rules in
     replaced c.args.self.now.slots.items c.remove-slot.new.self.items c.insert.new.self.items c.args.step.now.number c.remove-slot.result c.step-slot.result.slot c.insert.result

@@ -39,19 +39,22 @@ unreachable-requires g c =
     absurd (cc)
 
 -- the transaction that was found, and its place now
-found_here : (g : given.Over) (c : goal.After-ledger_is_sound g) → first_open 1 (map (plain_slot (λ b. (goal.Conv-dyn g (b.vtable, b.value)).conv_holds b.value)) c.args.self.now.slots.items) ≡ Some (c.in_ok-place.place + 1, (plain_handle (plain_room (λ b. (goal.Conv-dyn g (b.vtable, b.value)).conv_holds b.value)) c.in-Open.handle))
+found_here : (g : given.Over) (c : goal.After-ledger_is_sound g)
+    → first_open 1 (map (plain_slot (λ b. (goal.Conv-dyn g (b.vtable, b.value)).conv_holds b.value)) c.args.self.now.slots.items) ≡ Some (c.in_ok-place.place + 1, (plain_handle (plain_room (λ b. (goal.Conv-dyn g (b.vtable, b.value)).conv_holds b.value)) c.in-Open.handle))
 found_here g c =
     let found = found_at _ _ c.in_ok-place.place (subst (λ t. IsFirstOpen c.place_of_first_open.result (first_open 1 (map (plain_slot (λ b. (goal.Conv-dyn g (b.vtable, b.value)).conv_holds b.value)) t))) c.deref.ensures.value c.place_of_first_open.ensures) c.in_ok-place.was in
     let stands = place_is (plain_slot (λ b. (goal.Conv-dyn g (b.vtable, b.value)).conv_holds b.value)) c.args.self.now.slots.items c.in_ok-place.place found.0 found.1 c.remove.result c.remove.ensures.value in
     found_as ((plain_slot (λ b. (goal.Conv-dyn g (b.vtable, b.value)).conv_holds b.value)) c.remove.result) _ (c.in_ok-place.place + 1) found.0 (plain_handle (plain_room (λ b. (goal.Conv-dyn g (b.vtable, b.value)).conv_holds b.value)) c.in-Open.handle) stands (ap (plain_slot (λ b. (goal.Conv-dyn g (b.vtable, b.value)).conv_holds b.value)) c.in-Open.is) found.1
 
-replaced_here : (g : given.Over) (c : goal.After-ledger_is_sound g) → IsReplaced c.args.self.now.slots.items c.insert.new.self.items (c.in_ok-place.place + 1) c.remove.result (Closed c.end-conv.result)
+replaced_here : (g : given.Over) (c : goal.After-ledger_is_sound g)
+    → IsReplaced c.args.self.now.slots.items c.insert.new.self.items (c.in_ok-place.place + 1) c.remove.result (Closed c.end-conv.result)
 replaced_here g c =
     let ok : is_ok c.insert.result ≡ true = search rules in
     put_there (plain_slot (λ b. (goal.Conv-dyn g (b.vtable, b.value)).conv_holds b.value)) c.args.self.now.slots.items c.in_ok-place.place (plain_handle (plain_room (λ b. (goal.Conv-dyn g (b.vtable, b.value)).conv_holds b.value)) c.in-Open.handle) (found_here g c) c.remove.new.self.items c.insert.new.self.items c.remove.result (Closed c.end-conv.result) c.insert.result
     c.remove.ensures.value c.remove.ensures.items c.insert.ensures.items ok
 
-put_here : (g : given.Over) (c : goal.After-ledger_is_sound g) → IsPut (map (plain_slot (λ b. (goal.Conv-dyn g (b.vtable, b.value)).conv_holds b.value)) c.args.self.now.slots.items) (map (plain_slot (λ b. (goal.Conv-dyn g (b.vtable, b.value)).conv_holds b.value)) c.insert.new.self.items) (c.in_ok-place.place + 1) (opened (plain_handle (plain_room (λ b. (goal.Conv-dyn g (b.vtable, b.value)).conv_holds b.value)) c.in-Open.handle)) (closed ((plain_handle (plain_room (λ b. (goal.Conv-dyn g (b.vtable, b.value)).conv_holds b.value)) c.in-Open.handle)).room.conv)
+put_here : (g : given.Over) (c : goal.After-ledger_is_sound g)
+    → IsPut (map (plain_slot (λ b. (goal.Conv-dyn g (b.vtable, b.value)).conv_holds b.value)) c.args.self.now.slots.items) (map (plain_slot (λ b. (goal.Conv-dyn g (b.vtable, b.value)).conv_holds b.value)) c.insert.new.self.items) (c.in_ok-place.place + 1) (opened (plain_handle (plain_room (λ b. (goal.Conv-dyn g (b.vtable, b.value)).conv_holds b.value)) c.in-Open.handle)) (closed ((plain_handle (plain_room (λ b. (goal.Conv-dyn g (b.vtable, b.value)).conv_holds b.value)) c.in-Open.handle)).room.conv)
 put_here g c = put_as _ _ _ _ _ _ _ (put (plain_slot (λ b. (goal.Conv-dyn g (b.vtable, b.value)).conv_holds b.value)) _ _ _ _ _ (omega arith) (replaced_here g c)) (ap (plain_slot (λ b. (goal.Conv-dyn g (b.vtable, b.value)).conv_holds b.value)) c.in-Open.is) (ap (λ b. closed ((goal.Conv-dyn g (b.vtable, b.value)).conv_holds b.value)) c.end-conv.ensures.conv)
 
 pub returns-clause-sound : goal.returns-clause-sound
