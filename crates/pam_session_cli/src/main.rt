@@ -1,13 +1,15 @@
-//! `pamsess`: applies the calls of a script to the transactions of a configuration and reports what each answers, or prints a
-//! configuration.
+//! `pamsess`: applies the calls of a script to the transactions of a configuration and reports what
+//! each answers, or prints a configuration.
 #![tactic(auto)]
 
 ghost use Rattle.std.specs.Prelude.{◌≡◌, []};
 
-mod check;
 mod command;
 mod desk;
 mod program;
+mod script_run;
+mod status;
+mod usage;
 
 use conv_port::{Conv, QueueConv};
 use data_cleanup::Ledger;
@@ -65,8 +67,9 @@ fn run(rt: HostRuntime) -> io::Result<u8> {
     serve(alloc, &words, &mut script, &mut out, &mut world)
 }
 
-// Calls the program with the shipped modules, a conversation without replies for each transaction, and a delay function that waits
-// as long as it is asked to, but three seconds at most, and not behind SUCCESS.
+// Calls the program with the shipped modules, a conversation without replies for each transaction,
+// and a delay function that waits as long as it is asked to, but three seconds at most, and not
+// behind SUCCESS.
 fn serve<S: Source, K: Sink>(
     alloc: Global,
     words: &[String],

@@ -11,25 +11,24 @@ ghost use Rattle.pam_handle.specs.Plain.{in_box};
 ghost use Rattle.pam_library.specs.Plain.{gear_in};
 ghost use Rattle.pam_library.specs.Sound.{IsSoundFor};
 ghost use Rattle.service_load.specs.Loading.{OnlyCalls};
-ghost use Rattle.pam_session_cli.specs.Check.{check_of};
-ghost use Rattle.pam_session_cli.specs.Command.{request_of, runs, checks};
-ghost use Rattle.pam_session_cli.specs.Run.{Completes, HasRefused, IsAccepted, IsBegun, IsCleanedUp, IsDone, IsRefused, IsStatus, IsUnder, IsUnread, ReadsBy, Runs, opening, status_of};
-ghost use Rattle.pam_session_cli.specs.Status.{ChecksBy, IsCheckStatus, WritesUsage, check_status};
+ghost use Rattle.session_check.specs.Check.{check_of};
+ghost use Rattle.pam_session_cli.specs.Command.{request_of, runs, checks, tallies};
+ghost use Rattle.pam_session_cli.specs.Run.{Completes, HasRefused, IsAccepted, IsCleanedUp, IsDone, IsRefused, IsStatus, IsUnread, ReadsBy, Runs, opening};
+ghost use Rattle.pam_session_cli.specs.Status.{CallsOnce, ChecksBy, CountsUnread, IsCheckStatus, IsTallyStatus, TalliesBy, WritesUsage};
+ghost use Rattle.session_tally.specs.Tally.{tally_of};
 
-use crate::check::{Found, check};
 use crate::command::{Request, request_in};
 use crate::desk::{Desk, DeskTold};
-use fail_delay::{DelayFn, DelayRule, DelayTold, LONGEST_ASKED};
-use item_stream::{Ending, Stop};
-use pam_base::{Code, Failed, ScriptKind, Text};
-use pam_handle::{Gear, GearTold};
-use pam_library::{Library, LibraryTold};
-use pam_outside::{Sink, Source, set_moment, set_word, write_all};
+use crate::script_run::run;
+use crate::status::{status_of_check, status_of_tally};
+use crate::usage::write_usage;
+use fail_delay::{DelayRule, LONGEST_ASKED};
+use pam_base::Code;
+use pam_outside::{Sink, Source};
 use pam_room::{World, WorldTold};
-use session_run::run_script;
+use session_check::check;
+use session_tally::list_failures;
 use std::alloc::Global;
-
-const USAGE: &str = "usage: pamsess run ROOT | check ROOT SERVICE\n";
 
 /// The program `pamsess`. `words` are those of the command line, without the program's name:
 ///
@@ -38,14 +37,19 @@ const USAGE: &str = "usage: pamsess run ROOT | check ROOT SERVICE\n";
 ///   number first. It begins at the moment 0 with the random word 0.
 /// - `check ROOT SERVICE` prints the configuration of a service, or its first fault, and changes nothing of the world
 ///   but what the vault counts.
+/// - `tally ROOT USER` lists the failures of a user that `pam_faillock(8)` has recorded, and changes nothing of the
+///   world but what the vault counts. A USER that can be no file's name is none.
 ///
-/// ROOT is a word that isn't empty and doesn't begin with `-`. It answers the program's status: 0, the script was read
-/// to its end, or the configuration printed; 2, the words are others, so only a line on the usage is written; 3, the
-/// configuration is refused; 4, memory ran out; 5, the script couldn't be read on; 6, a write failed, and what is
-/// written is a front of a report; 7, a line of the script is refused. On every way out each transaction that is open
-/// is ended: with SUCCESS, BUF_ERR (4), SYSTEM_ERR (5 and 6) or ABORT (7).
+/// A word isn't empty and doesn't begin with `-`. It answers the program's status: 0, the script
+/// was read to its end, or the configuration printed; 2, the words are others, so only a line on
+/// the usage is written; 3, the configuration is refused; 4, memory ran out; 5, the script couldn't
+/// be read on; 6, a write failed, and what is written is a front of a report; 7, a line of the
+/// script is refused. On every way out each transaction that is open is ended: with SUCCESS,
+/// BUF_ERR (4), SYSTEM_ERR (5 and 6) or ABORT (7). Of a tally alone come 9, the file is damaged,
+/// and 10, it can't be read.
 ///
-/// The delay function is to answer one number for each code and each delay of at most 90 seconds, of at most 60 seconds.
+/// The delay function is to answer one number for each code and each delay of at most 90 seconds,
+/// of at most 60 seconds.
 pub fn pamsess<S: Source, K: Sink>(
     alloc: Global,
     words: &[String],
@@ -62,8 +66,8 @@ pub fn pamsess<S: Source, K: Sink>(
     requires no_births { world.old.process.ledger.births ≡ [] }
     requires no_receipts { world.old.process.ledger.filed ≡ [] }
 
-    // Where the words are run ROOT, and all objects tell: with status 0 the whole script was read, its report is written,
-    // and the world is the one behind it.
+    // Where the words are run ROOT, and all objects tell: with status 0 the whole script was read,
+    // its report is written, and the world is the one behind it.
     ensures done { (root : List ℕ) (number : Code → ℕ → ℕ) →
         request_of words.now ≡ Some (runs root) → IsNumberGiven (DelayRule.post desk.delay) number →
         IsTrue (S.source_tells script.old) → IsTrue (K.sink_tells out.old) →
@@ -119,8 +123,9 @@ pub fn pamsess<S: Source, K: Sink>(
         (opening (⟦<Desk as DeskTold>⟧.slots desk) root (⟦<World as WorldTold>⟧.plain world.old))
         (S.source_holds script.old) }
 
-    // Where the source alone tells, by any world: at most as many reads as bytes taken, and one more; and what the status says of the
-    // script's bytes. Where the sink alone does: at most as many writes as bytes written, and one more.
+    // Where the source alone tells, by any world: at most as many reads as bytes taken, and one
+    // more; and what the status says of the script's bytes. Where the sink alone does: at most as
+    // many writes as bytes written, and one more.
     ensures reads { (root : List ℕ) → request_of words.now ≡ Some (runs root) →
         IsTrue (S.source_tells script.old) →
         ReadsBy result (S.source_holds script.old) (S.source_holds script.new) }
@@ -149,7 +154,27 @@ pub fn pamsess<S: Source, K: Sink>(
         IsTrue (vault_tells (in_box world.old.vault)) →
         OnlyCalls (vault_holds (in_box world.old.vault)) (vault_holds (in_box world.new.vault)) }
 
-    // Where they are neither, the usage line is written.
+    // Where they are tally ROOT USER, the user's failures are listed, or it is said why they aren't.
+    ensures tallied { (root user : List ℕ) → request_of words.now ≡ Some (tallies root user) →
+        IsTrue (K.sink_tells out.old) → IsTrue (vault_tells (in_box world.old.vault)) →
+        TalliesBy result (tally_of (vault_holds (in_box world.old.vault)) root user)
+        (K.sink_holds out.old) (K.sink_holds out.new) }
+    ensures tally_statuses { (root user : List ℕ) →
+        request_of words.now ≡ Some (tallies root user) → IsTallyStatus result }
+    ensures tally_stays { (root user : List ℕ) →
+        request_of words.now ≡ Some (tallies root user) →
+        (world.new ≡ record world.old { vault = world.new.vault }) × (script.new ≡ script.old) }
+    ensures tally_calls { (root user : List ℕ) →
+        request_of words.now ≡ Some (tallies root user) →
+        IsTrue (vault_tells (in_box world.old.vault)) →
+        CallsOnce result (vault_holds (in_box world.old.vault))
+        (vault_holds (in_box world.new.vault)) }
+    ensures tally_faults { (root user : List ℕ) →
+        request_of words.now ≡ Some (tallies root user) →
+        CountsUnread result (vault_faults (in_box world.old.vault))
+        (vault_faults (in_box world.new.vault)) }
+
+    // Where they are none of these, the usage line is written.
     ensures usage { request_of words.now ≡ None → IsTrue (K.sink_tells out.old) →
         WritesUsage result (K.sink_holds out.old) (K.sink_holds out.new) }
     ensures usage_status { request_of words.now ≡ None → (result ≡ 2) ⊎ (result ≡ 6) }
@@ -165,7 +190,8 @@ pub fn pamsess<S: Source, K: Sink>(
     ensures write_fault { result ≡ 6 → Rose (K.sink_faults out.old) (K.sink_faults out.new) }
     ensures no_write_fault { result ≢ 6 → K.sink_faults out.new ≡ K.sink_faults out.old }
 
-    // In any world, whatever the status: every module datum that was set was cleaned up exactly once, with its due status.
+    // In any world, whatever the status: every module datum that was set was cleaned up exactly
+    // once, with its due status.
     ensures cleaned_up { IsCleanedUp (S.source_tells script.old) (S.source_holds script.old).left
         (notes_of (⟦<Desk as DeskTold>⟧.players desk)) world.new.process.ledger }
 
@@ -176,7 +202,7 @@ pub fn pamsess<S: Source, K: Sink>(
         ≡ ⟦<World as WorldTold>⟧.tells world.old }
 {
     match request_in(words) {
-        None => usage(out),
+        None => write_usage(out),
         Some(Request::Run(root)) => run(alloc, root.as_bytes(), script, out, world, desk),
         Some(Request::Check(root, service)) => {
             let found = check(
@@ -188,165 +214,15 @@ pub fn pamsess<S: Source, K: Sink>(
             );
             status_of_check(found)
         }
-    }
-}
-
-// Runs the lines of a script under a root, over sixteen places with the desk's conversations.
-fn run<S: Source, K: Sink>(
-    alloc: Global,
-    root: &[u8],
-    script: &mut S,
-    out: &mut K,
-    world: &mut World,
-    desk: Desk,
-) -> u8
-    requires sixteen { length desk.convs.items ≡ 16 }
-    requires few { length desk.mods.items < 2 ^ 32 }
-    requires callable { (code : Code) (asked : ℕ) → asked ≤ LONGEST_ASKED →
-        DelayRule.pre desk.delay code asked }
-    requires one_number { GivesOneNumber (DelayRule.post desk.delay) }
-    requires no_births { world.old.process.ledger.births ≡ [] }
-    requires no_receipts { world.old.process.ledger.filed ≡ [] }
-    ensures told { (number : Code → ℕ → ℕ) → IsNumberGiven (DelayRule.post desk.delay) number →
-        IsTrue (S.source_tells script.old) → IsTrue (K.sink_tells out.old) →
-        IsTrue (⟦<World as WorldTold>⟧.tells world.old && ⟦<Desk as DeskTold>⟧.tells desk) →
-        Runs (setting_of (⟦<Desk as DeskTold>⟧.players desk) number) result
-        (⟦<Desk as DeskTold>⟧.slots desk) root.now (⟦<World as WorldTold>⟧.plain world.old)
-        (⟦<World as WorldTold>⟧.plain world.new)
-        (S.source_holds script.old) (S.source_holds script.new) (K.sink_holds out.old)
-        (K.sink_holds out.new) }
-    ensures statuses { IsStatus result }
-    ensures reads { IsTrue (S.source_tells script.old) →
-        ReadsBy result (S.source_holds script.old) (S.source_holds script.new) }
-    ensures writes { IsTrue (K.sink_tells out.old) →
-        WritesScript (K.sink_holds out.old) (K.sink_holds out.new) }
-    ensures cleaned_up { IsCleanedUp (S.source_tells script.old) (S.source_holds script.old).left
-        (notes_of (⟦<Desk as DeskTold>⟧.players desk)) world.new.process.ledger }
-    ensures read_fault { result ≡ 5 → Rose (S.source_faults script.old)
-        (S.source_faults script.new) }
-    ensures no_read_fault { (result ≡ 0) ⊎ (result ≡ 7) →
-        S.source_faults script.new ≡ S.source_faults script.old }
-    ensures write_fault { result ≡ 6 → Rose (K.sink_faults out.old) (K.sink_faults out.new) }
-    ensures no_write_fault { result ≢ 6 → K.sink_faults out.new ≡ K.sink_faults out.old }
-    ensures source_tells { S.source_tells script.new ≡ S.source_tells script.old }
-    ensures sink_tells { K.sink_tells out.new ≡ K.sink_tells out.old }
-    ensures world_tells { ⟦<World as WorldTold>⟧.tells world.new
-        ≡ ⟦<World as WorldTold>⟧.tells world.old }
-{
-    pam_library::laws::closed_places_stand_for_none();
-    let Ok(root) = Text::from_bytes(alloc, root) else {
-        return status_of(Err(Stop::NoMemory));
-    };
-    let Desk { mods, convs, delay } = desk;
-    let gear = Gear {
-        mods,
-        delay: DelayFn::new(delay),
-    };
-    let Ok(library) = Library::new(alloc, gear, convs) else {
-        return status_of(Err(Stop::NoMemory));
-    };
-    run_over(alloc, library, root, script, out, world)
-}
-
-// Runs them over a library in which no transaction is open.
-fn run_over<S: Source, K: Sink>(
-    alloc: Global,
-    library: Library,
-    root: Text,
-    script: &mut S,
-    out: &mut K,
-    world: &mut World,
-) -> u8
-    requires first { StandFor (notes_of (⟦<Gear as GearTold>⟧.players (gear_in library)))
-        handle_limit world.old.process.ledger
-        (lists_of (⟦<Library as LibraryTold>⟧.slots library)) [] }
-    requires sound { IsSoundFor (⟦<Gear as GearTold>⟧.players (gear_in library))
-        (⟦<Library as LibraryTold>⟧.slots library) world.old.process.ledger }
-    ensures told { (number : Code → ℕ → ℕ) →
-        ⟦<DelayFn as DelayTold>⟧.delay_is (gear_in library).delay number →
-        IsTrue (S.source_tells script.old) → IsTrue (K.sink_tells out.old) →
-        IsTrue (⟦<World as WorldTold>⟧.tells world.old
-        && ⟦<Library as LibraryTold>⟧.tells library) →
-        IsBegun (setting_of (⟦<Gear as GearTold>⟧.players (gear_in library)) number) result
-        (opening (⟦<Library as LibraryTold>⟧.slots library) root
-        (⟦<World as WorldTold>⟧.plain world.old)) (⟦<World as WorldTold>⟧.plain world.new)
-        (S.source_holds script.old) (S.source_holds script.new) (K.sink_holds out.old)
-        (K.sink_holds out.new) }
-    ensures statuses { IsStatus result }
-    ensures reads { IsTrue (S.source_tells script.old) →
-        ReadsBy result (S.source_holds script.old) (S.source_holds script.new) }
-    ensures writes { IsTrue (K.sink_tells out.old) →
-        WritesScript (K.sink_holds out.old) (K.sink_holds out.new) }
-    ensures cleaned_up { IsCleanedUp (S.source_tells script.old) (S.source_holds script.old).left
-        (notes_of (⟦<Gear as GearTold>⟧.players (gear_in library))) world.new.process.ledger }
-    ensures read_fault { result ≡ 5 → Rose (S.source_faults script.old)
-        (S.source_faults script.new) }
-    ensures no_read_fault { (result ≡ 0) ⊎ (result ≡ 7) →
-        S.source_faults script.new ≡ S.source_faults script.old }
-    ensures write_fault { result ≡ 6 → Rose (K.sink_faults out.old) (K.sink_faults out.new) }
-    ensures no_write_fault { result ≢ 6 → K.sink_faults out.new ≡ K.sink_faults out.old }
-    ensures source_tells { S.source_tells script.new ≡ S.source_tells script.old }
-    ensures sink_tells { K.sink_tells out.new ≡ K.sink_tells out.old }
-    ensures world_tells { ⟦<World as WorldTold>⟧.tells world.new
-        ≡ ⟦<World as WorldTold>⟧.tells world.old }
-{
-    session_run::laws::proceeding_stands();
-    session_run::laws::numbers_stand_side_by_side();
-    go_under(world, root);
-    let mut library = library;
-    let result = run_script(alloc, &mut library, script, out, world);
-    library.dismiss();
-    status_of(result)
-}
-
-// Puts the world under a root, at the moment 0 and with the random word 0.
-fn go_under(world: &mut World, root: Text)
-    ensures tells { ⟦<World as WorldTold>⟧.tells world.new
-        ≡ ⟦<World as WorldTold>⟧.tells world.old }
-    ensures told { IsTrue (⟦<World as WorldTold>⟧.tells world.old) →
-        IsUnder root (⟦<World as WorldTold>⟧.plain world.old)
-        (⟦<World as WorldTold>⟧.plain world.new) }
-    ensures ledger { world.new.process.ledger ≡ world.old.process.ledger }
-{
-    world.process.root = root;
-    set_moment(&mut *world.clock, 0);
-    set_word(&mut *world.clock, 0);
-}
-
-fn status_of(run: Result<Ending<ScriptKind>, Stop>) -> u8
-    ensures { result ≡ status_of run }
-{
-    match run {
-        Ok(Ending::Done) => 0,
-        Err(Stop::NoMemory) => 4,
-        Ok(Ending::ReadFault) => 5,
-        Err(Stop::WriteFault) => 6,
-        Ok(Ending::Refused(_)) => 7,
-    }
-}
-
-// Writes the line on the usage.
-fn usage<K: Sink>(out: &mut K) -> u8
-    ensures told { IsTrue (K.sink_tells out.old) →
-        WritesUsage result (K.sink_holds out.old) (K.sink_holds out.new) }
-    ensures status { (result ≡ 2) ⊎ (result ≡ 6) }
-    ensures tells { K.sink_tells out.new ≡ K.sink_tells out.old }
-    ensures write_fault { result ≡ 6 → Rose (K.sink_faults out.old) (K.sink_faults out.new) }
-    ensures no_write_fault { result ≢ 6 → K.sink_faults out.new ≡ K.sink_faults out.old }
-{
-    match write_all(out, USAGE.as_bytes()) {
-        Ok(()) => 2,
-        Err(Failed) => 6,
-    }
-}
-
-fn status_of_check(found: Result<Found, Stop>) -> u8
-    ensures { result ≡ check_status found }
-{
-    match found {
-        Ok(Found::Configured) => 0,
-        Ok(Found::Refused) => 3,
-        Err(Stop::NoMemory) => 4,
-        Err(Stop::WriteFault) => 6,
+        Some(Request::Tally(root, user)) => {
+            let tallied = list_failures(
+                alloc,
+                root.as_bytes(),
+                user.as_bytes(),
+                out,
+                &mut *world.vault,
+            );
+            status_of_tally(tallied)
+        }
     }
 }

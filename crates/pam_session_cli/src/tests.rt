@@ -6,8 +6,8 @@ use pam_outside::{MemSink, MemSource, MemVault};
 use std::alloc::Global;
 use std::test::Fail;
 
-/// A run over the service file `/r/etc/pam.d/t`: the words, the script, the numbers of the calls of source, sink and vault that
-/// are to fail, and the output and the status that it must come to.
+/// A run over the service file `/r/etc/pam.d/t`: the words, the script, the numbers of the calls of
+/// source, sink and vault that are to fail, and the output and the status that it must come to.
 #[derive(Clone, Copy)]
 struct Row {
     words: &'static [&'static str],
@@ -47,7 +47,8 @@ const NO_OTHER: &[u8] =
     b"1 start refused /etc/pam.d/other 0 ReadFailed 16\n1 authenticate not open\n1 end not open\n";
 
 static ROWS: [Row; 17] = [
-    // A call of the vault: the folder, the file, `other` for the second type and for the last, and one that comes no more.
+    // A call of the vault: the folder, the file, `other` for the second type and for the last, and
+    // one that comes no more.
     Row {
         failing_calls: &[1],
         output: b"1 start refused /etc/pam.d 0 ReadFailed 16\n1 authenticate not open\n1 end not open\n",
@@ -91,7 +92,8 @@ static ROWS: [Row; 17] = [
         failing_writes: &[10000],
         ..LOGIN
     },
-    // The sink: at each line of a script with data, behind its last line, and while a refused line or a read fault is told.
+    // The sink: at each line of a script with data, behind its last line, and while a refused line
+    // or a read fault is told.
     Row {
         failing_writes: &[1],
         output: b"",

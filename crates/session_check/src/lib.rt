@@ -1,0 +1,6 @@
+//! The command `check`: prints the configuration of a service in one form, or its first fault.
+#![tactic(auto)]
+
+mod check;
+
+pub use check::{Found, check};
