@@ -4,7 +4,7 @@ ghost use Rattle.pam_base.specs.declared.call.AppCall.{AppCall};
 ghost use Rattle.pam_base.specs.declared.call.Step.{Step};
 ghost use Rattle.pam_outside.specs.Files.{File, VaultState};
 ghost use Rattle.pam_room.specs.State.{PlainWorld};
-ghost use Rattle.pam_library.specs.Plays.{GoesOn};
+ghost use Rattle.pam_library.specs.Plays.{TimedVisit, VisitsLead, visits_at};
 ghost use Rattle.pam_library.specs.Step.{stepped};
 ghost use Rattle.conv_port.specs.Conv.{ConvState};
 ghost use Rattle.data_cleanup.specs.Ledger.{AreNumbered, IsSound as LedgerIsSound, PlainLedger};
@@ -122,12 +122,16 @@ pub fn calls_keep_to_themselves()
         (stepped players number_of slots w step).world others v }
 {}
 
-/// A step changes files by what modules play, one after another, and by nothing else. What some
-/// plays lead to, and others lead on from, both lead to together.
+/// A step changes files by what the modules of the lines that it visits play, one after another,
+/// and by nothing else. What some visits lead to, and others lead on from, both lead to together.
 pub fn steps_change_files_by_plays()
     ensures step { (players : List Player) (number_of : Code → ℕ → ℕ) (slots : List PlainSlot)
         (w : PlainWorld) (step : Step) →
-        GoesOn players w.vault.files (stepped players number_of slots w step).world.vault.files }
-    ensures together { (players : List Player) (first middle last : List File) →
-        GoesOn players first middle → GoesOn players middle last → GoesOn players first last }
+        VisitsLead players w.vault.files
+        (visits_at w.clock.moment (stepped players number_of slots w step).outcome.trail)
+        (stepped players number_of slots w step).world.vault.files }
+    ensures together { (players : List Player) (first middle last : List File)
+        (some others : List TimedVisit) →
+        VisitsLead players first some middle → VisitsLead players middle others last →
+        VisitsLead players first (some ++ others) last }
 {}

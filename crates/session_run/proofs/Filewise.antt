@@ -1,5 +1,5 @@
--- How the lines of a script change files.
-use Rattle.std.proofs.Common.{ℕ, ◌+◌, Bool, true, false, cond, List, [], ◌∷◌, length, Result, Ok, Err, nat_le, nat_lt, refl}
+-- How the lines of a script and the closings behind them change files.
+use Rattle.std.proofs.Common.{◌≡◌, ℕ, ◌+◌, Bool, true, false, cond, List, [], ◌∷◌, ◌++◌, length, Result, Ok, Err, nat_le, nat_lt, refl}
 use Rattle.pam_base.specs.declared.code.Code.{Code}
 use Rattle.pam_base.specs.declared.call.Step.{Step}
 use Rattle.pam_base.specs.declared.fault.ScriptKind.{ScriptKind}
@@ -7,55 +7,75 @@ use Rattle.pam_base.specs.declared.fault.ScriptKind.TheVariants.{LineTooLong, To
 use Rattle.pam_outside.specs.Files.{File}
 use Rattle.pam_room.specs.Module.{Player}
 use Rattle.pam_room.specs.State.{PlainWorld}
-use Rattle.pam_library.specs.Plays.{GoesOn}
-use Rattle.pam_library.specs.Slots.{PlainSlot}
+use Rattle.pam_library.specs.Plays.{TimedVisit, VisitsLead, visits_at}
+use Rattle.pam_library.specs.SideBySide.{Met}
+use Rattle.pam_library.specs.Slots.{PlainSlot, closed, opened}
 use Rattle.pam_library.specs.Step.{stepped}
 use Rattle.script_lang.specs.declared.line.Line.{Line}
 use Rattle.script_lang.specs.declared.line.Line.TheVariants as lines
 use Rattle.script_lang.specs.Line.{parsed}
 use Rattle.item_stream.specs.Run.{after, run_items}
 use Rattle.script_stream.specs.Run.{run_lines, step_at}
-use Rattle.session_run.specs.State.{RunState, Setting}
+use Rattle.session_run.specs.Closings.{all_closed, closings_behind, last_state, world_behind}
+use Rattle.session_run.specs.SideBySide.{step_of, steps_behind, steps_in}
+use Rattle.session_run.specs.State.{RunState, Setting, state_of}
 use Rattle.session_run.specs.Step.{applied, applied_or_refused, line_step}
+use Rattle.session_run.specs.Visits.{visits_in, visits_of_steps}
+
+-- ---- the lines
 
 module _ (setting : Setting)
-    (steps : (players : List Player) (number_of : Code → ℕ → ℕ) (slots : List PlainSlot) (w : PlainWorld) (step : Step) → GoesOn players w.vault.files (stepped players number_of slots w step).world.vault.files)
-    (together : (players : List Player) (first middle last : List File) → GoesOn players first middle → GoesOn players middle last → GoesOn players first last) where
-  abbrev pub Goes : RunState → RunState → Type 0
-  Goes s t = GoesOn setting.players s.world.vault.files t.world.vault.files
+    (step_leads : (players : List Player) (number_of : Code → ℕ → ℕ) (slots : List PlainSlot) (w : PlainWorld) (step : Step) → VisitsLead players w.vault.files (visits_at w.clock.moment (stepped players number_of slots w step).outcome.trail) (stepped players number_of slots w step).world.vault.files)
+    (together : (players : List Player) (first middle last : List File) (some others : List TimedVisit) → VisitsLead players first some middle → VisitsLead players middle others last → VisitsLead players first (some ++ others) last) where
+  -- some steps lead from a state to these files
+  abbrev pub Leads : RunState → List Met → List File → Type 0
+  Leads s met last = VisitsLead setting.players s.world.vault.files (visits_of_steps setting s.slots met) last
 
-  -- a line that isn't refused
-  abbrev pub LineGoes : RunState → Result (RunState × List ℕ) ScriptKind → Type 0
-  LineGoes s (Ok x) = Goes s x.0
-  LineGoes s (Err kind) = Unit {0}
+  -- a line that isn't refused, and what leads on from the state behind it
+  abbrev pub LineLeads : RunState → Result Line ScriptKind → Result (RunState × List ℕ) ScriptKind → Type 0
+  LineLeads s read (Ok x) = (met : List Met) (last : List File) → Leads x.0 met last → Leads s (step_of s read ++ met) last
+  LineLeads s read (Err kind) = Unit {0}
 
-  applied_goes : (s : RunState) (line : Line) → Goes s (applied setting s line).0
-  applied_goes s lines.Blank = ([], refl)
-  applied_goes s (lines.Step step) = steps setting.players setting.delay s.slots s.world step
-  applied_goes s (lines.At moment) = ([], refl)
-  applied_goes s (lines.Random word) = ([], refl)
-  applied_goes s (lines.Caller caller) = ([], refl)
+  parsed_leads : (s : RunState) (read : Result Line ScriptKind) → LineLeads s read (applied_or_refused setting s read)
+  parsed_leads s (Ok lines.Blank) = λ met last more. more
+  parsed_leads s (Ok (lines.Step step)) = λ met last more. together setting.players _ _ last _ _ (step_leads setting.players setting.delay s.slots s.world step) more
+  parsed_leads s (Ok (lines.At moment)) = λ met last more. more
+  parsed_leads s (Ok (lines.Random word)) = λ met last more. more
+  parsed_leads s (Ok (lines.Caller caller)) = λ met last more. more
+  parsed_leads s (Err kind) = tt
 
-  parsed_goes : (s : RunState) (r : Result Line ScriptKind) → LineGoes s (applied_or_refused setting s r)
-  parsed_goes s (Ok line) = applied_goes s line
-  parsed_goes s (Err kind) = tt
+  either : (s : RunState) (read : Result Line ScriptKind) (b : Bool) (x y : Result (RunState × List ℕ) ScriptKind) → LineLeads s read x
+      → LineLeads s read y → LineLeads s read (cond b x y)
+  either s read true x y g h = g
+  either s read false x y g h = h
 
-  either : (s : RunState) (b : Bool) (x y : Result (RunState × List ℕ) ScriptKind) → LineGoes s x → LineGoes s y → LineGoes s (cond b x y)
-  either s true x y g h = g
-  either s false x y g h = h
-
-  line_goes : (n : ℕ) (s : RunState) (line : List ℕ) → LineGoes s (step_at (line_step setting) n s line)
+  line_leads : (n : ℕ) (s : RunState) (line : List ℕ) → LineLeads s (parsed line) (step_at (line_step setting) n s line)
   unfolding step_at line_step
-  line_goes n s line =
-      either s (nat_le 65536 n) (Err TooManyLines) _ tt (either s (nat_lt 513 (length line)) (Err LineTooLong) _ tt (parsed_goes s (parsed line)))
+  line_leads n s line =
+      either s (parsed line) (nat_le 65536 n) (Err TooManyLines) _ tt (either s (parsed line) (nat_lt 513 (length line)) (Err LineTooLong) _ tt (parsed_leads s (parsed line)))
 
-  behind : (n : ℕ) (s : RunState) (ls : List (List ℕ)) (r : Result (RunState × List ℕ) ScriptKind) → LineGoes s r
-      → ((t : RunState) → Goes t (run_lines (line_step setting) (n + 1) t ls).last)
-      → Goes s (after n s r (λ t. run_lines (line_step setting) (n + 1) t ls)).last
-  behind n s ls (Ok x) g more = together setting.players _ _ _ g (more x.0)
-  behind n s ls (Err kind) g more = ([], refl)
+  behind : (n : ℕ) (s : RunState) (l : List ℕ) (ls : List (List ℕ)) (r : Result (RunState × List ℕ) ScriptKind) → LineLeads s (parsed l) r
+      → ((t : RunState) → Leads t (steps_in setting (n + 1) t ls) (run_lines (line_step setting) (n + 1) t ls).last.world.vault.files)
+      → Leads s (steps_behind setting s l r (λ t. steps_in setting (n + 1) t ls)) (after n s r (λ t. run_lines (line_step setting) (n + 1) t ls)).last.world.vault.files
+  behind n s l ls (Ok x) leads more = leads (steps_in setting (n + 1) x.0 ls) _ (more x.0)
+  behind n s l ls (Err kind) leads more = refl
 
-  pub run_goes : (script : List (List ℕ)) (n : ℕ) (s : RunState) → Goes s (run_lines (line_step setting) n s script).last
-  unfolding run_items
-  run_goes [] n s = ([], refl)
-  run_goes (l ∷ ls) n s = behind n s ls (step_at (line_step setting) n s l) (line_goes n s l) (λ t. run_goes ls (n + 1) t)
+  pub script_leads : (script : List (List ℕ)) (n : ℕ) (s : RunState)
+      → VisitsLead setting.players s.world.vault.files (visits_in setting n s script) (run_lines (line_step setting) n s script).last.world.vault.files
+  unfolding run_items steps_in
+  script_leads [] n s = refl
+  script_leads (l ∷ ls) n s = behind n s l ls (step_at (line_step setting) n s l) (line_leads n s l) (λ t. script_leads ls (n + 1) t)
+
+-- ---- the closings behind them
+
+module _ (players : List Player) (status : Code) where
+  closings_leave : (slots front : List PlainSlot) (w : PlainWorld) (s : RunState) → s.world.vault.files ≡ w.vault.files
+      → (last_state s (closings_behind players status front slots w)).world.vault.files ≡ w.vault.files
+  unfolding closings_behind
+  closings_leave [] front w s same = same
+  closings_leave (closed conv ∷ slots) front w s same = closings_leave slots (front ++ closed conv ∷ []) w s same
+  closings_leave (opened h ∷ slots) front w s same =
+      closings_leave slots (front ++ closed h.room.conv ∷ []) (world_behind players status h w) (state_of (front ++ closed h.room.conv ∷ slots) (world_behind players status h w)) refl
+
+  pub all_closed_leave : (s : RunState) → (all_closed players status s).world.vault.files ≡ s.world.vault.files
+  all_closed_leave s = closings_leave s.slots [] s.world s refl

@@ -10,3 +10,4 @@ pub mod Isolation
 pub mod Events
 pub mod Reading
 pub mod SideBySide
+pub mod Visits

@@ -7,16 +7,18 @@ ghost use Rattle.pam_base.specs.Lines.{lines_of};
 ghost use Rattle.dispatch_core.specs.Lines.{names_of};
 ghost use Rattle.pam_base.specs.declared.code.Code.{Code};
 ghost use Rattle.pam_library.specs.Calls.{events_of};
-ghost use Rattle.pam_library.specs.Plays.{GoesOn};
+ghost use Rattle.pam_library.specs.Plays.{VisitsLead};
 ghost use Rattle.pam_library.specs.Slots.{PlainSlot, handle_limit, slot_at};
 ghost use Rattle.script_stream.specs.Run.{run_lines};
 ghost use Rattle.report_lines.specs.Line.{number_words};
 ghost use Rattle.session_run.specs.AnyWorld.{Proceeds};
-ghost use Rattle.session_run.specs.Closings.{closings, closings_text};
+ghost use Rattle.pam_room.specs.Module.{Player};
+ghost use Rattle.session_run.specs.Closings.{all_closed, closings, closings_text};
 ghost use Rattle.session_run.specs.Isolation.{Came, GoesAsAlone, IsQuietStart, LeaveFiles, all_closing_texts, alone, came_among, script_alone, step_text_with, text_of, texts_among};
 ghost use Rattle.session_run.specs.SideBySide.{ComesAlone, TellsSteps};
 ghost use Rattle.session_run.specs.State.{RunState, Setting};
 ghost use Rattle.session_run.specs.Step.{line_step};
+ghost use Rattle.session_run.specs.Visits.{visits_in};
 
 /// Whatever events ledger and data stood for before a run, they stand for these and then the births and ends of its
 /// calls afterwards. It does nothing: its contract is a law about the definitions.
@@ -72,11 +74,15 @@ pub fn numbers_stand_side_by_side()
     pam_library::laws::places_stand_side_by_side();
 }
 
-/// The lines of a script change files by what modules play, one after another, and by nothing else.
+/// The lines of a script change files by what the modules of the lines that their steps visit play,
+/// one after another, and by nothing else; and the closings behind them change none. It does
+/// nothing: its contract is a law.
 pub fn runs_change_files_by_plays()
-    ensures { (setting : Setting) (n : ℕ) (s : RunState) (script : List (List ℕ)) →
-        GoesOn setting.players s.world.vault.files
+    ensures script { (setting : Setting) (n : ℕ) (s : RunState) (script : List (List ℕ)) →
+        VisitsLead setting.players s.world.vault.files (visits_in setting n s script)
         (run_lines (line_step setting) n s script).last.world.vault.files }
+    ensures closings { (players : List Player) (status : Code) (s : RunState) →
+        (all_closed players status s).world.vault.files ≡ s.world.vault.files }
 {
     pam_library::laws::steps_change_files_by_plays();
 }
