@@ -1,14 +1,20 @@
+use Rattle.std.proofs.Common.{ℕ, List, subst, sym}
+use Rattle.pam_outside.specs.Files.{File}
 use Rattle.script_stream.specs.Run.{run_lines}
 use Rattle.session_run.specs.Step.{line_step}
-use Rattle.tally_run.proofs.Tallying.{faillock_calls}
+use Rattle.session_run.specs.Visits.{visits_in}
+use Rattle.tally_run.specs.Tallied.{Tallies}
+use Rattle.tally_run.proofs.Tallying.{tallies}
 use Rattle.tally_run.proofs.laws.runs_keep_recorded_failures.Goals as goal
 
-pub returns : goal.returns
-returns c = λ path setting n s script alone.
-    let goes = c.runs_change_files_by_plays.ensures setting n s script in
-    let calls = faillock_calls path setting.players alone c.recorded_failures_stand.ensures.one goes.0 s.world.vault.files (run_lines (line_step setting) n s script).last.world.vault.files goes.1 in
-    record {
-      calls = calls.0;
-      follow = calls.1;
-      stands = λ interval failures all stood. c.recorded_failures_stand.ensures.all path interval calls.0 _ _ failures calls.1 all stood;
-    }
+pub returns-clause-script : goal.returns-clause-script
+returns-clause-script c = λ path setting n s script alone.
+    tallies path setting.players alone c.recorded_failures_stand.ensures.one c.recorded_failures_stand.ensures.all
+    s.world.vault.files (visits_in setting n s script) (run_lines (line_step setting) n s script).last.world.vault.files (c.runs_change_files_by_plays.ensures.script setting n s script)
+
+pub returns-clause-closings : goal.returns-clause-closings
+returns-clause-closings c = λ path setting n s script status alone.
+    let last = (run_lines (line_step setting) n s script).last in
+    subst (λ (files : List File). Tallies path setting.players s.world.vault.files (visits_in setting n s script) files) (sym (c.runs_change_files_by_plays.ensures.closings setting.players status last))
+    (tallies path setting.players alone c.recorded_failures_stand.ensures.one c.recorded_failures_stand.ensures.all
+    s.world.vault.files (visits_in setting n s script) last.world.vault.files (c.runs_change_files_by_plays.ensures.script setting n s script))
