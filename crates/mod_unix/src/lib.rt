@@ -14,4 +14,7 @@ mod store;
 mod unix;
 mod verify;
 
+pub use look::{Look, look_up};
+pub use new_token::take_token;
 pub use unix::Unix;
+pub use verify::is_locked;

@@ -20,7 +20,7 @@ pub(crate) const ACCOUNT_LIMIT: u32 = 1_048_576;
 
 /// What is known of a user's password.
 #[derive(Drop)]
-pub(crate) enum Look {
+pub enum Look {
     /// There is no such user.
     Unknown,
     /// The account files can't be read, or lack the user's entry in `shadow`.
@@ -40,7 +40,7 @@ enum Field {
 }
 
 /// Looks up what is known of a user's password: in `passwd`, and where the field there is `x`, in `shadow`.
-pub(crate) fn look_up(
+pub fn look_up(
     alloc: Global,
     vault: &mut dyn Vault,
     process: &Process,

@@ -17,7 +17,7 @@ use std::alloc::Global;
 
 /// The new token: with `use_authtok` that of an earlier module, else one that is asked for twice. None where there is
 /// none that can be taken.
-pub(crate) fn take_token(
+pub fn take_token(
     alloc: Global,
     call: &Call,
     transaction: &mut Transaction,

@@ -34,7 +34,8 @@ pub(crate) fn verify_hash(alloc: Global, hash: &[u8], token: &[u8]) -> Result<Co
     }
 }
 
-fn is_locked(hash: &[u8]) -> bool
+/// Whether a hash is empty or locked (`shadow(5)`): it lets nobody in.
+pub fn is_locked(hash: &[u8]) -> bool
     ensures { result ≡ is_locked hash.now }
 {
     match hash {
