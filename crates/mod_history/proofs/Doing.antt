@@ -1,0 +1,240 @@
+-- What a call of pam_pwhistory(8) does to a file: it leaves it, or renews a user's line in it.
+use Rattle.std.proofs.Common.{◌≡◌, ℕ, Bool, true, false, not, ◌==◌, cond, List, [], ◌∷◌, length, Option, Some, None, Result, Ok, Err, codes, nat_le, nat_lt, unwrap_or, refl, sym, ap, ◌∙◌}
+use Rattle.std.specs.Str.{bytes_eq}
+use Rattle.std.proofs.lemmas.Slice.Eq.{bytes_eq-Decides}
+use Rattle.pam_base.specs.declared.code.Code.{Code}
+use Rattle.pam_base.specs.declared.code.Code.TheVariants as returns
+use Rattle.conv_port.specs.declared.conv.ConvFault.{ConvFault}
+use Rattle.conv_port.specs.declared.message.Reply.{Reply}
+use Rattle.pam_outside.specs.Files.{File, file_at, file_put}
+use Rattle.pam_outside.specs.Paths.{path_of}
+use Rattle.pam_room.specs.Call.{PlainCall}
+use Rattle.pam_room.specs.Module.{NamedData, Played, SeenRoom, Sight}
+use Rattle.pam_room.specs.Say.{speak, user_asked}
+use Rattle.std.specs.Result.{result_ok}
+use Rattle.account_db.specs.declared.fault.DbFault.{DbFault}
+use Rattle.account_db.specs.declared.passwd.Passwd.{Passwd}
+use Rattle.account_db.specs.Passwd.{entry_of, passwds_of}
+use Rattle.account_files.specs.declared.content.Content.{Content}
+use Rattle.account_files.specs.declared.content.Content.TheVariants as content
+use Rattle.account_files.specs.Accounts.{account_limit, nothing_known, passwds_in}
+use Rattle.account_files.specs.Act.{Act, Stage, answers, asks_user, called, in_room, later, reads_file, replaced as seen_after, replaces_file, sees_items, shows, unless_answered}
+use Rattle.account_files.specs.Content.{content_of, text_within}
+use Rattle.module_acts.specs.Steps.{exchanges, sees_caller, sets_item, with_replies}
+use Rattle.mod_unix.specs.declared.look.Look.{Look}
+use Rattle.mod_unix.specs.declared.look.Look.TheVariants.{Unknown, Unavailable, Plain, Shadowed}
+use Rattle.mod_unix.specs.Arguments.{has_argument}
+use Rattle.mod_unix.specs.Change.{by_authtok, by_done, new_prompts, same_reply, sets_new, takes_token, usable}
+use Rattle.mod_unix.specs.Look.{by_field, by_x as by_password, field_among, field_in, field_or_missing, is_x, looks, shadow_in}
+use Rattle.mod_history.specs.declared.history.Remembered.{Remembered}
+use Rattle.mod_history.specs.History.{history_of, history_text}
+use Rattle.mod_history.specs.Pwhistory.{at_once, by_history, by_length, by_look, by_remember, by_token, by_use, checks_token, history_in, history_limit, history_name, is_refused, pwhistory_plays, refuses_token, remember_of, remembers, renews, stores_text, unsets_item}
+use Rattle.mod_history.specs.Renewal.{hashes_of, renewed}
+use Rattle.mod_history.specs.Standing.{Deed, left, replaced, Does, DoesTo, account_text, entry_hash, hash_by, hash_in, passwd_hash, present_hash, standing_in}
+use Rattle.mod_history.proofs.Renewed.{same}
+
+-- ---- a file that is set
+
+module _ (path bytes : List ℕ) where
+  abbrev pub it : File
+  it = record { path = path; bytes = bytes }
+
+  put_by : (f : File) (fs : List File) (b : Bool) → bytes_eq f.path path ≡ b → file_at path (file_put path bytes fs) ≡ Some bytes → file_at path (cond b (it ∷ fs) (f ∷ file_put path bytes fs)) ≡ Some bytes
+  put_by f fs true e below = rw (same path) refl
+  put_by f fs false e below = rw e below
+
+  pub put_there : (files : List File) → file_at path (file_put path bytes files) ≡ Some bytes
+  put_there [] = rw (same path) refl
+  put_there (f ∷ fs) = put_by f fs (bytes_eq f.path path) refl (put_there fs)
+
+  module _ (other : List ℕ) (differs : bytes_eq path other ≡ false) where
+    past_by : (f : File) (fs : List File) (b : Bool) → bytes_eq f.path path ≡ b → file_at other (file_put path bytes fs) ≡ file_at other fs → file_at other (cond b (it ∷ fs) (f ∷ file_put path bytes fs)) ≡ file_at other (f ∷ fs)
+    past_by f fs true e below =
+        let passed : bytes_eq f.path other ≡ false = ap (λ (p : List ℕ). bytes_eq p other) ((bytes_eq-Decides f.path path).0 e) ∙ differs in
+        rw (passed, differs) refl
+    past_by f fs false e below = rw below refl
+
+    pub put_past : (files : List File) → file_at other (file_put path bytes files) ≡ file_at other files
+    put_past [] = rw differs refl
+    put_past (f ∷ fs) = past_by f fs (bytes_eq f.path path) refl (put_past fs)
+
+-- ---- the steps
+
+module _ (path : List ℕ) (call : PlainCall) (room : SeenRoom) where
+  -- what is played leaves the file or renews a line in it
+  abbrev pub DoesOne : Sight → Played → Type 0
+  DoesOne sight p = (d : Deed) × Does path call room sight p d
+
+  module _ (user : List ℕ) (asked : user ≡ unwrap_or (user_asked room).room.items.user []) where
+    module _ (hash : List ℕ) where
+      -- the user's hash is this one
+      abbrev pub Knows : Stage → Type 0
+      Knows stage = present_hash stage.sight.root stage.sight.files user ≡ Some hash
+
+      -- a file is set, where nothing fails
+      put : (stage : Stage) (standing : List Remembered) (fails : Bool) → Knows stage → standing_in (file_at (path_of stage.sight.root history_name) stage.sight.files) ≡ Some standing
+          → DoesOne stage.sight (called (answers (by_done (not fails)) (record stage { sight = seen_after fails (path_of stage.sight.root history_name) (history_text (renewed (remember_of call.args) user hash standing)) stage.sight })))
+      unfolding answers
+      put stage standing true knows stood = (left, refl)
+      put stage standing false knows stood = by (bytes_eq (path_of stage.sight.root history_name) path) refl
+        where
+          text : List ℕ
+          text = history_text (renewed (remember_of call.args) user hash standing)
+
+          by : (t : Bool) → bytes_eq (path_of stage.sight.root history_name) path ≡ t
+              → DoesOne stage.sight (called (answers (by_done true) (record stage { sight = seen_after false (path_of stage.sight.root history_name) (history_text (renewed (remember_of call.args) user hash standing)) stage.sight })))
+          by true e =
+              let is : path_of stage.sight.root history_name ≡ path = (bytes_eq-Decides (path_of stage.sight.root history_name) path).0 e in
+              let new = history_text (renewed (remember_of call.args) user hash standing) in (
+                replaced user hash,
+                record {
+                  code_is = refl;
+                  user_is = asked;
+                  hash_is = knows;
+                  standing = standing;
+                  stood = ap (λ (p : List ℕ). standing_in (file_at p stage.sight.files)) (sym is) ∙ stood;
+                  stands = ap (λ (p : List ℕ). file_at p (file_put (path_of stage.sight.root history_name) new stage.sight.files)) (sym is) ∙ put_there (path_of stage.sight.root history_name) new stage.sight.files;
+                },
+              )
+          by false e = (left, put_past (path_of stage.sight.root history_name) (history_text (renewed (remember_of call.args) user hash standing)) path e stage.sight.files)
+
+      stored : (stage : Stage) (standing : List Remembered) (short : Bool) → Knows stage → standing_in (file_at (path_of stage.sight.root history_name) stage.sight.files) ≡ Some standing
+          → DoesOne stage.sight (by_length short (history_text (renewed (remember_of call.args) user hash standing)) answers stage)
+      unfolding answers replaces_file
+      stored stage standing true knows stood = put stage standing (stage.sight.failing 0) knows stood
+      stored stage standing false knows stood = (left, refl)
+
+      used : (stage : Stage) (standing : List Remembered) (refused : Bool) → Knows stage → standing_in (file_at (path_of stage.sight.root history_name) stage.sight.files) ≡ Some standing
+          → DoesOne stage.sight (by_use refused (remember_of call.args) user hash standing answers stage)
+      unfolding answers refuses_token unsets_item shows stores_text
+      used stage standing true knows stood = (left, refl)
+      used stage standing false knows stood = stored stage standing (nat_le (length (history_text (renewed (remember_of call.args) user hash standing))) history_limit) knows stood
+
+      module _ (token : List ℕ) where
+        by_found : (stage : Stage) (found : Option (List Remembered)) → Knows stage → ((standing : List Remembered) → found ≡ Some standing → standing_in (file_at (path_of stage.sight.root history_name) stage.sight.files) ≡ Some standing)
+            → DoesOne stage.sight (by_history call (remember_of call.args) user hash token found answers stage)
+        unfolding answers sees_caller
+        by_found stage None knows stood = (left, refl)
+        by_found stage (Some standing) knows stood = used stage standing (is_refused call.args stage.sight.caller token hash (hashes_of user standing)) knows (stood standing refl)
+
+        by_long : (stage : Stage) (long : Bool) (text : List ℕ) → Knows stage → file_at (path_of stage.sight.root history_name) stage.sight.files ≡ Some text
+            → DoesOne stage.sight (by_history call (remember_of call.args) user hash token (history_in (cond long content.Unreadable (content.Holds text))) answers stage)
+        by_long stage true text knows at = by_found stage None knows (λ standing e. absurd cc)
+        by_long stage false text knows at = by_found stage (history_of text) knows (λ standing e. ap standing_in at ∙ e)
+
+        by_file : (stage : Stage) (o : Option (List ℕ)) (fails : Bool) → Knows stage → file_at (path_of stage.sight.root history_name) stage.sight.files ≡ o
+            → DoesOne stage.sight (by_history call (remember_of call.args) user hash token (history_in (content_of fails history_limit o)) answers stage)
+        unfolding content_of
+        by_file stage o true knows at = by_found stage None knows (λ standing e. absurd cc)
+        by_file stage None false knows at = by_found stage (Some []) knows (λ standing e. ap standing_in at ∙ e)
+        by_file stage (Some text) false knows at = by_long stage (nat_lt history_limit (length text)) text knows at
+
+        by_zero : (stage : Stage) (none : Bool) → Knows stage → DoesOne stage.sight (by_remember none call (remember_of call.args) user hash token answers stage)
+        unfolding answers reads_file
+        by_zero stage true knows = (left, refl)
+        by_zero stage false knows =
+            by_file (record stage { sight = later stage.sight }) (file_at (path_of stage.sight.root history_name) stage.sight.files) (stage.sight.failing 0) knows refl
+
+      remembering : (token : Option (List ℕ)) (stage : Stage) → Knows stage → DoesOne stage.sight (remembers call user hash token answers stage)
+      unfolding remembers answers
+      remembering None stage knows = (left, refl)
+      remembering (Some token) stage knows = by_zero token stage (remember_of call.args == 0) knows
+
+      -- ---- the new token
+
+      abbrev rest : Option (List ℕ) → Act
+      rest token = remembers call user hash token answers
+
+      taken : (token : Option (List ℕ)) (stage : Stage) → Knows stage → DoesOne stage.sight (sets_new token rest stage)
+      unfolding sets_item
+      taken None stage knows = remembering None stage knows
+      taken (Some token) stage knows = remembering (Some token) (in_room (record stage.room { items = record stage.room.items { auth_tok = Some token } }) stage) knows
+
+      replied : (answer : Result (List Reply) ConvFault) (after : SeenRoom) (stage : Stage) → Knows stage → DoesOne stage.sight (with_replies answer after (λ replies. sets_new (same_reply replies) rest) stage)
+      replied (Err fault) after stage knows = (left, refl)
+      replied (Ok replies) after stage knows = taken (same_reply replies) (in_room after stage) knows
+
+      by_use_authtok : (given : Bool) (stage : Stage) → Knows stage → DoesOne stage.sight (by_authtok given rest stage)
+      unfolding sees_items exchanges
+      by_use_authtok true stage knows = remembering (usable stage.room.items.auth_tok) stage knows
+      by_use_authtok false stage knows = replied (speak new_prompts stage.room).answer (speak new_prompts stage.room).room stage knows
+
+      renewing : (stage : Stage) → Knows stage → DoesOne stage.sight (renews call user hash answers stage)
+      unfolding renews takes_token
+      renewing stage knows = by_use_authtok (has_argument (codes "use_authtok") call.args) stage knows
+
+    -- ---- what is known of the user's password
+
+    abbrev next : Look → Act
+    next look = by_look call user look answers
+
+    looking : (look : Look) (stage : Stage) → present_hash stage.sight.root stage.sight.files user ≡ hash_in look → DoesOne stage.sight (next look stage)
+    unfolding by_look answers
+    looking Unknown stage is = (left, refl)
+    looking Unavailable stage is = (left, refl)
+    looking (Plain hash) stage is = renewing hash stage is
+    looking (Shadowed entry) stage is = renewing entry.hash stage is
+
+    failed : (stage : Stage) → DoesOne stage.sight (next Unavailable stage)
+    unfolding by_look answers
+    failed stage = (left, refl)
+
+    abbrev shadow_at : Stage → Content
+    shadow_at stage = account_text stage.sight.root (codes "/etc/shadow") stage.sight.files
+
+    abbrev hash_at : Stage → Option (List ℕ)
+    hash_at stage = present_hash stage.sight.root stage.sight.files user
+
+    by_shadow : (fails : Bool) (stage : Stage) → hash_at stage ≡ hash_in (shadow_in user (shadow_at stage))
+        → DoesOne stage.sight (next (shadow_in user (content_of fails account_limit (file_at (path_of stage.sight.root (codes "/etc/shadow")) stage.sight.files))) stage)
+    unfolding content_of
+    by_shadow true stage is = failed stage
+    by_shadow false stage is = looking (shadow_in user (shadow_at stage)) stage is
+
+    by_mark : (x : Bool) (hash : List ℕ) (stage : Stage) → hash_at stage ≡ hash_by x user hash (shadow_at stage) → DoesOne stage.sight (by_password x user hash next stage)
+    unfolding reads_file
+    by_mark true hash stage is = by_shadow (stage.sight.failing 0) (record stage { sight = later stage.sight }) is
+    by_mark false hash stage is = looking (Plain hash) stage is
+
+    by_entry : (o : Option Passwd) (stage : Stage) → hash_at stage ≡ entry_hash user o (shadow_at stage) → DoesOne stage.sight (by_field user (field_or_missing o) next stage)
+    by_entry None stage is = looking Unknown stage is
+    by_entry (Some entry) stage is = by_mark (is_x entry.password) entry.password stage is
+
+    by_passwds : (r : Result (List Passwd) DbFault) (stage : Stage) → hash_at stage ≡ passwd_hash user (result_ok r) (shadow_at stage) → DoesOne stage.sight (by_field user (field_among user r) next stage)
+    by_passwds (Err fault) stage is = failed stage
+    by_passwds (Ok entries) stage is = by_entry (entry_of user entries) stage is
+
+    by_content : (c : Content) (stage : Stage) → hash_at stage ≡ passwd_hash user (passwds_in c) (shadow_at stage) → DoesOne stage.sight (by_field user (field_in user c) next stage)
+    by_content content.Absent stage is = failed stage
+    by_content content.Unreadable stage is = failed stage
+    by_content (content.Holds text) stage is = by_passwds (passwds_of text) stage is
+
+    by_passwd : (fails : Bool) (stage : Stage) → DoesOne stage.sight (by_field user (field_in user (content_of fails account_limit (file_at (path_of stage.sight.root (codes "/etc/passwd")) stage.sight.files))) next stage)
+    unfolding content_of
+    by_passwd true stage = failed stage
+    by_passwd false stage = by_content (account_text stage.sight.root (codes "/etc/passwd") stage.sight.files) stage refl
+
+    looked : (stage : Stage) → DoesOne stage.sight (looks user next stage)
+    unfolding looks reads_file
+    looked stage = by_passwd (stage.sight.failing 0) (record stage { sight = later stage.sight })
+
+  -- ---- the module
+
+  picked : (sight : Sight) (b : Bool) (x y : Played) → DoesOne sight x → DoesOne sight y → DoesOne sight (cond b x y)
+  picked sight true x y l r = l
+  picked sight false x y l r = r
+
+  checked : (stage : Stage) → stage.room ≡ room → DoesOne stage.sight (checks_token call answers stage)
+  unfolding checks_token asks_user
+  checked stage is =
+      let after = user_asked stage.room in
+      let user = unwrap_or after.room.items.user [] in
+      picked stage.sight after.refused _ _ (left, refl) (looked user (ap (λ (r : SeenRoom). unwrap_or (user_asked r).room.items.user []) is) (in_room after.room stage))
+
+  by_answer : (o : Option Code) (stage : Stage) → stage.room ≡ room → DoesOne stage.sight (unless_answered o (checks_token call answers) stage)
+  unfolding answers
+  by_answer (Some code) stage is = (left, refl)
+  by_answer None stage is = checked stage is
+
+  pub does_one : (held : List NamedData) (sight : Sight) → DoesOne sight (pwhistory_plays call room held sight)
+  does_one held sight = by_answer (at_once call.func call.flags) (record { room = room; held = held; known = nothing_known; sight = sight }) refl

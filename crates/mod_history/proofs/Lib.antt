@@ -1,0 +1,12 @@
+mod Telling
+mod Serving
+mod Changing
+mod Rereading
+mod Wellformed
+mod Fields
+mod Renewed
+mod Cutting
+mod Lasting
+mod Doing
+mod Following
+mod Rows

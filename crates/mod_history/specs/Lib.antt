@@ -1,0 +1,7 @@
+pub mod Arguments
+pub mod Wheel
+pub mod Securetty
+pub mod History
+pub mod Renewal
+pub mod Pwhistory
+pub mod Standing

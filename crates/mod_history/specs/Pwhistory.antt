@@ -1,0 +1,150 @@
+-- pam_pwhistory(8): a password that was used before isn't taken.
+use Rattle.std.specs.Prelude.{ℕ, suc, Bool, true, false, ◌==◌, ◌&&◌, ◌||◌, not, nat_le, if◌then◌else◌, List, [], ◌∷◌, length, Option, Some, None, Result, Ok, Err, codes, unwrap_or}
+use Rattle.std.specs.List.{list_any}
+use Rattle.std.specs.Str.{bytes_eq}
+use Rattle.pam_base.specs.Number.{number_of_word}
+use Rattle.pam_base.specs.declared.code.Code.{Code}
+use Rattle.pam_base.specs.declared.code.Code.TheVariants.{Success, UserUnknown, AuthtokErr, ModuleUnknown}
+use Rattle.pam_base.specs.declared.call.Func.{Func}
+use Rattle.pam_base.specs.declared.call.Func.TheVariants.{Authenticate, SetCred, AcctMgmt, OpenSession, CloseSession, ChAuthTok}
+use Rattle.pam_base.specs.declared.item.ItemName.{ItemName}
+use Rattle.pam_base.specs.declared.item.ItemName.TheVariants.{AuthTok}
+use Rattle.pam_base.specs.declared.style.Style.TheVariants.{ErrorMsg}
+use Rattle.item_store.specs.Items.{with_text}
+use Rattle.pam_room.specs.Call.{PlainCall, has_flag, prelim_check, value_among}
+use Rattle.pam_room.specs.Module.{Plays}
+use Rattle.account_files.specs.declared.content.Content.{Content}
+use Rattle.account_files.specs.declared.content.Content.TheVariants.{Absent, Unreadable, Holds}
+use Rattle.account_files.specs.Act.{Act, answers, asks_user, in_room, plays_by, reads_file, replaces_file, shows, unless_answered}
+use Rattle.module_acts.specs.Steps.{sees_caller}
+use Rattle.sha_crypt.specs.declared.setting.SettingFault.{SettingFault}
+use Rattle.sha_crypt.specs.Hash.{crypted}
+use Rattle.mod_unix.specs.declared.look.Look.{Look}
+use Rattle.mod_unix.specs.declared.look.Look.TheVariants.{Unknown, Unavailable, Plain, Shadowed}
+use Rattle.mod_unix.specs.Change.{by_done, takes_token}
+use Rattle.mod_unix.specs.Look.{looks}
+use Rattle.mod_history.specs.declared.history.Remembered.{Remembered}
+use Rattle.mod_history.specs.Arguments.{has_argument}
+use Rattle.mod_history.specs.History.{history_of, history_text}
+use Rattle.mod_history.specs.Renewal.{hashes_of, renewed}
+
+-- ---- arguments
+
+-- a number of one to three digits
+abbrev pub short_number : List ℕ → Option ℕ
+short_number word = if nat_le (length word) 3 then number_of_word word else None
+
+abbrev pub number_in : Option (List ℕ) → Option ℕ
+number_in (Some word) = short_number word
+number_in None = None
+
+-- how many hashes of a user are kept: `remember=`, or 10
+unfoldable pub remember_of : List (List ℕ) → ℕ
+remember_of args = unwrap_or (number_in (value_among (codes "remember=") args)) 10
+
+-- ---- whether a token was used before
+
+abbrev pub is_made : Result (List ℕ) SettingFault → List ℕ → Bool
+is_made (Ok made) hash = bytes_eq made hash
+is_made (Err fault) hash = false
+
+-- its hash, under this hash as the setting, is this hash (crypt(3))
+abbrev pub has_hash : List ℕ → List ℕ → Bool
+has_hash token hash = is_made (crypted hash token) hash
+
+-- it is the user's, or was
+unfoldable pub was_used : List ℕ → List ℕ → List (List ℕ) → Bool
+was_used token hash hashes = has_hash token hash || list_any (has_hash token) hashes
+
+-- root may use a password again, unless `enforce_for_root` is given
+abbrev pub is_enforced : List (List ℕ) → ℕ → Bool
+is_enforced args caller = not (caller == 0) || has_argument (codes "enforce_for_root") args
+
+-- ---- a token that was used before
+
+-- an item is unset (pam_set_item(3))
+unfoldable pub unsets_item : ItemName → Act → Act
+unsets_item item act stage = act (in_room (record stage.room { items = with_text stage.room.items item None }) stage)
+
+-- AUTHTOK is unset, so that no later module takes it, and the user is told
+unfoldable pub refuses_token : (Code → Act) → Act
+refuses_token act = unsets_item AuthTok (shows ErrorMsg (codes "Password has been already used.") (act AuthtokErr))
+
+-- ---- the file
+
+abbrev pub history_name : List ℕ
+history_name = codes "/etc/security/pamsess_history"
+
+-- the most bytes of the file
+abbrev pub history_limit : ℕ
+history_limit = 1048576
+
+-- what is read: a file that isn't there has no lines, and one that is damaged can't be read
+abbrev pub history_in : Content → Option (List Remembered)
+history_in Absent = Some []
+history_in Unreadable = None
+history_in (Holds text) = history_of text
+
+abbrev pub by_length : Bool → List ℕ → (Code → Act) → Act
+by_length true text act = replaces_file history_name text (λ done. act (by_done done))
+by_length false text act = act AuthtokErr
+
+-- the file is replaced, unless it grew too long
+unfoldable pub stores_text : List ℕ → (Code → Act) → Act
+stores_text text act = by_length (nat_le (length text) history_limit) text act
+
+-- ---- the second pass
+
+abbrev pub by_use : Bool → ℕ → List ℕ → List ℕ → List Remembered → (Code → Act) → Act
+by_use true remember user hash history act = refuses_token act
+by_use false remember user hash history act = stores_text (history_text (renewed remember user hash history)) act
+
+abbrev pub is_refused : List (List ℕ) → ℕ → List ℕ → List ℕ → List (List ℕ) → Bool
+is_refused args caller token hash hashes = is_enforced args caller && was_used token hash hashes
+
+abbrev pub by_history : PlainCall → ℕ → List ℕ → List ℕ → List ℕ → Option (List Remembered) → (Code → Act) → Act
+by_history call remember user hash token None act = act AuthtokErr
+by_history call remember user hash token (Some history) act =
+    sees_caller (λ caller. by_use (is_refused call.args caller token hash (hashes_of user history)) remember user hash history act)
+
+-- with `remember=0` nothing is remembered, and nothing is looked up
+abbrev pub by_remember : Bool → PlainCall → ℕ → List ℕ → List ℕ → List ℕ → (Code → Act) → Act
+by_remember true call remember user hash token act = act Success
+by_remember false call remember user hash token act = reads_file history_name history_limit (λ content. by_history call remember user hash token (history_in content) act)
+
+abbrev pub by_token : PlainCall → List ℕ → List ℕ → Option (List ℕ) → (Code → Act) → Act
+by_token call user hash None act = act AuthtokErr
+by_token call user hash (Some token) act = by_remember (remember_of call.args == 0) call (remember_of call.args) user hash token act
+
+unfoldable pub remembers : PlainCall → List ℕ → List ℕ → Option (List ℕ) → (Code → Act) → Act
+remembers call user hash token act = by_token call user hash token act
+
+-- the new token is had as pam_unix has it
+unfoldable pub renews : PlainCall → List ℕ → List ℕ → (Code → Act) → Act
+renews call user hash act = takes_token call (λ token. remembers call user hash token act)
+
+unfoldable pub by_look : PlainCall → List ℕ → Look → (Code → Act) → Act
+by_look call user Unknown act = act UserUnknown
+by_look call user Unavailable act = act AuthtokErr
+by_look call user (Plain hash) act = renews call user hash act
+by_look call user (Shadowed entry) act = renews call user entry.hash act
+
+unfoldable pub checks_token : PlainCall → (Code → Act) → Act
+checks_token call act = asks_user (λ user. looks user (λ look. by_look call user look act))
+
+-- ---- the module
+
+-- it offers chauthtok alone, whose first pass is SUCCESS at once
+abbrev pub at_once : Func → ℕ → Option Code
+at_once Authenticate flags = Some ModuleUnknown
+at_once SetCred flags = Some ModuleUnknown
+at_once AcctMgmt flags = Some ModuleUnknown
+at_once OpenSession flags = Some ModuleUnknown
+at_once CloseSession flags = Some ModuleUnknown
+at_once ChAuthTok flags = if has_flag flags prelim_check then Some Success else None
+
+abbrev pub pwhistory_act : PlainCall → Act
+pwhistory_act call = unless_answered (at_once call.func call.flags) (checks_token call answers)
+
+abbrev pub pwhistory_plays : Plays
+pwhistory_plays = plays_by pwhistory_act

@@ -1,0 +1,71 @@
+-- pam_securetty(8): whether root logs in at a terminal that is listed as secure (securetty(5)).
+use Rattle.std.specs.Prelude.{ℕ, Bool, true, false, ◌==◌, if◌then◌else◌, List, [], ◌∷◌, Option, Some, None, codes, unwrap_or}
+use Rattle.std.specs.List.{list_any}
+use Rattle.std.specs.Str.{bytes_eq}
+use Rattle.pam_base.specs.Lines.{lines_of}
+use Rattle.pam_base.specs.declared.code.Code.{Code}
+use Rattle.pam_base.specs.declared.code.Code.TheVariants.{Success, ServiceErr, AuthErr, UserUnknown, ModuleUnknown}
+use Rattle.pam_base.specs.declared.call.Func.{Func}
+use Rattle.pam_base.specs.declared.call.Func.TheVariants.{Authenticate, SetCred, AcctMgmt, OpenSession, CloseSession, ChAuthTok}
+use Rattle.pam_room.specs.Call.{PlainCall, value_in}
+use Rattle.pam_room.specs.Module.{Plays}
+use Rattle.account_db.specs.Shells.{without_end}
+use Rattle.account_files.specs.declared.content.Content.{Content}
+use Rattle.account_files.specs.declared.content.Content.TheVariants.{Absent, Unreadable, Holds}
+use Rattle.account_files.specs.Accounts.{Account, account_limit, found, missing, unreadable}
+use Rattle.account_files.specs.Act.{Act, answers, asks_user, finds_account, plays_by, reads_file, sees_items, unless_answered}
+
+-- a terminal's name, without a /dev/ in front
+abbrev pub terminal_name : List ℕ → List ℕ
+terminal_name tty = unwrap_or (value_in (codes "/dev/") tty) tty
+
+-- whether a line names the terminal; an empty line names none
+abbrev pub is_terminal : List ℕ → List ℕ → Bool
+is_terminal name [] = false
+is_terminal name (b ∷ bs) = bytes_eq (b ∷ bs) name
+
+-- a line counts without white space at its end
+unfoldable pub is_secure : List ℕ → List ℕ → Bool
+is_secure name text = list_any (λ line. is_terminal name (without_end line)) (lines_of text)
+
+-- where there is no list, every terminal is secure
+abbrev pub by_list : List ℕ → Content → Code
+by_list name Absent = Success
+by_list name Unreadable = ServiceErr
+by_list name (Holds text) = if is_secure name text then Success else AuthErr
+
+abbrev pub by_terminal : Option (List ℕ) → Act
+by_terminal None = answers ServiceErr
+by_terminal (Some tty) = reads_file (codes "/etc/securetty") account_limit (λ content. answers (by_list (terminal_name tty) content))
+
+abbrev pub checks_root : Act
+checks_root = sees_items (λ items. by_terminal items.tty)
+
+-- any user but root may log in anywhere
+abbrev pub by_root : Bool → Act
+by_root true = checks_root
+by_root false = answers Success
+
+abbrev pub by_account : Account → Act
+by_account unreadable = answers ServiceErr
+by_account missing = answers UserUnknown
+by_account (found entry) = by_root (entry.uid == 0)
+
+-- the user is asked for, and looked up
+abbrev pub checks_terminal : Act
+checks_terminal = asks_user (λ user. finds_account user by_account)
+
+-- it offers authenticate, acct_mgmt and setcred, of which the last is SUCCESS at once
+abbrev pub at_once : Func → Option Code
+at_once Authenticate = None
+at_once AcctMgmt = None
+at_once SetCred = Some Success
+at_once OpenSession = Some ModuleUnknown
+at_once CloseSession = Some ModuleUnknown
+at_once ChAuthTok = Some ModuleUnknown
+
+abbrev pub securetty_act : PlainCall → Act
+securetty_act call = unless_answered (at_once call.func) checks_terminal
+
+abbrev pub securetty_plays : Plays
+securetty_plays = plays_by securetty_act

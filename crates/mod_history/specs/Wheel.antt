@@ -1,0 +1,103 @@
+-- pam_wheel(8): whether the calling process is of a user of the group wheel.
+use Rattle.std.specs.Prelude.{ℕ, Bool, true, false, ◌==◌, ◌&&◌, not, if◌then◌else◌, List, Option, Some, None, codes}
+use Rattle.std.specs.List.{find}
+use Rattle.pam_base.specs.declared.code.Code.{Code}
+use Rattle.pam_base.specs.declared.code.Code.TheVariants.{Success, ServiceErr, PermDenied, UserUnknown, Ignore, ModuleUnknown}
+use Rattle.pam_base.specs.declared.call.Func.{Func}
+use Rattle.pam_base.specs.declared.call.Func.TheVariants.{Authenticate, SetCred, AcctMgmt, OpenSession, CloseSession, ChAuthTok}
+use Rattle.pam_room.specs.Call.{PlainCall, value_among}
+use Rattle.pam_room.specs.Module.{Plays}
+use Rattle.account_db.specs.declared.passwd.Passwd.{Passwd}
+use Rattle.account_db.specs.declared.group.Group.{Group}
+use Rattle.account_db.specs.Members.{group_of, is_member}
+use Rattle.account_db.specs.Passwd.{entry_of}
+use Rattle.account_files.specs.Act.{Act, answers, asks_user, plays_by, reads_groups, reads_passwds, unless_answered}
+use Rattle.module_acts.specs.Steps.{sees_caller}
+use Rattle.mod_history.specs.Arguments.{has_argument}
+
+-- ---- who is tested
+
+-- the first entry with the caller's user id
+abbrev pub entry_of_uid : ℕ → List Passwd → Option Passwd
+entry_of_uid uid entries = find (λ (p : Passwd). p.uid == uid) entries
+
+abbrev pub unknown_if_none : Option Passwd → Option Code
+unknown_if_none None = Some UserUnknown
+unknown_if_none (Some entry) = None
+
+-- with `root_only` a user who isn't root is passed over
+abbrev pub is_passed_over : List (List ℕ) → Passwd → Bool
+is_passed_over args entry = has_argument (codes "root_only") args && not (entry.uid == 0)
+
+abbrev pub by_user : List (List ℕ) → ℕ → List Passwd → Option Passwd → Option Code
+by_user args caller entries None = Some UserUnknown
+by_user args caller entries (Some entry) = if is_passed_over args entry then Some Ignore else unknown_if_none (entry_of_uid caller entries)
+
+-- the answer by /etc/passwd, where that decides it
+abbrev pub code_by_passwds : List (List ℕ) → ℕ → List ℕ → Option (List Passwd) → Option Code
+code_by_passwds args caller user None = Some ServiceErr
+code_by_passwds args caller user (Some entries) = by_user args caller entries (entry_of user entries)
+
+-- ---- the group
+
+abbrev pub group_of_gid : ℕ → List Group → Option Group
+group_of_gid gid groups = find (λ (g : Group). g.gid == gid) groups
+
+abbrev pub or_root_group : Option Group → List Group → Option Group
+or_root_group (Some group) groups = Some group
+or_root_group None groups = group_of_gid 0 groups
+
+-- the group that `group=` names; without that argument wheel, or where there is none the first of group id 0
+abbrev pub wheel_group : Option (List ℕ) → List Group → Option Group
+wheel_group (Some name) groups = group_of name groups
+wheel_group None groups = or_root_group (group_of (codes "wheel") groups) groups
+
+-- ---- the answer
+
+-- who isn't kept out is passed over, or let in with `trust`
+abbrev pub trusted : Bool → Code
+trusted true = Success
+trusted false = Ignore
+
+-- who isn't in the group is kept out, or with `deny` who is
+abbrev pub by_membership : Bool → Bool → Bool → Code
+by_membership deny trust member = if deny then (if member then PermDenied else trusted trust) else (if member then trusted trust else PermDenied)
+
+-- where there is no such group, nobody is in it, and with `deny` all are passed over
+abbrev pub by_group : Bool → Bool → Passwd → Option Group → Code
+by_group deny trust entry None = if deny then Ignore else PermDenied
+by_group deny trust entry (Some group) = by_membership deny trust (is_member entry.name (Some entry) group)
+
+abbrev pub by_entry : List (List ℕ) → List Group → Option Passwd → Code
+by_entry args groups None = UserUnknown
+by_entry args groups (Some entry) = by_group (has_argument (codes "deny") args) (has_argument (codes "trust") args) entry (wheel_group (value_among (codes "group=") args) groups)
+
+abbrev pub by_passwds : List (List ℕ) → ℕ → List Group → Option (List Passwd) → Code
+by_passwds args caller groups None = ServiceErr
+by_passwds args caller groups (Some entries) = by_entry args groups (entry_of_uid caller entries)
+
+abbrev pub code_by_groups : List (List ℕ) → ℕ → Option (List Passwd) → Option (List Group) → Code
+code_by_groups args caller passwds None = ServiceErr
+code_by_groups args caller passwds (Some groups) = by_passwds args caller groups passwds
+
+-- ---- the module
+
+-- the user is asked for, and looked up; the group file is read where the caller has an entry
+abbrev pub checks_wheel : List (List ℕ) → ℕ → Act
+checks_wheel args caller = asks_user (λ user. reads_passwds (λ passwds.
+    unless_answered (code_by_passwds args caller user passwds) (reads_groups (λ groups. answers (code_by_groups args caller passwds groups)))))
+
+-- it offers authenticate, acct_mgmt and setcred, of which the last is SUCCESS at once
+abbrev pub at_once : Func → Option Code
+at_once Authenticate = None
+at_once AcctMgmt = None
+at_once SetCred = Some Success
+at_once OpenSession = Some ModuleUnknown
+at_once CloseSession = Some ModuleUnknown
+at_once ChAuthTok = Some ModuleUnknown
+
+abbrev pub wheel_act : PlainCall → Act
+wheel_act call = unless_answered (at_once call.func) (sees_caller (checks_wheel call.args))
+
+abbrev pub wheel_plays : Plays
+wheel_plays = plays_by wheel_act

@@ -1,0 +1,241 @@
+ghost use Rattle.std.specs.Prelude.{◌≡◌, ◌≤◌, ◌<◌, IsTrue, IfOk, IfSome, length};
+ghost use Rattle.pam_outside.specs.Time.{ClockState};
+ghost use Rattle.pam_room.specs.Plain.{plain_call, plain_process};
+ghost use Rattle.module_acts.specs.Comes.{Came, Comes, lent};
+ghost use Rattle.module_acts.specs.Talks.{Talks};
+ghost use Rattle.mod_history.specs.Pwhistory.{by_history, by_look, checks_token, remember_of, remembers, renews, short_number};
+
+use crate::file::{HISTORY_LIMIT, HISTORY_NAME, history_in, store_text};
+use crate::history::{History, hashes_of};
+use crate::refusal::{is_refused, refuse_token};
+use crate::renewal::renewed_text;
+use account_files::user_of;
+use conv_port::Conv;
+use mod_unix::{Look, look_up, take_token};
+use module_acts::{laws, read_whole, require_user};
+use pam_base::{Code, ConvErr, NoMemory, Refuse, Text, number_in};
+use pam_outside::Vault;
+use pam_room::{Call, Process, Transaction};
+use std::alloc::Global;
+
+/// Takes a new token, unless the user has it or had it, and remembers the hash of the present one.
+pub(crate) fn check_token(
+    alloc: Global,
+    call: &Call,
+    transaction: &mut Transaction,
+    process: &Process,
+    conv: &mut dyn Conv,
+    vault: &mut dyn Vault,
+) -> Result<Code, Refuse<ConvErr>>
+    ensures conv_tells { conv_tells conv.new ≡ conv_tells conv.old }
+    ensures vault_tells { vault_tells vault.new ≡ vault_tells vault.old }
+    ensures told { IsTrue (conv_tells conv.old) → IsTrue (vault_tells vault.old) → (clock : ClockState) →
+        Comes result (checks_token (plain_call call.now))
+        (lent transaction.old (conv_holds conv.old) (vault_holds vault.old) clock (plain_process process.now))
+        (lent transaction.new (conv_holds conv.new) (vault_holds vault.new) clock (plain_process process.now)) }
+    ensures talks { Talks transaction.old transaction.new }
+{
+    laws::talking();
+    require_user(alloc, transaction, conv)?;
+    let user = Text::from_bytes(alloc, user_of(transaction))?;
+    let look = look_up(alloc, vault, process, user.bytes())?;
+    by_look(
+        alloc,
+        call,
+        user.bytes(),
+        &look,
+        transaction,
+        process,
+        conv,
+        vault,
+    )
+}
+
+// By what is known of the user's password.
+fn by_look(
+    alloc: Global,
+    call: &Call,
+    user: &[u8],
+    look: &Look,
+    transaction: &mut Transaction,
+    process: &Process,
+    conv: &mut dyn Conv,
+    vault: &mut dyn Vault,
+) -> Result<Code, Refuse<ConvErr>>
+    ensures conv_tells { conv_tells conv.new ≡ conv_tells conv.old }
+    ensures vault_tells { vault_tells vault.new ≡ vault_tells vault.old }
+    ensures told { IsTrue (conv_tells conv.old) → IsTrue (vault_tells vault.old) → (clock : ClockState) →
+        Comes result (by_look (plain_call call.now) user.now look.now)
+        (lent transaction.old (conv_holds conv.old) (vault_holds vault.old) clock (plain_process process.now))
+        (lent transaction.new (conv_holds conv.new) (vault_holds vault.new) clock (plain_process process.now)) }
+    ensures talks { Talks transaction.old transaction.new }
+{
+    laws::talking();
+    match look {
+        Look::Unknown => Ok(Code::UserUnknown),
+        Look::Unavailable => Ok(Code::AuthtokErr),
+        Look::Plain(hash) => renew(
+            alloc,
+            call,
+            user,
+            hash.bytes(),
+            transaction,
+            process,
+            conv,
+            vault,
+        ),
+        Look::Shadowed(entry) => renew(
+            alloc,
+            call,
+            user,
+            entry.hash.bytes(),
+            transaction,
+            process,
+            conv,
+            vault,
+        ),
+    }
+}
+
+// Takes the new token, and remembers the hash of the present one.
+fn renew(
+    alloc: Global,
+    call: &Call,
+    user: &[u8],
+    hash: &[u8],
+    transaction: &mut Transaction,
+    process: &Process,
+    conv: &mut dyn Conv,
+    vault: &mut dyn Vault,
+) -> Result<Code, Refuse<ConvErr>>
+    ensures conv_tells { conv_tells conv.new ≡ conv_tells conv.old }
+    ensures vault_tells { vault_tells vault.new ≡ vault_tells vault.old }
+    ensures told { IsTrue (conv_tells conv.old) → IsTrue (vault_tells vault.old) → (clock : ClockState) →
+        Comes result (renews (plain_call call.now) user.now hash.now)
+        (lent transaction.old (conv_holds conv.old) (vault_holds vault.old) clock (plain_process process.now))
+        (lent transaction.new (conv_holds conv.new) (vault_holds vault.new) clock (plain_process process.now)) }
+    ensures talks { Talks transaction.old transaction.new }
+{
+    laws::talking();
+    let token = take_token(alloc, call, transaction, conv)?;
+    let code = remember(
+        alloc,
+        call,
+        user,
+        hash,
+        token,
+        transaction,
+        process,
+        conv,
+        vault,
+    )?;
+    Ok(code)
+}
+
+// Remembers the hash of the present token, if there is a new one that the user hasn't and hadn't.
+fn remember(
+    alloc: Global,
+    call: &Call,
+    user: &[u8],
+    hash: &[u8],
+    token: Option<Text>,
+    transaction: &mut Transaction,
+    process: &Process,
+    conv: &mut dyn Conv,
+    vault: &mut dyn Vault,
+) -> Result<Code, NoMemory>
+    requires { IfSome token (λ t. length t ≤ 512) }
+    ensures conv_tells { conv_tells conv.new ≡ conv_tells conv.old }
+    ensures vault_tells { vault_tells vault.new ≡ vault_tells vault.old }
+    ensures told { IsTrue (conv_tells conv.old) → IsTrue (vault_tells vault.old) → (clock : ClockState) →
+        IfOk result (λ code. Came code (remembers (plain_call call.now) user.now hash.now token)
+        (lent transaction.old (conv_holds conv.old) (vault_holds vault.old) clock (plain_process process.now))
+        (lent transaction.new (conv_holds conv.new) (vault_holds vault.new) clock (plain_process process.now))) }
+    ensures talks { Talks transaction.old transaction.new }
+{
+    laws::talking();
+    let token = match token {
+        Some(token) => token,
+        None => return Ok(Code::AuthtokErr),
+    };
+    if remember_of(call) == 0 {
+        return Ok(Code::Success);
+    }
+    let content = read_whole(alloc, vault, process, HISTORY_NAME, HISTORY_LIMIT)?;
+    let history = history_in(alloc, content)?;
+    let code = by_history(
+        alloc,
+        call,
+        user,
+        hash,
+        token.bytes(),
+        history,
+        transaction,
+        process,
+        conv,
+        vault,
+    )?;
+    Ok(code)
+}
+
+// By what the history holds, unless it can't be read.
+fn by_history(
+    alloc: Global,
+    call: &Call,
+    user: &[u8],
+    hash: &[u8],
+    token: &[u8],
+    history: Option<History>,
+    transaction: &mut Transaction,
+    process: &Process,
+    conv: &mut dyn Conv,
+    vault: &mut dyn Vault,
+) -> Result<Code, NoMemory>
+    requires short { length token.now ≤ 512 }
+    requires remembers { 0 < remember_of call.now.args.now }
+    ensures conv_tells { conv_tells conv.new ≡ conv_tells conv.old }
+    ensures vault_tells { vault_tells vault.new ≡ vault_tells vault.old }
+    ensures told { IsTrue (conv_tells conv.old) → IsTrue (vault_tells vault.old) → (clock : ClockState) →
+        IfOk result (λ code. Came code (by_history (plain_call call.now) (remember_of call.now.args.now) user.now hash.now token.now history)
+        (lent transaction.old (conv_holds conv.old) (vault_holds vault.old) clock (plain_process process.now))
+        (lent transaction.new (conv_holds conv.new) (vault_holds vault.new) clock (plain_process process.now))) }
+    ensures talks { Talks transaction.old transaction.new }
+{
+    laws::acting();
+    laws::talking();
+    let history = match history {
+        Some(history) => history,
+        None => return Ok(Code::AuthtokErr),
+    };
+    let hashes = hashes_of(user, &history);
+    let refused = is_refused(alloc, call, process.caller, token, hash, hashes)?;
+    if refused {
+        refuse_token(alloc, transaction, conv)?;
+        return Ok(Code::AuthtokErr);
+    }
+    let text = renewed_text(alloc, remember_of(call), user, hash, &history)?;
+    let code = store_text(alloc, process, vault, text.bytes())?;
+    Ok(code)
+}
+
+// How many hashes of a user are kept.
+#[tactic(auto, unfolding(crate::specs::Pwhistory::remember_of))]
+fn remember_of(call: &Call) -> u32
+    ensures { result ≡ remember_of call.now.args.now }
+{
+    match call.value(b"remember=") {
+        Some(word) => short_number(word).unwrap_or(10),
+        None => 10,
+    }
+}
+
+// A number of one to three digits.
+fn short_number(word: &[u8]) -> Option<u32>
+    ensures { result ≡ short_number word.now }
+{
+    if word.len() <= 3 {
+        number_in(word)
+    } else {
+        None
+    }
+}

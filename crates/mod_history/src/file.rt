@@ -1,0 +1,65 @@
+ghost use Rattle.std.specs.Prelude.{◌≡◌, IsTrue, IfOk};
+ghost use Rattle.pam_outside.specs.Time.{ClockState};
+ghost use Rattle.pam_room.specs.Plain.{plain_process};
+ghost use Rattle.pam_room.specs.State.{PlainRoom, scene_of};
+ghost use Rattle.module_acts.specs.Comes.{Came};
+ghost use Rattle.mod_unix.specs.Change.{by_done};
+ghost use Rattle.mod_history.specs.Pwhistory.{history_in, stores_text};
+
+use crate::history::{History, read_history};
+use account_files::Content;
+use module_acts::replace_whole;
+use pam_base::{Code, NoMemory, Refuse};
+use pam_outside::Vault;
+use pam_room::Process;
+use std::alloc::Global;
+
+/// Where the history stands.
+pub(crate) const HISTORY_NAME: &[u8] = b"/etc/security/pamsess_history";
+
+/// The most bytes of the file.
+pub(crate) const HISTORY_LIMIT: u32 = 1_048_576;
+
+/// The lines that were read, unless the file can't be read. One that isn't there has none.
+pub(crate) fn history_in(alloc: Global, content: Content) -> Result<Option<History>, NoMemory>
+    ensures { IfOk result (λ history. history ≡ history_in content) }
+{
+    match content {
+        Content::Absent => Ok(Some(History::new(alloc))),
+        Content::Unreadable => Ok(None),
+        Content::Holds(text) => match read_history(alloc, text.bytes()) {
+            Ok(history) => Ok(Some(history)),
+            Err(Refuse::NoMemory) => Err(NoMemory),
+            Err(Refuse::Named(_)) => Ok(None),
+        },
+    }
+}
+
+/// Replaces the file, unless the text is too long.
+pub(crate) fn store_text(
+    alloc: Global,
+    process: &Process,
+    vault: &mut dyn Vault,
+    text: &[u8],
+) -> Result<Code, NoMemory>
+    ensures tells { vault_tells vault.new ≡ vault_tells vault.old }
+    ensures told { IsTrue (vault_tells vault.old) → (room : PlainRoom) (clock : ClockState) →
+        IfOk result (λ code. Came code (stores_text text.now)
+        (scene_of room (vault_holds vault.old) clock (plain_process process.now)) (scene_of room (vault_holds vault.new) clock (plain_process process.now))) }
+{
+    if text.len() > HISTORY_LIMIT as usize {
+        return Ok(Code::AuthtokErr);
+    }
+    let done = replace_whole(alloc, vault, process, HISTORY_NAME, text)?;
+    Ok(by_done(done))
+}
+
+fn by_done(done: bool) -> Code
+    ensures { result ≡ by_done done }
+{
+    if done {
+        Code::Success
+    } else {
+        Code::AuthtokErr
+    }
+}

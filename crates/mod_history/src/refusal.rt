@@ -1,0 +1,118 @@
+ghost use Rattle.std.specs.Prelude.{◌≡◌, ◌≤◌, None, IsTrue, IfOk, OnOk, length};
+ghost use Rattle.item_store.specs.Items.{with_text};
+ghost use Rattle.conv_port.specs.Conv.{ConvState};
+ghost use Rattle.pam_outside.specs.Files.{VaultState};
+ghost use Rattle.pam_outside.specs.Time.{ClockState};
+ghost use Rattle.pam_room.specs.State.{PlainProcess};
+ghost use Rattle.module_acts.specs.Comes.{Came, Leads, lent};
+ghost use Rattle.module_acts.specs.Talks.{Talks};
+ghost use Rattle.mod_history.specs.Pwhistory.{has_hash, is_enforced, is_refused, refuses_token, unsets_item, was_used};
+
+use crate::arguments::has_argument;
+use account_files::{laws, show};
+use conv_port::Conv;
+use item_store::Items;
+use pam_base::{Code, ItemName, NoMemory, Refuse, Style, Text};
+use pam_room::{Call, Transaction};
+use sha_crypt::crypt;
+use std::alloc::Global;
+
+/// Whether a token isn't taken: the user has it or had it, and that matters for the caller.
+pub(crate) fn is_refused(
+    alloc: Global,
+    call: &Call,
+    caller: u32,
+    token: &[u8],
+    hash: &[u8],
+    hashes: &[Text],
+) -> Result<bool, NoMemory>
+    requires { length token.now ≤ 512 }
+    ensures { IfOk result (λ refused. refused ≡ is_refused call.now.args.now caller token.now hash.now hashes.now) }
+{
+    if !is_enforced(call, caller) {
+        return Ok(false);
+    }
+    was_used(alloc, token, hash, hashes)
+}
+
+// Root may use a password again, unless it is enforced.
+fn is_enforced(call: &Call, caller: u32) -> bool
+    ensures { result ≡ is_enforced call.now.args.now caller }
+{
+    caller != 0 || has_argument(b"enforce_for_root", call.args)
+}
+
+// Whether the user has the token or had it.
+#[tactic(auto, unfolding(crate::specs::Pwhistory::was_used))]
+fn was_used(alloc: Global, token: &[u8], hash: &[u8], hashes: &[Text]) -> Result<bool, NoMemory>
+    requires { length token.now ≤ 512 }
+    ensures { IfOk result (λ used. used ≡ was_used token.now hash.now hashes.now) }
+{
+    if has_hash(alloc, token, hash)? {
+        return Ok(true);
+    }
+    let mut rest = hashes;
+    while let [earlier, after @ ..] = rest {
+        if has_hash(alloc, token, earlier.bytes())? {
+            return Ok(true);
+        }
+        rest = after;
+    }
+    Ok(false)
+}
+
+// Whether the token's hash, under this one as the setting, is this one (`crypt(3)`).
+fn has_hash(alloc: Global, token: &[u8], hash: &[u8]) -> Result<bool, NoMemory>
+    requires { length token.now ≤ 512 }
+    ensures { IfOk result (λ has. has ≡ has_hash token.now hash.now) }
+{
+    match crypt(alloc, hash, token) {
+        Ok(made) => Ok(made.bytes() == hash),
+        Err(Refuse::NoMemory) => Err(NoMemory),
+        Err(Refuse::Named(_)) => Ok(false),
+    }
+}
+
+/// Unsets AUTHTOK, so that no later module takes the token, and tells the user, whatever the conversation makes of it.
+pub(crate) fn refuse_token(
+    alloc: Global,
+    transaction: &mut Transaction,
+    conv: &mut dyn Conv,
+) -> Result<(), NoMemory>
+    ensures tells { conv_tells conv.new ≡ conv_tells conv.old }
+    ensures told { IsTrue (conv_tells conv.old) → (vault : VaultState) (clock : ClockState) (process : PlainProcess) →
+        OnOk result (Came Code.AuthtokErr refuses_token
+        (lent transaction.old (conv_holds conv.old) vault clock process) (lent transaction.new (conv_holds conv.new) vault clock process)) }
+    ensures talks { Talks transaction.old transaction.new }
+{
+    laws::act_steps();
+    module_acts::laws::talking();
+    unset_token(transaction);
+    show(
+        alloc,
+        transaction,
+        conv,
+        Style::ErrorMsg,
+        b"Password has been already used.",
+    )?;
+    Ok(())
+}
+
+// Unsets AUTHTOK (`pam_set_item(3)`).
+fn unset_token(transaction: &mut Transaction)
+    ensures told { (conv : ConvState) (vault : VaultState) (clock : ClockState) (process : PlainProcess) →
+        Leads (unsets_item ItemName.AuthTok) (lent transaction.old conv vault clock process) (lent transaction.new conv vault clock process) }
+    ensures talks { Talks transaction.old transaction.new }
+{
+    unset(&mut transaction.items);
+}
+
+fn unset(items: &mut Items)
+    ensures { items.new ≡ with_text items.old ItemName.AuthTok None }
+{
+    match items.set_mod(ItemName::AuthTok, None) {
+        Ok(()) => (),
+        Err(Refuse::NoMemory) => unreachable!(),
+        Err(Refuse::Named(_)) => unreachable!(),
+    }
+}

@@ -1,0 +1,174 @@
+ghost use Rattle.std.specs.Prelude.{◌≡◌, IsTrue, IfOk, codes};
+ghost use Rattle.std.specs.Option.{option_copied};
+ghost use Rattle.conv_port.specs.Conv.{ConvState};
+ghost use Rattle.pam_outside.specs.Time.{ClockState};
+ghost use Rattle.pam_room.specs.Module.{length_note};
+ghost use Rattle.account_files.specs.Accounts.{Known, nothing_known};
+ghost use Rattle.account_files.specs.Act.{Acts, standing};
+ghost use Rattle.account_files.specs.Speaks.{Speaks};
+ghost use Rattle.mod_history.specs.Securetty.{at_once, by_list, checks_root, checks_terminal, is_secure, is_terminal, securetty_plays, terminal_name};
+
+use account_db::without_end;
+use account_files::{Account, Accounts, Content, has_user, laws, read_named, user_of};
+use conv_port::Conv;
+use data_cleanup::{Datum, Receipt};
+use pam_base::{Code, Func, ItemName, Lines, NoMemory};
+use pam_outside::{Clock, Vault};
+use pam_room::{Call, Module, Process, Transaction, get_item, spend_by_length, value_in};
+use std::alloc::Global;
+
+/// The most bytes of the list.
+const LIST_LIMIT: u32 = 1_048_576;
+
+/// `pam_securetty(8)`: AUTH_ERR where root logs in at a terminal that isn't in `/etc/securetty`, else SUCCESS.
+#[derive(Drop)]
+pub struct Securetty;
+
+impl Securetty {
+    /// The module; it keeps nothing.
+    pub fn new() -> Self {
+        Securetty
+    }
+}
+
+impl Module for Securetty {
+    ghost label = { λ _. codes "pam_securetty" };
+
+    ghost plays = { λ _. securetty_plays };
+
+    ghost note = { λ _. length_note };
+
+    fn name(&self) -> &[u8] {
+        b"pam_securetty"
+    }
+
+    fn serve(
+        &self,
+        alloc: Global,
+        call: &Call,
+        transaction: &mut Transaction,
+        process: &mut Process,
+        conv: &mut dyn Conv,
+        vault: &mut dyn Vault,
+        _clock: &mut dyn Clock,
+    ) -> Result<Code, NoMemory> {
+        laws::act_steps();
+        laws::speaking();
+        match at_once(call.func) {
+            Some(code) => Ok(code),
+            None => check_terminal(alloc, transaction, process, conv, vault),
+        }
+    }
+
+    fn tidy(&self, datum: Datum, status: u32) -> Receipt {
+        spend_by_length(datum, status)
+    }
+}
+
+fn at_once(func: Func) -> Option<Code>
+    ensures { result ≡ at_once func }
+{
+    match func {
+        Func::Authenticate | Func::AcctMgmt => None,
+        Func::SetCred => Some(Code::Success),
+        Func::OpenSession | Func::CloseSession | Func::ChAuthTok => Some(Code::ModuleUnknown),
+    }
+}
+
+// Looks the user up, and root's terminal.
+fn check_terminal(
+    alloc: Global,
+    transaction: &mut Transaction,
+    process: &Process,
+    conv: &mut dyn Conv,
+    vault: &mut dyn Vault,
+) -> Result<Code, NoMemory>
+    ensures conv_tells { conv_tells conv.new ≡ conv_tells conv.old }
+    ensures vault_tells { vault_tells vault.new ≡ vault_tells vault.old }
+    ensures told { IsTrue (conv_tells conv.old) → IsTrue (vault_tells vault.old) → (clock : ClockState) →
+        IfOk result (λ code. Acts checks_terminal nothing_known
+        (standing transaction.old (conv_holds conv.old) (vault_holds vault.old) clock process.now) code
+        (standing transaction.new (conv_holds conv.new) (vault_holds vault.new) clock process.now)) }
+    ensures speaks { Speaks transaction.old transaction.new }
+{
+    laws::act_steps();
+    if !has_user(alloc, transaction, conv)? {
+        return Ok(Code::ConvErr);
+    }
+    let mut accounts = Accounts::new();
+    accounts.read_passwds(alloc, vault, process.root.bytes())?;
+    let entry = match accounts.account(user_of(transaction)) {
+        Account::Unreadable => return Ok(Code::ServiceErr),
+        Account::Missing => return Ok(Code::UserUnknown),
+        Account::Found(entry) => entry,
+    };
+    if entry.uid != 0 {
+        return Ok(Code::Success);
+    }
+    let code = check_root(alloc, transaction, process, vault)?;
+    Ok(code)
+}
+
+// Looks root's terminal up in the list.
+fn check_root(
+    alloc: Global,
+    transaction: &Transaction,
+    process: &Process,
+    vault: &mut dyn Vault,
+) -> Result<Code, NoMemory>
+    ensures tells { vault_tells vault.new ≡ vault_tells vault.old }
+    ensures told { IsTrue (vault_tells vault.old) → (conv : ConvState) (clock : ClockState) (known : Known) →
+        IfOk result (λ code. Acts checks_root known
+        (standing transaction.now conv (vault_holds vault.old) clock process.now) code
+        (standing transaction.now conv (vault_holds vault.new) clock process.now)) }
+{
+    laws::act_steps();
+    match get_item(&transaction.items, ItemName::Tty) {
+        None => Ok(Code::ServiceErr),
+        Some(tty) => {
+            let root = process.root.bytes();
+            let list = read_named(alloc, vault, root, b"/etc/securetty", LIST_LIMIT)?;
+            Ok(by_list(terminal_name(tty), &list))
+        }
+    }
+}
+
+// The answer by the list.
+fn by_list(name: &[u8], list: &Content) -> Code
+    ensures { result ≡ by_list name.now list.now }
+{
+    match list {
+        Content::Absent => Code::Success,
+        Content::Unreadable => Code::ServiceErr,
+        Content::Holds(text) if is_secure(name, text.bytes()) => Code::Success,
+        Content::Holds(_) => Code::AuthErr,
+    }
+}
+
+// Whether the terminal is in the list.
+#[tactic(auto, unfolding(crate::specs::Securetty::is_secure))]
+fn is_secure(name: &[u8], text: &[u8]) -> bool
+    ensures { result ≡ is_secure name.now text.now }
+{
+    let mut lines = Lines::new(text);
+    while let Some(line) = lines.next_line() {
+        if is_terminal(name, without_end(line)) {
+            return true;
+        }
+    }
+    false
+}
+
+// Whether a line names the terminal.
+fn is_terminal(name: &[u8], line: &[u8]) -> bool
+    ensures { result ≡ is_terminal name.now line.now }
+{
+    !line.is_empty() && line == name
+}
+
+// The terminal's name, without a `/dev/` in front.
+fn terminal_name(tty: &[u8]) -> &[u8]
+    ensures { result.now ≡ terminal_name tty.now }
+{
+    value_in(b"/dev/", tty).unwrap_or(tty)
+}

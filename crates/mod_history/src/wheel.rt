@@ -1,0 +1,215 @@
+ghost use Rattle.std.specs.Prelude.{◌≡◌, IsTrue, IfOk, codes};
+ghost use Rattle.std.specs.Option.{option_copied};
+ghost use Rattle.pam_outside.specs.Time.{ClockState};
+ghost use Rattle.pam_room.specs.Module.{length_note};
+ghost use Rattle.account_files.specs.Accounts.{nothing_known};
+ghost use Rattle.account_files.specs.Act.{Acts, standing};
+ghost use Rattle.account_files.specs.Speaks.{Speaks};
+ghost use Rattle.mod_history.specs.Wheel.{at_once, by_group, by_membership, checks_wheel, code_by_groups, code_by_passwds, entry_of_uid, group_of_gid, is_passed_over, trusted, wheel_group, wheel_plays};
+
+use crate::arguments::has_argument;
+use account_db::{Group, Groups, Passwd, Passwds, entry_of, group_of, is_member};
+use account_files::{Accounts, has_user, laws, user_of};
+use conv_port::Conv;
+use data_cleanup::{Datum, Receipt};
+use pam_base::{Code, Func, NoMemory, Texts};
+use pam_outside::{Clock, Vault};
+use pam_room::{Call, Module, Process, Transaction, spend_by_length};
+use std::alloc::Global;
+
+/// `pam_wheel(8)`: PERM_DENIED unless the calling process is of a user of the group wheel, or with `deny` where it is.
+/// Else IGNORE, or SUCCESS with `trust`.
+#[derive(Drop)]
+pub struct Wheel;
+
+impl Wheel {
+    /// The module; it keeps nothing.
+    pub fn new() -> Self {
+        Wheel
+    }
+}
+
+impl Module for Wheel {
+    ghost label = { λ _. codes "pam_wheel" };
+
+    ghost plays = { λ _. wheel_plays };
+
+    ghost note = { λ _. length_note };
+
+    fn name(&self) -> &[u8] {
+        b"pam_wheel"
+    }
+
+    fn serve(
+        &self,
+        alloc: Global,
+        call: &Call,
+        transaction: &mut Transaction,
+        process: &mut Process,
+        conv: &mut dyn Conv,
+        vault: &mut dyn Vault,
+        _clock: &mut dyn Clock,
+    ) -> Result<Code, NoMemory> {
+        laws::act_steps();
+        laws::speaking();
+        module_acts::laws::acting();
+        match at_once(call.func) {
+            Some(code) => Ok(code),
+            None => check_wheel(alloc, call, transaction, process, conv, vault),
+        }
+    }
+
+    fn tidy(&self, datum: Datum, status: u32) -> Receipt {
+        spend_by_length(datum, status)
+    }
+}
+
+fn at_once(func: Func) -> Option<Code>
+    ensures { result ≡ at_once func }
+{
+    match func {
+        Func::Authenticate | Func::AcctMgmt => None,
+        Func::SetCred => Some(Code::Success),
+        Func::OpenSession | Func::CloseSession | Func::ChAuthTok => Some(Code::ModuleUnknown),
+    }
+}
+
+// Tests the caller.
+fn check_wheel(
+    alloc: Global,
+    call: &Call,
+    transaction: &mut Transaction,
+    process: &Process,
+    conv: &mut dyn Conv,
+    vault: &mut dyn Vault,
+) -> Result<Code, NoMemory>
+    ensures conv_tells { conv_tells conv.new ≡ conv_tells conv.old }
+    ensures vault_tells { vault_tells vault.new ≡ vault_tells vault.old }
+    ensures told { IsTrue (conv_tells conv.old) → IsTrue (vault_tells vault.old) → (clock : ClockState) →
+        IfOk result (λ code. Acts (checks_wheel call.now.args.now process.now.caller) nothing_known
+        (standing transaction.old (conv_holds conv.old) (vault_holds vault.old) clock process.now) code
+        (standing transaction.new (conv_holds conv.new) (vault_holds vault.new) clock process.now)) }
+    ensures speaks { Speaks transaction.old transaction.new }
+{
+    laws::act_steps();
+    if !has_user(alloc, transaction, conv)? {
+        return Ok(Code::ConvErr);
+    }
+    let caller = process.caller;
+    let mut accounts = Accounts::new();
+    accounts.read_passwds(alloc, vault, process.root.bytes())?;
+    match code_by_passwds(call, caller, user_of(transaction), accounts.passwds()) {
+        Some(code) => Ok(code),
+        None => {
+            accounts.read_groups(alloc, vault, process.root.bytes())?;
+            Ok(code_by_groups(call, caller, accounts.passwds(), accounts.groups()))
+        }
+    }
+}
+
+// The answer by the password file, where that decides it.
+fn code_by_passwds(call: &Call, caller: u32, user: &[u8], passwds: Option<&Passwds>) -> Option<Code>
+    ensures { result ≡ code_by_passwds call.now.args.now caller user.now (option_copied passwds.entry) }
+{
+    let Some(entries) = passwds else {
+        return Some(Code::ServiceErr);
+    };
+    match entry_of(user, entries) {
+        None => Some(Code::UserUnknown),
+        Some(entry) if is_passed_over(call.args, entry) => Some(Code::Ignore),
+        Some(_) => match entry_of_uid(caller, entries) {
+            None => Some(Code::UserUnknown),
+            Some(_) => None,
+        },
+    }
+}
+
+// Whether the user isn't root, where root alone counts.
+fn is_passed_over(args: &Texts, entry: &Passwd) -> bool
+    ensures { result ≡ is_passed_over args.now entry.now }
+{
+    has_argument(b"root_only", args) && entry.uid != 0
+}
+
+// The first entry with this user id.
+fn entry_of_uid(uid: u32, entries: &Passwds) -> Option<&Passwd>
+    ensures { option_copied result ≡ entry_of_uid uid entries.now }
+{
+    entries.items().iter().find(|entry| entry.uid == uid)
+}
+
+// The answer by both files.
+fn code_by_groups(
+    call: &Call,
+    caller: u32,
+    passwds: Option<&Passwds>,
+    groups: Option<&Groups>,
+) -> Code
+    ensures { result ≡ code_by_groups call.now.args.now caller (option_copied passwds.entry) (option_copied groups.entry) }
+{
+    let Some(groups) = groups else {
+        return Code::ServiceErr;
+    };
+    let Some(entries) = passwds else {
+        return Code::ServiceErr;
+    };
+    match entry_of_uid(caller, entries) {
+        None => Code::UserUnknown,
+        Some(entry) => by_group(
+            has_argument(b"deny", call.args),
+            has_argument(b"trust", call.args),
+            entry,
+            wheel_group(call.value(b"group="), groups),
+        ),
+    }
+}
+
+// The group that is asked for, if there is one.
+fn wheel_group<'a>(name: Option<&[u8]>, groups: &'a Groups) -> Option<&'a Group>
+    ensures { option_copied result ≡ wheel_group (option_copied name.entry) groups.now }
+{
+    match name {
+        Some(name) => group_of(name, groups),
+        None => match group_of(b"wheel", groups) {
+            Some(group) => Some(group),
+            None => group_of_gid(0, groups),
+        },
+    }
+}
+
+// The first group with this id.
+fn group_of_gid(gid: u32, groups: &Groups) -> Option<&Group>
+    ensures { option_copied result ≡ group_of_gid gid groups.now }
+{
+    groups.items().iter().find(|group| group.gid == gid)
+}
+
+// The answer by the group, if there is one.
+fn by_group(deny: bool, trust: bool, entry: &Passwd, group: Option<&Group>) -> Code
+    ensures { result ≡ by_group deny trust entry.now (option_copied group.entry) }
+{
+    match group {
+        None if deny => Code::Ignore,
+        None => Code::PermDenied,
+        Some(group) => {
+            let member = is_member(entry.name.bytes(), Some(entry), group);
+            by_membership(deny, trust, member)
+        }
+    }
+}
+
+fn by_membership(deny: bool, trust: bool, member: bool) -> Code
+    ensures { result ≡ by_membership deny trust member }
+{
+    if deny == member {
+        Code::PermDenied
+    } else {
+        trusted(trust)
+    }
+}
+
+fn trusted(trust: bool) -> Code
+    ensures { result ≡ trusted trust }
+{
+    if trust { Code::Success } else { Code::Ignore }
+}
