@@ -3,7 +3,6 @@ use Rattle.std.proofs.Common.{◌≡◌, ℕ, Bool, true, false, not, ◌==◌, 
 use Rattle.std.specs.Str.{bytes_eq}
 use Rattle.std.proofs.lemmas.Slice.Eq.{bytes_eq-Decides}
 use Rattle.pam_base.specs.declared.code.Code.{Code}
-use Rattle.pam_base.specs.declared.code.Code.TheVariants as returns
 use Rattle.conv_port.specs.declared.conv.ConvFault.{ConvFault}
 use Rattle.conv_port.specs.declared.message.Reply.{Reply}
 use Rattle.pam_outside.specs.Files.{File, file_at, file_put}
@@ -19,7 +18,7 @@ use Rattle.account_files.specs.declared.content.Content.{Content}
 use Rattle.account_files.specs.declared.content.Content.TheVariants as content
 use Rattle.account_files.specs.Accounts.{account_limit, nothing_known, passwds_in}
 use Rattle.account_files.specs.Act.{Act, Stage, answers, asks_user, called, in_room, later, reads_file, replaced as seen_after, replaces_file, sees_items, shows, unless_answered}
-use Rattle.account_files.specs.Content.{content_of, text_within}
+use Rattle.account_files.specs.Content.{content_of}
 use Rattle.module_acts.specs.Steps.{exchanges, sees_caller, sets_item, with_replies}
 use Rattle.mod_unix.specs.declared.look.Look.{Look}
 use Rattle.mod_unix.specs.declared.look.Look.TheVariants.{Unknown, Unavailable, Plain, Shadowed}
@@ -28,9 +27,9 @@ use Rattle.mod_unix.specs.Change.{by_authtok, by_done, new_prompts, same_reply, 
 use Rattle.mod_unix.specs.Look.{by_field, by_x as by_password, field_among, field_in, field_or_missing, is_x, looks, shadow_in}
 use Rattle.mod_history.specs.declared.history.Remembered.{Remembered}
 use Rattle.mod_history.specs.History.{history_of, history_text}
-use Rattle.mod_history.specs.Pwhistory.{at_once, by_history, by_length, by_look, by_remember, by_token, by_use, checks_token, history_in, history_limit, history_name, is_refused, pwhistory_plays, refuses_token, remember_of, remembers, renews, stores_text, unsets_item}
+use Rattle.mod_history.specs.Pwhistory.{at_once, by_history, by_length, by_look, by_remember, by_use, checks_token, history_in, history_limit, history_name, is_refused, pwhistory_plays, refuses_token, remember_of, remembers, renews, stores_text, unsets_item}
 use Rattle.mod_history.specs.Renewal.{hashes_of, renewed}
-use Rattle.mod_history.specs.Standing.{Deed, left, replaced, Does, DoesTo, account_text, entry_hash, hash_by, hash_in, passwd_hash, present_hash, standing_in}
+use Rattle.mod_history.specs.Standing.{Deed, left, replaced, Does, account_text, entry_hash, hash_by, hash_in, passwd_hash, present_hash, standing_in}
 use Rattle.mod_history.proofs.Renewed.{same}
 
 -- ---- a file that is set

@@ -1,5 +1,5 @@
 -- The name of a user with an account, and the user's hash, can stand in a line of the history.
-use Rattle.std.proofs.Common.{◌≡◌, ℕ, zero, suc, ◌+◌, Bool, true, false, ◌&&◌, ◌==◌, nat_lt, cond, List, [], ◌∷◌, length, slice_index_or, Option, Some, None, Result, Ok, Err, codes, position, refl, sym, ap, ◌∙◌, subst}
+use Rattle.std.proofs.Common.{◌≡◌, ℕ, zero, suc, Bool, true, false, ◌&&◌, ◌==◌, nat_lt, cond, List, [], ◌∷◌, length, slice_index_or, Option, Some, None, Result, Ok, Err, codes, position, refl, sym, subst}
 use Rattle.std.specs.List.{AllByRecursion, cons_option, filter_map, find}
 use Rattle.std.specs.Str.{bytes_eq}
 use Rattle.std.proofs.lemmas.Bool.{and_parts}
@@ -19,8 +19,6 @@ use Rattle.std.specs.Result.{result_ok}
 use Rattle.account_files.specs.declared.content.Content.{Content}
 use Rattle.account_files.specs.declared.content.Content.TheVariants as content
 use Rattle.account_files.specs.Accounts.{passwds_in}
-use Rattle.mod_unix.specs.declared.look.Look.{Look}
-use Rattle.mod_unix.specs.declared.look.Look.TheVariants.{Unknown, Unavailable, Plain, Shadowed}
 use Rattle.mod_unix.specs.Look.{is_x, shadow_among, shadow_in, shadowed}
 use Rattle.mod_history.specs.History.{IsPart, part_in}
 use Rattle.mod_history.specs.Standing.{account_text, entry_hash, hash_by, hash_in, passwd_hash, present_hash}

@@ -1,17 +1,16 @@
 -- What stands in a history after a list of calls.
-use Rattle.std.proofs.Common.{◌≡◌, ◌<◌, ℕ, Bool, true, false, ◌||◌, cond, List, [], ◌∷◌, Option, Some, None, refl, sym, ap, ◌∙◌, subst}
+use Rattle.std.proofs.Common.{◌≡◌, ◌<◌, ℕ, Bool, true, false, ◌||◌, cond, List, [], ◌∷◌, Option, Some, refl, sym, ap, ◌∙◌, subst}
 use Rattle.std.specs.List.{AllByRecursion}
 use Rattle.std.specs.Str.{bytes_eq}
 use Rattle.std.proofs.lemmas.Slice.Eq.{bytes_eq-Decides}
 use Rattle.pam_outside.specs.Files.{file_at}
 use Rattle.mod_unix.specs.Verify.{is_locked}
 use Rattle.mod_history.specs.declared.history.Remembered.{Remembered}
-use Rattle.mod_history.specs.History.{IsHistory, IsPart, history_text}
-use Rattle.mod_history.specs.Pwhistory.{remember_of}
-use Rattle.mod_history.specs.Renewal.{hashes_in, hashes_of, line_of, renewed, renewed_hashes}
+use Rattle.mod_history.specs.History.{IsPart, history_text}
+use Rattle.mod_history.specs.Renewal.{hashes_in, hashes_of, renewed, renewed_hashes}
 use Rattle.mod_history.specs.Standing.{Deed, left, replaced, Does, Follow, Remembers, Served, StandsBy, deeds_of, is_renewed, kept_by, played, standing_in}
 use Rattle.mod_history.proofs.Fields.{Lacks, present_stands}
-use Rattle.mod_history.proofs.Renewed.{others_stay, own_renewed, renewed_fits, same}
+use Rattle.mod_history.proofs.Renewed.{others_stay, own_renewed, renewed_fits}
 use Rattle.mod_history.proofs.Rereading.{history_read}
 use Rattle.mod_history.proofs.Wellformed.{some_same, standing_fits}
 

@@ -1,13 +1,13 @@
 -- What becomes of the lines of a history where one user's is renewed.
-use Rattle.std.proofs.Common.{◌≡◌, ℕ, zero, suc, ◌-◌, ◌<◌, Bool, true, false, not, ◌&&◌, ◌||◌, cond, List, [], ◌∷◌, ◌++◌, length, drop, Option, Some, None, refl, sym, ap, ◌∙◌, subst, arith}
-use Rattle.std.specs.List.{AllByRecursion, find, last_or}
+use Rattle.std.proofs.Common.{◌≡◌, ℕ, zero, suc, ◌-◌, ◌<◌, Bool, true, false, not, ◌||◌, cond, List, [], ◌∷◌, ◌++◌, length, drop, Some, None, refl, sym, ap, ◌∙◌, arith}
+use Rattle.std.specs.List.{AllByRecursion, last_or}
 use Rattle.std.specs.Str.{bytes_eq}
 use Rattle.std.proofs.lemmas.Bool.{and_parts}
 use Rattle.std.proofs.lemmas.Slice.Eq.{bytes_eq-Decides}
 use Rattle.mod_unix.specs.Verify.{is_locked}
 use Rattle.mod_history.specs.declared.history.Remembered.{Remembered}
 use Rattle.mod_history.specs.History.{IsHistory, IsLine, IsPart, are_distinct, has_name}
-use Rattle.mod_history.specs.Renewal.{hashes_in, hashes_of, is_left_out, is_text, last_of, line_of, new_line, renewed, renewed_hashes, with_hash}
+use Rattle.mod_history.specs.Renewal.{hashes_in, hashes_of, is_left_out, is_text, line_of, renewed, renewed_hashes, with_hash}
 
 -- ---- names
 

@@ -1,12 +1,11 @@
 -- Worked rows, computed on the definitions.
-use Rattle.std.proofs.Common.{◌≡◌, ℕ, false, true, List, [], ◌∷◌, ◌++◌, Option, Some, None, codes, refl}
+use Rattle.std.proofs.Common.{◌≡◌, ℕ, false, List, [], ◌∷◌, ◌++◌, Option, Some, None, codes, refl}
 use Rattle.pam_base.specs.declared.code.Code.TheVariants as returns
 use Rattle.pam_base.specs.declared.call.Func.{Func}
-use Rattle.pam_base.specs.declared.call.Func.TheVariants.{Authenticate, SetCred, AcctMgmt, OpenSession, ChAuthTok}
-use Rattle.pam_base.specs.declared.style.Style.TheVariants.{ErrorMsg}
+use Rattle.pam_base.specs.declared.call.Func.TheVariants.{Authenticate, ChAuthTok}
 use Rattle.pam_base.specs.Lines.{cut, lines_of}
 use Rattle.pam_base.specs.Parts.{parts_of}
-use Rattle.item_store.specs.Items.{ItemTexts, no_texts}
+use Rattle.item_store.specs.Items.{no_texts}
 use Rattle.pam_outside.specs.Files.{File, file_at}
 use Rattle.pam_outside.specs.Paths.{path_of}
 use Rattle.pam_room.specs.State.{PlainRoom, new_transaction, room_of, scene_of}
@@ -15,13 +14,13 @@ use Rattle.pam_room.specs.Module.{Played, Plays, failing_of, seen_of, sight_of}
 use Rattle.account_db.specs.Entries.{entries_of}
 use Rattle.account_db.specs.Shells.{without_end}
 use Rattle.account_files.specs.Content.{content_of}
-use Rattle.account_files.specs.Act.{answers, asks_user, reads_file, reads_groups, reads_passwds, replaces_file, sees_items, shows}
+use Rattle.account_files.specs.Act.{answers, asks_user, reads_file, reads_groups, reads_passwds, replaces_file, sees_items}
 use Rattle.module_acts.specs.Steps.{sees_caller}
 use Rattle.mod_unix.specs.Change.{takes_token}
 use Rattle.mod_unix.specs.Look.{looks}
 use Rattle.mod_history.specs.declared.history.Remembered.{Remembered}
 use Rattle.mod_history.specs.History.{history_of, history_text}
-use Rattle.mod_history.specs.Pwhistory.{by_look, checks_token, pwhistory_plays, refuses_token, remember_of, remembers, renews, stores_text, unsets_item}
+use Rattle.mod_history.specs.Pwhistory.{by_look, checks_token, pwhistory_plays, remember_of, remembers, renews, stores_text}
 use Rattle.mod_history.specs.Renewal.{renewed, renewed_hashes}
 use Rattle.mod_history.specs.Securetty.{is_secure, securetty_plays}
 use Rattle.mod_history.specs.Wheel.{wheel_plays}

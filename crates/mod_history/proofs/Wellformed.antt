@@ -1,5 +1,5 @@
 -- What is read from a history can be written.
-use Rattle.std.proofs.Common.{◌≡◌, ℕ, zero, suc, Bool, true, false, ◌||◌, cond, eqb, List, [], ◌∷◌, ◌++◌, slice_index_or, Option, Some, None, refl, subst, sym, ap, ◌∙◌}
+use Rattle.std.proofs.Common.{◌≡◌, ℕ, Bool, true, false, cond, eqb, List, [], ◌∷◌, ◌++◌, Option, Some, None, refl, subst}
 use Rattle.std.specs.List.{AllByRecursion, onto_first, slice_split}
 use Rattle.pam_base.specs.Bytes.{has_byte}
 use Rattle.pam_base.specs.Lines.{Cut, cut, last_line, lines_of, onto}

@@ -1,6 +1,6 @@
 -- What stands in the history after a list of calls of pam_pwhistory(8), which may be of many transactions (this project's
 -- own): of each user the hashes that stood there and those that were added, and of these the last so many.
-use Rattle.std.specs.Prelude.{◌≡◌, ◌<◌, ℕ, Bool, true, false, ◌||◌, if◌then◌else◌, List, [], ◌∷◌, map, Option, Some, None, codes, unwrap_or}
+use Rattle.std.specs.Prelude.{◌≡◌, ℕ, Bool, true, false, ◌||◌, if◌then◌else◌, List, [], ◌∷◌, map, Option, Some, None, codes, unwrap_or}
 use Rattle.std.specs.Str.{bytes_eq}
 use Rattle.pam_base.specs.declared.code.Code.{Code}
 use Rattle.pam_base.specs.declared.code.Code.TheVariants.{Success}
@@ -20,7 +20,7 @@ use Rattle.mod_unix.specs.Look.{is_x, shadow_in}
 use Rattle.mod_history.specs.declared.history.Remembered.{Remembered}
 use Rattle.mod_history.specs.History.{history_of, history_text}
 use Rattle.mod_history.specs.Pwhistory.{pwhistory_plays, remember_of}
-use Rattle.mod_history.specs.Renewal.{hashes_of, last_of, line_of, renewed, renewed_hashes, with_hash}
+use Rattle.mod_history.specs.Renewal.{hashes_of, line_of, renewed, renewed_hashes, with_hash}
 
 -- the lines that stand in a file; None where it is damaged
 abbrev pub standing_in : Option (List ℕ) → Option (List Remembered)

@@ -1,4 +1,4 @@
-use Rattle.std.proofs.Common.{◌≡◌, ◌∙◌, true, false, sym}
+use Rattle.std.proofs.Common.{◌∙◌, sym}
 use Rattle.pam_outside.specs.Time.{ClockState}
 use Rattle.pam_room.specs.Plain.{plain_call}
 use Rattle.pam_room.specs.State.{PlainRoom}

@@ -1,4 +1,4 @@
-use Rattle.std.proofs.Common.{◌≡◌, ◌∙◌, Ok, Err, List, Option, ℕ, rules}
+use Rattle.std.proofs.Common.{◌≡◌, ◌∙◌, Ok, Err, rules}
 use Rattle.pam_base.specs.declared.code.Code.{Code}
 use Rattle.account_files.specs.Act.{Act}
 use Rattle.module_acts.specs.Comes.{early, then}

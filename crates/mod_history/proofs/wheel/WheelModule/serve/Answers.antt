@@ -1,5 +1,5 @@
 use Rattle.std.proofs.Common.{Ok}
-use Rattle.mod_history.specs.Wheel.{checks_wheel, wheel_act}
+use Rattle.mod_history.specs.Wheel.{wheel_act}
 use Rattle.mod_history.proofs.Telling.{first, second, seen}
 use Rattle.mod_history.proofs.wheel.WheelModule.serve.Goals as goal
 
