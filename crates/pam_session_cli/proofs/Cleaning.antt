@@ -1,5 +1,5 @@
 -- Where no transaction is open, each birth has its one receipt.
-use Rattle.std.proofs.Common.{◌≡◌, ℕ, zero, suc, ltb, if◌then◌else◌, Bool, true, false, List, [], ◌∷◌, ◌++◌, map, slice_get, refl, sym, ap, subst, arith}
+use Rattle.std.proofs.Common.{◌≡◌, ℕ, zero, suc, ltb, if◌then◌else◌, Bool, true, false, List, [], ◌∷◌, ◌++◌, map, slice_get, Option, refl, sym, ap, subst, arith}
 use Rattle.std.specs.Prelude.{nat_eq}
 use Rattle.std.specs.List.{IsDistinct}
 use Rattle.data_cleanup.specs.Datum.{PlainDatum}
@@ -11,8 +11,9 @@ use Rattle.data_due.specs.Stands.{Lists, StandFor, times_held, receipts_in}
 use Rattle.pam_library.specs.Calls.{Moved, births_added, events_of}
 use Rattle.pam_library.specs.Slots.{NoneIsOpen, PlainSlot, closed, opened, data_in, lists_of}
 use Rattle.session_run.specs.AnyWorld.{AllEndsAre, Proceeds, ProceedsBy}
-use Rattle.session_run.specs.Ends.{EndsAre, IsEndOfRun}
-use Rattle.pam_session_cli.specs.Run.{IsCleanedUp}
+use Rattle.session_run.specs.Ends.{EndsAre}
+use Rattle.pam_session_cli.specs.CleanedUp.{IsCleanedUp, MayEnd}
+use Rattle.pam_session_cli.specs.Command.{Request}
 
 -- ---- closed places hold nothing
 
@@ -58,9 +59,9 @@ module _ (Is : ℕ → ℕ → Type 0) where
 
 -- ---- a run
 
-stood : (tells : Bool) (script : List ℕ) (note : Notes) (ledger : PlainLedger) (slots : List PlainSlot) (events : List Event)
-    → EndsAre (IsEndOfRun tells script) events → StandFor note 17 ledger (lists_of slots) events → NoneIsOpen slots → IsCleanedUp tells script note ledger
-stood tells script note ledger slots events are stand none = record {
+stood : (Is : ℕ → ℕ → Type 0) (note : Notes) (ledger : PlainLedger) (slots : List PlainSlot) (events : List Event)
+    → EndsAre Is events → StandFor note 17 ledger (lists_of slots) events → NoneIsOpen slots → IsCleanedUp Is note ledger
+stood Is note ledger slots events are stand none = record {
   events = events;
   ends_are = are;
   births = stand.births;
@@ -72,14 +73,14 @@ stood tells script note ledger slots events are stand none = record {
       omega (arith, total, nothing);
 }
 
-pub cleaned_up : (tells : Bool) (script : List ℕ) (note : Notes) (before now after : PlainLedger) (slots left : List PlainSlot)
+pub cleaned_up : (Is : ℕ → ℕ → Type 0) (note : Notes) (before now after : PlainLedger) (slots left : List PlainSlot)
     → ((first last : PlainLedger) (lists next : Lists) (events : List Event) (p : Proceeds note first lists last next)
     → StandFor note 17 first lists events → StandFor note 17 last next (events ++ events_of first p.calls))
-    → StandFor note 17 before (lists_of slots) [] → now ≡ before → ProceedsBy (IsEndOfRun tells script) note now (lists_of slots) after (lists_of left) → NoneIsOpen left
-    → IsCleanedUp tells script note after
-cleaned_up tells script note before now after slots left law stand same went none =
+    → StandFor note 17 before (lists_of slots) [] → now ≡ before → ProceedsBy Is note now (lists_of slots) after (lists_of left) → NoneIsOpen left
+    → IsCleanedUp Is note after
+cleaned_up Is note before now after slots left law stand same went none =
     let first : StandFor note 17 now (lists_of slots) [] = subst (λ (l : PlainLedger). StandFor note 17 l (lists_of slots) []) (sym same) stand in
-    stood tells script note after left ([] ++ events_of now went.went.calls) (events_are (IsEndOfRun tells script) now went.went.calls went.ends_are)
+    stood Is note after left ([] ++ events_of now went.went.calls) (events_are Is now went.went.calls went.ends_are)
     (law now after (lists_of slots) (lists_of left) [] went.went first) none
 
 -- ---- where nothing happened
@@ -91,8 +92,8 @@ none_apart : IsDistinct nat_eq []
 unfolding IsDistinct
 none_apart = tt
 
-pub nothing_to_clean : (tells : Bool) (script : List ℕ) (note : Notes) (ledger : PlainLedger) → ledger.births ≡ [] → ledger.filed ≡ [] → IsCleanedUp tells script note ledger
-nothing_to_clean tells script note ledger births filed = record {
+pub nothing_to_clean : (Is : ℕ → ℕ → Type 0) (note : Notes) (ledger : PlainLedger) → ledger.births ≡ [] → ledger.filed ≡ [] → IsCleanedUp Is note ledger
+nothing_to_clean Is note ledger births filed = record {
   events = [];
   ends_are = tt;
   births = births;
@@ -104,3 +105,10 @@ nothing_to_clean tells script note ledger births filed = record {
   };
   once = λ id. rw (births, filed) (none_below id 0 refl);
 }
+
+-- ---- by what was asked for
+
+pub cleaned_as : (request asked : Option Request) (tells : Bool) (script : List ℕ) (note : Notes) (ledger : PlainLedger) → asked ≡ request
+    → IsCleanedUp (MayEnd asked tells script) note ledger → IsCleanedUp (MayEnd request tells script) note ledger
+cleaned_as request asked tells script note ledger same cleaned =
+    subst (λ (r : Option Request). IsCleanedUp (MayEnd r tells script) note ledger) same cleaned

@@ -7,7 +7,7 @@ use Rattle.data_due.specs.Stands.{StandFor}
 use Rattle.pam_outside.specs.Streams.{SourceState, SinkState}
 use Rattle.pam_room.specs.Module.{notes_of}
 use Rattle.pam_room.specs.State.{PlainWorld}
-use Rattle.pam_library.specs.Slots.{PlainSlot, closed, lists_of, slot_at}
+use Rattle.pam_library.specs.Slots.{NoneIsOpen, PlainSlot, closed, lists_of, slot_at}
 use Rattle.pam_library.specs.Sound.{IsSound}
 use Rattle.script_stream.specs.Turns.{Ending}
 use Rattle.item_stream.specs.declared.ending.Ending.TheVariants.{Done, ReadFault, Refused}
@@ -58,6 +58,13 @@ pub stand_at_first : {B : Type 0} (note : Notes) (holds : B → ConvState) (conv
     → StandFor note 17 ledger (lists_of slots) []
 stand_at_first note holds convs slots ledger law are births filed =
     subst₂ (λ (s : List PlainSlot) (l : PlainLedger). StandFor note 17 l (lists_of s) []) (map-closed holds convs ∙ sym are) (no_entries ledger births filed) (law (map holds convs))
+
+none_open : {B : Type 0} (holds : B → ConvState) (convs : List B) → NoneIsOpen (map (λ b. closed (holds b)) convs)
+none_open holds [] = tt
+none_open holds (b ∷ convs) = (refl, none_open holds convs)
+
+pub none_open_at_first : {B : Type 0} (holds : B → ConvState) (convs : List B) (slots : List PlainSlot) → slots ≡ map (λ b. closed (holds b)) convs → NoneIsOpen slots
+none_open_at_first holds convs slots are = subst NoneIsOpen (sym are) (none_open holds convs)
 
 module _ (setting : Setting) (slots ends : List PlainSlot) (root : List ℕ) (old now new : PlainWorld) (x y : SourceState) (p q : SinkState) where
   pub begun : (result : Result Ending Stop) (status : ℕ) → status ≡ status_of result → IsUnder root old now

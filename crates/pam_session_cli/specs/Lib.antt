@@ -1,4 +1,5 @@
 pub mod Command
 pub mod Asked
 pub mod Run
+pub mod CleanedUp
 pub mod Status

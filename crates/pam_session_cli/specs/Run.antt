@@ -1,10 +1,6 @@
 -- A run of a script under a root, by the status with which the program ends (this project's own).
-use Rattle.std.specs.Prelude.{◌≡◌, ◌⊎◌, ℕ, ◌≤◌, nat_lt, if◌then◌else◌, Bool, true, false, List, [], ◌++◌, length, Some, None, Result, Ok, Err}
-use Rattle.data_cleanup.specs.Cleanup.{Notes}
-use Rattle.data_cleanup.specs.Due.{Event, due}
-use Rattle.data_cleanup.specs.Ledger.{PlainLedger}
-use Rattle.data_cleanup.specs.Tidy.{Tidy}
-use Rattle.data_due.specs.Stands.{StandFor, births_of, receipts_in, times_filed}
+use Rattle.std.specs.Prelude.{◌≡◌, ◌⊎◌, ℕ, ◌≤◌, Bool, true, false, List, [], ◌++◌, length, Some, None, Result, Ok, Err}
+use Rattle.data_due.specs.Stands.{StandFor}
 use Rattle.pam_base.specs.declared.fault.ScriptKind.{ScriptKind}
 use Rattle.pam_outside.specs.Streams.{SourceState, SinkState}
 use Rattle.pam_room.specs.Module.{notes_of}
@@ -15,7 +11,7 @@ use Rattle.item_stream.specs.declared.ending.Ending.TheVariants.{Done, ReadFault
 use Rattle.item_stream.specs.declared.ending.Stop.{Stop}
 use Rattle.item_stream.specs.declared.ending.Stop.TheVariants.{NoMemory, WriteFault}
 use Rattle.script_stream.specs.Run.{Run, run_of}
-use Rattle.session_run.specs.Ends.{EndsAre, IsEndOfRun}
+use Rattle.data_cleanup.specs.Due.{Event}
 use Rattle.session_run.specs.Events.{AreDue, run_events}
 use Rattle.session_run.specs.Reading.{ReadsScript, refused_in}
 use Rattle.session_run.specs.SideBySide.{ComesAlone, TellsSteps}
@@ -141,17 +137,3 @@ IsAccepted script left = (refused_in script true ≡ None) × (left ≡ [])
 
 abbrev pub HasRefused : List ℕ → Type 0
 HasRefused script = (kind : ScriptKind) × (refused_in script true ≡ Some kind)
-
--- ---- module data, in any world
-
--- Each datum that was set was cleaned up exactly once: the receipts are those that births and ends of transactions make due, in their
--- order, each with its status, and every birth has one. The ledger is in order: each receipt has its owner's note, and a datum that was
--- replaced by one of its transaction and name has the status that says so. Where the script's text is told, a transaction was ended with the status that one
--- of its lines asks for, for that number, or with one of those with which a run ends what is open.
-pub record IsCleanedUp (tells : Bool) (script : List ℕ) (note : Notes) (ledger : PlainLedger) : Type 0 where
-  pub events : List Event
-  pub ends_are : EndsAre (IsEndOfRun tells script) events
-  pub births : ledger.births ≡ births_of events
-  pub receipts : receipts_in ledger.filed ≡ due note events
-  pub tidy : Tidy note ledger
-  pub once : (id : ℕ) → times_filed id (receipts_in ledger.filed) ≡ (if nat_lt id (length ledger.births) then 1 else 0)

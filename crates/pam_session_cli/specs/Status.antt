@@ -5,8 +5,8 @@ use Rattle.pam_outside.specs.Files.{VaultState, counted}
 use Rattle.pam_outside.specs.Streams.{SinkState}
 use Rattle.item_stream.specs.declared.ending.Stop.{Stop}
 use Rattle.item_stream.specs.declared.ending.Stop.TheVariants.{NoMemory, WriteFault}
-use Rattle.session_check.specs.declared.check.Found.{Found}
-use Rattle.session_check.specs.declared.check.Found.TheVariants.{Configured, Refused}
+use Rattle.session_check.specs.declared.finding.Found.{Found}
+use Rattle.session_check.specs.declared.finding.Found.TheVariants.{Configured, Refused}
 use Rattle.session_check.specs.Check.{Check, Checks}
 use Rattle.session_tally.specs.declared.finding.Tallied.{Tallied}
 use Rattle.session_tally.specs.declared.finding.Tallied.TheVariants.{Listed, Damaged, Unread}

@@ -16,7 +16,7 @@ pub trait DeskTold {
     ghost use Rattle.pam_library.specs.Slots.{PlainSlot};
     ghost use Rattle.pam_room.specs.Module.{Player};
 
-    /// Whether all conversations tell.
+    /// Whether all conversations of the transactions tell.
     ghost tells: { Self → Bool };
 
     /// The closed places that they make.
@@ -36,5 +36,6 @@ impl DeskTold for Desk {
 
     ghost slots = { λ d. map (λ b. closed ((Conv-box b).conv_holds b.value)) d.convs.items };
 
-    ghost players = { λ d. map (player_of (λ b. (Module-box b).label b.value) (λ b. (Module-box b).plays b.value) (λ b. (Module-box b).note b.value)) d.mods.items };
+    ghost players = { λ d. map (player_of (λ b. (Module-box b).label b.value)
+        (λ b. (Module-box b).plays b.value) (λ b. (Module-box b).note b.value)) d.mods.items };
 }

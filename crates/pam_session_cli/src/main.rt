@@ -1,28 +1,25 @@
-//! `pamsess`: applies the calls of a script to the transactions of a configuration and reports what
-//! each answers, or prints a configuration.
+//! `pamsess`: applies the calls of a script to the transactions of a configuration and reports what each answers, or prints what
+//! a configuration or a tally comes to.
 #![tactic(auto)]
 
-ghost use Rattle.std.specs.Prelude.{◌≡◌, []};
+ghost use Rattle.std.specs.Prelude.{◌≡◌, [], IfOk, OnErr};
 
 mod command;
 mod desk;
+mod opening;
 mod program;
 mod script_run;
+mod shipped;
 mod status;
 mod usage;
 
 use conv_port::{Conv, QueueConv};
-use data_cleanup::Ledger;
 pub use desk::Desk;
-use mod_basic::{Debug, Deny, Permit, Probe, Rootok};
-use mod_env::Env as EnvModule;
-use mod_lists::{Listfile, Nologin, Shells, SucceedIf};
-use mod_tally::Faillock;
-use mod_unix::Unix;
-use pam_base::{Code, Text};
+use pam_base::Code;
 use pam_outside::{FixedClock, FolderVault, NapSum, ReaderSource, Sink, Source, WriterSink};
-use pam_room::{Module, Process, World};
+use pam_room::World;
 pub use program::pamsess;
+use shipped::{process_of_nobody, shipped_modules};
 use std::alloc::Global;
 use std::io::ErrorKind;
 use std::process::ExitCode;
@@ -35,9 +32,6 @@ mod tests;
 /// The status where there is no memory for the objects that the program is given.
 const NO_MEMORY: u8 = 4;
 
-/// The caller whose process the transactions are in: nobody.
-const CALLER: u32 = 65534;
-
 /// How many transactions may be open at a time, each with a conversation.
 const TRANSACTIONS: usize = 16;
 
@@ -45,7 +39,18 @@ const TRANSACTIONS: usize = 16;
 const LONGEST_WAIT: u32 = 3_000_000;
 
 fn main(rt: HostRuntime) -> ExitCode {
-    ExitCode::from(run(rt).unwrap_or(NO_MEMORY))
+    ExitCode::from(exit_status(run(rt)))
+}
+
+// The status that the program answered, or that of want of memory where it couldn't be called.
+fn exit_status(answered: io::Result<u8>) -> u8
+    ensures answered { IfOk answered (λ status. result ≡ status) }
+    ensures not_called { OnErr answered (result ≡ NO_MEMORY) }
+{
+    match answered {
+        Ok(status) => status,
+        Err(_) => NO_MEMORY,
+    }
 }
 
 // Makes the real objects, and calls the program with them.
@@ -58,18 +63,13 @@ fn run(rt: HostRuntime) -> io::Result<u8> {
         vault: Box::new(alloc, FolderVault::new(rt))?,
         clock: Box::new(alloc, FixedClock::new(0, 0))?,
         nap: Box::new(alloc, NapSum::new())?,
-        process: Process {
-            ledger: Ledger::new(alloc),
-            root: Text::new(alloc),
-            caller: CALLER,
-        },
+        process: process_of_nobody(alloc),
     };
     serve(alloc, &words, &mut script, &mut out, &mut world)
 }
 
-// Calls the program with the shipped modules, a conversation without replies for each transaction,
-// and a delay function that waits as long as it is asked to, but three seconds at most, and not
-// behind SUCCESS.
+// Calls the program with the shipped modules, a conversation without replies for each transaction, and a delay function that
+// waits as long as it is asked to, but three seconds at most, and not behind SUCCESS.
 fn serve<S: Source, K: Sink>(
     alloc: Global,
     words: &[String],
@@ -80,19 +80,6 @@ fn serve<S: Source, K: Sink>(
     requires no_births { world.old.process.ledger.births ≡ [] }
     requires no_receipts { world.old.process.ledger.filed ≡ [] }
 {
-    let mut mods: Vec<Box<dyn Module>> = Vec::new(alloc);
-    mods.push(Box::new(alloc, Permit::new())?)?;
-    mods.push(Box::new(alloc, Deny::new())?)?;
-    mods.push(Box::new(alloc, Debug::new())?)?;
-    mods.push(Box::new(alloc, Rootok::new())?)?;
-    mods.push(Box::new(alloc, Probe::new())?)?;
-    mods.push(Box::new(alloc, Nologin::new())?)?;
-    mods.push(Box::new(alloc, Listfile::new())?)?;
-    mods.push(Box::new(alloc, Shells::new())?)?;
-    mods.push(Box::new(alloc, SucceedIf::new())?)?;
-    mods.push(Box::new(alloc, EnvModule::new())?)?;
-    mods.push(Box::new(alloc, Unix::new())?)?;
-    mods.push(Box::new(alloc, Faillock::new())?)?;
     let mut convs: Vec<Box<dyn Conv>> = Vec::new(alloc);
     for _ in 0..TRANSACTIONS {
         convs.push(Box::new(alloc, QueueConv::new(alloc))?)?;
@@ -105,7 +92,7 @@ fn serve<S: Source, K: Sink>(
         }
     };
     let desk = Desk {
-        mods,
+        mods: shipped_modules(alloc)?,
         convs,
         delay: Box::new(alloc, delay)?,
     };

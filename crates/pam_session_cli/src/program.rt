@@ -1,4 +1,4 @@
-ghost use Rattle.std.specs.Prelude.{◌≡◌, ◌≢◌, ◌⊎◌, ◌≤◌, ◌<◌, ◌^◌, ◌&&◌, ℕ, List, [], None, Some, IsSome, IsTrue, length};
+ghost use Rattle.std.specs.Prelude.{◌≡◌, ◌≢◌, ◌⊎◌, ◌≤◌, ◌<◌, ◌^◌, ◌&&◌, ℕ, List, [], None, Some, IsTrue, length};
 ghost use Rattle.pam_base.specs.declared.code.Code.{Code};
 ghost use Rattle.fail_delay.specs.DelayFn.{GivesOneNumber, IsNumberGiven};
 ghost use Rattle.pam_outside.specs.Counts.{Rose};
@@ -13,7 +13,8 @@ ghost use Rattle.pam_library.specs.Sound.{IsSoundFor};
 ghost use Rattle.service_load.specs.Loading.{OnlyCalls};
 ghost use Rattle.session_check.specs.Check.{check_of};
 ghost use Rattle.pam_session_cli.specs.Command.{request_of, runs, checks, tallies};
-ghost use Rattle.pam_session_cli.specs.Run.{Completes, HasRefused, IsAccepted, IsCleanedUp, IsDone, IsRefused, IsStatus, IsUnread, ReadsBy, Runs, opening};
+ghost use Rattle.pam_session_cli.specs.CleanedUp.{IsCleanedUp, MayEnd};
+ghost use Rattle.pam_session_cli.specs.Run.{Completes, HasRefused, IsAccepted, IsDone, IsRefused, IsStatus, IsUnread, ReadsBy, Runs, opening};
 ghost use Rattle.pam_session_cli.specs.Status.{CallsOnce, ChecksBy, CountsUnread, IsCheckStatus, IsTallyStatus, TalliesBy, WritesUsage};
 ghost use Rattle.session_tally.specs.Tally.{tally_of};
 
@@ -40,13 +41,19 @@ use std::alloc::Global;
 /// - `tally ROOT USER` lists the failures of a user that `pam_faillock(8)` has recorded, and changes nothing of the
 ///   world but what the vault counts. A USER that can be no file's name is none.
 ///
-/// A word isn't empty and doesn't begin with `-`. It answers the program's status: 0, the script
-/// was read to its end, or the configuration printed; 2, the words are others, so only a line on
-/// the usage is written; 3, the configuration is refused; 4, memory ran out; 5, the script couldn't
-/// be read on; 6, a write failed, and what is written is a front of a report; 7, a line of the
-/// script is refused. On every way out each transaction that is open is ended: with SUCCESS,
-/// BUF_ERR (4), SYSTEM_ERR (5 and 6) or ABORT (7). Of a tally alone come 9, the file is damaged,
-/// and 10, it can't be read.
+/// A word isn't empty and doesn't begin with `-`. It answers the program's status:
+///
+/// - 0: the script was read to its end, the configuration is printed, or the failures are listed
+/// - 2: the words are others, so only a line on the usage is written
+/// - 3: the configuration is refused
+/// - 4: memory ran out
+/// - 5: the script couldn't be read on
+/// - 6: a write failed, and what is written is a front of a report
+/// - 7: a line of the script is refused
+/// - 9: the tally is damaged
+/// - 10: the tally can't be read
+///
+/// On every way out each transaction that is open is ended: with SUCCESS, BUF_ERR (4), SYSTEM_ERR (5 and 6) or ABORT (7).
 ///
 /// The delay function is to answer one number for each code and each delay of at most 90 seconds,
 /// of at most 60 seconds.
@@ -190,9 +197,9 @@ pub fn pamsess<S: Source, K: Sink>(
     ensures write_fault { result ≡ 6 → Rose (K.sink_faults out.old) (K.sink_faults out.new) }
     ensures no_write_fault { result ≢ 6 → K.sink_faults out.new ≡ K.sink_faults out.old }
 
-    // In any world, whatever the status: every module datum that was set was cleaned up exactly
-    // once, with its due status.
-    ensures cleaned_up { IsCleanedUp (S.source_tells script.old) (S.source_holds script.old).left
+    // In any world, whatever the status: every module datum that was set was cleaned up exactly once, with its due status.
+    ensures cleaned_up { IsCleanedUp (MayEnd (request_of words.now) (S.source_tells script.old)
+        (S.source_holds script.old).left)
         (notes_of (⟦<Desk as DeskTold>⟧.players desk)) world.new.process.ledger }
 
     // What tells before the run tells after it.

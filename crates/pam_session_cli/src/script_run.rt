@@ -9,9 +9,12 @@ ghost use Rattle.pam_room.specs.Module.{notes_of};
 ghost use Rattle.pam_library.specs.Slots.{handle_limit, lists_of};
 ghost use Rattle.pam_library.specs.Plain.{gear_in};
 ghost use Rattle.pam_library.specs.Sound.{IsSoundFor};
-ghost use Rattle.pam_session_cli.specs.Run.{IsBegun, IsCleanedUp, IsStatus, IsUnder, ReadsBy, Runs, opening, status_of};
+ghost use Rattle.pam_session_cli.specs.CleanedUp.{IsCleanedUp};
+ghost use Rattle.session_run.specs.Ends.{IsEndOfRun};
+ghost use Rattle.pam_session_cli.specs.Run.{IsBegun, IsStatus, IsUnder, ReadsBy, Runs, opening, status_of};
 
 use crate::desk::{Desk, DeskTold};
+use crate::opening::library_of;
 use fail_delay::{DelayFn, DelayRule, DelayTold, LONGEST_ASKED};
 use item_stream::{Ending, Stop};
 use pam_base::{Code, ScriptKind, Text};
@@ -51,7 +54,8 @@ pub(crate) fn run<S: Source, K: Sink>(
         ReadsBy result (S.source_holds script.old) (S.source_holds script.new) }
     ensures writes { IsTrue (K.sink_tells out.old) →
         WritesScript (K.sink_holds out.old) (K.sink_holds out.new) }
-    ensures cleaned_up { IsCleanedUp (S.source_tells script.old) (S.source_holds script.old).left
+    ensures cleaned_up { IsCleanedUp (IsEndOfRun (S.source_tells script.old)
+        (S.source_holds script.old).left)
         (notes_of (⟦<Desk as DeskTold>⟧.players desk)) world.new.process.ledger }
     ensures read_fault { result ≡ 5 → Rose (S.source_faults script.old)
         (S.source_faults script.new) }
@@ -64,16 +68,10 @@ pub(crate) fn run<S: Source, K: Sink>(
     ensures world_tells { ⟦<World as WorldTold>⟧.tells world.new
         ≡ ⟦<World as WorldTold>⟧.tells world.old }
 {
-    pam_library::laws::closed_places_stand_for_none();
     let Ok(root) = Text::from_bytes(alloc, root) else {
         return status_of(Err(Stop::NoMemory));
     };
-    let Desk { mods, convs, delay } = desk;
-    let gear = Gear {
-        mods,
-        delay: DelayFn::new(delay),
-    };
-    let Ok(library) = Library::new(alloc, gear, convs) else {
+    let Ok(library) = library_of(alloc, desk, &world.process.ledger) else {
         return status_of(Err(Stop::NoMemory));
     };
     run_over(alloc, library, root, script, out, world)
@@ -108,7 +106,8 @@ fn run_over<S: Source, K: Sink>(
         ReadsBy result (S.source_holds script.old) (S.source_holds script.new) }
     ensures writes { IsTrue (K.sink_tells out.old) →
         WritesScript (K.sink_holds out.old) (K.sink_holds out.new) }
-    ensures cleaned_up { IsCleanedUp (S.source_tells script.old) (S.source_holds script.old).left
+    ensures cleaned_up { IsCleanedUp (IsEndOfRun (S.source_tells script.old)
+        (S.source_holds script.old).left)
         (notes_of (⟦<Gear as GearTold>⟧.players (gear_in library))) world.new.process.ledger }
     ensures read_fault { result ≡ 5 → Rose (S.source_faults script.old)
         (S.source_faults script.new) }

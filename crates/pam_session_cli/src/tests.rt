@@ -1,7 +1,7 @@
 //! What the program says, and what it leaves behind, where calls of the source, the sink or the vault are to fail.
 
 use super::*;
-use pam_base::Numbers;
+use pam_base::{Numbers, Text};
 use pam_outside::{MemSink, MemSource, MemVault};
 use std::alloc::Global;
 use std::test::Fail;
@@ -180,11 +180,7 @@ fn run_row(alloc: Global, row: &Row) -> Result<Ran, Fail> {
         vault: Box::new(alloc, vault)?,
         clock: Box::new(alloc, FixedClock::new(7, 7))?,
         nap: Box::new(alloc, NapSum::new())?,
-        process: Process {
-            ledger: Ledger::new(alloc),
-            root: Text::new(alloc),
-            caller: CALLER,
-        },
+        process: process_of_nobody(alloc),
     };
     let status = serve(alloc, &words, &mut script, &mut out, &mut world)?;
     Ok(Ran {

@@ -10,8 +10,8 @@ use Rattle.service_load.specs.declared.trees.Trees.{Trees}
 use Rattle.service_load.specs.FirstFault.{Counts, Stop}
 use Rattle.service_load.specs.Load.{AreTrees, LoadsTrees}
 use Rattle.service_print.specs.Printed.{printed, stacks_in}
-use Rattle.session_check.specs.declared.check.Found.TheVariants.{Configured}
-use Rattle.session_check.specs.declared.check.Finding.{Finding}
+use Rattle.session_check.specs.declared.finding.Found.TheVariants.{Configured}
+use Rattle.session_check.specs.declared.finding.Finding.{Finding}
 use Rattle.session_check.specs.Check.{IsCheck, check_by, files_text}
 
 same_at : (trees : Trees) (stack : RuleType → Stack) → AreTrees trees stack → (type : RuleType) → stacks_in trees type ≡ stack type

@@ -15,9 +15,9 @@ use Rattle.service_print.specs.Printed.{printed}
 use Rattle.session_report.specs.Fault.{refused_text}
 use Rattle.item_stream.specs.declared.ending.Stop.{Stop as Stopped}
 use Rattle.item_stream.specs.declared.ending.Stop.TheVariants.{NoMemory}
-use Rattle.session_check.specs.declared.check.Finding.{Finding}
-use Rattle.session_check.specs.declared.check.Found.{Found}
-use Rattle.session_check.specs.declared.check.Found.TheVariants.{Configured, Refused}
+use Rattle.session_check.specs.declared.finding.Finding.{Finding}
+use Rattle.session_check.specs.declared.finding.Found.{Found}
+use Rattle.session_check.specs.declared.finding.Found.TheVariants.{Configured, Refused}
 
 -- file NAME, and its text
 abbrev pub file_text : File → List ℕ

@@ -1,6 +1,6 @@
 //! The command `check`: prints the configuration of a service in one form, or its first fault.
 #![tactic(auto)]
 
-mod check;
+mod finding;
 
-pub use check::{Found, check};
+pub use finding::{Found, check};

@@ -1,5 +1,5 @@
 use Rattle.pam_session_cli.proofs.Alone.{accepted, has_refused}
-use Rattle.pam_session_cli.proofs.Cleaning.{nothing_to_clean}
+use Rattle.pam_session_cli.proofs.Cleaning.{cleaned_as, nothing_to_clean}
 use Rattle.pam_session_cli.proofs.Telling.{asked_root, runs_asked, done_asked, refused_asked, unread_asked, completes_asked}
 use Rattle.pam_session_cli.proofs.program.pamsess.Goals as goal
 
@@ -24,10 +24,10 @@ returns-in-Some-Run-clause-complete g c root number asked given source sink both
     completes_asked _ _ _ _ _ _ _ _ _ _ _ (asked_root c.in-Some-Run.root.now _ root _ (rw c.in-Some-Run.field-0-is at c.in-Some-Run.ensures) asked c.as_bytes.ensures.value) _ _ (c.run.ensures.told number given source sink both) c.run.ensures.read_fault c.run.ensures.write_fault
 
 pub returns-in-None-clause-cleaned_up : goal.returns-in-None-clause-cleaned_up
-returns-in-None-clause-cleaned_up g c = nothing_to_clean _ _ _ _ c.requires.no_births c.requires.no_receipts
+returns-in-None-clause-cleaned_up g c = nothing_to_clean _ _ _ c.requires.no_births c.requires.no_receipts
 
 pub returns-in-Some-Check-clause-cleaned_up : goal.returns-in-Some-Check-clause-cleaned_up
-returns-in-Some-Check-clause-cleaned_up g c = nothing_to_clean _ _ _ _ c.requires.no_births c.requires.no_receipts
+returns-in-Some-Check-clause-cleaned_up g c = nothing_to_clean _ _ _ c.requires.no_births c.requires.no_receipts
 
 pub returns-in-Some-Run-clause-reads : goal.returns-in-Some-Run-clause-reads
 returns-in-Some-Run-clause-reads g c root asked source = c.run.ensures.reads source
@@ -40,3 +40,9 @@ returns-in-Some-Run-clause-has_refused g c root asked source is = has_refused _ 
 
 pub returns-in-Some-Run-clause-writes : goal.returns-in-Some-Run-clause-writes
 returns-in-Some-Run-clause-writes g c root asked sink = c.run.ensures.writes sink
+
+pub returns-in-Some-Tally-clause-cleaned_up : goal.returns-in-Some-Tally-clause-cleaned_up
+returns-in-Some-Tally-clause-cleaned_up g c = nothing_to_clean _ _ _ c.requires.no_births c.requires.no_receipts
+
+pub returns-in-Some-Run-clause-cleaned_up : goal.returns-in-Some-Run-clause-cleaned_up
+returns-in-Some-Run-clause-cleaned_up g c = cleaned_as _ _ _ _ _ _ (rw c.in-Some-Run.field-0-is at c.in-Some-Run.ensures) c.run.ensures.cleaned_up

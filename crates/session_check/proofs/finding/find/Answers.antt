@@ -1,6 +1,6 @@
 use Rattle.std.proofs.Common.{refl}
 use Rattle.session_check.proofs.Checking.{configured}
-use Rattle.session_check.proofs.check.find.Goals as goal
+use Rattle.session_check.proofs.finding.find.Goals as goal
 
 pub returns-in_ok-configuration-in-Ok-clause-told : goal.returns-in_ok-configuration-in-Ok-clause-told
 returns-in_ok-configuration-in-Ok-clause-told g c tells =
