@@ -13,7 +13,6 @@ ghost use Rattle.mod_env.specs.Puts.{Puts};
 
 use crate::conf::{Entries, conf_of};
 use crate::env_file::assignments_of;
-use crate::laws::puts_alone;
 use crate::setting::{put_all, set_all};
 use account_files::{Content, laws, read_named};
 use conv_port::Conv;
@@ -61,7 +60,7 @@ impl Module for Env {
         _clock: &mut dyn Clock,
     ) -> Result<Code, NoMemory> {
         laws::act_steps();
-        puts_alone();
+        crate::laws::puts_alone();
         match at_once(call.func) {
             Some(code) => Ok(code),
             None => read_first(alloc, call, transaction, process, vault),
@@ -100,7 +99,7 @@ fn read_first(
     ensures puts { Puts transaction.old transaction.new }
 {
     laws::act_steps();
-    puts_alone();
+    crate::laws::puts_alone();
     let name = name_or(call.value(b"conffile="), b"/etc/security/pam_env.conf");
     let content = read_named(alloc, vault, process.root.bytes(), name, ENV_LIMIT)?;
     match text_in(alloc, content) {
@@ -129,7 +128,7 @@ fn read_second(
     ensures puts { Puts transaction.old transaction.new }
 {
     laws::act_steps();
-    puts_alone();
+    crate::laws::puts_alone();
     if is_zero(call.value(b"readenv=")) {
         let nothing = no_text(alloc);
         return set_by_texts(alloc, conf, nothing, transaction, process, vault);
@@ -158,7 +157,7 @@ fn set_by_texts(
     ensures puts { Puts transaction.old transaction.new }
 {
     laws::act_steps();
-    puts_alone();
+    crate::laws::puts_alone();
     match env {
         None => Ok(Code::ServiceErr),
         Some(env) => set_by_conf(alloc, conf, env.bytes(), transaction, process, vault),
@@ -176,13 +175,14 @@ fn set_by_conf(
 ) -> Result<Code, NoMemory>
     ensures tells { vault_tells vault.new ≡ vault_tells vault.old }
     ensures told { IsTrue (vault_tells vault.old) → (conv : ConvState) (clock : ClockState) →
-        IfOk result (λ code. Acts (by_entries (conf_of conf.now) (assignments_of env.now)) nothing_known
+        IfOk result (λ code. Acts (by_entries (conf_of conf.now)
+        (assignments_of env.now)) nothing_known
         (standing transaction.old conv (vault_holds vault.old) clock process.now) code
         (standing transaction.new conv (vault_holds vault.new) clock process.now)) }
     ensures puts { Puts transaction.old transaction.new }
 {
     laws::act_steps();
-    puts_alone();
+    crate::laws::puts_alone();
     match conf_of(alloc, conf)? {
         None => Ok(Code::ServiceErr),
         Some(entries) => set_both(alloc, &entries, env, transaction, process, vault),
@@ -200,13 +200,14 @@ fn set_both(
 ) -> Result<Code, NoMemory>
     ensures tells { vault_tells vault.new ≡ vault_tells vault.old }
     ensures told { IsTrue (vault_tells vault.old) → (conv : ConvState) (clock : ClockState) →
-        IfOk result (λ code. Acts (sets_all entries.now (puts_all (assignments_of env.now) (answers Code.Success))) nothing_known
+        IfOk result (λ code. Acts (sets_all entries.now (puts_all (assignments_of env.now)
+        (answers Code.Success))) nothing_known
         (standing transaction.old conv (vault_holds vault.old) clock process.now) code
         (standing transaction.new conv (vault_holds vault.new) clock process.now)) }
     ensures puts { Puts transaction.old transaction.new }
 {
     laws::act_steps();
-    puts_alone();
+    crate::laws::puts_alone();
     let assignments = assignments_of(alloc, env)?;
     if !set_all(alloc, entries, transaction, process, vault)? {
         return Ok(Code::BufErr);

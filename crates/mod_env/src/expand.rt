@@ -83,7 +83,8 @@ fn fitting(alloc: Global, from: Sources, value: &Pieces) -> Result<Option<Text>,
 }
 
 fn push_piece(from: Sources, piece: &Piece, text: &mut Vec<u8>) -> Result<(), NoMemory>
-    ensures { OnOk result (text.new.items ≡ text.old.items ++ piece_text (plain_sources from.entry) piece.now) }
+    ensures { OnOk result (text.new.items ≡ text.old.items
+        ++ piece_text (plain_sources from.entry) piece.now) }
 {
     match piece {
         Piece::Byte(byte) => text.push(*byte)?,

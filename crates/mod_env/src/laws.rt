@@ -22,23 +22,33 @@ ghost use Rattle.mod_env.specs.Spelling.{SpellsConf};
 /// Does nothing: its contract is that a text of `pam_env.conf(5)` has one reading. Whatever variables the lines of a text
 /// spell, they are the ones that are read, so that no text spells two.
 pub fn a_text_has_one_reading()
-    ensures read { (entries : List Entry) (text : List ℕ) → SpellsConf entries text → conf_of text ≡ Some entries }
-    ensures one { (entries others : List Entry) (text : List ℕ) → SpellsConf entries text → SpellsConf others text → entries ≡ others }
+    ensures read { (entries : List Entry) (text : List ℕ) → SpellsConf entries text →
+        conf_of text ≡ Some entries }
+    ensures one { (entries others : List Entry) (text : List ℕ) → SpellsConf entries text →
+        SpellsConf others text → entries ≡ others }
 {}
 
 /// Does nothing: its contract is the laws of the steps at the environment.
 pub(crate) fn env_steps()
-    ensures seeing { (act : List Variable → Act) (known : Known) (s : Scene) (code : Code) (new : Scene) →
+    ensures seeing { (act : List Variable → Act) (known : Known) (s : Scene) (code : Code)
+        (new : Scene) →
         Acts (act s.room.transaction.env) known s code new → Acts (sees_env act) known s code new }
-    ensures putting { (text : List ℕ) (act : Act) (known : Known) (t u : Transaction) (conv : ConvState) (vault : VaultState) (clock : ClockState) (process : Process) (code : Code) (new : Scene) →
-        Puts t u → u.env ≡ put_in text t.env → Acts act known (standing u conv vault clock process) code new → Acts (puts_env text act) known (standing t conv vault clock process) code new }
+    ensures putting { (text : List ℕ) (act : Act) (known : Known) (t u : Transaction)
+        (conv : ConvState) (vault : VaultState) (clock : ClockState) (process : Process)
+        (code : Code) (new : Scene) →
+        Puts t u → u.env ≡ put_in text t.env → Acts act known
+        (standing u conv vault clock process) code new →
+        Acts (puts_env text act) known (standing t conv vault clock process) code new }
 {}
 
 /// Does nothing: its contract is what holds of a module that changes the environment alone, in any world.
 pub(crate) fn puts_alone()
     ensures none { (t : Transaction) → Puts t t }
     ensures again { (t u v : Transaction) → Puts t u → Puts u v → Puts t v }
-    ensures stays { (t u : Transaction) (process : PlainProcess) → Puts t u → Stays (plain_transaction t) (plain_transaction u) process process }
-    ensures others { (t u : Transaction) → Puts t u → (u.serving ≡ t.serving) × (u.trail ≡ t.trail) }
-    ensures sets { (t u : Transaction) (ledger : PlainLedger) → Puts t u → Sets t.serving t.datums ledger u.datums ledger }
+    ensures stays { (t u : Transaction) (process : PlainProcess) → Puts t u →
+        Stays (plain_transaction t) (plain_transaction u) process process }
+    ensures others { (t u : Transaction) → Puts t u →
+        (u.serving ≡ t.serving) × (u.trail ≡ t.trail) }
+    ensures sets { (t u : Transaction) (ledger : PlainLedger) → Puts t u →
+        Sets t.serving t.datums ledger u.datums ledger }
 {}

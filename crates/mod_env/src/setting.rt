@@ -15,7 +15,6 @@ ghost use Rattle.mod_env.specs.Puts.{Puts};
 
 use crate::conf::{Entries, Entry};
 use crate::expand::{Outcome, Sources, asks_account, outcome_of};
-use crate::laws::puts_alone;
 use account_db::Passwd;
 use account_files::{Account, Accounts, laws};
 use env_list::EnvList;
@@ -40,7 +39,7 @@ pub(crate) fn set_all(
         (standing transaction.new conv (vault_holds vault.new) clock process.now)) }
     ensures puts { Puts transaction.old transaction.new }
 {
-    puts_alone();
+    crate::laws::puts_alone();
     let mut accounts = Accounts::new();
     let mut rest = entries.items();
     while let [entry, after @ ..] = rest {
@@ -68,7 +67,7 @@ fn set_variable(
         (standing transaction.new conv (vault_holds vault.new) clock process.now)) }
     ensures puts { Puts transaction.old transaction.new }
 {
-    puts_alone();
+    crate::laws::puts_alone();
     let asks = asks_account(entry);
     look(alloc, asks, transaction, accounts, process, vault)?;
     let account = found_entry(asks, &transaction.items, accounts);
@@ -86,10 +85,16 @@ fn look(
     vault: &mut dyn Vault,
 ) -> Result<(), NoMemory>
     ensures tells { vault_tells vault.new ≡ vault_tells vault.old }
-    ensures told { IsTrue (vault_tells vault.old) → (conv : ConvState) (clock : ClockState) (act : Option Passwd → Act) (code : Code) (end : Scene) →
-        OnOk result (Acts (act (entry_seen asks transaction.now.items.user accounts.new)) accounts.new (standing transaction.now conv (vault_holds vault.new) clock process.now) code end →
-        Acts (looks_if asks act) accounts.old (standing transaction.now conv (vault_holds vault.old) clock process.now) code end) }
-    ensures read { OnOk result (asks ≡ true → transaction.now.items.user ≢ None → accounts.new.passwds ≢ None) }
+    ensures told { IsTrue (vault_tells vault.old) →
+        (conv : ConvState) (clock : ClockState) (act : Option Passwd →
+        Act) (code : Code) (end : Scene) →
+        OnOk result (Acts (act (entry_seen asks transaction.now.items.user accounts.new))
+        accounts.new (standing transaction.now conv
+        (vault_holds vault.new) clock process.now) code end →
+        Acts (looks_if asks act) accounts.old (standing transaction.now conv
+        (vault_holds vault.old) clock process.now) code end) }
+    ensures read { OnOk result (asks ≡ true → transaction.now.items.user ≢ None →
+        accounts.new.passwds ≢ None) }
 {
     if asks {
         look_user(alloc, transaction, accounts, process, vault)
@@ -107,9 +112,13 @@ fn look_user(
     vault: &mut dyn Vault,
 ) -> Result<(), NoMemory>
     ensures tells { vault_tells vault.new ≡ vault_tells vault.old }
-    ensures told { IsTrue (vault_tells vault.old) → (conv : ConvState) (clock : ClockState) (act : Option Passwd → Act) (code : Code) (end : Scene) →
-        OnOk result (Acts (act (entry_known transaction.now.items.user accounts.new)) accounts.new (standing transaction.now conv (vault_holds vault.new) clock process.now) code end →
-        Acts (sees_items (λ items. by_user items.user act)) accounts.old (standing transaction.now conv (vault_holds vault.old) clock process.now) code end) }
+    ensures told { IsTrue (vault_tells vault.old) →
+        (conv : ConvState) (clock : ClockState) (act : Option Passwd →
+        Act) (code : Code) (end : Scene) →
+        OnOk result (Acts (act (entry_known transaction.now.items.user accounts.new)) accounts.new
+        (standing transaction.now conv (vault_holds vault.new) clock process.now) code end →
+        Acts (sees_items (λ items. by_user items.user act)) accounts.old
+        (standing transaction.now conv (vault_holds vault.old) clock process.now) code end) }
     ensures read { OnOk result (transaction.now.items.user ≢ None → accounts.new.passwds ≢ None) }
 {
     laws::act_steps();
@@ -147,7 +156,8 @@ fn set_by(
     account: Option<&Passwd>,
     transaction: &mut Transaction,
 ) -> Result<bool, NoMemory>
-    ensures told { (conv : ConvState) (vault : VaultState) (clock : ClockState) (process : Process) (known : Known) →
+    ensures told { (conv : ConvState) (vault : VaultState) (clock : ClockState) (process : Process)
+        (known : Known) →
         IfOk result (λ fits. GoesOn fits (sets_by entry.now (option_copied account.entry)) known
         (standing transaction.old conv vault clock process) known
         (standing transaction.new conv vault clock process)) }
@@ -155,7 +165,7 @@ fn set_by(
 {
     laws::act_steps();
     crate::laws::env_steps();
-    puts_alone();
+    crate::laws::puts_alone();
     let from = Sources {
         items: &transaction.items,
         env: &transaction.env,
@@ -172,13 +182,15 @@ fn set_by(
 
 /// Puts the texts in order (`pam_putenv(3)`).
 pub(crate) fn put_all(texts: &Texts, transaction: &mut Transaction) -> Result<(), NoMemory>
-    ensures told { (conv : ConvState) (vault : VaultState) (clock : ClockState) (process : Process) (known : Known) (act : Act) (code : Code) (end : Scene) →
+    ensures told { (conv : ConvState) (vault : VaultState) (clock : ClockState) (process : Process)
+        (known : Known) (act : Act) (code : Code) (end : Scene) →
         OnOk result (Acts act known (standing transaction.new conv vault clock process) code end →
-        Acts (puts_all texts.now act) known (standing transaction.old conv vault clock process) code end) }
+        Acts (puts_all texts.now act) known (standing transaction.old conv vault clock process) code
+        end) }
     ensures puts { Puts transaction.old transaction.new }
 {
     crate::laws::env_steps();
-    puts_alone();
+    crate::laws::puts_alone();
     let mut rest = texts.items();
     while let [text, after @ ..] = rest {
         put(text.bytes(), transaction)?;
