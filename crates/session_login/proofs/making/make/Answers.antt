@@ -1,0 +1,51 @@
+use Rattle.std.proofs.Common.{refl}
+use Rattle.session_login.proofs.Answering.{call_cut, call_failed, call_unwritten, call_written, failed_place}
+use Rattle.session_login.proofs.Proceeding.{call_ends, one_call}
+use Rattle.session_login.proofs.Showing.{shows_front, shows_none, shows_whole}
+use Rattle.session_login.proofs.making.make.Goals as goal
+
+pub returns-in-Err-clause-told : goal.returns-in-Err-clause-told
+returns-in-Err-clause-told g c = λ delay is told sink.
+    call_failed _ _ _ _ _ (record {
+      place = failed_place _ _ _ _ _ told c.in-Err.ensures.fails;
+      others = c.apply.ensures.others;
+      spends = c.apply.ensures.spends;
+      root = c.apply.ensures.root;
+      caller = c.apply.ensures.caller;
+      world = λ h. rw (c.apply.ensures.world h) refl;
+    })
+
+pub returns-in-Err-line_of-clause-told : goal.returns-in-Err-line_of-clause-told
+returns-in-Err-line_of-clause-told g c = λ delay is told sink. call_unwritten _ _ _ _ _ _ (c.in-Ok.ensures.told delay is told) _
+
+pub returns-in-Ok-write_all-clause-told : goal.returns-in-Ok-write_all-clause-told
+returns-in-Ok-write_all-clause-told g c = λ delay is told sink.
+    call_written _ _ _ _ _ _ (c.in-Ok.ensures.told delay is told) _ _ _ _ refl c.in-Ok-line_of.ensures c.in-Ok-write_all.field-0 (rw c.as_bytes.ensures.value at (c.in-Ok-write_all.ensures.told sink))
+
+pub returns-clause-told : goal.returns-clause-told
+returns-clause-told g c = λ delay is told sink.
+    call_cut _ _ _ _ _ _ (c.in-Ok.ensures.told delay is told) _ _ _ _ refl c.in-Ok-line_of.ensures c.in-Err-write_all.field-0 (rw c.as_bytes.ensures.value at (c.in-Err-write_all.ensures.told sink))
+
+pub returns-in-Err-clause-proceeds : goal.returns-in-Err-clause-proceeds
+returns-in-Err-clause-proceeds g c = one_call _ _ _ _ _ _ _ c.apply.ensures.moves (call_ends _ _ _)
+
+pub returns-in-Err-line_of-clause-proceeds : goal.returns-in-Err-line_of-clause-proceeds
+returns-in-Err-line_of-clause-proceeds g c = one_call _ _ _ _ _ _ _ c.apply.ensures.moves (call_ends _ _ _)
+
+pub returns-in-Ok-write_all-clause-proceeds : goal.returns-in-Ok-write_all-clause-proceeds
+returns-in-Ok-write_all-clause-proceeds g c = one_call _ _ _ _ _ _ _ c.apply.ensures.moves (call_ends _ _ _)
+
+pub returns-clause-proceeds : goal.returns-clause-proceeds
+returns-clause-proceeds g c = one_call _ _ _ _ _ _ _ c.apply.ensures.moves (call_ends _ _ _)
+
+pub returns-in-Err-clause-shows : goal.returns-in-Err-clause-shows
+returns-in-Err-clause-shows g c = λ sink. shows_none _ _ _
+
+pub returns-in-Err-line_of-clause-shows : goal.returns-in-Err-line_of-clause-shows
+returns-in-Err-line_of-clause-shows g c = λ sink. shows_none _ _ _
+
+pub returns-in-Ok-write_all-clause-shows : goal.returns-in-Ok-write_all-clause-shows
+returns-in-Ok-write_all-clause-shows g c = λ sink. shows_whole _ _ c.in-Ok-write_all.field-0 _ _ _ (rw c.as_bytes.ensures.value at (c.in-Ok-write_all.ensures.told sink)) c.in-Ok-line_of.ensures
+
+pub returns-clause-shows : goal.returns-clause-shows
+returns-clause-shows g c = λ sink. shows_front _ c.in-Err-write_all.field-0 _ _ _ (rw c.as_bytes.ensures.value at (c.in-Err-write_all.ensures.told sink))

@@ -1,0 +1,392 @@
+ghost use Rattle.std.specs.Prelude.{◌≡◌, ◌&&◌, ℕ, Ok, Some, IfOk, IsTrue, string_bytes};
+ghost use Rattle.std.specs.Option.{option_copied};
+ghost use Rattle.pam_base.specs.ServiceName.{is_service_name};
+ghost use Rattle.pam_base.specs.declared.code.Code.{Code};
+ghost use Rattle.pam_outside.specs.Counts.{RisesIf};
+ghost use Rattle.pam_library.specs.AnyWorld.{is_refused};
+ghost use Rattle.pam_library.specs.Plain.{gear_in};
+ghost use Rattle.pam_library.specs.Slots.{NoneIsOpen, slot_at};
+ghost use Rattle.pam_library.specs.Sound.{IsSoundFor};
+ghost use Rattle.item_stream.specs.Turns.{has_write_fault};
+ghost use Rattle.session_run.specs.AnyWorld.{ProceedsFor};
+ghost use Rattle.session_run.specs.State.{setting_of, state_of};
+ghost use Rattle.session_login.specs.Ends.{IsDenial, IsEndOfLogin, IsEndWith, closing_code};
+ghost use Rattle.session_login.specs.Login.{denied_line, end_call, end_code, logging_in, login_of, make, settling, verdict_by};
+ghost use Rattle.session_login.specs.Told.{Comes, LogsIn, SaysEnd, SaysVerdict, Shows, WritesDenial, as_it_is};
+
+use crate::calls::LOGIN_CALLS;
+use crate::course::go_through;
+use crate::making::make;
+use fail_delay::{DelayFn, DelayTold};
+use item_stream::Stop;
+use pam_base::{AppCall, Code, Failed, NoMemory, Step, Text, code_name, code_number};
+use pam_handle::{Gear, GearTold};
+use pam_library::{Answer, Library, LibraryTold};
+use pam_outside::{Sink, write_all};
+use pam_room::{World, WorldTold};
+use session_run::stop_status;
+use std::alloc::Global;
+
+/// What came of a login.
+#[derive(Clone, Copy, Debug, PartialEq, Eq)]
+pub enum Verdict {
+    /// The user was let in, and the session was closed again.
+    Passed,
+    /// A call denied it with this code, which isn't SUCCESS.
+    Denied(Code),
+    /// The configuration of the service is refused.
+    Refused,
+}
+
+/// Logs a user in with a service, on the first of the transactions, of which none is open. The
+/// conversation in that place asks the user whatever the modules want to know, the name too where it
+/// isn't given.
+///
+/// The calls are those of an application that grants a login: `pam_start(3)`,
+/// `pam_authenticate(3)`, `pam_acct_mgmt(3)`; where that answers NEW_AUTHTOK_REQD `pam_chauthtok(3)`
+/// with PAM_CHANGE_EXPIRED_AUTHTOK; `pam_setcred(3)` with PAM_ESTABLISH_CRED, `pam_open_session(3)`;
+/// and then at once `pam_close_session(3)`, `pam_setcred(3)` with PAM_DELETE_CRED and `pam_end(3)`. The
+/// result line of each is written before the next is made, and nothing of what it tells beside that.
+///
+/// The login is denied where a call but the last three answers another code than SUCCESS, or
+/// `pam_acct_mgmt(3)` another than SUCCESS and NEW_AUTHTOK_REQD: the transaction is ended with that
+/// code, and `denied NAME NUMBER` is written last. Where the configuration refuses the start its line
+/// is written, `refused FILE LINE NAME NUMBER`, and nothing is done behind it.
+///
+/// Where memory is wanting the transaction is ended with BUF_ERR, and where a write fails with
+/// SYSTEM_ERR, unless it was already; nothing more is written. So no transaction is open afterwards,
+/// whatever is answered.
+pub fn login<K: Sink>(
+    alloc: Global,
+    library: &mut Library,
+    service: &[u8],
+    user: Option<&[u8]>,
+    out: &mut K,
+    world: &mut World,
+) -> Result<Verdict, Stop>
+    requires service { IsTrue (is_service_name service.now) }
+    requires none_open { NoneIsOpen (⟦<Library as LibraryTold>⟧.slots library.old) }
+    requires sound { IsSoundFor (⟦<Gear as GearTold>⟧.players (gear_in library.old))
+        (⟦<Library as LibraryTold>⟧.slots library.old) world.old.process.ledger }
+
+    // Where all objects tell: the verdict, what is written, and what library and world are
+    // afterwards.
+    ensures told { (delay : Code → ℕ → ℕ) →
+        ⟦<DelayFn as DelayTold>⟧.delay_is (gear_in library.old).delay delay →
+        IsTrue (⟦<Library as LibraryTold>⟧.tells library.old
+        && ⟦<World as WorldTold>⟧.tells world.old) → IsTrue (K.sink_tells out.old) →
+        (let setting = setting_of (⟦<Gear as GearTold>⟧.players (gear_in library.old)) delay in
+        LogsIn setting (login_of setting service.now (option_copied user.entry)
+        (state_of (⟦<Library as LibraryTold>⟧.slots library.old)
+        (⟦<World as WorldTold>⟧.plain world.old))) result
+        (state_of (⟦<Library as LibraryTold>⟧.slots library.old)
+        (⟦<World as WorldTold>⟧.plain world.old))
+        (state_of (⟦<Library as LibraryTold>⟧.slots library.new)
+        (⟦<World as WorldTold>⟧.plain world.new))
+        (K.sink_holds out.old) (K.sink_holds out.new)) }
+
+    // Where the sink alone tells: how often it was written, and what the verdict is written as.
+    ensures shows { IsTrue (K.sink_tells out.old) →
+        Shows SaysVerdict result (K.sink_holds out.old) (K.sink_holds out.new) }
+
+    // In any world: SUCCESS denies nobody; no transaction is open; and ledger and data are what calls
+    // of the library made of them, with these ends.
+    ensures denies { (code : Code) → result ≡ Ok (Verdict.Denied code) → IsDenial code }
+    ensures none_open { NoneIsOpen (⟦<Library as LibraryTold>⟧.slots library.new) }
+    ensures proceeds { ProceedsFor (IsEndOfLogin result)
+        (⟦<Gear as GearTold>⟧.players (gear_in library.old))
+        world.old.process.ledger (⟦<Library as LibraryTold>⟧.slots library.old)
+        world.new.process.ledger (⟦<Library as LibraryTold>⟧.slots library.new) }
+    ensures sound { IsSoundFor (⟦<Gear as GearTold>⟧.players (gear_in library.new))
+        (⟦<Library as LibraryTold>⟧.slots library.new) world.new.process.ledger }
+    ensures gear { gear_in library.new ≡ gear_in library.old }
+
+    // The cause, in any world.
+    ensures faults { RisesIf (has_write_fault result) (K.sink_faults out.old)
+        (K.sink_faults out.new) }
+
+    // What tells before the login tells after it.
+    ensures tells { ⟦<Library as LibraryTold>⟧.tells library.new
+        ≡ ⟦<Library as LibraryTold>⟧.tells library.old }
+    ensures world_tells { ⟦<World as WorldTold>⟧.tells world.new
+        ≡ ⟦<World as WorldTold>⟧.tells world.old }
+    ensures sink_tells { K.sink_tells out.new ≡ K.sink_tells out.old }
+{
+    let result = try_login(alloc, library, service, user, out, world);
+    end_silently(alloc, library, closing_code(result), world);
+    result
+}
+
+// All of it, but that where it stops the transaction may still be open.
+fn try_login<K: Sink>(
+    alloc: Global,
+    library: &mut Library,
+    service: &[u8],
+    user: Option<&[u8]>,
+    out: &mut K,
+    world: &mut World,
+) -> Result<Verdict, Stop>
+    requires service { IsTrue (is_service_name service.now) }
+    requires sound { IsSoundFor (⟦<Gear as GearTold>⟧.players (gear_in library.old))
+        (⟦<Library as LibraryTold>⟧.slots library.old) world.old.process.ledger }
+    ensures gear { gear_in library.new ≡ gear_in library.old }
+    ensures tells { ⟦<Library as LibraryTold>⟧.tells library.new
+        ≡ ⟦<Library as LibraryTold>⟧.tells library.old }
+    ensures world_tells { ⟦<World as WorldTold>⟧.tells world.new
+        ≡ ⟦<World as WorldTold>⟧.tells world.old }
+    ensures sink_tells { K.sink_tells out.new ≡ K.sink_tells out.old }
+    ensures told { (delay : Code → ℕ → ℕ) →
+        ⟦<DelayFn as DelayTold>⟧.delay_is (gear_in library.old).delay delay →
+        IsTrue (⟦<Library as LibraryTold>⟧.tells library.old
+        && ⟦<World as WorldTold>⟧.tells world.old) → IsTrue (K.sink_tells out.old) →
+        (let setting = setting_of (⟦<Gear as GearTold>⟧.players (gear_in library.old)) delay in
+        Comes setting as_it_is (login_of setting service.now (option_copied user.entry)
+        (state_of (⟦<Library as LibraryTold>⟧.slots library.old)
+        (⟦<World as WorldTold>⟧.plain world.old))) result
+        (state_of (⟦<Library as LibraryTold>⟧.slots library.old)
+        (⟦<World as WorldTold>⟧.plain world.old))
+        (state_of (⟦<Library as LibraryTold>⟧.slots library.new)
+        (⟦<World as WorldTold>⟧.plain world.new))
+        (K.sink_holds out.old) (K.sink_holds out.new)) }
+    ensures denies { (code : Code) → result ≡ Ok (Verdict.Denied code) → IsDenial code }
+    ensures others { (number : ℕ) → (number ≡ 1 → ⊥) →
+        slot_at (⟦<Library as LibraryTold>⟧.slots library.new) number
+        ≡ slot_at (⟦<Library as LibraryTold>⟧.slots library.old) number }
+    ensures proceeds { ProceedsFor (IsEndOfLogin result)
+        (⟦<Gear as GearTold>⟧.players (gear_in library.old))
+        world.old.process.ledger (⟦<Library as LibraryTold>⟧.slots library.old)
+        world.new.process.ledger (⟦<Library as LibraryTold>⟧.slots library.new) }
+    ensures sound { IsSoundFor (⟦<Gear as GearTold>⟧.players (gear_in library.new))
+        (⟦<Library as LibraryTold>⟧.slots library.new) world.new.process.ledger }
+    ensures shows { IsTrue (K.sink_tells out.old) →
+        Shows SaysVerdict result (K.sink_holds out.old) (K.sink_holds out.new) }
+    ensures faults { RisesIf (has_write_fault result) (K.sink_faults out.old)
+        (K.sink_faults out.new) }
+{
+    let start = match start_of(alloc, service, user) {
+        Ok(start) => start,
+        Err(NoMemory) => return Err(Stop::NoMemory),
+    };
+    match make(alloc, library, start, out, world) {
+        Err(stop) => Err(stop),
+        Ok(answer) => {
+            if is_refused(&answer) {
+                Ok(Verdict::Refused)
+            } else {
+                log_in(alloc, library, out, world)
+            }
+        }
+    }
+}
+
+fn is_refused(answer: &Answer) -> bool
+    ensures { result ≡ is_refused answer.now }
+{
+    matches!(answer, Answer::Refused(_))
+}
+
+fn start_of(alloc: Global, service: &[u8], user: Option<&[u8]>) -> Result<AppCall, NoMemory>
+    ensures { IfOk result (λ call. call
+        ≡ AppCall.Start service.now (option_copied user.entry)) }
+{
+    let service = Text::from_bytes(alloc, service)?;
+    let user = match user {
+        Some(name) => Some(Text::from_bytes(alloc, name)?),
+        None => None,
+    };
+    Ok(AppCall::Start { service, user })
+}
+
+// What comes behind the start.
+fn log_in<K: Sink>(
+    alloc: Global,
+    library: &mut Library,
+    out: &mut K,
+    world: &mut World,
+) -> Result<Verdict, Stop>
+    requires { IsSoundFor (⟦<Gear as GearTold>⟧.players (gear_in library.old))
+        (⟦<Library as LibraryTold>⟧.slots library.old) world.old.process.ledger }
+    ensures gear { gear_in library.new ≡ gear_in library.old }
+    ensures tells { ⟦<Library as LibraryTold>⟧.tells library.new
+        ≡ ⟦<Library as LibraryTold>⟧.tells library.old }
+    ensures world_tells { ⟦<World as WorldTold>⟧.tells world.new
+        ≡ ⟦<World as WorldTold>⟧.tells world.old }
+    ensures sink_tells { K.sink_tells out.new ≡ K.sink_tells out.old }
+    ensures told { (delay : Code → ℕ → ℕ) →
+        ⟦<DelayFn as DelayTold>⟧.delay_is (gear_in library.old).delay delay →
+        IsTrue (⟦<Library as LibraryTold>⟧.tells library.old
+        && ⟦<World as WorldTold>⟧.tells world.old) → IsTrue (K.sink_tells out.old) →
+        (let setting = setting_of (⟦<Gear as GearTold>⟧.players (gear_in library.old)) delay in
+        Comes setting as_it_is (logging_in setting
+        (state_of (⟦<Library as LibraryTold>⟧.slots library.old)
+        (⟦<World as WorldTold>⟧.plain world.old))) result
+        (state_of (⟦<Library as LibraryTold>⟧.slots library.old)
+        (⟦<World as WorldTold>⟧.plain world.old))
+        (state_of (⟦<Library as LibraryTold>⟧.slots library.new)
+        (⟦<World as WorldTold>⟧.plain world.new))
+        (K.sink_holds out.old) (K.sink_holds out.new)) }
+    ensures denies { (code : Code) → result ≡ Ok (Verdict.Denied code) → IsDenial code }
+    ensures others { (number : ℕ) → (number ≡ 1 → ⊥) →
+        slot_at (⟦<Library as LibraryTold>⟧.slots library.new) number
+        ≡ slot_at (⟦<Library as LibraryTold>⟧.slots library.old) number }
+    ensures proceeds { ProceedsFor (IsEndOfLogin result)
+        (⟦<Gear as GearTold>⟧.players (gear_in library.old))
+        world.old.process.ledger (⟦<Library as LibraryTold>⟧.slots library.old)
+        world.new.process.ledger (⟦<Library as LibraryTold>⟧.slots library.new) }
+    ensures sound { IsSoundFor (⟦<Gear as GearTold>⟧.players (gear_in library.new))
+        (⟦<Library as LibraryTold>⟧.slots library.new) world.new.process.ledger }
+    ensures shows { IsTrue (K.sink_tells out.old) →
+        Shows SaysEnd result (K.sink_holds out.old) (K.sink_holds out.new) }
+    ensures faults { RisesIf (has_write_fault result) (K.sink_faults out.old)
+        (K.sink_faults out.new) }
+{
+    match go_through(alloc, library, &LOGIN_CALLS, Code::Success, out, world) {
+        Err(stop) => Err(stop),
+        Ok(denied) => settle(alloc, library, denied, out, world),
+    }
+}
+
+// Ends the transaction, with SUCCESS or with the code that denied the login, and says so.
+fn settle<K: Sink>(
+    alloc: Global,
+    library: &mut Library,
+    denied: Option<Code>,
+    out: &mut K,
+    world: &mut World,
+) -> Result<Verdict, Stop>
+    requires { IsSoundFor (⟦<Gear as GearTold>⟧.players (gear_in library.old))
+        (⟦<Library as LibraryTold>⟧.slots library.old) world.old.process.ledger }
+    ensures gear { gear_in library.new ≡ gear_in library.old }
+    ensures tells { ⟦<Library as LibraryTold>⟧.tells library.new
+        ≡ ⟦<Library as LibraryTold>⟧.tells library.old }
+    ensures world_tells { ⟦<World as WorldTold>⟧.tells world.new
+        ≡ ⟦<World as WorldTold>⟧.tells world.old }
+    ensures sink_tells { K.sink_tells out.new ≡ K.sink_tells out.old }
+    ensures told { (delay : Code → ℕ → ℕ) →
+        ⟦<DelayFn as DelayTold>⟧.delay_is (gear_in library.old).delay delay →
+        IsTrue (⟦<Library as LibraryTold>⟧.tells library.old
+        && ⟦<World as WorldTold>⟧.tells world.old) → IsTrue (K.sink_tells out.old) →
+        (let setting = setting_of (⟦<Gear as GearTold>⟧.players (gear_in library.old)) delay in
+        Comes setting as_it_is (settling setting denied
+        (state_of (⟦<Library as LibraryTold>⟧.slots library.old)
+        (⟦<World as WorldTold>⟧.plain world.old))) result
+        (state_of (⟦<Library as LibraryTold>⟧.slots library.old)
+        (⟦<World as WorldTold>⟧.plain world.old))
+        (state_of (⟦<Library as LibraryTold>⟧.slots library.new)
+        (⟦<World as WorldTold>⟧.plain world.new))
+        (K.sink_holds out.old) (K.sink_holds out.new)) }
+    ensures verdict { IfOk result (λ verdict. verdict ≡ verdict_by denied) }
+    ensures others { (number : ℕ) → (number ≡ 1 → ⊥) →
+        slot_at (⟦<Library as LibraryTold>⟧.slots library.new) number
+        ≡ slot_at (⟦<Library as LibraryTold>⟧.slots library.old) number }
+    ensures proceeds { ProceedsFor (IsEndWith (end_code denied))
+        (⟦<Gear as GearTold>⟧.players (gear_in library.old))
+        world.old.process.ledger (⟦<Library as LibraryTold>⟧.slots library.old)
+        world.new.process.ledger (⟦<Library as LibraryTold>⟧.slots library.new) }
+    ensures sound { IsSoundFor (⟦<Gear as GearTold>⟧.players (gear_in library.new))
+        (⟦<Library as LibraryTold>⟧.slots library.new) world.new.process.ledger }
+    ensures shows { IsTrue (K.sink_tells out.old) →
+        Shows SaysEnd result (K.sink_holds out.old) (K.sink_holds out.new) }
+    ensures faults { RisesIf (has_write_fault result) (K.sink_faults out.old)
+        (K.sink_faults out.new) }
+{
+    match make(alloc, library, end_call(end_code(denied)), out, world) {
+        Err(stop) => Err(stop),
+        Ok(_) => match denied {
+            None => Ok(Verdict::Passed),
+            Some(code) => deny(alloc, code, out),
+        },
+    }
+}
+
+// Writes the last line of a login that is denied.
+fn deny<K: Sink>(alloc: Global, code: Code, out: &mut K) -> Result<Verdict, Stop>
+    ensures sink_tells { K.sink_tells out.new ≡ K.sink_tells out.old }
+    ensures told { IsTrue (K.sink_tells out.old) →
+        WritesDenial code result (K.sink_holds out.old) (K.sink_holds out.new) }
+    ensures verdict { IfOk result (λ verdict. verdict ≡ Verdict.Denied code) }
+    ensures shows { IsTrue (K.sink_tells out.old) →
+        Shows SaysEnd result (K.sink_holds out.old) (K.sink_holds out.new) }
+    ensures faults { RisesIf (has_write_fault result) (K.sink_faults out.old)
+        (K.sink_faults out.new) }
+{
+    let line = match denied_line(alloc, code) {
+        Ok(line) => line,
+        Err(NoMemory) => return Err(Stop::NoMemory),
+    };
+    match write_all(out, line.as_bytes()) {
+        Ok(()) => Ok(Verdict::Denied(code)),
+        Err(Failed) => Err(Stop::WriteFault),
+    }
+}
+
+fn denied_line(alloc: Global, code: Code) -> Result<String, NoMemory>
+    ensures { IfOk result (λ line. string_bytes line ≡ denied_line code) }
+{
+    let name = code_name(code);
+    let number = code_number(code);
+    Ok(format!(in alloc; "denied {name} {number}\n")?)
+}
+
+fn end_code(denied: Option<Code>) -> Code
+    ensures { result ≡ end_code denied }
+{
+    match denied {
+        None => Code::Success,
+        Some(code) => code,
+    }
+}
+
+fn end_call(code: Code) -> AppCall
+    ensures { result ≡ end_call code }
+{
+    AppCall::End {
+        status: code_number(code),
+    }
+}
+
+// With which code the transaction is ended where it is still open.
+fn closing_code(outcome: Result<Verdict, Stop>) -> Code
+    ensures { result ≡ closing_code outcome }
+{
+    match outcome {
+        Ok(Verdict::Passed | Verdict::Refused) => Code::Success,
+        Ok(Verdict::Denied(code)) => code,
+        Err(stop) => stop_status(stop),
+    }
+}
+
+// Ends the first transaction, if it is open, and writes nothing. It takes no memory.
+fn end_silently(alloc: Global, library: &mut Library, code: Code, world: &mut World)
+    requires { IsSoundFor (⟦<Gear as GearTold>⟧.players (gear_in library.old))
+        (⟦<Library as LibraryTold>⟧.slots library.old) world.old.process.ledger }
+    ensures gear { gear_in library.new ≡ gear_in library.old }
+    ensures tells { ⟦<Library as LibraryTold>⟧.tells library.new
+        ≡ ⟦<Library as LibraryTold>⟧.tells library.old }
+    ensures world_tells { ⟦<World as WorldTold>⟧.tells world.new
+        ≡ ⟦<World as WorldTold>⟧.tells world.old }
+    ensures ended { (delay : Code → ℕ → ℕ) →
+        (let setting = setting_of (⟦<Gear as GearTold>⟧.players (gear_in library.old)) delay in
+        state_of (⟦<Library as LibraryTold>⟧.slots library.new)
+        (⟦<World as WorldTold>⟧.plain world.new)
+        ≡ (make setting (end_call code) (state_of (⟦<Library as LibraryTold>⟧.slots library.old)
+        (⟦<World as WorldTold>⟧.plain world.old))).state) }
+    ensures others { (number : ℕ) → (number ≡ 1 → ⊥) →
+        slot_at (⟦<Library as LibraryTold>⟧.slots library.new) number
+        ≡ slot_at (⟦<Library as LibraryTold>⟧.slots library.old) number }
+    ensures proceeds { ProceedsFor (IsEndWith code)
+        (⟦<Gear as GearTold>⟧.players (gear_in library.old))
+        world.old.process.ledger (⟦<Library as LibraryTold>⟧.slots library.old)
+        world.new.process.ledger (⟦<Library as LibraryTold>⟧.slots library.new) }
+    ensures sound { IsSoundFor (⟦<Gear as GearTold>⟧.players (gear_in library.new))
+        (⟦<Library as LibraryTold>⟧.slots library.new) world.new.process.ledger }
+{
+    let step = Step {
+        number: 1,
+        call: end_call(code),
+    };
+    match library.apply(alloc, world, &step) {
+        Ok(_) => {}
+        Err(NoMemory) => unreachable!(),
+    }
+}
