@@ -1,0 +1,14 @@
+-- The numbers that are drawn from a seed, by a linear congruential generator modulo 2^32 (this project's own).
+use Rattle.std.specs.Prelude.{ℕ, zero, suc, ◌+◌, ◌*◌, ◌^◌, ◌/◌, ◌%◌}
+
+abbrev pub next_state : ℕ → ℕ
+next_state x = (1103515245 * x + 12345) % 2 ^ 32
+
+-- where the generator stands after so many draws
+abbrev pub state_after : ℕ → ℕ → ℕ
+state_after seed zero = seed
+state_after seed (suc n) = next_state (state_after seed n)
+
+-- the draw that has so many before it
+abbrev pub draw : ℕ → ℕ → ℕ
+draw seed n = state_after seed (n + 1) / 65536

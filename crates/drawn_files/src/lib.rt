@@ -1,0 +1,8 @@
+//! The service files that a seed draws: stacks of many lines, the same ones for the same seed, to measure a library with.
+#![tactic(auto)]
+
+mod draws;
+mod files;
+mod line;
+
+pub use files::{DrawnFile, MAX_DRAWN, draw_files, file_count};

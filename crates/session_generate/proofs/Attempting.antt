@@ -1,0 +1,54 @@
+-- A login behind the files.
+use Rattle.std.proofs.Common.{◌≡◌, ℕ, Bool, true, false, ◌&&◌, List, Option, Some, None, Result, Ok, Err, refl, sym, ap, ◌∙◌, subst}
+use Rattle.pam_base.specs.declared.fault.Refuse.{Refuse}
+use Rattle.pam_base.specs.declared.fault.Refuse.TheVariants.{NoMemory, Named}
+use Rattle.pam_outside.specs.Files.{VaultState}
+use Rattle.pam_room.specs.State.{PlainWorld}
+use Rattle.service_load.specs.declared.load_fault.LoadFault.{LoadFault}
+use Rattle.session_run.specs.State.{RunState, Setting, state_of}
+use Rattle.session_generate.specs.declared.login.Login.{Login}
+use Rattle.drawn_files.specs.Files.{drawn_files}
+use Rattle.drawn_files.specs.declared.files.DrawnFile.{DrawnFile}
+use Rattle.session_generate.specs.Generated.{attempted, behind_files, from_root}
+use Rattle.session_generate.specs.Login.{ComesTo, logged_in}
+use Rattle.session_generate.specs.Placing.{Placed, Places, placed, with_vault}
+
+module _ (setting : Setting) (p : Placed) (s : RunState) (w : PlainWorld) (is : w ≡ with_vault p.vault (from_root s.world)) where
+  -- all files were put in their places
+  behind_all : (result : Result Login (Refuse LoadFault)) (u : RunState) → p.fault ≡ None → ComesTo result (logged_in setting (state_of s.slots w)) u
+      → ComesTo result (behind_files setting p.fault (state_of s.slots (with_vault p.vault (from_root s.world)))) u
+  behind_all result u none comes =
+      subst (λ (o : Option LoadFault). ComesTo result (behind_files setting o (state_of s.slots (with_vault p.vault (from_root s.world)))) u) (sym none)
+      (subst (λ (v : PlainWorld). ComesTo result (logged_in setting (state_of s.slots v)) u) is comes)
+
+  -- one was not
+  behind_fault : (fault : LoadFault) → p.fault ≡ Some fault
+      → ComesTo (Err (Named fault)) (behind_files setting p.fault (state_of s.slots (with_vault p.vault (from_root s.world)))) (state_of s.slots w)
+  behind_fault fault some =
+      subst (λ (o : Option LoadFault). ComesTo (Err (Named fault)) (behind_files setting o (state_of s.slots (with_vault p.vault (from_root s.world)))) (state_of s.slots w)) (sym some)
+      (refl, ap (state_of s.slots) is)
+
+-- the drawn files in their places, or one of them refused
+module _ (setting : Setting) (seed lines : ℕ) (s : RunState) (files : List DrawnFile) (m w : PlainWorld) (v : VaultState)
+    (drawn : files ≡ drawn_files seed lines) (root : m ≡ from_root s.world) (rest : w ≡ with_vault v m) where
+  same : placed files m.vault ≡ placed (drawn_files seed lines) s.world.vault
+  same = ap (λ (f : List DrawnFile). placed f m.vault) drawn ∙ ap (λ (x : PlainWorld). placed (drawn_files seed lines) x.vault) root
+
+  world_is : v ≡ (placed files m.vault).vault → w ≡ with_vault (placed (drawn_files seed lines) s.world.vault).vault (from_root s.world)
+  world_is is = rest ∙ ap (λ (x : VaultState). with_vault x m) (is ∙ ap (λ (q : Placed). q.vault) same) ∙ ap (with_vault (placed (drawn_files seed lines) s.world.vault).vault) root
+
+  pub all_placed : (done : Unit {0}) (result : Result Login (Refuse LoadFault)) (u : RunState) → Places {T = Unit {0}} (Ok done) (placed files m.vault) v
+      → ComesTo result (logged_in setting (state_of s.slots w)) u → ComesTo result (attempted setting seed lines s) u
+  all_placed done result u places comes =
+      behind_all setting (placed (drawn_files seed lines) s.world.vault) s w (world_is places.1) result u (ap (λ (q : Placed). q.fault) (sym same) ∙ places.0) comes
+
+  pub not_placed : (refuse : Refuse LoadFault) → Places {T = Unit {0}} (Err refuse) (placed files m.vault) v → ComesTo (Err refuse) (attempted setting seed lines s) (state_of s.slots w)
+  not_placed (Named fault) places = behind_fault setting (placed (drawn_files seed lines) s.world.vault) s w (world_is places.1) fault (ap (λ (q : Placed). q.fault) (sym same) ∙ places.0)
+  not_placed NoMemory places = tt
+
+-- ---- which objects tell
+
+pub vault_of : (l a b n : Bool) → (l && ((a && b) && n)) ≡ true → a ≡ true
+vault_of true true b n told = refl
+vault_of true false b n told = absurd cc
+vault_of false a b n told = absurd cc

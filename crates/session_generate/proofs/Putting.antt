@@ -1,0 +1,39 @@
+-- Files that are put in their places, one after another.
+use Rattle.std.proofs.Common.{◌≡◌, ℕ, suc, ◌+◌, ◌<◌, Bool, true, false, cond, length, drop, get_or, Err, add-one, Option, Some, None, List, [], ◌∷◌, refl, sym, ap, ◌∙◌}
+use Rattle.std.proofs.Math.Seq.{drop-cons}
+use Rattle.pam_base.specs.declared.fault.Refuse.{Refuse}
+use Rattle.pam_base.specs.declared.fault.Refuse.TheVariants.{NoMemory, Named}
+use Rattle.pam_outside.specs.Files.{VaultState, counted, is_failing}
+use Rattle.drawn_files.specs.declared.files.DrawnFile.{DrawnFile}
+use Rattle.service_load.specs.declared.load_fault.LoadFault.{LoadFault}
+use Rattle.session_generate.specs.Placing.{Placed, Places, fault_of, placed, with_file}
+
+module _ (file : DrawnFile) (files : List DrawnFile) (v t : VaultState) where
+  abbrev stopped : Placed
+  stopped = record { vault = counted v; fault = Some (fault_of file) }
+
+  on_by : (b : Bool) → (cond b stopped (placed [] (with_file file v))).fault ≡ None → t ≡ (cond b stopped (placed [] (with_file file v))).vault
+      → cond b stopped (placed files (with_file file v)) ≡ placed files t
+  on_by true none is = absurd cc
+  on_by false none is = ap (placed files) (sym is)
+
+  -- behind a file that was put in its place
+  pub goes_on : (placed (file ∷ []) v).fault ≡ None → t ≡ (placed (file ∷ []) v).vault → placed (file ∷ files) v ≡ placed files t
+  goes_on none is = on_by (is_failing v) none is
+
+  stop_by : (fault : LoadFault) (b : Bool) → (cond b stopped (placed [] (with_file file v))).fault ≡ Some fault
+      → cond b stopped (placed files (with_file file v)) ≡ cond b stopped (placed [] (with_file file v))
+  stop_by fault true is = refl
+  stop_by fault false is = absurd cc
+
+  -- nothing more is called behind one that was not
+  pub stops : (fault : LoadFault) → (placed (file ∷ []) v).fault ≡ Some fault → placed (file ∷ files) v ≡ placed (file ∷ []) v
+  stops fault is = stop_by fault (is_failing v) is
+
+  pub stops_at : (refuse : Refuse LoadFault) → Places {T = Unit {0}} (Err refuse) (placed (file ∷ []) v) t → Places {T = Unit {0}} (Err refuse) (placed (file ∷ files) v) t
+  stops_at (Named fault) is = rw (stops fault is.0) is
+  stops_at NoMemory is = tt
+
+-- the file whose turn it is
+pub next_file : (files : List DrawnFile) (i : ℕ) (file : DrawnFile) → i < length files → file ≡ get_or files i file → drop i files ≡ file ∷ drop (i + 1) files
+next_file files i file lt is = rw add-one (drop-cons files i file lt ∙ ap (λ (f : DrawnFile). f ∷ drop (suc i) files) (sym is))

@@ -1,0 +1,16 @@
+use Rattle.std.proofs.Common.{◌≡◌, refl, ◌∙◌}
+use Rattle.session_generate.proofs.Closing.{end_is_free, end_stays_inside, ended_is_closed, state_is}
+use Rattle.session_generate.proofs.Proceeding.{end_ends, one_call}
+use Rattle.session_generate.proofs.login.end.Goals as goal
+
+pub unwrap-outcome-requires : goal.unwrap-outcome-requires
+unwrap-outcome-requires g c = c.apply.ensures.succeeds (end_is_free c.args.status _)
+
+pub returns-clause-ended : goal.returns-clause-ended
+returns-clause-ended g c = λ delay. state_is _ _ _ _ _ _ (rw c.unwrap-outcome.ensures at (c.apply.ensures.inside delay (end_stays_inside c.args.status _)))
+
+pub returns-clause-closed : goal.returns-clause-closed
+returns-clause-closed g c = ended_is_closed _ _ _ _ (returns-clause-ended g c (λ code asked. 0))
+
+pub returns-clause-proceeds : goal.returns-clause-proceeds
+returns-clause-proceeds g c = one_call _ _ _ _ _ _ _ c.apply.ensures.moves (end_ends c.args.status _)

@@ -1,0 +1,36 @@
+use Rattle.std.proofs.Common.{◌≡◌, refl, ◌∙◌}
+use Rattle.session_generate.proofs.Closing.{starts_done, starts_refused}
+use Rattle.session_generate.proofs.Proceeding.{nothing_done, one_call, start_ends_none}
+use Rattle.session_generate.proofs.login.start.Goals as goal
+
+pub apply-requires-clause-fit : goal.apply-requires-clause-fit
+apply-requires-clause-fit g c = rw c.in_ok-step.ensures refl
+
+pub returns-in-Some-clause-told : goal.returns-in-Some-clause-told
+returns-in-Some-clause-told g c = λ delay is told.
+    starts_refused _ _ _ _ _ _ (rw c.in_ok-step.ensures at (c.in-Ok.ensures.told delay is told)) c.in-Some.fault c.in-Some.ensures
+
+pub returns-clause-told : goal.returns-clause-told
+returns-clause-told g c = λ delay is told.
+    starts_done _ _ _ _ _ _ (rw c.in_ok-step.ensures at (c.in-Ok.ensures.told delay is told)) tt c.in-None.ensures
+
+pub returns-in_err-step-clause-proceeds : goal.returns-in_err-step-clause-proceeds
+returns-in_err-step-clause-proceeds g c = nothing_done _ _ _ _
+
+pub returns-in-Err-clause-proceeds : goal.returns-in-Err-clause-proceeds
+returns-in-Err-clause-proceeds g c = one_call _ _ _ _ _ _ _ (rw c.in_ok-step.ensures at c.apply.ensures.moves) (start_ends_none _)
+
+pub returns-in-Some-clause-proceeds : goal.returns-in-Some-clause-proceeds
+returns-in-Some-clause-proceeds g c = one_call _ _ _ _ _ _ _ (rw c.in_ok-step.ensures at c.apply.ensures.moves) (start_ends_none _)
+
+pub returns-clause-proceeds : goal.returns-clause-proceeds
+returns-clause-proceeds g c = one_call _ _ _ _ _ _ _ (rw c.in_ok-step.ensures at c.apply.ensures.moves) (start_ends_none _)
+
+pub returns-in-Err-clause-others : goal.returns-in-Err-clause-others
+returns-in-Err-clause-others g c = rw c.in_ok-step.ensures at c.apply.ensures.others
+
+pub returns-in-Some-clause-others : goal.returns-in-Some-clause-others
+returns-in-Some-clause-others g c = rw c.in_ok-step.ensures at c.apply.ensures.others
+
+pub returns-clause-others : goal.returns-clause-others
+returns-clause-others g c = rw c.in_ok-step.ensures at c.apply.ensures.others

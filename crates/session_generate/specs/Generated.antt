@@ -1,0 +1,99 @@
+-- The command `generate` (this project's own).
+use Rattle.std.specs.Prelude.{◌≡◌, ◌≢◌, ◌⊎◌, ℕ, ◌+◌, ◌≤◌, List, [], ◌∷◌, ◌++◌, length, codes, decimal, Option, Some, None, Result, Ok, Err, OnOk, IfOk}
+use Rattle.pam_base.specs.Code.{number_of, name_of}
+use Rattle.pam_base.specs.declared.code.Code.TheVariants.{Success, BufErr}
+use Rattle.pam_base.specs.declared.fault.NoMemory as faults
+use Rattle.pam_base.specs.declared.fault.Refuse.{Refuse}
+use Rattle.pam_base.specs.declared.fault.Refuse.TheVariants.{Named}
+use Rattle.pam_base.specs.declared.fault.Refuse.TheVariants as refusals
+use Rattle.pam_outside.specs.Streams.{SinkState}
+use Rattle.drawn_files.specs.Files.{count_of, drawn_files}
+use Rattle.item_stream.specs.declared.ending.Stop.{Stop}
+use Rattle.item_stream.specs.declared.ending.Stop.TheVariants.{NoMemory}
+use Rattle.pam_room.specs.State.{PlainWorld}
+use Rattle.service_load.specs.declared.load_fault.LoadFault.{LoadFault}
+use Rattle.session_report.specs.Fault.{refused_text}
+use Rattle.session_run.specs.State.{RunState, Setting, state_of}
+use Rattle.session_generate.specs.declared.generating.Finding.{Finding}
+use Rattle.session_generate.specs.declared.generating.Generated.{Generated}
+use Rattle.session_generate.specs.declared.generating.Generated.TheVariants.{Written, Refused}
+use Rattle.session_generate.specs.declared.login.Login.{Login}
+use Rattle.session_generate.specs.Login.{Attempt, IsEndWith, logged_in}
+use Rattle.session_generate.specs.Placing.{placed, with_vault}
+
+-- the world under the root `/`, with nobody as the caller
+abbrev pub from_root : PlainWorld → PlainWorld
+from_root w = record w { process = record w.process { root = codes "/"; caller = 65534 } }
+
+module _ (setting : Setting) where
+  -- the login, where all files were put in their places
+  abbrev pub behind_files : Option LoadFault → RunState → Attempt
+  behind_files (Some fault) s = record { result = Err fault; state = s }
+  behind_files None s = logged_in setting s
+
+  -- what is drawn from a seed is put in its place, and authenticated by
+  abbrev pub attempted : ℕ → ℕ → RunState → Attempt
+  attempted seed lines s =
+      let p = placed (drawn_files seed lines) s.world.vault in behind_files p.fault (state_of s.slots (with_vault p.vault (from_root s.world)))
+
+-- generated LINES files K code NAME NUMBER visited COUNT
+abbrev pub generated_text : ℕ → Login → List ℕ
+generated_text lines login =
+    codes "generated " ++ (decimal lines ++ (codes " files " ++ (decimal (count_of lines)
+    ++ (codes " code " ++ (name_of login.code ++ (codes " " ++ (decimal (number_of login.code) ++ (codes " visited " ++ (decimal login.visited ++ codes "\n")))))))))
+
+-- what is written, and whether it is the line of a login
+abbrev pub text_of : ℕ → Result Login LoadFault → List ℕ
+text_of lines (Ok login) = generated_text lines login
+text_of lines (Err fault) = refused_text fault
+
+abbrev pub found_by : Result Login LoadFault → Generated
+found_by (Ok login) = Written
+found_by (Err fault) = Refused
+
+-- what `generate` writes and answers, and the state behind it
+pub record Generation : Type 0 where
+  pub text : List ℕ
+  pub generated : Generated
+  pub state : RunState
+
+unfoldable pub generation : Setting → ℕ → ℕ → RunState → Generation
+generation setting seed lines s = let a = attempted setting seed lines s in record { text = text_of lines a.result; generated = found_by a.result; state = a.state }
+
+-- what is found of an attempt, where there was memory for it
+abbrev pub IsFound : Finding → ℕ → Result Login (Refuse LoadFault) → Type 0
+IsFound finding lines (Ok login) = (finding.generated ≡ Written) × (finding.text ≡ generated_text lines login)
+IsFound finding lines (Err (Named fault)) = (finding.generated ≡ Refused) × (finding.text ≡ refused_text fault)
+IsFound finding lines (Err refusals.NoMemory) = ⊥
+
+-- a finding and the state behind it are those of a generation
+pub record Finds (finding : Finding) (g : Generation) (state : RunState) : Type 0 where
+  pub generated : finding.generated ≡ g.generated
+  pub text : finding.text ≡ g.text
+  pub state_is : state ≡ g.state
+
+-- It came to this, and its line is written, or a front of it where a write failed. Without memory nothing is written.
+pub record Generates (result : Result Generated Stop) (g : Generation) (state : RunState) (old new : SinkState) : Type 0 where
+  pub front : List ℕ
+  pub back : List ℕ
+  pub parts : g.text ≡ front ++ back
+  pub written : new.written ≡ old.written ++ front
+  pub all : OnOk result (front ≡ g.text)
+  pub none : result ≡ Err NoMemory → front ≡ []
+  pub generated : IfOk result (λ generated. generated ≡ g.generated)
+  pub state_is : result ≢ Err NoMemory → state ≡ g.state
+  pub writes : new.calls ≤ old.calls + length front + 1
+
+-- ---- the ends that it makes, in any world
+
+-- of the transaction 1, with SUCCESS, or, where memory was wanting, with BUF_ERR
+abbrev pub IsEndWithoutMemory : ℕ → ℕ → Type 0
+IsEndWithoutMemory number status = (number ≡ 1) × ((status ≡ number_of Success) ⊎ (status ≡ number_of BufErr))
+
+abbrev pub IsEndOfFinding : Result Finding faults.NoMemory → ℕ → ℕ → Type 0
+IsEndOfFinding (Ok finding) = IsEndWith (number_of Success)
+IsEndOfFinding (Err none) = IsEndWithoutMemory
+
+abbrev pub IsEndOfGenerate : Result Generated Stop → ℕ → ℕ → Type 0
+IsEndOfGenerate (Err NoMemory) = IsEndWithoutMemory
+IsEndOfGenerate result = IsEndWith (number_of Success)

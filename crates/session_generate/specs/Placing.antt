@@ -1,0 +1,39 @@
+-- Service files that are put in place by a vault, one after another (this project's own).
+use Rattle.std.specs.Prelude.{◌≡◌, ℕ, if◌then◌else◌, Option, Some, None, List, [], ◌∷◌, ◌++◌, codes, Result, Ok, Err}
+use Rattle.pam_base.specs.declared.fault.FaultKind.TheVariants.{ReadFailed}
+use Rattle.pam_base.specs.declared.fault.Refuse.{Refuse}
+use Rattle.pam_base.specs.declared.fault.Refuse.TheVariants.{NoMemory, Named}
+use Rattle.pam_outside.specs.Files.{VaultState, counted, file_put, is_failing}
+use Rattle.drawn_files.specs.declared.files.DrawnFile.{DrawnFile}
+use Rattle.pam_room.specs.State.{PlainWorld}
+use Rattle.service_load.specs.declared.load_fault.LoadFault.{LoadFault}
+
+-- the path of a service file of this name
+abbrev pub path_of_service : List ℕ → List ℕ
+path_of_service name = codes "/etc/pam.d/" ++ name
+
+abbrev pub fault_of : DrawnFile → LoadFault
+fault_of file = record { file = path_of_service file.name; line = 0; kind = ReadFailed }
+
+-- the vault behind one that was put in its place
+abbrev pub with_file : DrawnFile → VaultState → VaultState
+with_file file v = counted (record v { files = file_put (path_of_service file.name) file.text v.files })
+
+-- the vault behind the calls, and the fault of the first of them that is to fail; none comes behind it
+pub record Placed : Type 0 where
+  pub vault : VaultState
+  pub fault : Option LoadFault
+
+abbrev pub placed : List DrawnFile → VaultState → Placed
+placed [] v = record { vault = v; fault = None }
+placed (file ∷ files) v = if is_failing v then record { vault = counted v; fault = Some (fault_of file) } else placed files (with_file file v)
+
+-- a world with another vault
+abbrev pub with_vault : VaultState → PlainWorld → PlainWorld
+with_vault vault w = record w { vault = vault }
+
+-- All files were put in their places, or all up to the fault; without memory nothing is said.
+abbrev pub Places : {T : Type 0} → Result T (Refuse LoadFault) → Placed → VaultState → Type 0
+Places (Ok done) p vault = (p.fault ≡ None) × (vault ≡ p.vault)
+Places (Err (Named fault)) p vault = (p.fault ≡ Some fault) × (vault ≡ p.vault)
+Places (Err NoMemory) p vault = Unit {0}

@@ -1,0 +1,77 @@
+ghost use Rattle.std.specs.Prelude.{◌≡◌, ◌∷◌, [], IfOk, IsTrue};
+ghost use Rattle.pam_handle.specs.Plain.{in_box};
+ghost use Rattle.session_generate.specs.Placing.{Places, path_of_service, placed, with_vault};
+
+use drawn_files::DrawnFile;
+use pam_base::{FaultKind, NoMemory, Refuse, Text};
+use pam_outside::{ReplaceFault, Vault, replace_file};
+use pam_room::{World, WorldTold};
+use service_load::LoadFault;
+use std::alloc::Global;
+
+/// Puts service files in their places in a world, in order, up to the first that its vault refuses.
+pub(crate) fn place_in_world(
+    alloc: Global,
+    files: &[DrawnFile],
+    world: &mut World,
+) -> Result<(), Refuse<LoadFault>>
+    ensures tells { ⟦<World as WorldTold>⟧.tells world.new
+        ≡ ⟦<World as WorldTold>⟧.tells world.old }
+    ensures told { IsTrue (vault_tells (in_box world.old.vault)) →
+        Places result (placed files.now (vault_holds (in_box world.old.vault)))
+        (vault_holds (in_box world.new.vault)) }
+    ensures rest { ⟦<World as WorldTold>⟧.plain world.new
+        ≡ with_vault (vault_holds (in_box world.new.vault)) (⟦<World as WorldTold>⟧.plain world.old) }
+    ensures process { world.new.process ≡ world.old.process }
+{
+    place_files(alloc, files, &mut *world.vault)
+}
+
+// Puts them in their places in a vault.
+fn place_files(
+    alloc: Global,
+    files: &[DrawnFile],
+    vault: &mut dyn Vault,
+) -> Result<(), Refuse<LoadFault>>
+    ensures tells { vault_tells vault.new ≡ vault_tells vault.old }
+    ensures told { IsTrue (vault_tells vault.old) →
+        Places result (placed files.now (vault_holds vault.old)) (vault_holds vault.new) }
+{
+    for file in files {
+        match place_file(alloc, file, vault) {
+            Ok(()) => {}
+            Err(refuse) => return Err(refuse),
+        }
+    }
+    Ok(())
+}
+
+fn place_file(
+    alloc: Global,
+    file: &DrawnFile,
+    vault: &mut dyn Vault,
+) -> Result<(), Refuse<LoadFault>>
+    ensures tells { vault_tells vault.new ≡ vault_tells vault.old }
+    ensures told { IsTrue (vault_tells vault.old) →
+        Places result (placed (file.now ∷ []) (vault_holds vault.old)) (vault_holds vault.new) }
+{
+    let path = path_of(alloc, file.name.bytes())?;
+    match replace_file(vault, alloc, path.bytes(), file.text.bytes()) {
+        Ok(()) => Ok(()),
+        Err(ReplaceFault::NoMemory) => Err(Refuse::NoMemory),
+        Err(ReplaceFault::Failed) => Err(Refuse::Named(LoadFault {
+            file: path,
+            line: 0,
+            kind: FaultKind::ReadFailed,
+        })),
+    }
+}
+
+// The path of a service file of this name.
+fn path_of(alloc: Global, name: &[u8]) -> Result<Text, NoMemory>
+    ensures { IfOk result (λ path. path ≡ path_of_service name.now) }
+{
+    let mut path = Vec::from_slice(alloc, b"/etc/pam.d/")?;
+    path.extend_from_slice(name)?;
+    Ok(Text::from_vec(path))
+}
