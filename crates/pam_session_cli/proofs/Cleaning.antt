@@ -106,9 +106,25 @@ nothing_to_clean Is note ledger births filed = record {
   once = λ id. rw (births, filed) (none_below id 0 refl);
 }
 
+-- ---- ends that are also others
+
+module _ (P Q : ℕ → ℕ → Type 0) (also : (number status : ℕ) → P number status → Q number status) where
+  ends_too : (events : List Event) → EndsAre P events → EndsAre Q events
+  ends_too [] a = tt
+  ends_too (birth b ∷ events) a = ends_too events a
+  ends_too (ends number status ∷ events) a = (also number status a.0, ends_too events a.1)
+
+  calls_too : (calls : List Moved) → AllEndsAre P calls → AllEndsAre Q calls
+  calls_too [] a = tt
+  calls_too (m ∷ calls) a = (ends_too m.ended a.0, calls_too calls a.1)
+
+  pub proceeds_too : (note : Notes) (before : PlainLedger) (lists : Lists) (after : PlainLedger) (next : Lists) → ProceedsBy P note before lists after next
+      → ProceedsBy Q note before lists after next
+  proceeds_too note before lists after next p = record { went = p.went; ends_are = calls_too p.went.calls p.ends_are }
+
 -- ---- by what was asked for
 
-pub cleaned_as : (request asked : Option Request) (tells : Bool) (script : List ℕ) (note : Notes) (ledger : PlainLedger) → asked ≡ request
-    → IsCleanedUp (MayEnd asked tells script) note ledger → IsCleanedUp (MayEnd request tells script) note ledger
-cleaned_as request asked tells script note ledger same cleaned =
-    subst (λ (r : Option Request). IsCleanedUp (MayEnd r tells script) note ledger) same cleaned
+pub cleaned_as : (request asked : Option Request) (tells : Bool) (script : List ℕ) (status : ℕ) (note : Notes) (ledger : PlainLedger) → asked ≡ request
+    → IsCleanedUp (MayEnd asked tells script status) note ledger → IsCleanedUp (MayEnd request tells script status) note ledger
+cleaned_as request asked tells script status note ledger same cleaned =
+    subst (λ (r : Option Request). IsCleanedUp (MayEnd r tells script status) note ledger) same cleaned

@@ -1,4 +1,5 @@
 pub mod Alone
 pub mod Cleaning
+pub mod LoggingIn
 pub mod Statuses
 pub mod Telling

@@ -1,12 +1,17 @@
+ghost use Rattle.std.specs.Prelude.{◌≡◌, ◌<◌, length};
+
 use conv_port::Conv;
 use fail_delay::DelayRule;
 use pam_room::Module;
+use std::mem;
 
-/// What an application brings: the modules, a conversation for each of sixteen transactions, and its delay function.
+/// What an application brings: the modules, a conversation for each of sixteen transactions, the one at whose terminal
+/// somebody logs in, and its delay function.
 #[derive(Drop)]
 pub struct Desk {
     pub mods: Vec<Box<dyn Module>>,
     pub convs: Vec<Box<dyn Conv>>,
+    pub term: Box<dyn Conv>,
     pub delay: DelayRule,
 }
 
@@ -22,12 +27,17 @@ pub trait DeskTold {
     /// The closed places that they make.
     ghost slots: { Self → List PlainSlot };
 
+    /// The same with the terminal's conversation in the first place.
+    ghost login_tells: { Self → Bool };
+
+    ghost login_slots: { Self → List PlainSlot };
+
     /// The modules, in order.
     ghost players: { Self → List Player };
 }
 
 impl DeskTold for Desk {
-    ghost use Rattle.std.specs.Prelude.{map};
+    ghost use Rattle.std.specs.Prelude.{map, slice_set};
     ghost use Rattle.std.specs.List.{list_all};
     ghost use Rattle.pam_library.specs.Slots.{closed};
     ghost use Rattle.pam_room.specs.Module.{player_of};
@@ -36,6 +46,37 @@ impl DeskTold for Desk {
 
     ghost slots = { λ d. map (λ b. closed ((Conv-box b).conv_holds b.value)) d.convs.items };
 
+    ghost login_tells = { λ d. list_all (λ b. (Conv-box b).conv_tells b.value)
+        (slice_set d.convs.items 0 d.term) };
+
+    ghost login_slots = { λ d. map (λ b. closed ((Conv-box b).conv_holds b.value))
+        (slice_set d.convs.items 0 d.term) };
+
     ghost players = { λ d. map (player_of (λ b. (Module-box b).label b.value)
         (λ b. (Module-box b).plays b.value) (λ b. (Module-box b).note b.value)) d.mods.items };
+}
+
+/// Puts the terminal's conversation in the first place.
+pub(crate) fn seat_at_terminal(desk: Desk) -> Desk
+    requires { 0 < length desk.convs.items }
+    ensures tells { ⟦<Desk as DeskTold>⟧.tells result ≡ ⟦<Desk as DeskTold>⟧.login_tells desk }
+    ensures slots { ⟦<Desk as DeskTold>⟧.slots result ≡ ⟦<Desk as DeskTold>⟧.login_slots desk }
+    ensures sixteen { length result.convs.items ≡ length desk.convs.items }
+    ensures mods { result.mods ≡ desk.mods }
+    ensures delay { result.delay ≡ desk.delay }
+{
+    let Desk {
+        mods,
+        convs,
+        term,
+        delay,
+    } = desk;
+    let mut convs = convs;
+    let queue = mem::replace(&mut convs[0], term);
+    Desk {
+        mods,
+        convs,
+        term: queue,
+        delay,
+    }
 }

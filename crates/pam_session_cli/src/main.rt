@@ -1,22 +1,28 @@
-//! `pamsess`: applies the calls of a script to the transactions of a configuration and reports what each answers, or prints what
-//! a configuration or a tally comes to.
+//! `pamsess`: applies the calls of a script to the transactions of a configuration and reports what each answers, logs
+//! somebody in, or prints what a configuration or a tally comes to.
 #![tactic(auto)]
 
-ghost use Rattle.std.specs.Prelude.{◌≡◌, [], IfOk, OnErr};
+ghost use Rattle.std.specs.Prelude.{◌≡◌, [], IfOk, OnErr, length};
 
 mod command;
 mod desk;
+mod generation;
+mod login;
 mod opening;
+mod operand;
 mod program;
 mod script_run;
 mod shipped;
 mod status;
 mod usage;
 
-use conv_port::{Conv, QueueConv};
+use conv_port::{Conv, QueueConv, TermConv};
 pub use desk::Desk;
-use pam_base::Code;
-use pam_outside::{FixedClock, FolderVault, NapSum, ReaderSource, Sink, Source, WriterSink};
+use pam_base::{Code, Numbers};
+use pam_outside::{
+    Clock, FixedClock, FolderVault, MemVault, Nap, NapSum, ReaderSource, RealClock, Sink, SleepNap,
+    Source, Vault, WriterSink,
+};
 use pam_room::World;
 pub use program::pamsess;
 use shipped::{process_of_nobody, shipped_modules};
@@ -59,31 +65,83 @@ fn run(rt: HostRuntime) -> io::Result<u8> {
     let words = words(&rt)?;
     let mut script = ReaderSource::new(rt.reader());
     let mut out = WriterSink::new(io::writer(&rt));
-    let mut world = World {
-        vault: Box::new(alloc, FolderVault::new(rt))?,
-        clock: Box::new(alloc, FixedClock::new(0, 0))?,
-        nap: Box::new(alloc, NapSum::new())?,
-        process: process_of_nobody(alloc),
-    };
-    serve(alloc, &words, &mut script, &mut out, &mut world)
+    let term: Box<dyn Conv> = Box::new(alloc, TermConv::new(rt.stdin(), rt.stderr()))?;
+    let mut world = world(rt, &words)?;
+    let convs = conversations(alloc)?;
+    serve(
+        alloc,
+        &words,
+        convs,
+        term,
+        &mut script,
+        &mut out,
+        &mut world,
+    )
 }
 
-// Calls the program with the shipped modules, a conversation without replies for each transaction, and a delay function that
-// waits as long as it is asked to, but three seconds at most, and not behind SUCCESS.
-fn serve<S: Source, K: Sink>(
-    alloc: Global,
-    words: &[String],
-    script: &mut S,
-    out: &mut K,
-    world: &mut World,
-) -> io::Result<u8>
-    requires no_births { world.old.process.ledger.births ≡ [] }
-    requires no_receipts { world.old.process.ledger.filed ≡ [] }
+// The world that the first word wants: somebody who logs in has the real clock, and waits; what is drawn stands in memory
+// alone.
+fn world(rt: HostRuntime, words: &[String]) -> io::Result<World>
+    ensures no_births { IfOk result (λ world. world.process.ledger.births ≡ []) }
+    ensures no_receipts { IfOk result (λ world. world.process.ledger.filed ≡ []) }
+{
+    let alloc = rt.alloc();
+    let clock: Box<dyn Clock> = if begins_with("login", words) {
+        Box::new(alloc, RealClock::new(rt))?
+    } else {
+        Box::new(alloc, FixedClock::new(0, 0))?
+    };
+    let nap: Box<dyn Nap> = if begins_with("login", words) {
+        Box::new(alloc, SleepNap::new(rt))?
+    } else {
+        Box::new(alloc, NapSum::new())?
+    };
+    let vault: Box<dyn Vault> = if begins_with("generate", words) {
+        Box::new(alloc, MemVault::new(alloc, Numbers::new(alloc)))?
+    } else {
+        Box::new(alloc, FolderVault::new(rt))?
+    };
+    Ok(World {
+        vault,
+        clock,
+        nap,
+        process: process_of_nobody(alloc),
+    })
+}
+
+fn begins_with(command: &str, words: &[String]) -> bool {
+    match words {
+        [first, ..] => first.as_str() == command,
+        [] => false,
+    }
+}
+
+// A conversation without replies for each transaction.
+fn conversations(alloc: Global) -> io::Result<Vec<Box<dyn Conv>>>
+    ensures { IfOk result (λ convs. length convs.items ≡ TRANSACTIONS) }
 {
     let mut convs: Vec<Box<dyn Conv>> = Vec::new(alloc);
     for _ in 0..TRANSACTIONS {
         convs.push(Box::new(alloc, QueueConv::new(alloc))?)?;
     }
+    Ok(convs)
+}
+
+// Calls the program with these conversations and this terminal, the shipped modules, and a delay function that waits as long as it
+// is asked to, but three seconds at most, and not behind SUCCESS.
+fn serve<S: Source, K: Sink>(
+    alloc: Global,
+    words: &[String],
+    convs: Vec<Box<dyn Conv>>,
+    term: Box<dyn Conv>,
+    script: &mut S,
+    out: &mut K,
+    world: &mut World,
+) -> io::Result<u8>
+    requires sixteen { length convs.items ≡ TRANSACTIONS }
+    requires no_births { world.old.process.ledger.births ≡ [] }
+    requires no_receipts { world.old.process.ledger.filed ≡ [] }
+{
     let delay = |code: Code, asked: u32| -> u32 {
         if code == Code::Success {
             0
@@ -94,6 +152,7 @@ fn serve<S: Source, K: Sink>(
     let desk = Desk {
         mods: shipped_modules(alloc)?,
         convs,
+        term,
         delay: Box::new(alloc, delay)?,
     };
     Ok(pamsess(alloc, words, script, out, world, desk))

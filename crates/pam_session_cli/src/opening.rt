@@ -16,7 +16,7 @@ use pam_library::{Library, LibraryTold};
 use std::alloc::Global;
 
 /// A library with a desk's modules, conversations and delay function, in which no transaction is open, over a ledger in
-/// which nothing was entered.
+/// which nothing was entered. The terminal is given up.
 pub(crate) fn library_of(alloc: Global, desk: Desk, ledger: &Ledger) -> Result<Library, NoMemory>
     requires sixteen { length desk.convs.items ≡ 16 }
     requires few { length desk.mods.items < 2 ^ 32 }
@@ -44,7 +44,12 @@ pub(crate) fn library_of(alloc: Global, desk: Desk, ledger: &Ledger) -> Result<L
         (⟦<Library as LibraryTold>⟧.slots library) ledger.now) }
 {
     pam_library::laws::closed_places_stand_for_none();
-    let Desk { mods, convs, delay } = desk;
+    let Desk {
+        mods,
+        convs,
+        term: _,
+        delay,
+    } = desk;
     let gear = Gear {
         mods,
         delay: DelayFn::new(delay),

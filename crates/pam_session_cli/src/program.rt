@@ -1,4 +1,4 @@
-ghost use Rattle.std.specs.Prelude.{◌≡◌, ◌≢◌, ◌⊎◌, ◌≤◌, ◌<◌, ◌^◌, ◌&&◌, ℕ, List, [], None, Some, IsTrue, length};
+ghost use Rattle.std.specs.Prelude.{◌≡◌, ◌≢◌, ◌⊎◌, ◌≤◌, ◌<◌, ◌^◌, ◌&&◌, ℕ, List, [], Option, None, Some, IsTrue, length};
 ghost use Rattle.pam_base.specs.declared.code.Code.{Code};
 ghost use Rattle.fail_delay.specs.DelayFn.{GivesOneNumber, IsNumberGiven};
 ghost use Rattle.pam_outside.specs.Counts.{Rose};
@@ -12,14 +12,18 @@ ghost use Rattle.pam_library.specs.Plain.{gear_in};
 ghost use Rattle.pam_library.specs.Sound.{IsSoundFor};
 ghost use Rattle.service_load.specs.Loading.{OnlyCalls};
 ghost use Rattle.session_check.specs.Check.{check_of};
-ghost use Rattle.pam_session_cli.specs.Command.{request_of, runs, checks, tallies};
+ghost use Rattle.pam_session_cli.specs.Command.{request_of, runs, checks, logs_in, generates, tallies};
 ghost use Rattle.pam_session_cli.specs.CleanedUp.{IsCleanedUp, MayEnd};
+ghost use Rattle.pam_session_cli.specs.Generate.{GeneratesBy, IsGenerateStatus};
+ghost use Rattle.pam_session_cli.specs.Login.{IsLoginStatus, LogsInBy, ShowsLogin};
 ghost use Rattle.pam_session_cli.specs.Run.{Completes, HasRefused, IsAccepted, IsDone, IsRefused, IsStatus, IsUnread, ReadsBy, Runs, opening};
 ghost use Rattle.pam_session_cli.specs.Status.{CallsOnce, ChecksBy, CountsUnread, IsCheckStatus, IsTallyStatus, TalliesBy, WritesUsage};
 ghost use Rattle.session_tally.specs.Tally.{tally_of};
 
 use crate::command::{Request, request_in};
 use crate::desk::{Desk, DeskTold};
+use crate::generation::draw;
+use crate::login::log_in;
 use crate::script_run::run;
 use crate::status::{status_of_check, status_of_tally};
 use crate::usage::write_usage;
@@ -38,18 +42,23 @@ use std::alloc::Global;
 ///   number first. It begins at the moment 0 with the random word 0.
 /// - `check ROOT SERVICE` prints the configuration of a service, or its first fault, and changes nothing of the world
 ///   but what the vault counts.
+/// - `login ROOT SERVICE [USER]` logs somebody in at the desk's terminal, in the place of the first transaction, and
+///   writes what each call answered, and last whether the login was denied.
+/// - `generate SEED LINES` draws a service of so many lines, authenticates by it, and writes what that came to.
 /// - `tally ROOT USER` lists the failures of a user that `pam_faillock(8)` has recorded, and changes nothing of the
 ///   world but what the vault counts. A USER that can be no file's name is none.
 ///
 /// A word isn't empty and doesn't begin with `-`. It answers the program's status:
 ///
-/// - 0: the script was read to its end, the configuration is printed, or the failures are listed
+/// - 0: the script was read to its end, the configuration is printed, the user was let in, the line is written, or the
+///   failures are listed
 /// - 2: the words are others, so only a line on the usage is written
-/// - 3: the configuration is refused
+/// - 3: the configuration is refused, or a drawn file is
 /// - 4: memory ran out
 /// - 5: the script couldn't be read on
 /// - 6: a write failed, and what is written is a front of a report
 /// - 7: a line of the script is refused
+/// - 8: the login was denied
 /// - 9: the tally is damaged
 /// - 10: the tally can't be read
 ///
@@ -161,6 +170,43 @@ pub fn pamsess<S: Source, K: Sink>(
         IsTrue (vault_tells (in_box world.old.vault)) →
         OnlyCalls (vault_holds (in_box world.old.vault)) (vault_holds (in_box world.new.vault)) }
 
+    // Where they are login ROOT SERVICE [USER], and all objects tell: what the definition's login writes is written, or a
+    // front of it, and the world is the one behind it. With 0, 3 and 8 it is written whole.
+    ensures logged_in { (root service : List ℕ) (user : Option (List ℕ)) (number : Code → ℕ → ℕ) →
+        request_of words.now ≡ Some (logs_in root service user) →
+        IsNumberGiven (DelayRule.post desk.delay) number → IsTrue (K.sink_tells out.old) →
+        IsTrue (⟦<World as WorldTold>⟧.tells world.old
+        && ⟦<Desk as DeskTold>⟧.login_tells desk) →
+        LogsInBy (setting_of (⟦<Desk as DeskTold>⟧.players desk) number) result
+        (⟦<Desk as DeskTold>⟧.login_slots desk) root service user
+        (⟦<World as WorldTold>⟧.plain world.old) (⟦<World as WorldTold>⟧.plain world.new)
+        (K.sink_holds out.old) (K.sink_holds out.new) }
+    ensures login_shows { (root service : List ℕ) (user : Option (List ℕ)) →
+        request_of words.now ≡ Some (logs_in root service user) → IsTrue (K.sink_tells out.old) →
+        ShowsLogin result (K.sink_holds out.old) (K.sink_holds out.new) }
+    ensures login_statuses { (root service : List ℕ) (user : Option (List ℕ)) →
+        request_of words.now ≡ Some (logs_in root service user) → IsLoginStatus result }
+    ensures login_stays { (root service : List ℕ) (user : Option (List ℕ)) →
+        request_of words.now ≡ Some (logs_in root service user) → script.new ≡ script.old }
+
+    // Where they are generate SEED LINES, and all objects tell: the line of what was drawn is written, or a front of it, and
+    // the world is the one behind it.
+    ensures generated { (seed lines : ℕ) (number : Code → ℕ → ℕ) →
+        request_of words.now ≡ Some (generates seed lines) →
+        IsNumberGiven (DelayRule.post desk.delay) number → IsTrue (K.sink_tells out.old) →
+        IsTrue (⟦<World as WorldTold>⟧.tells world.old && ⟦<Desk as DeskTold>⟧.tells desk) →
+        GeneratesBy (setting_of (⟦<Desk as DeskTold>⟧.players desk) number) result
+        (⟦<Desk as DeskTold>⟧.slots desk) seed lines
+        (⟦<World as WorldTold>⟧.plain world.old) (⟦<World as WorldTold>⟧.plain world.new)
+        (K.sink_holds out.old) (K.sink_holds out.new) }
+    ensures generate_writes { (seed lines : ℕ) →
+        request_of words.now ≡ Some (generates seed lines) → IsTrue (K.sink_tells out.old) →
+        WritesScript (K.sink_holds out.old) (K.sink_holds out.new) }
+    ensures generate_statuses { (seed lines : ℕ) →
+        request_of words.now ≡ Some (generates seed lines) → IsGenerateStatus result }
+    ensures generate_stays { (seed lines : ℕ) →
+        request_of words.now ≡ Some (generates seed lines) → script.new ≡ script.old }
+
     // Where they are tally ROOT USER, the user's failures are listed, or it is said why they aren't.
     ensures tallied { (root user : List ℕ) → request_of words.now ≡ Some (tallies root user) →
         IsTrue (K.sink_tells out.old) → IsTrue (vault_tells (in_box world.old.vault)) →
@@ -199,7 +245,7 @@ pub fn pamsess<S: Source, K: Sink>(
 
     // In any world, whatever the status: every module datum that was set was cleaned up exactly once, with its due status.
     ensures cleaned_up { IsCleanedUp (MayEnd (request_of words.now) (S.source_tells script.old)
-        (S.source_holds script.old).left)
+        (S.source_holds script.old).left result)
         (notes_of (⟦<Desk as DeskTold>⟧.players desk)) world.new.process.ledger }
 
     // What tells before the run tells after it.
@@ -210,25 +256,26 @@ pub fn pamsess<S: Source, K: Sink>(
 {
     match request_in(words) {
         None => write_usage(out),
-        Some(Request::Run(root)) => run(alloc, root.as_bytes(), script, out, world, desk),
+        Some(Request::Run(root)) => run(alloc, root, script, out, world, desk),
         Some(Request::Check(root, service)) => {
-            let found = check(
-                alloc,
-                root.as_bytes(),
-                service.as_bytes(),
-                out,
-                &mut *world.vault,
-            );
+            let found = check(alloc, root, service, out, &mut *world.vault);
             status_of_check(found)
         }
+        Some(Request::Login(place)) => {
+            log_in(alloc, place.root, place.service, None, out, world, desk)
+        }
+        Some(Request::LoginAs(place, user)) => log_in(
+            alloc,
+            place.root,
+            place.service,
+            Some(user),
+            out,
+            world,
+            desk,
+        ),
+        Some(Request::Generate(lines)) => draw(alloc, lines, out, world, desk),
         Some(Request::Tally(root, user)) => {
-            let tallied = list_failures(
-                alloc,
-                root.as_bytes(),
-                user.as_bytes(),
-                out,
-                &mut *world.vault,
-            );
+            let tallied = list_failures(alloc, root, user, out, &mut *world.vault);
             status_of_tally(tallied)
         }
     }

@@ -1,8 +1,8 @@
 //! What the program says, and what it leaves behind, where calls of the source, the sink or the vault are to fail.
 
 use super::*;
-use pam_base::{Numbers, Text};
-use pam_outside::{MemSink, MemSource, MemVault};
+use pam_base::Text;
+use pam_outside::{MemSink, MemSource};
 use std::alloc::Global;
 use std::test::Fail;
 
@@ -182,7 +182,17 @@ fn run_row(alloc: Global, row: &Row) -> Result<Ran, Fail> {
         nap: Box::new(alloc, NapSum::new())?,
         process: process_of_nobody(alloc),
     };
-    let status = serve(alloc, &words, &mut script, &mut out, &mut world)?;
+    let term: Box<dyn Conv> = Box::new(alloc, QueueConv::new(alloc))?;
+    let convs = conversations(alloc)?;
+    let status = serve(
+        alloc,
+        &words,
+        convs,
+        term,
+        &mut script,
+        &mut out,
+        &mut world,
+    )?;
     Ok(Ran {
         status,
         output: out.bytes().to_vec(alloc)?,

@@ -5,7 +5,8 @@ ghost use Rattle.pam_session_cli.specs.Status.{WritesUsage};
 use pam_base::Failed;
 use pam_outside::{Sink, write_all};
 
-const USAGE: &str = "usage: pamsess run ROOT | check ROOT SERVICE | tally ROOT USER\n";
+const USAGE: &str =
+    "usage: pamsess run ROOT | check ROOT SERVICE | login ROOT SERVICE [USER] | generate SEED LINES | tally ROOT USER\n";
 
 /// Writes the line on the usage. Answers the program's status.
 pub(crate) fn write_usage<K: Sink>(out: &mut K) -> u8

@@ -1,6 +1,5 @@
 -- The first place, behind each call.
 use Rattle.std.proofs.Common.{◌≡◌, ℕ, zero, suc, Bool, true, false, ◌&&◌, List, [], ◌∷◌, Option, Some, None, Result, Ok, Err, slice_get, refl, sym, ap, ◌∙◌}
-use Rattle.pam_base.specs.declared.code.Code.{Code}
 use Rattle.pam_base.specs.declared.call.AppCall.{AppCall}
 use Rattle.pam_base.specs.declared.call.AppCall.TheVariants as calls
 use Rattle.pam_base.specs.declared.fault.Refuse.{Refuse}
@@ -78,14 +77,16 @@ module _ (setting : Setting) where
   -- what was tried, and then ended
   pub came : (result : Result Login (Refuse LoadFault)) (s t u : RunState) → is_open_at (slot_at s.slots 1) ≡ false → Tries result setting s t → u ≡ ended setting (number_of (end_status result)) t
       → ComesTo result (logged_in setting s) u
-  came (Ok login) s t u none tries e =
-      (ap (λ (o : Option LoadFault). (behind_start setting o (state_in (called setting s start_call))).result) tries.0 ∙ ap Ok (sym tries.1),
-       e ∙ ap (ended setting 0) tries.2 ∙ sym (ap (λ (o : Option LoadFault). (behind_start setting o (state_in (called setting s start_call))).state) tries.0))
+  came (Ok login) s t u none tries e = (
+    ap (λ (o : Option LoadFault). (behind_start setting o (state_in (called setting s start_call))).result) tries.0 ∙ ap Ok (sym tries.1),
+    e ∙ ap (ended setting 0) tries.2 ∙ sym (ap (λ (o : Option LoadFault). (behind_start setting o (state_in (called setting s start_call))).state) tries.0),
+  )
   came (Err (Named fault)) s t u none tries e =
-      let b = state_in (called setting s start_call) in
-      (ap (λ (o : Option LoadFault). (behind_start setting o b).result) tries.0,
-       e ∙ ap (ended setting 0) tries.1 ∙ closed_stays setting 0 b.slots b.world (refused_is_closed s.slots s.world fault none tries.0)
-       ∙ sym (ap (λ (o : Option LoadFault). (behind_start setting o b).state) tries.0))
+      let b = state_in (called setting s start_call) in (
+        ap (λ (o : Option LoadFault). (behind_start setting o b).result) tries.0,
+        e ∙ ap (ended setting 0) tries.1 ∙ closed_stays setting 0 b.slots b.world (refused_is_closed s.slots s.world fault none tries.0)
+            ∙ sym (ap (λ (o : Option LoadFault). (behind_start setting o b).state) tries.0),
+      )
   came (Err NoMemory) s t u none tries e = tt
 
 -- ---- a step

@@ -1,5 +1,5 @@
 -- What is found and written.
-use Rattle.std.proofs.Common.{◌≡◌, ℕ, List, [], ◌++◌, Result, Ok, Err, IfOk, refl, sym, ap, ◌∙◌, append-nil, inl, inr, arith}
+use Rattle.std.proofs.Common.{◌≡◌, ℕ, List, [], Result, Ok, Err, IfOk, refl, sym, ap, ◌∙◌, append-nil, inl, inr, arith}
 use Rattle.pam_base.specs.declared.fault.Failed.{Failed}
 use Rattle.pam_base.specs.declared.fault.NoMemory as faults
 use Rattle.pam_base.specs.declared.fault.Refuse.{Refuse}
@@ -13,7 +13,7 @@ use Rattle.session_run.specs.State.{RunState, Setting}
 use Rattle.session_generate.specs.declared.generating.Finding.{Finding}
 use Rattle.session_generate.specs.declared.login.Login.{Login}
 use Rattle.session_generate.specs.Generated.{Finds, Generates, Generation, IsEndOfFinding, IsFound, attempted, found_by, generation, text_of}
-use Rattle.session_generate.specs.Login.{Attempt, ComesTo, IsEndWith, end_status}
+use Rattle.session_generate.specs.Login.{ComesTo, IsEndWith, end_status}
 
 -- ---- what is written
 

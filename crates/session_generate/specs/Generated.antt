@@ -1,5 +1,5 @@
 -- The command `generate` (this project's own).
-use Rattle.std.specs.Prelude.{◌≡◌, ◌≢◌, ◌⊎◌, ℕ, ◌+◌, ◌≤◌, List, [], ◌∷◌, ◌++◌, length, codes, decimal, Option, Some, None, Result, Ok, Err, OnOk, IfOk}
+use Rattle.std.specs.Prelude.{◌≡◌, ◌≢◌, ◌⊎◌, ℕ, ◌+◌, ◌≤◌, List, [], ◌++◌, length, codes, decimal, Option, Some, None, Result, Ok, Err, OnOk, IfOk}
 use Rattle.pam_base.specs.Code.{number_of, name_of}
 use Rattle.pam_base.specs.declared.code.Code.TheVariants.{Success, BufErr}
 use Rattle.pam_base.specs.declared.fault.NoMemory as faults

@@ -220,6 +220,8 @@ fn generated_line(alloc: Global, lines: u32, login: Login) -> Result<Text, NoMem
     let name = code_name(login.code);
     let number = code_number(login.code);
     let visited = login.visited;
-    let text = format!(in alloc; "generated {lines} files {files} code {name} {number} visited {visited}\n")?;
+    let text = format!(in alloc;
+        "generated {lines} files {files} code {name} {number} visited {visited}\n"
+    )?;
     Ok(Text::from_vec(text.into_bytes()))
 }

@@ -116,11 +116,7 @@ fn attempt(
     }
 }
 
-fn start(
-    alloc: Global,
-    library: &mut Library,
-    world: &mut World,
-) -> Result<(), Refuse<LoadFault>>
+fn start(alloc: Global, library: &mut Library, world: &mut World) -> Result<(), Refuse<LoadFault>>
     requires sound { IsSoundFor (⟦<Gear as GearTold>⟧.players (gear_in library.old))
         (⟦<Library as LibraryTold>⟧.slots library.old) world.old.process.ledger }
     ensures gear { gear_in library.new ≡ gear_in library.old }
@@ -184,11 +180,7 @@ fn start_step(alloc: Global) -> Result<Step, NoMemory>
     })
 }
 
-fn authenticate(
-    alloc: Global,
-    library: &mut Library,
-    world: &mut World,
-) -> Result<Login, NoMemory>
+fn authenticate(alloc: Global, library: &mut Library, world: &mut World) -> Result<Login, NoMemory>
     requires sound { IsSoundFor (⟦<Gear as GearTold>⟧.players (gear_in library.old))
         (⟦<Library as LibraryTold>⟧.slots library.old) world.old.process.ledger }
     ensures gear { gear_in library.new ≡ gear_in library.old }

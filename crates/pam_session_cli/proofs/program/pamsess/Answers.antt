@@ -1,27 +1,29 @@
+use Rattle.std.proofs.Common.{refl}
 use Rattle.pam_session_cli.proofs.Alone.{accepted, has_refused}
+use Rattle.pam_session_cli.proofs.LoggingIn.{drawn_asked, logged_asked}
 use Rattle.pam_session_cli.proofs.Cleaning.{cleaned_as, nothing_to_clean}
 use Rattle.pam_session_cli.proofs.Telling.{asked_root, runs_asked, done_asked, refused_asked, unread_asked, completes_asked}
 use Rattle.pam_session_cli.proofs.program.pamsess.Goals as goal
 
 pub returns-in-Some-Run-clause-done : goal.returns-in-Some-Run-clause-done
 returns-in-Some-Run-clause-done g c root number asked given source sink both is =
-    done_asked _ _ _ _ _ _ _ _ _ _ _ (asked_root c.in-Some-Run.root.now _ root _ (rw c.in-Some-Run.field-0-is at c.in-Some-Run.ensures) asked c.as_bytes.ensures.value) (c.run.ensures.told number given source sink both) is
+    done_asked _ _ _ _ _ _ _ _ _ _ _ (asked_root c.in-Some-Run.root.now _ root _ (rw c.in-Some-Run.field-0-is at c.in-Some-Run.ensures) asked refl) (c.run.ensures.told number given source sink both) is
 
 pub returns-in-Some-Run-clause-refused : goal.returns-in-Some-Run-clause-refused
 returns-in-Some-Run-clause-refused g c root number asked given source sink both is =
-    refused_asked _ _ _ _ _ _ _ _ _ _ _ (asked_root c.in-Some-Run.root.now _ root _ (rw c.in-Some-Run.field-0-is at c.in-Some-Run.ensures) asked c.as_bytes.ensures.value) (c.run.ensures.told number given source sink both) is
+    refused_asked _ _ _ _ _ _ _ _ _ _ _ (asked_root c.in-Some-Run.root.now _ root _ (rw c.in-Some-Run.field-0-is at c.in-Some-Run.ensures) asked refl) (c.run.ensures.told number given source sink both) is
 
 pub returns-in-Some-Run-clause-unread : goal.returns-in-Some-Run-clause-unread
 returns-in-Some-Run-clause-unread g c root number asked given source sink both is =
-    unread_asked _ _ _ _ _ _ _ _ _ _ _ (asked_root c.in-Some-Run.root.now _ root _ (rw c.in-Some-Run.field-0-is at c.in-Some-Run.ensures) asked c.as_bytes.ensures.value) (c.run.ensures.told number given source sink both) is
+    unread_asked _ _ _ _ _ _ _ _ _ _ _ (asked_root c.in-Some-Run.root.now _ root _ (rw c.in-Some-Run.field-0-is at c.in-Some-Run.ensures) asked refl) (c.run.ensures.told number given source sink both) is
 
 pub returns-in-Some-Run-clause-told : goal.returns-in-Some-Run-clause-told
 returns-in-Some-Run-clause-told g c root number asked given source sink both =
-    runs_asked _ _ _ _ _ _ _ _ _ _ _ (asked_root c.in-Some-Run.root.now _ root _ (rw c.in-Some-Run.field-0-is at c.in-Some-Run.ensures) asked c.as_bytes.ensures.value) (c.run.ensures.told number given source sink both)
+    runs_asked _ _ _ _ _ _ _ _ _ _ _ (asked_root c.in-Some-Run.root.now _ root _ (rw c.in-Some-Run.field-0-is at c.in-Some-Run.ensures) asked refl) (c.run.ensures.told number given source sink both)
 
 pub returns-in-Some-Run-clause-complete : goal.returns-in-Some-Run-clause-complete
 returns-in-Some-Run-clause-complete g c root number asked given source sink both =
-    completes_asked _ _ _ _ _ _ _ _ _ _ _ (asked_root c.in-Some-Run.root.now _ root _ (rw c.in-Some-Run.field-0-is at c.in-Some-Run.ensures) asked c.as_bytes.ensures.value) _ _ (c.run.ensures.told number given source sink both) c.run.ensures.read_fault c.run.ensures.write_fault
+    completes_asked _ _ _ _ _ _ _ _ _ _ _ (asked_root c.in-Some-Run.root.now _ root _ (rw c.in-Some-Run.field-0-is at c.in-Some-Run.ensures) asked refl) _ _ (c.run.ensures.told number given source sink both) c.run.ensures.read_fault c.run.ensures.write_fault
 
 pub returns-in-None-clause-cleaned_up : goal.returns-in-None-clause-cleaned_up
 returns-in-None-clause-cleaned_up g c = nothing_to_clean _ _ _ c.requires.no_births c.requires.no_receipts
@@ -45,4 +47,25 @@ pub returns-in-Some-Tally-clause-cleaned_up : goal.returns-in-Some-Tally-clause-
 returns-in-Some-Tally-clause-cleaned_up g c = nothing_to_clean _ _ _ c.requires.no_births c.requires.no_receipts
 
 pub returns-in-Some-Run-clause-cleaned_up : goal.returns-in-Some-Run-clause-cleaned_up
-returns-in-Some-Run-clause-cleaned_up g c = cleaned_as _ _ _ _ _ _ (rw c.in-Some-Run.field-0-is at c.in-Some-Run.ensures) c.run.ensures.cleaned_up
+returns-in-Some-Run-clause-cleaned_up g c = cleaned_as _ _ _ _ _ _ _ (rw c.in-Some-Run.field-0-is at c.in-Some-Run.ensures) c.run.ensures.cleaned_up
+
+pub returns-in-Some-Login-clause-logged_in : goal.returns-in-Some-Login-clause-logged_in
+returns-in-Some-Login-clause-logged_in g c root service user number asked given sink both =
+    logged_asked _ _ _ _ _ _ _ _ _ _ _ _ _ _ (rw c.in-Some-Login.field-0-is at c.in-Some-Login.ensures) asked (c.log_in.ensures.told number given sink both)
+
+pub returns-in-Some-Login-clause-cleaned_up : goal.returns-in-Some-Login-clause-cleaned_up
+returns-in-Some-Login-clause-cleaned_up g c = cleaned_as _ _ _ _ _ _ _ (rw c.in-Some-Login.field-0-is at c.in-Some-Login.ensures) c.log_in.ensures.cleaned_up
+
+pub returns-in-Some-LoginAs-clause-logged_in : goal.returns-in-Some-LoginAs-clause-logged_in
+returns-in-Some-LoginAs-clause-logged_in g c root service user number asked given sink both =
+    logged_asked _ _ _ _ _ _ _ _ _ _ _ _ _ _ (rw c.in-Some-LoginAs.field-0-is at c.in-Some-LoginAs.ensures) asked (c.log_in-in-Some-LoginAs.ensures.told number given sink both)
+
+pub returns-in-Some-LoginAs-clause-cleaned_up : goal.returns-in-Some-LoginAs-clause-cleaned_up
+returns-in-Some-LoginAs-clause-cleaned_up g c = cleaned_as _ _ _ _ _ _ _ (rw c.in-Some-LoginAs.field-0-is at c.in-Some-LoginAs.ensures) c.log_in-in-Some-LoginAs.ensures.cleaned_up
+
+pub returns-in-Some-Generate-clause-generated : goal.returns-in-Some-Generate-clause-generated
+returns-in-Some-Generate-clause-generated g c seed lines number asked given sink both =
+    drawn_asked _ _ _ _ _ _ _ _ _ _ _ _ (rw c.in-Some-Generate.field-0-is at c.in-Some-Generate.ensures) asked (c.draw.ensures.told number given sink both)
+
+pub returns-in-Some-Generate-clause-cleaned_up : goal.returns-in-Some-Generate-clause-cleaned_up
+returns-in-Some-Generate-clause-cleaned_up g c = cleaned_as _ _ _ _ _ _ _ (rw c.in-Some-Generate.field-0-is at c.in-Some-Generate.ensures) c.draw.ensures.cleaned_up

@@ -1,4 +1,4 @@
-use Rattle.std.proofs.Common.{◌≡◌, refl, ◌∙◌}
+use Rattle.std.proofs.Common.{refl, ◌∙◌}
 use Rattle.pam_room.specs.Plain.{plain_world}
 use Rattle.pam_room.specs.State.{PlainWorld}
 use Rattle.session_run.specs.State.{state_of}

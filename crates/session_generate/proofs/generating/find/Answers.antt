@@ -1,4 +1,3 @@
-use Rattle.std.proofs.Common.{◌≡◌, refl, ◌∙◌}
 use Rattle.session_generate.proofs.Proceeding.{proceeds_so}
 use Rattle.session_generate.proofs.Writing.{ends_by, finds}
 use Rattle.session_generate.proofs.generating.find.Goals as goal

@@ -1,4 +1,3 @@
-use Rattle.std.proofs.Common.{◌≡◌, Ok, Err, refl, ◌∙◌}
 use Rattle.session_generate.proofs.Writing.{generates_all, generates_cut, generates_none, writes_front, writes_none}
 use Rattle.session_generate.proofs.generating.generate.Goals as goal
 

@@ -1,4 +1,3 @@
-use Rattle.std.proofs.Common.{◌≡◌, refl, ◌∙◌}
 use Rattle.session_generate.proofs.Closing.{both_tell, tries_both, tries_not}
 use Rattle.session_generate.proofs.Proceeding.{goes_on}
 use Rattle.session_generate.proofs.login.attempt.Goals as goal

@@ -1,4 +1,4 @@
-use Rattle.std.proofs.Common.{◌≡◌, refl, ◌∙◌}
+use Rattle.std.proofs.Common.{refl}
 use Rattle.session_generate.proofs.Closing.{authenticates}
 use Rattle.session_generate.proofs.Proceeding.{authenticate_ends_none, one_call}
 use Rattle.session_generate.proofs.login.authenticate.Goals as goal

@@ -1,4 +1,3 @@
-use Rattle.std.proofs.Common.{◌≡◌, refl, ◌∙◌}
 use Rattle.session_generate.proofs.Closing.{end_is_free, end_stays_inside, ended_is_closed, state_is}
 use Rattle.session_generate.proofs.Proceeding.{end_ends, one_call}
 use Rattle.session_generate.proofs.login.end.Goals as goal

@@ -1,5 +1,4 @@
-use Rattle.std.proofs.Common.{◌≡◌, refl, ◌∙◌}
-use Rattle.pam_base.specs.declared.code.Code.{Code}
+use Rattle.std.proofs.Common.{◌∙◌}
 use Rattle.session_generate.proofs.Closing.{came, first_closed, none_open}
 use Rattle.session_generate.proofs.Proceeding.{goes_on, proceeds_so}
 use Rattle.session_generate.proofs.login.log_in.Goals as goal

@@ -1,4 +1,4 @@
-use Rattle.std.proofs.Common.{◌≡◌, refl, ◌∙◌}
+use Rattle.std.proofs.Common.{refl}
 use Rattle.session_generate.proofs.Closing.{starts_done, starts_refused}
 use Rattle.session_generate.proofs.Proceeding.{nothing_done, one_call, start_ends_none}
 use Rattle.session_generate.proofs.login.start.Goals as goal

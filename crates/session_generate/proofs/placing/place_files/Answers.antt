@@ -1,6 +1,5 @@
-use Rattle.std.proofs.Common.{◌≡◌, ◌+◌, ◌∙◌, drop, refl, sym, ap}
+use Rattle.std.proofs.Common.{◌+◌, ◌∙◌, drop}
 use Rattle.pam_outside.specs.Files.{VaultState}
-use Rattle.session_generate.specs.Placing.{placed}
 use Rattle.session_generate.proofs.Putting.{goes_on, next_file, stops_at}
 use Rattle.session_generate.proofs.placing.place_files.Goals as goal
 

@@ -1,0 +1,18 @@
+ghost use Rattle.std.specs.Prelude.{◌≤◌, IsTrue};
+ghost use Rattle.pam_base.specs.ServiceName.{is_service_name};
+
+/// So many lines that are to be drawn from a seed: at most `drawn_files::MAX_DRAWN`.
+#[derive(Clone, Copy)]
+pub struct Draw {
+    pub seed: u32,
+    pub lines: u32,
+    ghost few: { lines ≤ 4096 },
+}
+
+/// A root, and the name of a service below it.
+#[derive(Clone, Copy)]
+pub struct Place<'a> {
+    pub root: &'a [u8],
+    pub service: &'a [u8],
+    ghost named: { IsTrue (is_service_name service.now) },
+}
