@@ -1,6 +1,7 @@
 -- Where words are cut.
-use Rattle.std.proofs.Common.{◌≡◌, ℕ, ◌+◌, ◌-◌, ◌<◌, Bool, true, false, ◌||◌, eqb, eqb-true, if◌then◌else◌, List, [], ◌∷◌, ◌++◌, take, drop, length, Option, Some, None, refl, sym, ◌∙◌, ap, subst, append_assoc, append-nil}
+use Rattle.std.proofs.Common.{◌≡◌, ℕ, zero, suc, ◌+◌, ◌-◌, ◌<◌, ◌≤◌, arith, slice_index, Bool, true, false, ◌||◌, eqb, eqb-true, if◌then◌else◌, List, [], ◌∷◌, ◌++◌, take, drop, length, Option, Some, None, refl, sym, ◌∙◌, ap, subst, append_assoc, append-nil}
 use Rattle.std.specs.Prelude.{reverse}
+use Rattle.std.proofs.lemmas.Grind.{common_steps}
 use Rattle.std.proofs.lemmas.List.{reverse-append}
 use Rattle.pam_base.specs.Bytes.{has_byte, IsFirstPlace}
 use Rattle.report_reader.specs.Words.{before_space, behind_space, last_word, before_last}
@@ -34,13 +35,14 @@ behind_space-all (b ∷ word) none =
     ap (λ (c : Bool). if c then word else behind_space word) both.0 ∙ behind_space-all word both.1
 
 -- a text that has a space is what stands round it
+cut_if : (b : ℕ) (text : List ℕ) (c : Bool) → eqb b 32 ≡ c → (has_byte 32 text ≡ true → before_space text ++ 32 ∷ behind_space text ≡ text) → (c || has_byte 32 text) ≡ true
+    → (if c then [] else b ∷ before_space text) ++ 32 ∷ (if c then text else behind_space text) ≡ b ∷ text
+cut_if b text true is more has = ap (λ (n : ℕ). n ∷ text) (sym (eqb-true b 32 is))
+cut_if b text false is more has = ap (λ (t : List ℕ). b ∷ t) (more has)
+
 pub cut_again : (text : List ℕ) → has_byte 32 text ≡ true → before_space text ++ 32 ∷ behind_space text ≡ text
 cut_again [] has = absurd (cc)
-cut_again (b ∷ text) has = cut_if b text (eqb b 32) refl has
-
-cut_if : (b : ℕ) (text : List ℕ) (c : Bool) → eqb b 32 ≡ c → (c || has_byte 32 text) ≡ true → (if c then [] else b ∷ before_space text) ++ 32 ∷ (if c then text else behind_space text) ≡ b ∷ text
-cut_if b text true is has = ap (λ (n : ℕ). n ∷ text) (sym (eqb-true b 32 is))
-cut_if b text false is has = ap (λ (t : List ℕ). b ∷ t) (cut_again text has)
+cut_again (b ∷ text) has = cut_if b text (eqb b 32) refl (cut_again text) has
 
 -- ---- at the first space
 
@@ -86,3 +88,23 @@ last_word-all word none = ap reverse (before_space-all (reverse word) (has-rever
 
 pub before_last-all : (word : List ℕ) → has_byte 32 word ≡ false → before_last word ≡ []
 before_last-all word none = ap reverse (behind_space-all (reverse word) (has-reverse 32 word none))
+
+-- ---- of a slice
+
+pub rest_is : (xs : List ℕ) (k : ℕ) → take (length xs - k) (drop k xs) ≡ drop k xs
+rest_is xs k = grind (arith, common_steps)
+
+-- at the place behind the last space
+round : (text : List ℕ) (n : ℕ) → suc n ≤ length text → slice_index text n ≡ 32 → text ≡ take n text ++ 32 ∷ drop (suc n) text
+round text n le here = ?
+
+pub last_at : (text : List ℕ) (n : ℕ) → n ≤ length text → has_byte 32 (drop n text) ≡ false → (0 < n → slice_index text (n - 1) ≡ 32) → drop n text ≡ last_word text
+last_at text zero le none space = sym (last_word-all text none)
+last_at text (suc n) le none space = sym (ap last_word (round text n le (space (omega arith))) ∙ last_word-cut (take n text) (drop (suc n) text) none)
+
+pub before_at : (text : List ℕ) (n : ℕ) → n ≤ length text → has_byte 32 (drop n text) ≡ false → 0 < n → slice_index text (n - 1) ≡ 32 → take (n - 1) text ≡ before_last text
+before_at text zero le none some space = absurd (omega arith)
+before_at text (suc n) le none some space = sym (ap before_last (round text n le space) ∙ before_last-cut (take n text) (drop (suc n) text) none)
+
+pub more_at : (text : List ℕ) (n : ℕ) → n < length text → eqb (slice_index text n) 32 ≡ false → has_byte 32 (drop (n + 1) text) ≡ false → has_byte 32 (drop n text) ≡ false
+more_at text n lt here none = ?

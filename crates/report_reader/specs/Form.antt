@@ -1,7 +1,8 @@
 -- What is read of a line, in the words of the report's lines: the contents that don't count are left out.
-use Rattle.std.specs.Prelude.{◌≡◌, ℕ, IfOk, List, [], Option, Some, None, Result}
+use Rattle.std.specs.Prelude.{◌≡◌, ℕ, IfOk, List, [], ◌∷◌, Option, Some, None, Result}
 use Rattle.std.specs.Option.{option_map}
 use Rattle.pam_base.specs.declared.code.Code.TheVariants as codes
+use Rattle.pam_base.specs.declared.call.Func.TheVariants as funcs
 use Rattle.pam_base.specs.declared.fault.FaultKind.TheVariants.{OpenBracket}
 use Rattle.pam_base.specs.declared.fault.NoMemory.{NoMemory}
 use Rattle.service_load.specs.FirstFault.{fault_at}
@@ -30,6 +31,9 @@ command_of spoken.EnvList = lines.lists_env
 command_of spoken.FailDelay = lines.asks_delay
 command_of spoken.DelayFn = lines.switches_delay
 command_of spoken.Reply = lines.replies
+
+abbrev pub all_spoken : List Spoken
+all_spoken = spoken.Start ∷ spoken.End ∷ spoken.Run funcs.Authenticate ∷ spoken.Run funcs.SetCred ∷ spoken.Run funcs.AcctMgmt ∷ spoken.Run funcs.OpenSession ∷ spoken.Run funcs.CloseSession ∷ spoken.Run funcs.ChAuthTok ∷ spoken.SetItem ∷ spoken.GetItem ∷ spoken.PutEnv ∷ spoken.GetEnv ∷ spoken.EnvList ∷ spoken.FailDelay ∷ spoken.DelayFn ∷ spoken.Reply ∷ []
 
 abbrev pub seen_of : Seen → retell.Seen
 seen_of v = retell.seen_at v.place v.name v.answer

@@ -65,22 +65,26 @@ guessed_refusal words =
     fault_at (unquoted (before_last placed)) (guessed_number (last_word placed)) (guessed_fault (last_word named))
 
 -- NAME NUMBER, or ABORT 26 pending NAME
-abbrev pub guessed_answer : List ℕ → Shown
-guessed_answer words =
-    let behind_code = behind_space (behind_space words) in
+abbrev pub answer_by : List ℕ → List ℕ → Shown
+answer_by words behind_code =
     if bytes_eq (before_space behind_code) (codes "pending") then shows_pending (guessed_func (behind_space behind_code))
     else shows_code (guessed_code (before_space words))
 
-abbrev pub guessed_by : List ℕ → List ℕ → Shown
-guessed_by word words =
-    if list_all is_ascii_digit word then shows_count (guessed_number word)
-    else if bytes_eq word (codes "refused") then shows_fault (guessed_refusal (behind_space words))
+abbrev pub guessed_answer : List ℕ → Shown
+guessed_answer words = answer_by words (behind_space (behind_space words))
+
+abbrev pub by_keyword : List ℕ → List ℕ → Shown
+by_keyword word words =
+    if bytes_eq word (codes "refused") then shows_fault (guessed_refusal (behind_space words))
     else if bytes_eq word (codes "set") then shows_value (Some (unquoted (behind_space words)))
     else if bytes_eq word (codes "unset") then shows_value None
     else if bytes_eq word (codes "not") then shows_not_open
     else if bytes_eq word (codes "already") then shows_already_open
     else if bytes_eq word (codes "bad") then shows_bad_number
     else guessed_answer words
+
+abbrev pub guessed_by : List ℕ → List ℕ → Shown
+guessed_by word words = if list_all is_ascii_digit word then shows_count (guessed_number word) else by_keyword word words
 
 abbrev pub guessed_shown : List ℕ → Shown
 guessed_shown words = guessed_by (before_space words) words
@@ -101,7 +105,7 @@ guessed_last line =
 -- ---- a line, without its newline
 
 -- what is guessed, where it is printed as the line
-abbrev pub if_printed : List ℕ → Says → Option Says
+unfoldable pub if_printed : List ℕ → Says → Option Says
 if_printed line s = if bytes_eq (says_text s) (line ++ 10 ∷ []) then Some s else None
 
 -- a variable has a `=`; all else is in its range by how it is guessed

@@ -1,6 +1,10 @@
 ghost use Rattle.std.specs.Prelude.{◌≡◌};
+ghost use Rattle.std.specs.List.{find};
+ghost use Rattle.std.specs.Str.{bytes_eq};
+ghost use Rattle.pam_base.specs.Fault.{fault_name, script_fault_name};
+ghost use Rattle.script_lang.specs.Command.{word_of_func};
 ghost use Rattle.report_lines.specs.Line.{command_word};
-ghost use Rattle.report_reader.specs.Form.{command_of};
+ghost use Rattle.report_reader.specs.Form.{all_spoken, command_of};
 ghost use Rattle.report_reader.specs.Words.{guessed_code, guessed_command, guessed_fault, guessed_func, guessed_script_fault, guessed_style};
 
 use crate::form::Spoken;
@@ -93,8 +97,14 @@ pub fn fault_in(word: &[u8]) -> FaultKind
     ALL_FAULTS
         .iter()
         .copied()
-        .find(|kind| kind.name().as_bytes() == word)
+        .find(|kind| is_fault(*kind, word))
         .unwrap_or(FaultKind::ReadFailed)
+}
+
+fn is_fault(kind: FaultKind, word: &[u8]) -> bool
+    ensures { result ≡ bytes_eq (fault_name kind) word.now }
+{
+    kind.name().as_bytes() == word
 }
 
 /// The fault of a script that a word may name.
@@ -104,8 +114,14 @@ pub fn script_fault_in(word: &[u8]) -> ScriptKind
     ALL_SCRIPT_FAULTS
         .iter()
         .copied()
-        .find(|kind| kind.name().as_bytes() == word)
+        .find(|kind| is_script_fault(*kind, word))
         .unwrap_or(ScriptKind::BadWord)
+}
+
+fn is_script_fault(kind: ScriptKind, word: &[u8]) -> bool
+    ensures { result ≡ bytes_eq (script_fault_name kind) word.now }
+{
+    kind.name().as_bytes() == word
 }
 
 /// The function of the modules that a word may name.
@@ -115,19 +131,36 @@ pub fn func_in(word: &[u8]) -> Func
     ALL_FUNCS
         .iter()
         .copied()
-        .find(|func| func_word(*func).as_bytes() == word)
+        .find(|func| is_func(*func, word))
         .unwrap_or(Func::Authenticate)
+}
+
+fn is_func(func: Func, word: &[u8]) -> bool
+    ensures { result ≡ bytes_eq (word_of_func func) word.now }
+{
+    func_word(func).as_bytes() == word
 }
 
 /// The command that a word may name.
 pub fn command_in(word: &[u8]) -> Spoken
     ensures { command_of result ≡ guessed_command word.now }
 {
+    spoken_named(word).unwrap_or(Spoken::Start)
+}
+
+fn spoken_named(word: &[u8]) -> Option<Spoken>
+    ensures { result ≡ find (λ command. bytes_eq (command_word (command_of command)) word.now) all_spoken }
+{
     ALL_SPOKEN
         .iter()
         .copied()
-        .find(|command| command_word(*command).as_bytes() == word)
-        .unwrap_or(Spoken::Start)
+        .find(|command| is_spoken(*command, word))
+}
+
+fn is_spoken(command: Spoken, word: &[u8]) -> bool
+    ensures { result ≡ bytes_eq (command_word (command_of command)) word.now }
+{
+    command_word(command).as_bytes() == word
 }
 
 /// The word of a command.

@@ -1,5 +1,6 @@
-ghost use Rattle.std.specs.Prelude.{◌≡◌};
+ghost use Rattle.std.specs.Prelude.{◌≡◌, ◌≤◌, ◌<◌, ◌-◌, false, length, drop, slice_index};
 ghost use Rattle.std.specs.Char.{digit_value};
+ghost use Rattle.pam_base.specs.Bytes.{has_byte};
 ghost use Rattle.report_reader.specs.Words.{before_last, before_space, behind_space, guessed_number, guessed_status, last_word};
 
 use pam_base::first_place;
@@ -28,10 +29,7 @@ pub fn behind_space(text: &[u8]) -> &[u8]
 pub fn last_word(text: &[u8]) -> &[u8]
     ensures { result.now ≡ last_word text.now }
 {
-    let mut n = text.len();
-    while n > 0 && text[n - 1] != b' ' {
-        n -= 1;
-    }
+    let n = last_place(text);
     &text[n..]
 }
 
@@ -39,11 +37,24 @@ pub fn last_word(text: &[u8]) -> &[u8]
 pub fn before_last(text: &[u8]) -> &[u8]
     ensures { result.now ≡ before_last text.now }
 {
+    let n = last_place(text);
+    if n > 0 { &text[..n - 1] } else { &[] }
+}
+
+// The place behind the last space; 0 where there is none.
+fn last_place(text: &[u8]) -> usize
+    ensures within { result ≤ length text.now }
+    ensures none { has_byte 32 (drop result text.now) ≡ false }
+    ensures space { 0 < result → slice_index text.now (result - 1) ≡ 32 }
+{
     let mut n = text.len();
-    while n > 0 && text[n - 1] != b' ' {
+    while n > 0 {
+        if text[n - 1] == b' ' {
+            return n;
+        }
         n -= 1;
     }
-    if n > 0 { &text[..n - 1] } else { &[] }
+    0
 }
 
 /// The number that decimal digits may stand for.
