@@ -2,7 +2,8 @@
 use Rattle.std.proofs.Common.{◌≡◌, ℕ, zero, suc, ◌+◌, ◌-◌, ◌<◌, ◌≤◌, arith, slice_index, Bool, true, false, ◌||◌, eqb, eqb-true, if◌then◌else◌, List, [], ◌∷◌, ◌++◌, take, drop, length, Option, Some, None, refl, sym, ◌∙◌, ap, subst, append_assoc, append-nil}
 use Rattle.std.specs.Prelude.{reverse}
 use Rattle.std.proofs.lemmas.Grind.{common_steps}
-use Rattle.std.proofs.lemmas.List.{reverse-append}
+use Rattle.std.proofs.Math.Seq.{drop-cons}
+use Rattle.std.proofs.lemmas.List.{reverse-append, take-append-drop, drop_more}
 use Rattle.pam_base.specs.Bytes.{has_byte, IsFirstPlace}
 use Rattle.report_reader.specs.Words.{before_space, behind_space, last_word, before_last}
 
@@ -96,15 +97,24 @@ rest_is xs k = grind (arith, common_steps)
 
 -- at the place behind the last space
 round : (text : List ℕ) (n : ℕ) → suc n ≤ length text → slice_index text n ≡ 32 → text ≡ take n text ++ 32 ∷ drop (suc n) text
-round text n le here = ?
+round text n le here =
+    let lt : n < length text = omega arith in
+    sym (take-append-drop n text) ∙ ap (λ (x : List ℕ). take n text ++ x) (drop-cons text n 0 lt ∙ ap (λ (b : ℕ). b ∷ drop (suc n) text) here)
+
+less_one : (n : ℕ) → suc n - 1 ≡ n
+less_one n = omega arith
 
 pub last_at : (text : List ℕ) (n : ℕ) → n ≤ length text → has_byte 32 (drop n text) ≡ false → (0 < n → slice_index text (n - 1) ≡ 32) → drop n text ≡ last_word text
 last_at text zero le none space = sym (last_word-all text none)
-last_at text (suc n) le none space = sym (ap last_word (round text n le (space (omega arith))) ∙ last_word-cut (take n text) (drop (suc n) text) none)
+last_at text (suc n) le none space = sym (ap last_word (round text n le (ap (slice_index text) (sym (less_one n)) ∙ space (omega arith))) ∙ last_word-cut (take n text) (drop (suc n) text) none)
 
 pub before_at : (text : List ℕ) (n : ℕ) → n ≤ length text → has_byte 32 (drop n text) ≡ false → 0 < n → slice_index text (n - 1) ≡ 32 → take (n - 1) text ≡ before_last text
 before_at text zero le none some space = absurd (omega arith)
-before_at text (suc n) le none some space = sym (ap before_last (round text n le space) ∙ before_last-cut (take n text) (drop (suc n) text) none)
+before_at text (suc n) le none some space = ap (λ (k : ℕ). take k text) (less_one n) ∙ sym (ap before_last (round text n le (ap (slice_index text) (sym (less_one n)) ∙ space)) ∙ before_last-cut (take n text) (drop (suc n) text) none)
 
 pub more_at : (text : List ℕ) (n : ℕ) → n < length text → eqb (slice_index text n) 32 ≡ false → has_byte 32 (drop (n + 1) text) ≡ false → has_byte 32 (drop n text) ≡ false
-more_at text n lt here none = ?
+more_at text n lt here none = ap (has_byte 32) (drop_more text n 0 lt) ∙ ap (λ (c : Bool). c || has_byte 32 (drop (n + 1) text)) here ∙ none
+
+pub before_none : (text : List ℕ) (n : ℕ) → n ≤ 0 → has_byte 32 (drop n text) ≡ false → [] ≡ before_last text
+before_none text zero le none = sym (before_last-all text none)
+before_none text (suc n) le none = absurd (omega arith)

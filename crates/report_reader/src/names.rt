@@ -5,7 +5,7 @@ ghost use Rattle.pam_base.specs.Fault.{fault_name, script_fault_name};
 ghost use Rattle.script_lang.specs.Command.{word_of_func};
 ghost use Rattle.report_lines.specs.Line.{command_word};
 ghost use Rattle.report_reader.specs.Form.{all_spoken, command_of};
-ghost use Rattle.report_reader.specs.Words.{guessed_code, guessed_command, guessed_fault, guessed_func, guessed_script_fault, guessed_style};
+ghost use Rattle.report_reader.specs.Words.{all_faults, all_funcs, all_script_faults, guessed_code, guessed_command, guessed_fault, guessed_func, guessed_script_fault, guessed_style};
 
 use crate::form::Spoken;
 use pam_base::{Code, FaultKind, Func, ScriptKind, Style, code_named};
@@ -94,11 +94,16 @@ pub fn style_in(number: u64) -> Style
 pub fn fault_in(word: &[u8]) -> FaultKind
     ensures { result ≡ guessed_fault word.now }
 {
+    fault_named(word).unwrap_or(FaultKind::ReadFailed)
+}
+
+fn fault_named(word: &[u8]) -> Option<FaultKind>
+    ensures { result ≡ find (λ kind. bytes_eq (fault_name kind) word.now) all_faults }
+{
     ALL_FAULTS
         .iter()
         .copied()
         .find(|kind| is_fault(*kind, word))
-        .unwrap_or(FaultKind::ReadFailed)
 }
 
 fn is_fault(kind: FaultKind, word: &[u8]) -> bool
@@ -111,11 +116,16 @@ fn is_fault(kind: FaultKind, word: &[u8]) -> bool
 pub fn script_fault_in(word: &[u8]) -> ScriptKind
     ensures { result ≡ guessed_script_fault word.now }
 {
+    script_fault_named(word).unwrap_or(ScriptKind::BadWord)
+}
+
+fn script_fault_named(word: &[u8]) -> Option<ScriptKind>
+    ensures { result ≡ find (λ kind. bytes_eq (script_fault_name kind) word.now) all_script_faults }
+{
     ALL_SCRIPT_FAULTS
         .iter()
         .copied()
         .find(|kind| is_script_fault(*kind, word))
-        .unwrap_or(ScriptKind::BadWord)
 }
 
 fn is_script_fault(kind: ScriptKind, word: &[u8]) -> bool
@@ -128,11 +138,16 @@ fn is_script_fault(kind: ScriptKind, word: &[u8]) -> bool
 pub fn func_in(word: &[u8]) -> Func
     ensures { result ≡ guessed_func word.now }
 {
+    func_named(word).unwrap_or(Func::Authenticate)
+}
+
+fn func_named(word: &[u8]) -> Option<Func>
+    ensures { result ≡ find (λ kind. bytes_eq (word_of_func kind) word.now) all_funcs }
+{
     ALL_FUNCS
         .iter()
         .copied()
         .find(|func| is_func(*func, word))
-        .unwrap_or(Func::Authenticate)
 }
 
 fn is_func(func: Func, word: &[u8]) -> bool
