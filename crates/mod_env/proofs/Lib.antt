@@ -1,5 +1,6 @@
 mod Putting
 mod Collecting
+mod Respelling
 mod Settling
 mod Telling
 mod Rows

@@ -5,3 +5,4 @@ pub mod Expand
 pub mod EnvFile
 pub mod Env
 pub mod Puts
+pub mod Spelling

@@ -1,4 +1,4 @@
-ghost use Rattle.std.specs.Prelude.{◌≡◌, ℕ, List};
+ghost use Rattle.std.specs.Prelude.{◌≡◌, ℕ, List, Some};
 ghost use Rattle.pam_base.specs.declared.code.Code.{Code};
 ghost use Rattle.conv_port.specs.Conv.{ConvState};
 ghost use Rattle.data_cleanup.specs.Ledger.{PlainLedger};
@@ -13,8 +13,18 @@ ghost use Rattle.pam_room.specs.State.{PlainProcess, Scene};
 ghost use Rattle.pam_room.specs.Stays.{Stays};
 ghost use Rattle.account_files.specs.Accounts.{Known};
 ghost use Rattle.account_files.specs.Act.{Act, Acts, standing};
+ghost use Rattle.mod_env.specs.declared.conf.Entry.{Entry};
+ghost use Rattle.mod_env.specs.Conf.{conf_of};
 ghost use Rattle.mod_env.specs.Env.{put_in, puts_env, sees_env};
 ghost use Rattle.mod_env.specs.Puts.{Puts};
+ghost use Rattle.mod_env.specs.Spelling.{SpellsConf};
+
+/// Does nothing: its contract is that a text of `pam_env.conf(5)` has one reading. Whatever variables the lines of a text
+/// spell, they are the ones that are read, so that no text spells two.
+pub fn a_text_has_one_reading()
+    ensures read { (entries : List Entry) (text : List ℕ) → SpellsConf entries text → conf_of text ≡ Some entries }
+    ensures one { (entries others : List Entry) (text : List ℕ) → SpellsConf entries text → SpellsConf others text → entries ≡ others }
+{}
 
 /// Does nothing: its contract is the laws of the steps at the environment.
 pub(crate) fn env_steps()

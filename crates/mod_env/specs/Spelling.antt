@@ -1,0 +1,143 @@
+-- What spells the settings of a file of pam_env.conf(5): the forms of a value, of a line and of a text, each put
+-- together from its parts, and none of them a step of what reads it.
+use Rattle.std.specs.Prelude.{◌≡◌, ℕ, Bool, true, false, ◌==◌, ◌||◌, ◌&&◌, ◌⊎◌, List, [], ◌∷◌, ◌++◌, map, codes}
+use Rattle.std.specs.List.{list_all, list_any}
+use Rattle.pam_base.specs.Bytes.{has_byte}
+use Rattle.pam_base.specs.Lines.{lines_of}
+use Rattle.pam_base.specs.White.{is_white}
+use Rattle.mod_env.specs.declared.marks.Mark.{Mark}
+use Rattle.mod_env.specs.declared.marks.Mark.TheVariants as marks
+use Rattle.mod_env.specs.declared.value.Piece.{Piece}
+use Rattle.mod_env.specs.declared.value.Piece.TheVariants.{Byte, Variable, Item}
+use Rattle.mod_env.specs.declared.conf.Key.{Key}
+use Rattle.mod_env.specs.declared.conf.Key.TheVariants.{Default, Override}
+use Rattle.mod_env.specs.declared.conf.Values.{Values}
+use Rattle.mod_env.specs.declared.conf.Entry.{Entry}
+use Rattle.mod_env.specs.Marks.{is_byte, is_white_mark, marks_of, text_of}
+use Rattle.mod_env.specs.Value.{is_sigil}
+use Rattle.mod_env.specs.Conf.{no_values, with_value}
+
+-- ---- values
+
+-- whether a brace that means more than itself stands in front
+abbrev pub opens : List Mark → Bool
+opens [] = false
+opens (m ∷ ms) = is_byte 123 m
+
+-- A place, with something behind it: a sigil, a brace, a name, and the brace that closes it. In the name none does.
+pub record SpellsPlace (sigil : ℕ) (name : List ℕ) (text behind : List Mark) : Type 0 where
+  pub inner : List Mark
+  pub text_is : text ≡ marks.Byte sigil ∷ marks.Byte 123 ∷ (inner ++ marks.Byte 125 ∷ behind)
+  pub is_open : list_any (is_byte 125) inner ≡ false
+  pub name_is : name ≡ text_of inner
+
+-- A byte stands for itself where a backslash made it plain, and else where no place begins with it.
+abbrev pub SpellsByte : ℕ → List Mark → List Mark → Type 0
+SpellsByte b text behind = (text ≡ marks.Plain b ∷ behind) ⊎ ((text ≡ marks.Byte b ∷ behind) × ((is_sigil b && opens behind) ≡ false))
+
+-- `$` begins a variable's place, and `@` an item's
+abbrev pub SpellsPiece : Piece → List Mark → List Mark → Type 0
+SpellsPiece (Byte b) text behind = SpellsByte b text behind
+SpellsPiece (Variable name) text behind = SpellsPlace 36 name text behind
+SpellsPiece (Item name) text behind = SpellsPlace 64 name text behind
+
+-- a value is its pieces, one behind another
+abbrev pub SpellsValue : List Piece → List Mark → Type 0
+SpellsValue [] text = text ≡ []
+SpellsValue (piece ∷ pieces) text = (behind : List Mark) × SpellsPiece piece text behind × SpellsValue pieces behind
+
+-- ---- settings
+
+-- whether a word ends here
+abbrev pub is_end : List Mark → Bool
+is_end [] = true
+is_end (m ∷ ms) = is_white_mark m
+
+-- A value within quotes, which may hold white space.
+pub record SpellsQuoted (value : List Piece) (text behind : List Mark) : Type 0 where
+  pub inner : List Mark
+  pub text_is : text ≡ marks.Byte 34 ∷ (inner ++ marks.Byte 34 ∷ behind)
+  pub is_open : list_any (is_byte 34) inner ≡ false
+  pub spelled : SpellsValue value inner
+
+-- whether a quote that means more than itself stands in front
+abbrev pub quotes : List Mark → Bool
+quotes [] = false
+quotes (m ∷ ms) = is_byte 34 m
+
+-- Any other value: it doesn't begin with a quote, and holds no white space.
+pub record SpellsWord (value : List Piece) (text behind : List Mark) : Type 0 where
+  pub inner : List Mark
+  pub text_is : text ≡ inner ++ behind
+  pub unquoted : quotes text ≡ false
+  pub unbroken : list_any is_white_mark inner ≡ false
+  pub spelled : SpellsValue value inner
+
+abbrev pub word_of : Key → List Mark
+word_of Default = map (λ b. marks.Byte b) (codes "DEFAULT=")
+word_of Override = map (λ b. marks.Byte b) (codes "OVERRIDE=")
+
+-- A setting: its key and its value, behind white space, and up to the end of a word.
+pub record SpellsSetting (key : Key) (value : List Piece) (text behind : List Mark) : Type 0 where
+  pub white : List Mark
+  pub at : List Mark
+  pub text_is : text ≡ white ++ (word_of key ++ at)
+  pub is_blank : list_all is_white_mark white ≡ true
+  pub spelled : SpellsQuoted value at behind ⊎ SpellsWord value at behind
+  pub ends : is_end behind ≡ true
+
+-- a key and its value
+pub record Given : Type 0 where
+  pub key : Key
+  pub value : List Piece
+
+-- settings, one behind another, and white space at the end
+abbrev pub SpellsSettings : List Given → List Mark → Type 0
+SpellsSettings [] text = list_all is_white_mark text ≡ true
+SpellsSettings (given ∷ more) text = (behind : List Mark) × SpellsSetting given.key given.value text behind × SpellsSettings more behind
+
+-- what settings give, the last of each key, and before them these values
+abbrev pub settled : List Given → Values → Values
+settled [] values = values
+settled (given ∷ more) values = settled more (with_value given.key given.value values)
+
+-- ---- lines
+
+-- what stands behind a name: nothing, or white space and what follows it
+abbrev pub Follows : List ℕ → List ℕ → Type 0
+Follows text settings = ((text ≡ []) × (settings ≡ [])) ⊎ ((w : ℕ) × (text ≡ w ∷ settings) × (is_white w ≡ true))
+
+-- A line for a variable: its name, which has neither white space nor `=` and doesn't begin with `#`, and its settings.
+pub record SpellsEntry (entry : Entry) (line : List ℕ) : Type 0 where
+  pub white : List ℕ
+  pub first : ℕ
+  pub others : List ℕ
+  pub tail : List ℕ
+  pub settings : List ℕ
+  pub given : List Given
+  pub line_is : line ≡ white ++ (first ∷ others ++ tail)
+  pub is_blank : list_all is_white white ≡ true
+  pub uncommented : (first == 35) ≡ false
+  pub unbroken : list_any is_white (first ∷ others) ≡ false
+  pub unassigned : has_byte 61 (first ∷ others) ≡ false
+  pub follows : Follows tail settings
+  pub spelled : SpellsSettings given (marks_of settings)
+  pub entry_is : entry ≡ record { name = first ∷ others; values = settled given no_values }
+
+-- A line that is passed over: all white space, or a comment behind some.
+pub record IsPassedOver (line : List ℕ) : Type 0 where
+  pub white : List ℕ
+  pub comment : List ℕ
+  pub line_is : line ≡ white ++ comment
+  pub is_blank : list_all is_white white ≡ true
+  pub is_comment : (comment ≡ []) ⊎ ((more : List ℕ) × (comment ≡ 35 ∷ more))
+
+-- the variables of lines, in order
+abbrev pub SpellsLines : List Entry → List (List ℕ) → Type 0
+SpellsLines entries [] = entries ≡ []
+SpellsLines entries (line ∷ lines) =
+    (IsPassedOver line × SpellsLines entries lines) ⊎ ((entry : Entry) × (more : List Entry) × (entries ≡ entry ∷ more) × SpellsEntry entry line × SpellsLines more lines)
+
+-- the variables of a text
+abbrev pub SpellsConf : List Entry → List ℕ → Type 0
+SpellsConf entries text = SpellsLines entries (lines_of text)
