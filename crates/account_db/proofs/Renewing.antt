@@ -15,10 +15,10 @@ use Rattle.pam_base.specs.Lines.{cut, last_line, lines_of, lines_of-line, lines_
 use Rattle.pam_base.specs.Number.{number_of_word, value_of_digits}
 use Rattle.account_db.specs.declared.fault.DbFault.{DbFault}
 use Rattle.account_db.specs.declared.shadow.Shadow.{Shadow}
-use Rattle.account_db.specs.Entries.{entries_of, entry_in, is_faulty, is_passed_over, unless_faulty}
+use Rattle.account_db.specs.Entries.{entries_of, entry_in, is_faulty, is_line_of, is_passed_over, unless_faulty}
 use Rattle.account_db.specs.Parts.{field, fields_of}
 use Rattle.pam_base.specs.Parts.{parts_of}
-use Rattle.account_db.specs.Replace.{changed_entries, changed_line, changed_lines, is_line_of, renewed, with_hash}
+use Rattle.account_db.specs.Replace.{changed_entries, changed_line, changed_lines, renewed, with_hash}
 use Rattle.account_db.specs.Shadow.{are_days, is_days, shadow_in, shadow_of, shadows_of}
 use Rattle.pam_base.proofs.Cutting.{either, parts_of-first, parts_of-last}
 

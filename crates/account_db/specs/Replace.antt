@@ -1,21 +1,17 @@
 -- A new hash in the shadow file (shadow(5), passwd(1)).
-use Rattle.std.specs.Prelude.{◌≡◌, true, ◌++◌, ℕ, Bool, ◌&&◌, not, if◌then◌else◌, List, [], ◌∷◌, drop, Some, Result, Ok, Err, decimal}
+use Rattle.std.specs.Prelude.{◌≡◌, true, ◌++◌, ℕ, if◌then◌else◌, List, [], ◌∷◌, drop, Some, Result, Ok, Err, decimal}
 use Rattle.std.specs.List.{join_with_byte}
 use Rattle.std.specs.Str.{bytes_eq}
 use Rattle.account_db.specs.declared.fault.DbFault.{DbFault}
 use Rattle.account_db.specs.declared.shadow.Shadow.{Shadow}
 use Rattle.pam_base.specs.Parts.{parts_of}
 use Rattle.account_db.specs.Parts.{field, fields_of}
-use Rattle.account_db.specs.Entries.{is_passed_over}
+use Rattle.account_db.specs.Entries.{is_line_of}
 use Rattle.account_db.specs.Shadow.{shadows_of}
 
 -- a line with this hash and this day of the last change: its second and its third field
 unfoldable pub changed_line : List ℕ → ℕ → List ℕ → List ℕ
 changed_line hash day line = join_with_byte 58 (field 0 line ∷ hash ∷ decimal day ∷ drop 3 (fields_of line))
-
--- whether a line is one of the user's
-abbrev pub is_line_of : List ℕ → List ℕ → Bool
-is_line_of user line = not (is_passed_over line) && bytes_eq (field 0 line) user
 
 -- the first line of the user is changed, and the others stay
 abbrev pub changed_lines : List ℕ → List ℕ → ℕ → List (List ℕ) → List (List ℕ)
