@@ -19,6 +19,7 @@ ghost use Rattle.mod_lists.specs.SucceedIf.{at_once, by_groups, by_passwds, by_t
 use crate::condition::{
     AccountField, Condition, Field, ItemField, Test, Truth, condition_of, in_sense,
 };
+use crate::found::found_entry;
 use account_db::{Groups, Passwd, is_in_group};
 use account_files::{Account, Accounts, has_user, laws, user_of};
 use conv_port::Conv;
@@ -263,7 +264,8 @@ fn try_account(
 {
     laws::act_steps();
     accounts.read_passwds(alloc, vault, process.root.bytes())?;
-    let truth = on_account(alloc, field, test, accounts.account(user))?;
+    let account = accounts.account(alloc, user)?;
+    let truth = on_account(alloc, field, test, account)?;
     Ok(truth)
 }
 
@@ -273,10 +275,10 @@ fn on_account(
     test: Test,
     account: Account,
 ) -> Result<Truth, NoMemory>
-    ensures { IfOk result (λ truth. truth ≡ on_account (plain_test test.entry) field (plain_account account.entry)) }
+    ensures { IfOk result (λ truth. truth ≡ on_account (plain_test test.entry) field (plain_account account)) }
 {
     match account {
-        Account::Found(entry) => on_entry(alloc, field, test, entry),
+        Account::Found(entry) => on_entry(alloc, field, test, &entry),
         Account::Missing => Ok(Truth::NoUser),
         Account::Unreadable => Ok(Truth::Faulty),
     }
@@ -319,24 +321,27 @@ fn try_groups(
         Some(_) => {}
     }
     accounts.read_groups(alloc, vault, process.root.bytes())?;
-    Ok(by_groups(sense, names, user, accounts))
+    let truth = by_groups(alloc, sense, names, user, accounts)?;
+    Ok(truth)
 }
 
 // Whether the user is in one of the groups, by files that were read.
-fn by_groups(sense: bool, names: &[u8], user: &[u8], accounts: &Accounts) -> Truth
+fn by_groups(
+    alloc: Global,
+    sense: bool,
+    names: &[u8],
+    user: &[u8],
+    accounts: &Accounts,
+) -> Result<Truth, NoMemory>
     requires passwds { accounts.now.passwds ≢ None }
     requires groups { accounts.now.groups ≢ None }
-    ensures { result ≡ by_groups sense (items_of names.now) user.now (entry_known user.now (known_passwds accounts.now)) (known_groups accounts.now) }
+    ensures { IfOk result (λ truth. truth ≡ by_groups sense (items_of names.now) user.now (entry_known user.now (known_passwds accounts.now)) (known_groups accounts.now)) }
 {
-    let entry = match accounts.account(user) {
-        Account::Found(entry) => Some(entry),
-        Account::Missing => None,
-        Account::Unreadable => None,
-    };
+    let entry = found_entry(alloc, user, accounts)?;
     match (accounts.groups(), entry) {
-        (Some(groups), Some(entry)) => in_sense(sense, is_in_any(names, user, entry, groups)),
-        (Some(_), None) => Truth::NoUser,
-        (None, _) => Truth::Faulty,
+        (Some(groups), Some(entry)) => Ok(in_sense(sense, is_in_any(names, user, &entry, groups))),
+        (Some(_), None) => Ok(Truth::NoUser),
+        (None, _) => Ok(Truth::Faulty),
     }
 }
 

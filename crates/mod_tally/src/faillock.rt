@@ -152,7 +152,8 @@ fn check_user(
     }
     let mut accounts = Accounts::new();
     accounts.read_passwds(alloc, vault, process.root.bytes())?;
-    match accounts.account(user) {
+    let account = accounts.account(alloc, user)?;
+    match account {
         Account::Unreadable => Ok(Code::ServiceErr),
         Account::Missing => Ok(Code::Ignore),
         Account::Found(entry) => {

@@ -97,22 +97,18 @@ fn changed_shadow(
         Content::Unreadable => return Ok(None),
         Content::Holds(text) => text,
     };
-    match shadows(alloc, text.bytes()) {
-        Ok(entries) => {
-            if shadow_of(user, &entries).is_none() {
-                return Ok(None);
-            }
-        }
+    let changed = match replace_hash(alloc, text.bytes(), user, hash, today) {
+        Ok(changed) => changed,
         Err(refused) => match refused {
             Refuse::NoMemory => return Err(NoMemory),
             Refuse::Named(_) => return Ok(None),
         },
-    }
-    match replace_hash(alloc, text.bytes(), user, hash, today) {
-        Ok(changed) => Ok(Some(changed)),
-        Err(refused) => match refused {
-            Refuse::NoMemory => Err(NoMemory),
-            Refuse::Named(_) => Ok(None),
+    };
+    match shadows(text) {
+        Ok(entries) => match shadow_of(alloc, user, &entries)? {
+            Some(_) => Ok(Some(changed)),
+            None => Ok(None),
         },
+        Err(_) => Ok(None),
     }
 }
