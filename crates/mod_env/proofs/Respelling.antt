@@ -71,9 +71,11 @@ behind_seam (x ∷ inner) m behind = let e : suc (length inner) + 1 ≡ suc (len
 by_place : (sigil : ℕ) (inner behind : List Mark) → is_sigil sigil ≡ true → list_any (is_byte 125) inner ≡ false
     → next_piece (marks.Byte sigil ∷ marks.Byte 123 ∷ (inner ++ marks.Byte 125 ∷ behind)) ≡ one (place sigil (text_of inner)) behind
 by_place sigil inner behind is none =
-    rw (is, place_behind (is_byte 125) inner (marks.Byte 125) behind none refl, take-append_seam inner (marks.Byte 125 ∷ behind), behind_seam inner (marks.Byte 125) behind) refl
+    rw (is, place_behind (is_byte 125) inner (marks.Byte 125) behind none refl)
+    (rw (take-append_seam inner (marks.Byte 125 ∷ behind), behind_seam inner (marks.Byte 125) behind) refl)
 
-place_is_read : (sigil : ℕ) (name : List ℕ) (text behind : List Mark) → is_sigil sigil ≡ true → SpellsPlace sigil name text behind → next_piece text ≡ one (place sigil name) behind
+place_is_read : (sigil : ℕ) (name : List ℕ) (text behind : List Mark) → is_sigil sigil ≡ true → SpellsPlace sigil name text behind
+    → next_piece text ≡ one (place sigil name) behind
 place_is_read sigil name text behind is s =
     ap next_piece s.text_is ∙ by_place sigil s.inner behind is s.is_open ∙ ap (λ (n : List ℕ). one (place sigil n) behind) (sym s.name_is)
 
@@ -138,9 +140,11 @@ pub record Found (key : Key) (value : List Piece) (text behind : List Mark) : Ty
 by_quote : (key : Key) (inner behind : List Mark) → list_any (is_byte 34) inner ≡ false → is_end behind ≡ true
     → conf.at_value key (marks.Byte 34 ∷ (inner ++ marks.Byte 34 ∷ behind)) ≡ conf.one key inner behind
 by_quote key inner behind none ends =
-    rw (place_behind (is_byte 34) inner (marks.Byte 34) behind none refl, behind_seam inner (marks.Byte 34) behind, ended_by behind ends, take-append_seam inner (marks.Byte 34 ∷ behind)) refl
+    rw (place_behind (is_byte 34) inner (marks.Byte 34) behind none refl)
+    (rw (behind_seam inner (marks.Byte 34) behind, ended_by behind ends, take-append_seam inner (marks.Byte 34 ∷ behind)) refl)
 
-quoted_is_read : (key : Key) (value : List Piece) (text behind : List Mark) → SpellsQuoted value text behind → is_end behind ≡ true → Found key value text behind
+quoted_is_read : (key : Key) (value : List Piece) (text behind : List Mark) → SpellsQuoted value text behind → is_end behind ≡ true
+    → Found key value text behind
 quoted_is_read key value text behind s ends = record {
   inner = s.inner;
   found = ap (conf.at_value key) s.text_is ∙ by_quote key s.inner behind s.is_open ends;
@@ -153,7 +157,8 @@ by_end key inner [] none ends = rw (append-nil inner, no_place is_white_mark inn
 by_end key inner (m ∷ ms) none ends =
     rw (place_behind is_white_mark inner m ms none ends, take-append_seam inner (m ∷ ms), drop-append_seam inner (m ∷ ms)) refl
 
-word_is_read : (key : Key) (value : List Piece) (text behind : List Mark) → SpellsWord value text behind → is_end behind ≡ true → Found key value text behind
+word_is_read : (key : Key) (value : List Piece) (text behind : List Mark) → SpellsWord value text behind → is_end behind ≡ true
+    → Found key value text behind
 word_is_read key value text behind s ends =
     let plain : begins_with (34 ∷ []) text ≡ false = quoted text ∙ s.unquoted in
     record {
@@ -162,7 +167,8 @@ word_is_read key value text behind s ends =
       spelled = s.spelled;
     }
 
-found_value : (key : Key) (value : List Piece) (text behind : List Mark) → SpellsQuoted value text behind ⊎ SpellsWord value text behind → is_end behind ≡ true → Found key value text behind
+found_value : (key : Key) (value : List Piece) (text behind : List Mark) → SpellsQuoted value text behind ⊎ SpellsWord value text behind → is_end behind ≡ true
+    → Found key value text behind
 found_value key value text behind (inl s) ends = quoted_is_read key value text behind s ends
 found_value key value text behind (inr s) ends = word_is_read key value text behind s ends
 
@@ -171,7 +177,9 @@ module _ (key : Key) (value : List Piece) (text behind : List Mark) (s : SpellsS
   in_text = found_value key value s.at behind s.spelled s.ends
 
   setting_is_read : conf.next_setting text ≡ conf.one key in_text.inner behind
-  setting_is_read = ap conf.next_setting s.text_is ∙ ap conf.at_key (white_skipped s.white (word_of key ++ s.at) s.is_blank) ∙ at_word key s.at ∙ in_text.found
+  setting_is_read =
+      ap conf.next_setting s.text_is ∙ ap conf.at_key (white_skipped s.white (word_of key ++ s.at) s.is_blank)
+      ∙ at_word key s.at ∙ in_text.found
 
 -- a value is no longer than what it stands in front of
 module _ (value : List Piece) (text behind : List Mark) where
@@ -185,9 +193,12 @@ word_is_some Override = omega arith
 
 setting_is_longer : (key : Key) (value : List Piece) (text behind : List Mark) → SpellsSetting key value text behind → length behind < length text
 setting_is_longer key value text behind s =
-    omega (arith, ap length s.text_is, length-append s.white (word_of key ++ s.at), length-append (word_of key) s.at, word_is_some key, no_longer value s.at behind s.spelled)
+    let white = length-append s.white (word_of key ++ s.at) in
+    let word = length-append (word_of key) s.at in
+    omega (arith, ap length s.text_is, white, word, word_is_some key, no_longer value s.at behind s.spelled)
 
-settings_within : (n : ℕ) (given : List Given) (values : Values) (text : List Mark) → length text ≤ n → SpellsSettings given text → conf.values_within n values text ≡ Some (settled given values)
+settings_within : (n : ℕ) (given : List Given) (values : Values) (text : List Mark) → length text ≤ n → SpellsSettings given text
+    → conf.values_within n values text ≡ Some (settled given values)
 settings_within zero [] values text few s = rw (all_white text s) refl
 settings_within zero (given ∷ more) values text few s = let longer = setting_is_longer given.key given.value text s.0 s.1 in absurd (omega arith)
 settings_within (suc n) [] values text few s = rw (all_white text s) refl
@@ -207,7 +218,8 @@ front_skipped : (white rest : List ℕ) → list_all is_white white ≡ true →
 front_skipped [] rest blank = refl
 front_skipped (b ∷ bs) rest blank = let parts = both (is_white b) (list_all is_white bs) blank in rw parts.0 (front_skipped bs rest parts.1)
 
-name_is_read : (name tail settings : List ℕ) → list_any is_white name ≡ false → Follows tail settings → (before_first is_white (name ++ tail) ≡ name) × (after_first is_white (name ++ tail) ≡ settings)
+name_is_read : (name tail settings : List ℕ) → list_any is_white name ≡ false → Follows tail settings
+    → (before_first is_white (name ++ tail) ≡ name) × (after_first is_white (name ++ tail) ≡ settings)
 name_is_read name tail settings none (inl e) =
     rw (e.0, e.1, append-nil name, none_before is_white name none) (take-length name, drop_of_length-le name (omega arith))
 name_is_read name tail settings none (inr f) =
@@ -219,12 +231,14 @@ stops b bs e = rw e refl
 counted : (b : ℕ) (bs : List ℕ) → (b == 35) ≡ false → conf.counts (b ∷ bs) ≡ true
 counted b bs e = rw e refl
 
-entry_by : (text name settings : List ℕ) (values : Values) → before_first is_white text ≡ name → after_first is_white text ≡ settings → has_byte 61 name ≡ false
-    → values_of (marks_of settings) ≡ Some values → conf.entry_at text ≡ Some (record { name = name; values = values })
+entry_by : (text name settings : List ℕ) (values : Values) → before_first is_white text ≡ name → after_first is_white text ≡ settings
+    → has_byte 61 name ≡ false → values_of (marks_of settings) ≡ Some values → conf.entry_at text ≡ Some (record { name = name; values = values })
 entry_by text name settings values named behind none read = rw (named, behind, none, read) refl
 
 module _ (entry : Entry) (line : List ℕ) (s : SpellsEntry entry line) where
-  named : (before_first is_white (s.first ∷ s.others ++ s.tail) ≡ s.first ∷ s.others) × (after_first is_white (s.first ∷ s.others ++ s.tail) ≡ s.settings)
+  named :
+      (before_first is_white (s.first ∷ s.others ++ s.tail) ≡ s.first ∷ s.others)
+      × (after_first is_white (s.first ∷ s.others ++ s.tail) ≡ s.settings)
   named = name_is_read (s.first ∷ s.others) s.tail s.settings s.unbroken s.follows
 
   front : conf.without_front line ≡ s.first ∷ s.others ++ s.tail
@@ -238,7 +252,8 @@ module _ (entry : Entry) (line : List ℕ) (s : SpellsEntry entry line) where
   entry_is_read : conf.entry_at (conf.without_front line) ≡ Some entry
   entry_is_read =
       ap conf.entry_at front
-      ∙ entry_by (s.first ∷ s.others ++ s.tail) (s.first ∷ s.others) s.settings (settled s.given conf.no_values) named.0 named.1 s.unassigned (settings_are_read s.given (marks_of s.settings) s.spelled)
+      ∙ entry_by (s.first ∷ s.others ++ s.tail) (s.first ∷ s.others) s.settings (settled s.given conf.no_values) named.0 named.1 s.unassigned
+      (settings_are_read s.given (marks_of s.settings) s.spelled)
       ∙ ap (λ (e : Entry). Some e) (sym s.entry_is)
 
 by_comment : (comment : List ℕ) → (comment ≡ []) ⊎ ((more : List ℕ) × (comment ≡ 35 ∷ more)) → conf.counts (conf.without_front comment) ≡ false
@@ -247,7 +262,8 @@ by_comment comment (inr e) = rw e.1 refl
 
 is_passed : (line : List ℕ) → IsPassedOver line → conf.counts (conf.without_front line) ≡ false
 is_passed line s =
-    ap (λ (l : List ℕ). conf.counts (conf.without_front l)) s.line_is ∙ ap conf.counts (front_skipped s.white s.comment s.is_blank) ∙ by_comment s.comment s.is_comment
+    ap (λ (l : List ℕ). conf.counts (conf.without_front l)) s.line_is ∙ ap conf.counts (front_skipped s.white s.comment s.is_blank)
+    ∙ by_comment s.comment s.is_comment
 
 pub lines_are_read : (entries : List Entry) (lines : List (List ℕ)) → SpellsLines entries lines → conf.entries_of lines ≡ Some entries
 lines_are_read entries [] s = rw s refl

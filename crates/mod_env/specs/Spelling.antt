@@ -136,7 +136,8 @@ pub record IsPassedOver (line : List ℕ) : Type 0 where
 abbrev pub SpellsLines : List Entry → List (List ℕ) → Type 0
 SpellsLines entries [] = entries ≡ []
 SpellsLines entries (line ∷ lines) =
-    (IsPassedOver line × SpellsLines entries lines) ⊎ ((entry : Entry) × (more : List Entry) × (entries ≡ entry ∷ more) × SpellsEntry entry line × SpellsLines more lines)
+    (IsPassedOver line × SpellsLines entries lines)
+    ⊎ ((entry : Entry) × (more : List Entry) × (entries ≡ entry ∷ more) × SpellsEntry entry line × SpellsLines more lines)
 
 -- the variables of a text
 abbrev pub SpellsConf : List Entry → List ℕ → Type 0
