@@ -207,6 +207,11 @@ fn find_frame<S: Source>(
         (S.source_faults source.new) }
 {
     let found = reader.find::<FramesOf<Meaning>, S>(source, before);
-    let _held = reader.bytes();
+    are_bytes(reader.bytes());
     found
 }
+
+// The elements of a slice of bytes are bytes. It does nothing.
+fn are_bytes(held: &[u8])
+    ensures { AreBytes held.now }
+{}

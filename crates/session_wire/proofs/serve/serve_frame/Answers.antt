@@ -1,4 +1,5 @@
-use Rattle.std.proofs.Common.{sym, refl, subst}
+use Rattle.std.proofs.Common.{◌<◌, sym, refl, subst}
+use Rattle.std.proofs.lemmas.List.Elements.{All-from_get_or}
 use Rattle.pam_base.specs.declared.call.Step.{Step}
 use Rattle.pam_wire.specs.Frame.{IsFrame}
 use Rattle.session_wire.proofs.Proceeding.{nothing_done, proceeds_so}
@@ -37,19 +38,19 @@ returns-in-Ok-None-clause-proceeds g c = nothing_done _ _ _ _ _ _ refl refl
 pub returns-in-Ok-clause-proceeds : goal.returns-in-Ok-clause-proceeds
 returns-in-Ok-clause-proceeds g c =
     let e = rw c.in-Ok-Some.field-0-is at c.in-Ok-Some.ensures.step in
-    let framed = (c.frame_is_read.ensures _ _).1 c.type_inv.frame (sym e) in
+    let framed = (c.frame_is_read.ensures _ _).1 (All-from_get_or (λ b. b < 256) c.args.frame.now 0 (λ i lt. (c.type_inv.frame i).fits)) (sym e) in
     proceeds_so _ _ (λ number status is. (c.if-frames-ge-MAX_FRAMES.false, subst (λ (s : Step). IsFrame _ s) is framed)) _ _ _ _ _ c.serve_call.ensures.proceeds
 
 pub returns-clause-proceeds : goal.returns-clause-proceeds
 returns-clause-proceeds g c =
     let e = rw c.in-Ok-Some.field-0-is at c.in-Ok-Some.ensures.step in
-    let framed = (c.frame_is_read.ensures _ _).1 c.type_inv.frame (sym e) in
+    let framed = (c.frame_is_read.ensures _ _).1 (All-from_get_or (λ b. b < 256) c.args.frame.now 0 (λ i lt. (c.type_inv.frame i).fits)) (sym e) in
     proceeds_so _ _ (λ number status is. (c.if-frames-ge-MAX_FRAMES.false, subst (λ (s : Step). IsFrame _ s) is framed)) _ _ _ _ _ c.serve_call.ensures.proceeds
 
 pub returns-in-Ok-clause-framed : goal.returns-in-Ok-clause-framed
 returns-in-Ok-clause-framed g c = λ none.
     let e = rw c.in-Ok-Some.field-0-is at c.in-Ok-Some.ensures.step in
-    (_, (c.frame_is_read.ensures _ _).1 c.type_inv.frame (sym e))
+    (_, (c.frame_is_read.ensures _ _).1 (All-from_get_or (λ b. b < 256) c.args.frame.now 0 (λ i lt. (c.type_inv.frame i).fits)) (sym e))
 
 pub returns-then-frames-ge-MAX_FRAMES-clause-reads : goal.returns-then-frames-ge-MAX_FRAMES-clause-reads
 returns-then-frames-ge-MAX_FRAMES-clause-reads g c = reads_too_many _ _ c.if-frames-ge-MAX_FRAMES.true
