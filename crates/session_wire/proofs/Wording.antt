@@ -68,7 +68,7 @@ module _ {State : Type 0} (answer : CallStep State) (Failing : State → List �
     at_taken ReadFault m c d input taken left text parts r = record { ended = false; at_end = λ e. absurd (cc); by = refl; run = r }
     at_taken (Refused kind) m c d input taken left text parts r = record { ended = r.1; at_end = r.2; by = tt; run = r.3 }
 
-    pub run_ended : (ending : Ending FrameFault) (m : ℕ) (c d : State) (x y : SourceState) (p q : SinkState) → (r : Runs looked (step_at answer) Failing (Ok ending) m c d x y p q) → AreBytes r.taken
+    run_ended : (ending : Ending FrameFault) (m : ℕ) (c d : State) (x y : SourceState) (p q : SinkState) → (r : Runs looked (step_at answer) Failing (Ok ending) m c d x y p q) → AreBytes r.taken
         → IsRunOf ending m c d r.taken y.left r.text
     run_ended ending m c d x y p q r all = run_by ending m c d r.taken y.left r.text all (at_taken ending m c d x.left r.taken y.left r.text r.source r.report)
 
@@ -115,9 +115,9 @@ module _ (runs : RunIsOfSteps call_read) where
   completes (Refused kind) m a b c d x y r read = λ steps rest fault all sp no_read no_write.
       inl (ap (λ (f : Option FrameFault). Ok (ending_by f)) (ended_by x.left _ m steps rest fault (Some kind) all sp r.report.0))
 
-pub completes_not : {T : Type 0} (stop : Stop) (input : List ℕ) (read_failed : Type 0) (c d : ℕ) → RisesIf (has_write_fault {T = T} (Err stop)) c d → Completes (Err stop) input read_failed (Rose c d)
-completes_not NoMemory input read_failed c d written = λ steps rest fault all sp no_read no_write. inr refl
-completes_not WriteFault input read_failed c d written = λ steps rest fault all sp no_read no_write. absurd (no_write written)
+pub completes_not : (T : Type 0) (stop : Stop) (input : List ℕ) (read_failed : Type 0) (c d : ℕ) → RisesIf (has_write_fault {T = T} (Err stop)) c d → Completes (Err stop) input read_failed (Rose c d)
+completes_not T NoMemory input read_failed c d written = λ steps rest fault all sp no_read no_write. inr refl
+completes_not T WriteFault input read_failed c d written = λ steps rest fault all sp no_read no_write. absurd (no_write written)
 
 -- ---- where all tells
 

@@ -1,4 +1,6 @@
 use Rattle.std.proofs.Common.{◌∙◌, Ok, Err, inl, inr, refl}
+use Rattle.item_stream.specs.declared.ending.Ending.{Ending}
+use Rattle.frame_stream.specs.declared.fault.FrameFault.{FrameFault}
 use Rattle.session_wire.proofs.Asking.{by_ending, by_frame, by_stop}
 use Rattle.session_wire.proofs.Consuming.{run_stopped, run_written}
 use Rattle.session_wire.proofs.Filed.{no_data}
@@ -43,14 +45,14 @@ pub returns-in-Err-close_answered-clause-filed : goal.returns-in-Err-close_answe
 returns-in-Err-close_answered-clause-filed g c = c.all_are_filed.ensures 17 _ _ c.close_silently-in-Err-close_answered.ensures.sound.held.once (λ h lt. no_data _ c.close_silently-in-Err-close_answered.ensures.none_open h)
 
 pub returns-in-Err-clause-complete : goal.returns-in-Err-clause-complete
-returns-in-Err-clause-complete g c = λ source. completes_not c.in-Err.stop _ _ _ _ c.in-Err.ensures.sink_faults
+returns-in-Err-clause-complete g c = λ source. completes_not (Ending FrameFault) c.in-Err.stop _ _ _ _ c.in-Err.ensures.sink_faults
 
 pub returns-in-Ok-close_answered-clause-complete : goal.returns-in-Ok-close_answered-clause-complete
 returns-in-Ok-close_answered-clause-complete g c = λ source.
     completes c.reading_is_turns.ensures.steps c.in-Ok.ending _ _ _ _ _ _ _ (c.in-Ok.ensures.reads source) c.in-Ok.ensures.source_faults
 
 pub returns-in-Err-close_answered-clause-complete : goal.returns-in-Err-close_answered-clause-complete
-returns-in-Err-close_answered-clause-complete g c = λ source. completes_not c.in-Err-close_answered.stop _ _ _ _ (rw c.in-Ok.ensures.sink_faults at c.in-Err-close_answered.ensures.faults)
+returns-in-Err-close_answered-clause-complete g c = λ source. completes_not (Unit {0}) c.in-Err-close_answered.stop _ _ _ _ (rw c.in-Ok.ensures.sink_faults at c.in-Err-close_answered.ensures.faults)
 
 pub returns-in-Err-clause-reads : goal.returns-in-Err-clause-reads
 returns-in-Err-clause-reads g c = λ source. frames_read c.bytes_spell_steps.ensures c.reading_is_turns.ensures.steps (Err c.in-Err.stop) _ _ _ (c.in-Err.ensures.reads source) (c.serve_frames.ensures.takes source)

@@ -39,13 +39,13 @@ pub returns-in-Ok-clause-proceeds : goal.returns-in-Ok-clause-proceeds
 returns-in-Ok-clause-proceeds g c =
     let e = rw c.in-Ok-Some.field-0-is at c.in-Ok-Some.ensures.step in
     let framed = (c.frame_is_read.ensures _ _).1 (All-from_get_or (λ b. b < 256) c.args.frame.now 0 (λ i lt. (c.type_inv.frame i).fits)) (sym e) in
-    proceeds_so _ _ (λ number status is. (c.if-frames-ge-MAX_FRAMES.false, subst (λ (s : Step). IsFrame _ s) is framed)) _ _ _ _ _ c.serve_call.ensures.proceeds
+    proceeds_so _ _ (λ number status is. (c.if-frames-ge-MAX_FRAMES.false, subst (λ (s : Step). IsFrame c.args.frame.now s) is framed)) _ _ _ _ _ c.serve_call.ensures.proceeds
 
 pub returns-clause-proceeds : goal.returns-clause-proceeds
 returns-clause-proceeds g c =
     let e = rw c.in-Ok-Some.field-0-is at c.in-Ok-Some.ensures.step in
     let framed = (c.frame_is_read.ensures _ _).1 (All-from_get_or (λ b. b < 256) c.args.frame.now 0 (λ i lt. (c.type_inv.frame i).fits)) (sym e) in
-    proceeds_so _ _ (λ number status is. (c.if-frames-ge-MAX_FRAMES.false, subst (λ (s : Step). IsFrame _ s) is framed)) _ _ _ _ _ c.serve_call.ensures.proceeds
+    proceeds_so _ _ (λ number status is. (c.if-frames-ge-MAX_FRAMES.false, subst (λ (s : Step). IsFrame c.args.frame.now s) is framed)) _ _ _ _ _ c.serve_call.ensures.proceeds
 
 pub returns-in-Ok-clause-framed : goal.returns-in-Ok-clause-framed
 returns-in-Ok-clause-framed g c = λ none.
