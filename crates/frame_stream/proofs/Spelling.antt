@@ -88,7 +88,7 @@ module _ (settles : FrontSettles) (reads : ReadsTable) (opens : OpensByTable) wh
   call_none rest size w none = λ step more has is.
       let same : size ≡ length (frame_of step) = same_size (front_of rest) _ _ w (framed_front rest step more has is) in
       let taken : take size rest ≡ frame_of step =
-          ap (λ (n : ℕ). take n rest) same ∙ ap (take (length (frame_of step))) (one_parts rest step more is) ∙ take-append_seam (frame_of step) more in
+      ap (λ (n : ℕ). take n rest) same ∙ ap (take (length (frame_of step))) (one_parts rest step more is) ∙ take-append_seam (frame_of step) more in
       let read : step_of (take size rest) ≡ Some step = ap step_of taken ∙ (reads (frame_of step) step).0 (record { within = has; bytes_are = refl }) in
       not_none (step_of (take size rest)) step read none
 
@@ -119,24 +119,32 @@ module _ (settles : FrontSettles) (reads : ReadsTable) (opens : OpensByTable) wh
 
   nothing : (n : ℕ) (bytes : List ℕ) (ended : Bool) (fault : Option FrameFault) → n ≤ 65536 → IsBehind n bytes ended fault → Spelled n bytes ended
   nothing n bytes ended fault le h =
-      let k : n ≡ n + length {A = Step} [] = omega arith in
-      ([], bytes, fault, record {
-        frames = record { framed = tt; parts = refl };
-        few = omega (arith, le);
-        behind = subst (λ (j : ℕ). IsBehind j bytes ended fault) k h;
-      })
+      let k : n ≡ n + length {A = Step} [] = omega arith in (
+        [],
+        bytes,
+        fault,
+        record {
+          frames = record { framed = tt; parts = refl };
+          few = omega (arith, le);
+          behind = subst (λ (j : ℕ). IsBehind j bytes ended fault) k h;
+        },
+      )
 
   one_more : (n : ℕ) (bytes more : List ℕ) (ended : Bool) (step : Step) → IsCut bytes step more → Spelled (n + 1) more ended → Spelled n bytes ended
   one_more n bytes more ended step c (steps, rest, fault, sp) =
-      let k : (n + 1) + length steps ≡ n + length (step ∷ steps) = omega arith in
-      (step ∷ steps, rest, fault, record {
-        frames = record {
-          framed = (c.within, sp.frames.framed);
-          parts = c.parts ∙ ap (λ (z : List ℕ). frame_of step ++ z) sp.frames.parts ∙ sym (append_assoc (frame_of step) (frames_of steps) rest);
-        };
-        few = omega (arith, sp.few);
-        behind = subst (λ (j : ℕ). IsBehind j rest ended fault) k sp.behind;
-      })
+      let k : (n + 1) + length steps ≡ n + length (step ∷ steps) = omega arith in (
+        step ∷ steps,
+        rest,
+        fault,
+        record {
+          frames = record {
+            framed = (c.within, sp.frames.framed);
+            parts = c.parts ∙ ap (λ (z : List ℕ). frame_of step ++ z) sp.frames.parts ∙ sym (append_assoc (frame_of step) (frames_of steps) rest);
+          };
+          few = omega (arith, sp.few);
+          behind = subst (λ (j : ℕ). IsBehind j rest ended fault) k sp.behind;
+        },
+      )
 
   never : false ≡ true → ⊥
   never e = (cc)
@@ -245,7 +253,7 @@ module _ (settles : FrontSettles) (reads : ReadsTable) (opens : OpensByTable) wh
         let ok : step_at answers n s (frame_of step) ≡ Ok (answers s step) = step-ok n s (frame_of step) step lt ((reads (frame_of step) step).0 (record { within = has; bytes_are = refl })) in
         let k : n + length (step ∷ steps) ≡ (n + 1) + length steps = omega arith in
         let next = run_steps steps (n + 1) (answers s step).0 more ended rest fault (bytes_behind bytes step more parts all)
-            (record { frames = record { framed = sp.frames.framed.1; parts = refl }; few = omega (arith, sp.few); behind = subst (λ (j : ℕ). IsBehind j rest ended fault) k sp.behind }) in
+        (record { frames = record { framed = sp.frames.framed.1; parts = refl }; few = omega (arith, sp.few); behind = subst (λ (j : ℕ). IsBehind j rest ended fault) k sp.behind }) in
         whole_run settles answers n s bytes (frame_of step) more ended seen
         ∙ ap (λ (r : Result (State × List ℕ) FrameFault). after n s r (λ d. run_of looked (step_at answers) (n + 1) d more ended)) ok
         ∙ ap (with_text (answers s step).1) next
@@ -348,7 +356,7 @@ module _ (settles : FrontSettles) (reads : ReadsTable) (opens : OpensByTable) wh
         let f = item_in n bytes item ended a.step (items ++ behind) a.few all seen a.read in
         let r : Run State FrameFault = run_items (step_at answers) (n + 1) x.0 items in
         let run : r ≡ come_to r.text t m None =
-            rebuilt r t m (ap (λ (z : Run State FrameFault). z.last) e) (ap (λ (z : Run State FrameFault). z.items) e) (ap (λ (z : Run State FrameFault). z.refused) e) in
+        rebuilt r t m (ap (λ (z : Run State FrameFault). z.last) e) (ap (λ (z : Run State FrameFault). z.items) e) (ap (λ (z : Run State FrameFault). z.refused) e) in
         let is_text : text ≡ x.1 ++ r.text = sym (ap (λ (z : Run State FrameFault). z.text) e) in
         let does : x ≡ answers s a.step = a.does in
         front_more n m s t bytes item ended a.step f.more items behind text r.text f.item_is f.cut (is_text ∙ ap (λ (z : State × List ℕ). z.1 ++ r.text) does)

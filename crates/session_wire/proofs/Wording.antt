@@ -45,7 +45,7 @@ module _ {State : Type 0} (answer : CallStep State) (Failing : State → List �
     run_by ending m c d taken left text all e =
         let s = spell 0 taken e.ended (omega arith) all in
         let same : come_to (answers_to answer c s.0) (state_behind answer c s.0) (0 + length s.0) s.2 ≡ come_to text d m (refusal_of ending) =
-            sym (runs 0 c taken e.ended s.0 s.1 s.2 all s.3) ∙ e.run in
+        sym (runs 0 c taken e.ended s.0 s.1 s.2 all s.3) ∙ e.run in
         record {
           spelled = record {
             ended = e.ended;
@@ -85,7 +85,7 @@ module _ (spell : BytesSpell) (runs : RunIsOfSteps call_read) where
   looks_before result m x y r all =
       let l = r.last in
       let bytes : AreBytes l.early =
-          All-same (λ b. b < 256) l.early (take (length l.early) r.taken) (sym (ap (take (length l.early)) l.parts ∙ take-append_seam l.early l.late)) (All-take (λ b. b < 256) (length l.early) r.taken all) in
+      All-same (λ b. b < 256) l.early (take (length l.early) r.taken) (sym (ap (take (length l.early)) l.parts ∙ take-append_seam l.early l.late)) (All-take (λ b. b < 256) (length l.early) r.taken all) in
       let s = spell 0 l.early false (omega arith) bytes in
       let none : s.2 ≡ None = sym (ap (λ (z : Run (Unit {0}) FrameFault). z.refused) (runs 0 tt l.early false s.0 s.1 s.2 bytes s.3)) ∙ l.accepted in
       record { early = l.early; late = l.late; parts = l.parts; room = l.room; steps = s.0; rest = s.1; spells = subst (λ (f : Option FrameFault). Spells l.early false s.0 s.1 f) none s.3 }
@@ -138,7 +138,7 @@ module _ (setting : Setting) (spell : BytesSpell) (runs : RunIsOfSteps (answers 
     answers_all done c =
         let whole : c.whole ≡ closings setting.players (ending_status ending) last = sym (append-nil c.whole) ∙ ap (λ (z : List Closing). c.whole ++ z) (sym c.to.0) ∙ sym c.among in
         let words : closings_text c.whole ++ c.part ≡ closings_text (closings setting.players (ending_status ending) last) =
-            ap (λ (z : List ℕ). closings_text c.whole ++ z) c.to.1 ∙ append-nil (closings_text c.whole) ∙ ap closings_text whole in
+        ap (λ (z : List ℕ). closings_text c.whole ++ z) c.to.1 ∙ append-nil (closings_text c.whole) ∙ ap closings_text whole in
         record {
           taken = r.taken;
           source = r.source;

@@ -192,11 +192,7 @@ fn take_turn<S: Source, K: Sink>(
 }
 
 // Takes bytes until a frame is whole, or what is held is refused.
-fn find_frame<S: Source>(
-    reader: &mut Reader,
-    source: &mut S,
-    before: u32,
-) -> Result<Found, Failed>
+fn find_frame<S: Source>(reader: &mut Reader, source: &mut S, before: u32) -> Result<Found, Failed>
     ensures found { IsFound looked result before reader.new }
     ensures bytes { AreBytes reader.new }
     ensures tells { S.source_tells source.new ≡ S.source_tells source.old }

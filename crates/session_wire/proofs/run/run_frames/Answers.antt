@@ -31,7 +31,7 @@ pub returns-in-Ok-close_answered-clause-proceeds : goal.returns-in-Ok-close_answ
 returns-in-Ok-close_answered-clause-proceeds g c = goes_on _ _ _ _ _ _ _ _ (proceeds_so _ _ (by_frame _ _) _ _ _ _ _ c.serve_frames.ensures.proceeds) (proceeds_so _ _ (by_ending _ _ c.in-Ok.ending _ c.ending_status.ensures) _ _ _ _ _ (rw c.serve_frames.ensures.gear at c.close_answered.ensures.proceeds))
 
 pub returns-in-Err-close_answered-clause-proceeds : goal.returns-in-Err-close_answered-clause-proceeds
-returns-in-Err-close_answered-clause-proceeds g c = 
+returns-in-Err-close_answered-clause-proceeds g c =
     goes_on _ _ _ _ _ _ _ _ (goes_on _ _ _ _ _ _ _ _ (proceeds_so _ _ (by_frame _ _) _ _ _ _ _ c.serve_frames.ensures.proceeds) (proceeds_so _ _ (by_ending _ _ c.in-Ok.ending _ c.ending_status.ensures) _ _ _ _ _ (rw c.serve_frames.ensures.gear at c.close_answered.ensures.proceeds)))
     (proceeds_so _ _ (by_stop _ _ c.in-Err-close_answered.stop _ c.stop_status-in-Err-close_answered.ensures) _ _ _ _ _ (rw (c.close_answered.ensures.gear, c.serve_frames.ensures.gear) at c.close_silently-in-Err-close_answered.ensures.proceeds))
 
