@@ -12,20 +12,25 @@ mod opening;
 mod operand;
 mod program;
 mod script_run;
-mod shipped;
 mod status;
 mod usage;
 
 use conv_port::{Conv, QueueConv, TermConv};
+use data_cleanup::Ledger;
 pub use desk::Desk;
-use pam_base::{Code, Numbers};
+use mod_basic::{Debug, Deny, Permit, Probe, Rootok};
+use mod_env::Env as EnvModule;
+use mod_history::{Pwhistory, Securetty, Wheel};
+use mod_lists::{Listfile, Nologin, Shells, SucceedIf};
+use mod_tally::Faillock;
+use mod_unix::Unix;
+use pam_base::{Code, Numbers, Text};
 use pam_outside::{
     Clock, FixedClock, FolderVault, MemVault, Nap, NapSum, ReaderSource, RealClock, Sink, SleepNap,
     Source, Vault, WriterSink,
 };
-use pam_room::World;
+use pam_room::{Module, Process, World};
 pub use program::pamsess;
-use shipped::{process_of_nobody, shipped_modules};
 use std::alloc::Global;
 use std::io::ErrorKind;
 use std::process::ExitCode;
@@ -40,6 +45,9 @@ const NO_MEMORY: u8 = 4;
 
 /// How many transactions may be open at a time, each with a conversation.
 const TRANSACTIONS: usize = 16;
+
+/// The caller whose process the transactions are in: nobody.
+const CALLER: u32 = 65534;
 
 /// The longest wait that the delay function gives, in microseconds.
 const LONGEST_WAIT: u32 = 3_000_000;
@@ -59,39 +67,40 @@ fn exit_status(answered: io::Result<u8>) -> u8
     }
 }
 
-// Makes the real objects, and calls the program with them.
+// Makes the streams, a conversation without replies for each transaction, and the terminal, and calls the program with them.
 fn run(rt: HostRuntime) -> io::Result<u8> {
     let alloc = rt.alloc();
     let words = words(&rt)?;
     let mut script = ReaderSource::new(rt.reader());
     let mut out = WriterSink::new(io::writer(&rt));
     let term: Box<dyn Conv> = Box::new(alloc, TermConv::new(rt.stdin(), rt.stderr()))?;
-    let mut world = world(rt, &words)?;
-    let convs = conversations(alloc)?;
-    serve(
-        alloc,
-        &words,
-        convs,
-        term,
-        &mut script,
-        &mut out,
-        &mut world,
-    )
+    let mut convs: Vec<Box<dyn Conv>> = Vec::new(alloc);
+    for _ in 0..TRANSACTIONS {
+        convs.push(Box::new(alloc, QueueConv::new(alloc))?)?;
+    }
+    run_in_world(rt, &words, convs, term, &mut script, &mut out)
 }
 
-// The world that the first word wants: somebody who logs in has the real clock, and waits; what is drawn stands in memory
-// alone.
-fn world(rt: HostRuntime, words: &[String]) -> io::Result<World>
-    ensures no_births { IfOk result (λ world. world.process.ledger.births ≡ []) }
-    ensures no_receipts { IfOk result (λ world. world.process.ledger.filed ≡ []) }
+// Calls it in the world that the first word wants: somebody who logs in has the real clock, and waits; what is drawn stands in
+// memory alone.
+fn run_in_world<S: Source, K: Sink>(
+    rt: HostRuntime,
+    words: &[String],
+    convs: Vec<Box<dyn Conv>>,
+    term: Box<dyn Conv>,
+    script: &mut S,
+    out: &mut K,
+) -> io::Result<u8>
+    requires { length convs.items ≡ TRANSACTIONS }
 {
     let alloc = rt.alloc();
-    let clock: Box<dyn Clock> = if begins_with("login", words) {
+    let is_login = begins_with("login", words);
+    let clock: Box<dyn Clock> = if is_login {
         Box::new(alloc, RealClock::new(rt))?
     } else {
         Box::new(alloc, FixedClock::new(0, 0))?
     };
-    let nap: Box<dyn Nap> = if begins_with("login", words) {
+    let nap: Box<dyn Nap> = if is_login {
         Box::new(alloc, SleepNap::new(rt))?
     } else {
         Box::new(alloc, NapSum::new())?
@@ -101,12 +110,26 @@ fn world(rt: HostRuntime, words: &[String]) -> io::Result<World>
     } else {
         Box::new(alloc, FolderVault::new(rt))?
     };
-    Ok(World {
+    let mut world = World {
         vault,
         clock,
         nap,
         process: process_of_nobody(alloc),
-    })
+    };
+    serve(alloc, words, convs, term, script, out, &mut world)
+}
+
+// A process of nobody, with a ledger in which nothing was entered.
+fn process_of_nobody(alloc: Global) -> Process
+    ensures caller { result.caller ≡ CALLER }
+    ensures no_births { result.ledger.births ≡ [] }
+    ensures no_receipts { result.ledger.filed ≡ [] }
+{
+    Process {
+        ledger: Ledger::new(alloc),
+        root: Text::new(alloc),
+        caller: CALLER,
+    }
 }
 
 fn begins_with(command: &str, words: &[String]) -> bool {
@@ -116,19 +139,8 @@ fn begins_with(command: &str, words: &[String]) -> bool {
     }
 }
 
-// A conversation without replies for each transaction.
-fn conversations(alloc: Global) -> io::Result<Vec<Box<dyn Conv>>>
-    ensures { IfOk result (λ convs. length convs.items ≡ TRANSACTIONS) }
-{
-    let mut convs: Vec<Box<dyn Conv>> = Vec::new(alloc);
-    for _ in 0..TRANSACTIONS {
-        convs.push(Box::new(alloc, QueueConv::new(alloc))?)?;
-    }
-    Ok(convs)
-}
-
-// Calls the program with these conversations and this terminal, the shipped modules, and a delay function that waits as long as it
-// is asked to, but three seconds at most, and not behind SUCCESS.
+// Calls it with the shipped modules, and a delay function that waits as long as it is asked to, but three seconds at most, and not
+// behind SUCCESS.
 fn serve<S: Source, K: Sink>(
     alloc: Global,
     words: &[String],
@@ -142,6 +154,22 @@ fn serve<S: Source, K: Sink>(
     requires no_births { world.old.process.ledger.births ≡ [] }
     requires no_receipts { world.old.process.ledger.filed ≡ [] }
 {
+    let mut mods: Vec<Box<dyn Module>> = Vec::new(alloc);
+    mods.push(Box::new(alloc, Permit::new())?)?;
+    mods.push(Box::new(alloc, Deny::new())?)?;
+    mods.push(Box::new(alloc, Debug::new())?)?;
+    mods.push(Box::new(alloc, Rootok::new())?)?;
+    mods.push(Box::new(alloc, Probe::new())?)?;
+    mods.push(Box::new(alloc, Nologin::new())?)?;
+    mods.push(Box::new(alloc, Listfile::new())?)?;
+    mods.push(Box::new(alloc, Shells::new())?)?;
+    mods.push(Box::new(alloc, SucceedIf::new())?)?;
+    mods.push(Box::new(alloc, EnvModule::new())?)?;
+    mods.push(Box::new(alloc, Unix::new())?)?;
+    mods.push(Box::new(alloc, Faillock::new())?)?;
+    mods.push(Box::new(alloc, Wheel::new())?)?;
+    mods.push(Box::new(alloc, Securetty::new())?)?;
+    mods.push(Box::new(alloc, Pwhistory::new())?)?;
     let delay = |code: Code, asked: u32| -> u32 {
         if code == Code::Success {
             0
@@ -150,7 +178,7 @@ fn serve<S: Source, K: Sink>(
         }
     };
     let desk = Desk {
-        mods: shipped_modules(alloc)?,
+        mods,
         convs,
         term,
         delay: Box::new(alloc, delay)?,

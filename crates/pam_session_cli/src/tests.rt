@@ -1,7 +1,6 @@
 //! What the program says, and what it leaves behind, where calls of the source, the sink or the vault are to fail.
 
 use super::*;
-use pam_base::Text;
 use pam_outside::{MemSink, MemSource};
 use std::alloc::Global;
 use std::test::Fail;
@@ -183,7 +182,10 @@ fn run_row(alloc: Global, row: &Row) -> Result<Ran, Fail> {
         process: process_of_nobody(alloc),
     };
     let term: Box<dyn Conv> = Box::new(alloc, QueueConv::new(alloc))?;
-    let convs = conversations(alloc)?;
+    let mut convs: Vec<Box<dyn Conv>> = Vec::new(alloc);
+    for _ in 0..TRANSACTIONS {
+        convs.push(Box::new(alloc, QueueConv::new(alloc))?)?;
+    }
     let status = serve(
         alloc,
         &words,
