@@ -1,5 +1,5 @@
-//! What a start and a pass cost by themselves, without a report. `library_bench LINES STARTS PASSES` has a service of so many lines
-//! `auth required pam_permit.so` in memory, starts it so many times, and authenticates so many times behind each start. It prints
+//! What a start and a pass cost by themselves, without a report. `library_bench LINES STARTS PASSES` has a service of LINES lines
+//! `auth required pam_permit.so` in memory, starts it STARTS times, and authenticates PASSES times after each start. It prints
 //! how many authentications let in; what they cost is counted from outside (`bench/library.sh`).
 #![tactic(auto)]
 
@@ -93,7 +93,7 @@ fn let_in(alloc: Global, lines: u32, starts: u32, passes: u32) -> Result<Option<
     Ok(Some(count))
 }
 
-// A file of so many lines.
+// A file of n lines.
 fn service_of(alloc: Global, lines: u32) -> Result<Vec<u8>, NoMemory> {
     let mut text = Vec::new(alloc);
     for _ in 0..lines {
@@ -102,7 +102,7 @@ fn service_of(alloc: Global, lines: u32) -> Result<Vec<u8>, NoMemory> {
     Ok(text)
 }
 
-// Authenticates so many times, and answers how many of them let in.
+// Authenticates n times, and answers how many of them let in.
 fn authenticate(
     alloc: Global,
     gear: &Gear,
