@@ -1,5 +1,5 @@
 -- Which frames of a stream are looked at, of the bytes that were taken so far.
-use Rattle.std.specs.Prelude.{◌≡◌, ◌⊎◌, ℕ, zero, suc, ◌+◌, ◌≤◌, Bool, List, [], ◌∷◌, length, take, drop, Option, None, nat_le, if◌then◌else◌}
+use Rattle.std.specs.Prelude.{◌≡◌, ◌⊎◌, ℕ, zero, suc, ◌+◌, ◌≤◌, Bool, List, [], ◌∷◌, length, take, drop, None, nat_le, if◌then◌else◌}
 use Rattle.pam_wire.specs.declared.front.Front.{Front}
 use Rattle.pam_wire.specs.declared.front.Front.TheVariants.{Open, OutOfRange, Whole}
 use Rattle.pam_wire.specs.Read.{front_of, step_of}

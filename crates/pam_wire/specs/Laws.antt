@@ -5,7 +5,7 @@ use Rattle.pam_wire.specs.declared.front.Front.{Front}
 use Rattle.pam_wire.specs.declared.front.Front.TheVariants.{Open, OutOfRange, Whole}
 use Rattle.pam_wire.specs.Frame.{IsFrame, AreBytes}
 use Rattle.pam_wire.specs.Read.{front_of, step_of}
-use Rattle.pam_wire.specs.Stream.{AreFramesOf, HasNoFrame}
+use Rattle.pam_wire.specs.Stream.{AreFramesOf, HasNoFrame, IsOpen}
 
 -- a frame by the table is read as its step, and where bytes are read as a step they are its frame
 abbrev pub ReadsTable : Type 0
@@ -38,3 +38,7 @@ Settles Open bytes more = length bytes ≤ 581
 
 abbrev pub FrontSettles : Type 0
 FrontSettles = (bytes more : List ℕ) → Settles (front_of bytes) bytes more
+
+-- The front of some bytes is open exactly where a frame whose length is in range has begun, and isn't whole.
+abbrev pub OpensByTable : Type 0
+OpensByTable = (rest : List ℕ) → (AreBytes rest → front_of rest ≡ Open → IsOpen rest) × (IsOpen rest → front_of rest ≡ Open)

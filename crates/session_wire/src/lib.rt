@@ -5,6 +5,7 @@
 mod closing;
 mod frames;
 mod meaning;
+mod reading;
 mod run;
 mod serve;
 
