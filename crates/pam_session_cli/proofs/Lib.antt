@@ -3,3 +3,4 @@ pub mod Cleaning
 pub mod LoggingIn
 pub mod Statuses
 pub mod Telling
+pub mod Wiring

@@ -11,7 +11,8 @@ use Rattle.session_generate.specs.Generated.{IsEndOfGenerate}
 use Rattle.session_login.specs.declared.attempt.Verdict.{Verdict}
 use Rattle.session_login.specs.Ends.{IsEndOfLogin}
 use Rattle.session_run.specs.Ends.{EndsAre, IsEndOfRun}
-use Rattle.pam_session_cli.specs.Command.{Request, runs, logs_in, generates}
+use Rattle.session_wire.specs.Ends.{IsEndOfRun as IsEndOfWire}
+use Rattle.pam_session_cli.specs.Command.{Request, runs, logs_in, generates, wires}
 use Rattle.pam_session_cli.specs.Generate.{generate_status}
 use Rattle.pam_session_cli.specs.Login.{login_status}
 
@@ -36,9 +37,10 @@ EndsGenerate status number ended = (result : Result Generated Stop) × (status �
 
 -- Which ends there may be, by what the program was asked for and the status that it comes to. In a run whose script is told, each
 -- transaction was ended with the status that one of the script's lines asks for, for that number, or with one of those with which a
--- run ends what is open; the commands that open no transaction end none.
+-- run ends what is open; where frames are told, likewise by the frames. The commands that open no transaction end none.
 abbrev pub MayEnd : Option Request → Bool → List ℕ → ℕ → ℕ → ℕ → Type 0
 MayEnd (Some (runs root)) tells script status number ended = IsEndOfRun tells script number ended
 MayEnd (Some (logs_in root service user)) tells script status number ended = EndsLogin status number ended
 MayEnd (Some (generates seed lines)) tells script status number ended = EndsGenerate status number ended
+MayEnd (Some (wires root)) tells script status number ended = IsEndOfWire tells script number ended
 MayEnd request tells script status number ended = ⊥

@@ -18,6 +18,8 @@ pub data Request : Type 0 where
   generates : ℕ → ℕ → Request
   -- the failures of a user under a root
   tallies : List ℕ → List ℕ → Request
+  -- the calls of a front end, as frames, under a root
+  wires : List ℕ → Request
 
 -- a word that isn't empty and doesn't begin with a dash
 abbrev pub is_operand : List ℕ → Bool
@@ -77,6 +79,11 @@ tally_request (root ∷ user ∷ []) =
     if is_operand (string_bytes root) && is_user (string_bytes user) then Some (tallies (string_bytes root) (string_bytes user)) else None
 tally_request operands = None
 
+-- ROOT
+abbrev pub wire_request : List (String Global) → Option Request
+wire_request (root ∷ []) = if is_operand (string_bytes root) then Some (wires (string_bytes root)) else None
+wire_request operands = None
+
 abbrev pub command_request : List ℕ → List (String Global) → Option Request
 command_request command operands =
     if bytes_eq command (codes "run") then run_request operands
@@ -84,6 +91,7 @@ command_request command operands =
     else if bytes_eq command (codes "login") then login_request operands
     else if bytes_eq command (codes "generate") then generate_request operands
     else if bytes_eq command (codes "tally") then tally_request operands
+    else if bytes_eq command (codes "wire") then wire_request operands
     else None
 
 abbrev pub request_of : List (String Global) → Option Request
@@ -91,4 +99,4 @@ request_of [] = None
 request_of (command ∷ operands) = command_request (string_bytes command) operands
 
 abbrev pub usage : List ℕ
-usage = codes "usage: pamsess run ROOT | check ROOT SERVICE | login ROOT SERVICE [USER] | generate SEED LINES | tally ROOT USER\n"
+usage = codes "usage: pamsess run ROOT | check ROOT SERVICE | login ROOT SERVICE [USER] | generate SEED LINES | tally ROOT USER | wire ROOT\n"

@@ -3,5 +3,6 @@ pub mod Asked
 pub mod Run
 pub mod Login
 pub mod Generate
+pub mod Wire
 pub mod CleanedUp
 pub mod Status

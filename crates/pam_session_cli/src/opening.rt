@@ -1,4 +1,4 @@
-ghost use Rattle.std.specs.Prelude.{◌≡◌, ◌≤◌, ◌<◌, ◌^◌, ℕ, [], IfOk, length};
+ghost use Rattle.std.specs.Prelude.{◌≡◌, ◌≤◌, ◌<◌, ◌^◌, ℕ, [], IfOk, IsTrue, length};
 ghost use Rattle.pam_base.specs.declared.code.Code.{Code};
 ghost use Rattle.fail_delay.specs.DelayFn.{GivesOneNumber, IsNumberGiven};
 ghost use Rattle.data_due.specs.Stands.{StandFor};
@@ -6,13 +6,16 @@ ghost use Rattle.pam_room.specs.Module.{notes_of};
 ghost use Rattle.pam_library.specs.Slots.{NoneIsOpen, handle_limit, lists_of};
 ghost use Rattle.pam_library.specs.Plain.{gear_in};
 ghost use Rattle.pam_library.specs.Sound.{IsSoundFor};
+ghost use Rattle.pam_session_cli.specs.Run.{IsUnder};
 
 use crate::desk::{Desk, DeskTold};
 use data_cleanup::Ledger;
 use fail_delay::{DelayFn, DelayRule, DelayTold, LONGEST_ASKED};
-use pam_base::NoMemory;
+use pam_base::{NoMemory, Text};
 use pam_handle::{Gear, GearTold};
 use pam_library::{Library, LibraryTold};
+use pam_outside::{set_moment, set_word};
+use pam_room::{World, WorldTold};
 use std::alloc::Global;
 
 /// A library with a desk's modules, conversations and delay function, in which no transaction is open, over a ledger in
@@ -56,4 +59,18 @@ pub(crate) fn library_of(alloc: Global, desk: Desk, ledger: &Ledger) -> Result<L
     };
     let library = Library::new(alloc, gear, convs)?;
     Ok(library)
+}
+
+/// Puts the world under a root, at the moment 0 and with the random word 0.
+pub(crate) fn go_under(world: &mut World, root: Text)
+    ensures tells { ⟦<World as WorldTold>⟧.tells world.new
+        ≡ ⟦<World as WorldTold>⟧.tells world.old }
+    ensures told { IsTrue (⟦<World as WorldTold>⟧.tells world.old) →
+        IsUnder root (⟦<World as WorldTold>⟧.plain world.old)
+        (⟦<World as WorldTold>⟧.plain world.new) }
+    ensures ledger { world.new.process.ledger ≡ world.old.process.ledger }
+{
+    world.process.root = root;
+    set_moment(&mut *world.clock, 0);
+    set_word(&mut *world.clock, 0);
 }

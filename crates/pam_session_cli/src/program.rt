@@ -12,16 +12,18 @@ ghost use Rattle.pam_library.specs.Plain.{gear_in};
 ghost use Rattle.pam_library.specs.Sound.{IsSoundFor};
 ghost use Rattle.service_load.specs.Loading.{OnlyCalls};
 ghost use Rattle.session_check.specs.Check.{check_of};
-ghost use Rattle.pam_session_cli.specs.Command.{request_of, runs, checks, logs_in, generates, tallies};
+ghost use Rattle.pam_session_cli.specs.Command.{request_of, runs, checks, logs_in, generates, tallies, wires};
 ghost use Rattle.pam_session_cli.specs.CleanedUp.{IsCleanedUp, MayEnd};
 ghost use Rattle.pam_session_cli.specs.Generate.{GeneratesBy, IsGenerateStatus};
 ghost use Rattle.pam_session_cli.specs.Login.{IsLoginStatus, LogsInBy, ShowsLogin};
 ghost use Rattle.pam_session_cli.specs.Run.{Completes, HasRefused, IsAccepted, IsDone, IsRefused, IsStatus, IsUnread, ReadsBy, Runs, opening};
 ghost use Rattle.pam_session_cli.specs.Status.{CallsOnce, ChecksBy, CountsUnread, IsCheckStatus, IsTallyStatus, TalliesBy, WritesUsage};
+ghost use Rattle.pam_session_cli.specs.Wire.{AnswersBy, IsReadThrough, IsWireStatus, ReadsFramesBy, Serves, WireCompletes};
 ghost use Rattle.session_tally.specs.Tally.{tally_of};
 
 use crate::command::{Request, request_in};
 use crate::desk::{Desk, DeskTold};
+use crate::frame_run::answer_frames;
 use crate::generation::draw;
 use crate::login::log_in;
 use crate::script_run::run;
@@ -47,22 +49,27 @@ use std::alloc::Global;
 /// - `generate SEED LINES` draws a service of so many lines, authenticates by it, and writes what that came to.
 /// - `tally ROOT USER` lists the failures of a user that `pam_faillock(8)` has recorded, and changes nothing of the
 ///   world but what the vault counts. A USER that can be no file's name is none.
+/// - `wire ROOT` does what `run` does for the frames of a front end, of at most 65,536 calls, and writes an answer to
+///   each before the next one is looked at.
 ///
 /// A word isn't empty and doesn't begin with `-`. It answers the program's status:
 ///
-/// - 0: the script was read to its end, the configuration is printed, the user was let in, the line is written, or the
-///   failures are listed
+/// - 0: the script or the frames were read to their end, the configuration is printed, the user was let in, the line is
+///   written, or the failures are listed
 /// - 2: the words are others, so only a line on the usage is written
 /// - 3: the configuration is refused, or a drawn file is
 /// - 4: memory ran out
-/// - 5: the script couldn't be read on
+/// - 5: the script or the frames couldn't be read on
 /// - 6: a write failed, and what is written is a front of a report
 /// - 7: a line of the script is refused
 /// - 8: the login was denied
 /// - 9: the tally is damaged
 /// - 10: the tally can't be read
+/// - 13: the frames have a bad one, or end within one
+/// - 14: another byte stands behind 65,536 frames
 ///
-/// On every way out each transaction that is open is ended: with SUCCESS, BUF_ERR (4), SYSTEM_ERR (5 and 6) or ABORT (7).
+/// On every way out each transaction that is open is ended: with SUCCESS, BUF_ERR (4), SYSTEM_ERR (5 and 6) or ABORT (7,
+/// 13 and 14).
 ///
 /// The delay function is to answer one number for each code and each delay of at most 90 seconds,
 /// of at most 60 seconds.
@@ -227,6 +234,46 @@ pub fn pamsess<S: Source, K: Sink>(
         CountsUnread result (vault_faults (in_box world.old.vault))
         (vault_faults (in_box world.new.vault)) }
 
+    // Where they are wire ROOT, and all objects tell: with status 0, 5, 13 and 14 all steps that the bytes taken spell are
+    // answered, and the closings, and the world is the one behind them. With 4 and 6 it is a front of that.
+    ensures wire_answered { (root : List ℕ) (number : Code → ℕ → ℕ) →
+        request_of words.now ≡ Some (wires root) →
+        IsNumberGiven (DelayRule.post desk.delay) number →
+        IsTrue (S.source_tells script.old) → IsTrue (K.sink_tells out.old) →
+        IsTrue (⟦<World as WorldTold>⟧.tells world.old && ⟦<Desk as DeskTold>⟧.tells desk) →
+        AnswersBy (setting_of (⟦<Desk as DeskTold>⟧.players desk) number) result
+        (opening (⟦<Desk as DeskTold>⟧.slots desk) root (⟦<World as WorldTold>⟧.plain world.old))
+        (⟦<World as WorldTold>⟧.plain world.new)
+        (S.source_holds script.old) (S.source_holds script.new) (K.sink_holds out.old)
+        (K.sink_holds out.new) }
+    ensures wire_told { (root : List ℕ) (number : Code → ℕ → ℕ) →
+        request_of words.now ≡ Some (wires root) →
+        IsNumberGiven (DelayRule.post desk.delay) number →
+        IsTrue (S.source_tells script.old) → IsTrue (K.sink_tells out.old) →
+        IsTrue (⟦<World as WorldTold>⟧.tells world.old && ⟦<Desk as DeskTold>⟧.tells desk) →
+        Serves (setting_of (⟦<Desk as DeskTold>⟧.players desk) number) result
+        (⟦<Desk as DeskTold>⟧.slots desk) root (⟦<World as WorldTold>⟧.plain world.old)
+        (⟦<World as WorldTold>⟧.plain world.new)
+        (S.source_holds script.old) (S.source_holds script.new) (K.sink_holds out.old)
+        (K.sink_holds out.new) }
+    ensures wire_statuses { (root : List ℕ) → request_of words.now ≡ Some (wires root) →
+        IsWireStatus result }
+    // Where the source alone tells: how the run ends by the bytes taken, and that it doesn't give up by itself. Where the
+    // sink alone does: how often it was written.
+    ensures wire_reads { (root : List ℕ) → request_of words.now ≡ Some (wires root) →
+        IsTrue (S.source_tells script.old) →
+        ReadsFramesBy result (S.source_holds script.old) (S.source_holds script.new) }
+    ensures wire_complete { (root : List ℕ) → request_of words.now ≡ Some (wires root) →
+        IsTrue (S.source_tells script.old) →
+        WireCompletes result (S.source_holds script.old).left
+        (Rose (S.source_faults script.old) (S.source_faults script.new))
+        (Rose (K.sink_faults out.old) (K.sink_faults out.new)) }
+    ensures wire_writes { (root : List ℕ) → request_of words.now ≡ Some (wires root) →
+        IsTrue (K.sink_tells out.old) →
+        WritesScript (K.sink_holds out.old) (K.sink_holds out.new) }
+    ensures wire_no_read_fault { (root : List ℕ) → request_of words.now ≡ Some (wires root) →
+        IsReadThrough result → S.source_faults script.new ≡ S.source_faults script.old }
+
     // Where they are none of these, the usage line is written.
     ensures usage { request_of words.now ≡ None → IsTrue (K.sink_tells out.old) →
         WritesUsage result (K.sink_holds out.old) (K.sink_holds out.new) }
@@ -278,5 +325,6 @@ pub fn pamsess<S: Source, K: Sink>(
             let tallied = list_failures(alloc, root, user, out, &mut *world.vault);
             status_of_tally(tallied)
         }
+        Some(Request::Wire(root)) => answer_frames(alloc, root, script, out, world, desk),
     }
 }

@@ -11,16 +11,16 @@ ghost use Rattle.pam_library.specs.Plain.{gear_in};
 ghost use Rattle.pam_library.specs.Sound.{IsSoundFor};
 ghost use Rattle.pam_session_cli.specs.CleanedUp.{IsCleanedUp};
 ghost use Rattle.session_run.specs.Ends.{IsEndOfRun};
-ghost use Rattle.pam_session_cli.specs.Run.{IsBegun, IsStatus, IsUnder, ReadsBy, Runs, opening, status_of};
+ghost use Rattle.pam_session_cli.specs.Run.{IsBegun, IsStatus, ReadsBy, Runs, opening, status_of};
 
 use crate::desk::{Desk, DeskTold};
-use crate::opening::library_of;
+use crate::opening::{go_under, library_of};
 use fail_delay::{DelayFn, DelayRule, DelayTold, LONGEST_ASKED};
 use item_stream::{Ending, Stop};
 use pam_base::{Code, ScriptKind, Text};
 use pam_handle::{Gear, GearTold};
 use pam_library::{Library, LibraryTold};
-use pam_outside::{Sink, Source, set_moment, set_word};
+use pam_outside::{Sink, Source};
 use pam_room::{World, WorldTold};
 use session_run::run_script;
 use std::alloc::Global;
@@ -127,20 +127,6 @@ fn run_over<S: Source, K: Sink>(
     let result = run_script(alloc, &mut library, script, out, world);
     library.dismiss();
     status_of(result)
-}
-
-// Puts the world under a root, at the moment 0 and with the random word 0.
-fn go_under(world: &mut World, root: Text)
-    ensures tells { ⟦<World as WorldTold>⟧.tells world.new
-        ≡ ⟦<World as WorldTold>⟧.tells world.old }
-    ensures told { IsTrue (⟦<World as WorldTold>⟧.tells world.old) →
-        IsUnder root (⟦<World as WorldTold>⟧.plain world.old)
-        (⟦<World as WorldTold>⟧.plain world.new) }
-    ensures ledger { world.new.process.ledger ≡ world.old.process.ledger }
-{
-    world.process.root = root;
-    set_moment(&mut *world.clock, 0);
-    set_word(&mut *world.clock, 0);
 }
 
 fn status_of(run: Result<Ending<ScriptKind>, Stop>) -> u8

@@ -3,6 +3,7 @@ use Rattle.pam_session_cli.proofs.Alone.{accepted, has_refused}
 use Rattle.pam_session_cli.proofs.LoggingIn.{drawn_asked, logged_asked}
 use Rattle.pam_session_cli.proofs.Cleaning.{cleaned_as, nothing_to_clean}
 use Rattle.pam_session_cli.proofs.Telling.{asked_root, runs_asked, done_asked, refused_asked, unread_asked, completes_asked}
+use Rattle.pam_session_cli.proofs.Wiring.{answers_asked, serves_asked, wire_root}
 use Rattle.pam_session_cli.proofs.program.pamsess.Goals as goal
 
 pub returns-in-Some-Run-clause-done : goal.returns-in-Some-Run-clause-done
@@ -69,3 +70,23 @@ returns-in-Some-Generate-clause-generated g c seed lines number asked given sink
 
 pub returns-in-Some-Generate-clause-cleaned_up : goal.returns-in-Some-Generate-clause-cleaned_up
 returns-in-Some-Generate-clause-cleaned_up g c = cleaned_as _ _ _ _ _ _ _ (rw c.in-Some-Generate.field-0-is at c.in-Some-Generate.ensures) c.draw.ensures.cleaned_up
+
+pub returns-in-Some-Wire-clause-wire_answered : goal.returns-in-Some-Wire-clause-wire_answered
+returns-in-Some-Wire-clause-wire_answered g c root number asked given source sink both =
+    answers_asked _ _ _ _ _ _ _ _ _ _ _ (wire_root c.in-Some-Wire.root.now root _ (rw c.in-Some-Wire.field-0-is at c.in-Some-Wire.ensures) asked) (c.answer_frames.ensures.told number given source sink both)
+
+pub returns-in-Some-Wire-clause-wire_told : goal.returns-in-Some-Wire-clause-wire_told
+returns-in-Some-Wire-clause-wire_told g c root number asked given source sink both =
+    serves_asked _ _ _ _ _ _ _ _ _ _ _ (wire_root c.in-Some-Wire.root.now root _ (rw c.in-Some-Wire.field-0-is at c.in-Some-Wire.ensures) asked) (c.answer_frames.ensures.told number given source sink both)
+
+pub returns-in-Some-Wire-clause-wire_reads : goal.returns-in-Some-Wire-clause-wire_reads
+returns-in-Some-Wire-clause-wire_reads g c root asked source = c.answer_frames.ensures.reads source
+
+pub returns-in-Some-Wire-clause-wire_complete : goal.returns-in-Some-Wire-clause-wire_complete
+returns-in-Some-Wire-clause-wire_complete g c root asked source = c.answer_frames.ensures.complete source
+
+pub returns-in-Some-Wire-clause-wire_writes : goal.returns-in-Some-Wire-clause-wire_writes
+returns-in-Some-Wire-clause-wire_writes g c root asked sink = c.answer_frames.ensures.writes sink
+
+pub returns-in-Some-Wire-clause-cleaned_up : goal.returns-in-Some-Wire-clause-cleaned_up
+returns-in-Some-Wire-clause-cleaned_up g c = cleaned_as _ _ _ _ _ _ _ (rw c.in-Some-Wire.field-0-is at c.in-Some-Wire.ensures) c.answer_frames.ensures.cleaned_up
