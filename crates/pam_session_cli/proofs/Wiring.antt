@@ -16,7 +16,7 @@ use Rattle.session_wire.specs.Reading.{EndsAtBytes, ReadsFrames, SpellsTo}
 use Rattle.session_wire.specs.Whole.{Answers, AnswersAll, Completes}
 use Rattle.pam_session_cli.specs.Command.{Request, wires}
 use Rattle.pam_session_cli.specs.Run.{IsUnder, opening}
-use Rattle.pam_session_cli.specs.Wire.{AnswersBy, IsServed, ReadsFramesBy, Serves, WireCompletes, wire_status}
+use Rattle.pam_session_cli.specs.Wire.{AnswersBy, IsReadThrough, IsServed, IsWireStatus, ReadsFramesBy, Serves, WireCompletes, wire_status}
 
 -- ---- the ending of a status
 
@@ -47,6 +47,20 @@ no_ending : {A : Type 0} (status : ℕ) (ending : Ending FrameFault) → status 
 no_ending status ending four is =
     let e : Err NoMemory ≡ Ok ending = is_ending (Err NoMemory) ending (sym four ∙ is) in
     absurd (cc)
+
+-- ---- the statuses of other commands
+
+not_seven : {A : Type 0} (result : Result (Ending FrameFault) Stop) → wire_status result ≡ 7 → A
+not_seven (Ok Done) is = absurd (omega (arith, is))
+not_seven (Ok ReadFault) is = absurd (omega (arith, is))
+not_seven (Ok (Refused BadFrame)) is = absurd (omega (arith, is))
+not_seven (Ok (Refused TooManyFrames)) is = absurd (omega (arith, is))
+not_seven (Err NoMemory) is = absurd (omega (arith, is))
+not_seven (Err WriteFault) is = absurd (omega (arith, is))
+
+pub no_fault_read : (status before now : ℕ) → IsWireStatus status → (IsReadThrough status → now ≡ before) → (status ≡ 0) ⊎ (status ≡ 7) → now ≡ before
+no_fault_read status before now known through (inl zero) = through (inl zero)
+no_fault_read status before now known through (inr seven) = not_seven known.0 (sym known.1 ∙ seven)
 
 -- ---- what is answered
 

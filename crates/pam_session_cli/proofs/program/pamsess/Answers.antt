@@ -3,7 +3,7 @@ use Rattle.pam_session_cli.proofs.Alone.{accepted, has_refused}
 use Rattle.pam_session_cli.proofs.LoggingIn.{drawn_asked, logged_asked}
 use Rattle.pam_session_cli.proofs.Cleaning.{cleaned_as, nothing_to_clean}
 use Rattle.pam_session_cli.proofs.Telling.{asked_root, runs_asked, done_asked, refused_asked, unread_asked, completes_asked}
-use Rattle.pam_session_cli.proofs.Wiring.{answers_asked, serves_asked, wire_root}
+use Rattle.pam_session_cli.proofs.Wiring.{answers_asked, no_fault_read, serves_asked, wire_root}
 use Rattle.pam_session_cli.proofs.program.pamsess.Goals as goal
 
 pub returns-in-Some-Run-clause-done : goal.returns-in-Some-Run-clause-done
@@ -90,3 +90,6 @@ returns-in-Some-Wire-clause-wire_writes g c root asked sink = c.answer_frames.en
 
 pub returns-in-Some-Wire-clause-cleaned_up : goal.returns-in-Some-Wire-clause-cleaned_up
 returns-in-Some-Wire-clause-cleaned_up g c = cleaned_as _ _ _ _ _ _ _ (rw c.in-Some-Wire.field-0-is at c.in-Some-Wire.ensures) c.answer_frames.ensures.cleaned_up
+
+pub returns-in-Some-Wire-clause-no_read_fault : goal.returns-in-Some-Wire-clause-no_read_fault
+returns-in-Some-Wire-clause-no_read_fault g c = no_fault_read _ _ _ c.answer_frames.ensures.statuses c.answer_frames.ensures.no_read_fault
