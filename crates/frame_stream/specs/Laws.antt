@@ -12,8 +12,9 @@ use Rattle.frame_stream.specs.Spelled.{SpellsFrom, answers_to, state_behind}
 
 -- the frames of steps are looked at first, and then what stands behind them
 abbrev pub StepsAreLookedAt : Type 0
-StepsAreLookedAt = (n : ℕ) (bytes : List ℕ) (steps : List Step) (rest : List ℕ) (ended : Bool) → AreFramesOf bytes steps rest → n + length steps ≤ 65536 →
-    looked n bytes ended ≡ map frame_of steps ++ looked (n + length steps) rest ended
+StepsAreLookedAt = (n : ℕ) (bytes : List ℕ) (steps : List Step) (rest : List ℕ) (ended : Bool)
+    → AreFramesOf bytes steps rest → n + length steps ≤ 65536
+    → looked n bytes ended ≡ map frame_of steps ++ looked (n + length steps) rest ended
 
 -- where the input ends behind some bytes, what is looked at is all of them, in order
 abbrev pub AllAreLookedAt : Type 0
@@ -22,16 +23,21 @@ AllAreLookedAt = (n : ℕ) (bytes : List ℕ) → concat (looked n bytes true) �
 -- all bytes spell some steps, and have something behind them
 abbrev pub BytesSpell : Type 0
 BytesSpell = (n : ℕ) (bytes : List ℕ) (ended : Bool) → n ≤ 65536 → AreBytes bytes →
-    (steps : List Step) × (rest : List ℕ) × (fault : Option FrameFault) × SpellsFrom n bytes ended steps rest fault
+    (steps : List Step) × (rest : List ℕ) × (fault : Option FrameFault)
+    × SpellsFrom n bytes ended steps rest fault
 
 module _ {State : Type 0} (answers : CallStep State) where
   -- what a run over some bytes comes to is what the steps come to that these spell
   abbrev pub RunIsOfSteps : Type 0
-  RunIsOfSteps = (n : ℕ) (s : State) (bytes : List ℕ) (ended : Bool) (steps : List Step) (rest : List ℕ) (fault : Option FrameFault) → AreBytes bytes → SpellsFrom n bytes ended steps rest fault →
-      run_of looked (step_at answers) n s bytes ended ≡ come_to (answers_to answers s steps) (state_behind answers s steps) (n + length steps) fault
+  RunIsOfSteps = (n : ℕ) (s : State) (bytes : List ℕ) (ended : Bool) (steps : List Step)
+      (rest : List ℕ) (fault : Option FrameFault) → AreBytes bytes
+      → SpellsFrom n bytes ended steps rest fault
+      → run_of looked (step_at answers) n s bytes ended
+      ≡ come_to (answers_to answers s steps) (state_behind answers s steps) (n + length steps) fault
 
   -- some frames stand at the front of some bytes; they are those of steps, which come to this
-  pub record FrontIsOfSteps (n m : ℕ) (s t : State) (bytes : List ℕ) (ended : Bool) (served behind : List (List ℕ)) (text : List ℕ) : Type 0 where
+  pub record FrontIsOfSteps (n m : ℕ) (s t : State) (bytes : List ℕ) (ended : Bool)
+      (served behind : List (List ℕ)) (text : List ℕ) : Type 0 where
     pub steps : List Step
     pub rest : List ℕ
     pub frames : AreFramesOf bytes steps rest
@@ -44,6 +50,8 @@ module _ {State : Type 0} (answers : CallStep State) where
 
   -- items at the front of what is looked at that were not refused are the frames of steps
   abbrev pub ServedAreSteps : Type 0
-  ServedAreSteps = (n m : ℕ) (s t : State) (bytes : List ℕ) (ended : Bool) (served behind : List (List ℕ)) (text : List ℕ) → n ≤ 65536 → AreBytes bytes →
-      looked n bytes ended ≡ served ++ behind → run_items (step_at answers) n s served ≡ come_to text t m None →
-      FrontIsOfSteps n m s t bytes ended served behind text
+  ServedAreSteps = (n m : ℕ) (s t : State) (bytes : List ℕ) (ended : Bool)
+      (served behind : List (List ℕ)) (text : List ℕ) → n ≤ 65536 → AreBytes bytes
+      → looked n bytes ended ≡ served ++ behind
+      → run_items (step_at answers) n s served ≡ come_to text t m None
+      → FrontIsOfSteps n m s t bytes ended served behind text

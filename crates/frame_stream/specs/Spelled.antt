@@ -1,4 +1,5 @@
--- Which steps some bytes spell, and what stands behind their frames, in words that no reader uses (this project's own).
+-- Which steps some bytes spell, and what stands behind their frames, in words that no reader uses
+-- (this project's own).
 use Rattle.std.specs.Prelude.{◌≡◌, ◌⊎◌, ℕ, ◌+◌, ◌<◌, ◌≤◌, Bool, true, List, [], ◌∷◌, ◌++◌, length, Option, Some, None}
 use Rattle.pam_base.specs.declared.call.Step.{Step}
 use Rattle.pam_wire.specs.Stream.{AreFramesOf, HasNoFrame, IsOpen}
@@ -6,16 +7,20 @@ use Rattle.frame_stream.specs.declared.fault.FrameFault.{FrameFault}
 use Rattle.frame_stream.specs.declared.fault.FrameFault.TheVariants.{BadFrame, TooManyFrames}
 use Rattle.frame_stream.specs.Run.{CallStep}
 
--- Whether what stands behind n frames is refused; `ended` says that the input ends behind it. It isn't where nothing stands there,
--- or the beginning of a frame that may still come. It is a bad frame where no frame begins it, and the input ends or it
--- is not even the beginning of one; and one frame too many where it is anything behind 65,536.
+-- Whether what stands behind n frames is refused; `ended` says that the input ends behind it. It
+-- isn't where nothing stands there, or the beginning of a frame that may still come. It is a bad
+-- frame where no frame begins it, and the input ends or it is not even the beginning of one; and
+-- one frame too many where it is anything behind 65,536.
 abbrev pub IsBehind : ℕ → List ℕ → Bool → Option FrameFault → Type 0
 IsBehind n rest ended None = IsOpen rest × (ended ≡ true → rest ≡ []) × (65536 ≤ n → rest ≡ [])
-IsBehind n rest ended (Some BadFrame) = (n < 65536) × HasNoFrame rest × (((ended ≡ true) × (0 < length rest)) ⊎ (IsOpen rest → ⊥))
+IsBehind n rest ended (Some BadFrame) =
+    (n < 65536) × HasNoFrame rest × (((ended ≡ true) × (0 < length rest)) ⊎ (IsOpen rest → ⊥))
 IsBehind n rest ended (Some TooManyFrames) = (65536 ≤ n) × (0 < length rest)
 
--- The bytes are the frames of these steps, at most 65,536 with those n that stand before them, and a rest behind them.
-pub record SpellsFrom (n : ℕ) (bytes : List ℕ) (ended : Bool) (steps : List Step) (rest : List ℕ) (fault : Option FrameFault) : Type 0 where
+-- The bytes are the frames of these steps, at most 65,536 with those n that stand before them, and
+-- a rest behind them.
+pub record SpellsFrom (n : ℕ) (bytes : List ℕ) (ended : Bool) (steps : List Step) (rest : List ℕ)
+    (fault : Option FrameFault) : Type 0 where
   pub frames : AreFramesOf bytes steps rest
   pub few : n + length steps ≤ 65536
   pub behind : IsBehind (n + length steps) rest ended fault

@@ -1,4 +1,5 @@
--- Module data when the program has ended (pam_set_data(3), pam_end(3); which ends there are is this project's own).
+-- Module data when the program has ended (pam_set_data(3), pam_end(3); which ends there are is this
+-- project's own).
 use Rattle.std.specs.Prelude.{◌≡◌, ℕ, nat_lt, if◌then◌else◌, Bool, List, length, Option, Some, None, Result}
 use Rattle.data_cleanup.specs.Cleanup.{Notes}
 use Rattle.data_cleanup.specs.Due.{Event, due}
@@ -16,11 +17,10 @@ use Rattle.pam_session_cli.specs.Command.{Request, runs, logs_in, generates, wir
 use Rattle.pam_session_cli.specs.Generate.{generate_status}
 use Rattle.pam_session_cli.specs.Login.{login_status}
 
--- Each datum that was set was cleaned up exactly once: the receipts are those that births and ends of transactions
--- make due, in their
--- order, each with its status, and every birth has one. The ledger is in order: each receipt has its owner's note,
--- and a datum that was
--- replaced by one of its transaction and name has the status that says so. Each end, by its number and its status, is
+-- Each datum that was set was cleaned up exactly once: the receipts are those that births and ends
+-- of transactions make due, in their order, each with its status, and every birth has one. The
+-- ledger is in order: each receipt has its owner's note, and a datum that was replaced by one of
+-- its transaction and name has the status that says so. Each end, by its number and its status, is
 -- one of these.
 pub record IsCleanedUp (Is : ℕ → ℕ → Type 0) (note : Notes) (ledger : PlainLedger) : Type 0 where
   pub events : List Event

@@ -38,21 +38,22 @@ opening slots root w = state_of slots (under_root root w)
 abbrev pub run_over : Setting → RunState → List ℕ → Bool → Run RunState
 run_over setting start bytes ended = run_of (line_step setting) 0 start bytes ended
 
--- the report of a run that ends so: its lines', the closings, and the last line; and the world behind it
+-- the report of a run that ends so: its lines', the closings, and the last line; and the world
+-- behind it
 abbrev pub report_of : Setting → Ending → Run RunState → List ℕ
 report_of setting ending r = r.text ++ last_words setting.players ending r.items r.last
 
 abbrev pub world_behind : Setting → Ending → Run RunState → PlainWorld
 world_behind setting ending r = (all_closed setting.players (ending_status ending) r.last).world
 
--- the births and ends of a run that ends so: those of the lines that were applied, and of the closings behind them
+-- the births and ends of a run that ends so: those of the lines that were applied, and of the
+-- closings behind them
 abbrev pub events_in : Setting → Ending → RunState → List ℕ → Run RunState → List Event
 events_in setting ending start script r =
     run_events setting (ending_status ending) start script r.items r.last
 
--- The report of this run is written whole, and the world is the one behind it. The receipts of data are those that
--- the births and ends
--- of the run make due.
+-- The report of this run is written whole, and the world is the one behind it. The receipts of data
+-- are those that the births and ends of the run make due.
 pub record IsReported (setting : Setting) (ending : Ending) (start : RunState) (script : List ℕ)
     (r : Run RunState) (world : PlainWorld) (p q : SinkState) : Type 0 where
   pub written : q.written ≡ p.written ++ report_of setting ending r
@@ -67,9 +68,8 @@ pub record IsDone (setting : Setting) (start : RunState) (world : PlainWorld) (x
   pub reported : IsReported setting Done start x.left (run_over setting start x.left true) world p q
   pub read_out : y.left ≡ []
 
--- Status 7: a line of the whole script is refused, for this. Of the bytes taken, all but at most the last 512 (those
--- of the last
--- read) hold no line that is refused.
+-- Status 7: a line of the whole script is refused, for this. Of the bytes taken, all but at most
+-- the last 512 (those of the last read) hold no line that is refused.
 pub record IsRefused (setting : Setting) (start : RunState) (world : PlainWorld) (x y : SourceState)
     (p q : SinkState) : Type 0 where
   pub kind : ScriptKind
@@ -106,18 +106,18 @@ pub record IsNotBegun (old new : PlainWorld) (x y : SourceState) (p q : SinkStat
   pub source : y ≡ x
   pub sink : q ≡ p
 
--- The lines among some bytes, number by number: the place of each behind them and the outcomes of its steps are those
--- of its own steps
--- alone, each in the world before it; and what is reported of the lines is what is told of these steps.
+-- The lines among some bytes, number by number: the place of each behind them and the outcomes of
+-- its steps are those of its own steps alone, each in the world before it; and what is reported of
+-- the lines is what is told of these steps.
 pub record StandsSideBySide (setting : Setting) (start : RunState) (bytes : List ℕ)
     (ended : Bool) : Type 0 where
   pub alone : (number : ℕ) (slot : PlainSlot) → slot_at start.slots number ≡ Some slot
       → ComesAlone setting start bytes ended number slot
   pub steps : TellsSteps setting start bytes ended
 
--- a run was begun: what was taken and written, how often it was read and written, and the world behind it; before it
--- there was no
--- birth and no end; and whatever lines it comes to stand side by side
+-- a run was begun: what was taken and written, how often it was read and written, and the world
+-- behind it; before it there was no birth and no end; and whatever lines it comes to stand side by
+-- side
 pub record IsBegun (setting : Setting) (status : ℕ) (start : RunState) (world : PlainWorld)
     (x y : SourceState) (p q : SinkState) : Type 0 where
   pub result : Result Ending Stop
@@ -147,14 +147,15 @@ IsStatus n = (result : Result Ending Stop) × (n ≡ status_of result)
 
 -- ---- what source or sink tells alone
 
--- How a run ends by the bytes of a told script, and how often that was read: a run that wasn't begun for want of
--- memory took nothing.
+-- How a run ends by the bytes of a told script, and how often that was read: a run that wasn't
+-- begun for want of memory took nothing.
 pub record ReadsBy (status : ℕ) (x y : SourceState) : Type 0 where
   pub result : Result Ending Stop
   pub is : status ≡ status_of result
   pub reads : ReadsScript result x y
 
--- status 0 says that no line of the whole script is refused, which was read to its end; status 7 that one is
+-- status 0 says that no line of the whole script is refused, which was read to its end; status 7
+-- that one is
 abbrev pub IsAccepted : List ℕ → List ℕ → Type 0
 IsAccepted script left = (refused_in script true ≡ None) × (left ≡ [])
 

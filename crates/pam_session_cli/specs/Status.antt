@@ -30,7 +30,8 @@ pub record ChecksBy (status : ℕ) (c : Check) (old new : SinkState) (vault : Va
 abbrev pub IsCheckStatus : ℕ → Type 0
 IsCheckStatus n = (result : Result Found Stop) × (n ≡ check_status result)
 
--- of a list of failures: 0 where they are listed, 9 where the file is damaged, 10 where it can't be read
+-- of a list of failures: 0 where they are listed, 9 where the file is damaged, 10 where it can't be
+-- read
 abbrev pub tally_status : Result Tallied Stop → ℕ
 tally_status (Ok Listed) = 0
 tally_status (Ok Damaged) = 9

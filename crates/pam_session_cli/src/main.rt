@@ -1,5 +1,5 @@
-//! `pamsess`: applies the calls of a script or of a front end to the transactions of a configuration and reports what each
-//! answers, logs somebody in, or prints what a configuration or a tally comes to.
+//! `pamsess`: applies the calls of a script or of a front end to the transactions of a configuration and reports what
+//! each answers, logs somebody in, or prints what a configuration or a tally comes to.
 #![tactic(auto)]
 
 ghost use Rattle.std.specs.Prelude.{◌≡◌, [], IfOk, OnErr, length};
@@ -68,8 +68,8 @@ fn exit_status(answered: io::Result<u8>) -> u8
     }
 }
 
-// Makes the streams, a conversation without replies for each transaction, which waits where a front end is to answer, and the terminal,
-// and calls the program with them.
+// Makes the streams, a conversation without replies for each transaction, which waits where a front end is to answer,
+// and the terminal, and calls the program with them.
 fn run(rt: HostRuntime) -> io::Result<u8> {
     let alloc = rt.alloc();
     let words = words(&rt)?;

@@ -68,8 +68,8 @@ use std::alloc::Global;
 /// - 13: the frames have a bad one, or end within one
 /// - 14: another byte stands behind 65,536 frames
 ///
-/// On every way out each transaction that is open is ended: with SUCCESS, BUF_ERR (4), SYSTEM_ERR (5 and 6) or ABORT (7,
-/// 13 and 14).
+/// On every way out each transaction that is open is ended: with SUCCESS, BUF_ERR (4), SYSTEM_ERR (5 and 6) or ABORT
+/// (7, 13 and 14).
 ///
 /// The delay function is to answer one number for each code and each delay of at most 90 seconds,
 /// of at most 60 seconds.
@@ -234,8 +234,8 @@ pub fn pamsess<S: Source, K: Sink>(
         CountsUnread result (vault_faults (in_box world.old.vault))
         (vault_faults (in_box world.new.vault)) }
 
-    // Where they are wire ROOT, and all objects tell: with status 0, 5, 13 and 14 all steps that the bytes taken spell are
-    // answered, and the closings, and the world is the one behind them. With 4 and 6 it is a front of that.
+    // Where they are wire ROOT, and all objects tell: with status 0, 5, 13 and 14 all steps that the bytes taken spell
+    // are answered, and the closings, and the world is the one behind them. With 4 and 6 it is a front of that.
     ensures wire_answered { (root : List ℕ) (number : Code → ℕ → ℕ) →
         request_of words.now ≡ Some (wires root) →
         IsNumberGiven (DelayRule.post desk.delay) number →
@@ -258,8 +258,8 @@ pub fn pamsess<S: Source, K: Sink>(
         (K.sink_holds out.new) }
     ensures wire_statuses { (root : List ℕ) → request_of words.now ≡ Some (wires root) →
         IsWireStatus result }
-    // Where the source alone tells: how the run ends by the bytes taken, and that it doesn't give up by itself. Where the
-    // sink alone does: how often it was written.
+    // Where the source alone tells: how the run ends by the bytes taken, and that it doesn't give up by itself. Where
+    // the sink alone does: how often it was written.
     ensures wire_reads { (root : List ℕ) → request_of words.now ≡ Some (wires root) →
         IsTrue (S.source_tells script.old) →
         ReadsFramesBy result (S.source_holds script.old) (S.source_holds script.new) }

@@ -20,8 +20,8 @@ end_call number status = record { number = number; call = End status }
 abbrev pub AsksEndAt : ℕ → List ℕ → ℕ → ℕ → Type 0
 AsksEndAt n frame number status = (n < 65536) × IsFrame frame (end_call number status)
 
--- Some bytes, before which n frames stand, are the frames of steps, then that of this call, and others; with it there are at
--- most 65,536.
+-- Some bytes, before which n frames stand, are the frames of steps, then that of this call, and
+-- others; with it there are at most 65,536.
 pub record HasEndFrom (n : ℕ) (bytes : List ℕ) (number status : ℕ) : Type 0 where
   pub before : List Step
   pub rest : List ℕ
@@ -42,8 +42,12 @@ pub record LeadsTo (n m : ℕ) (bytes rest : List ℕ) : Type 0 where
 
 -- a status with which a run ends what is open behind its frames
 abbrev pub IsClosingStatus : ℕ → Type 0
-IsClosingStatus status = ((ending : Ending FrameFault) × (status ≡ number_of (ending_status ending))) ⊎ ((stop : Stop) × (status ≡ number_of (stop_status stop)))
+IsClosingStatus status =
+    ((ending : Ending FrameFault) × (status ≡ number_of (ending_status ending)))
+    ⊎ ((stop : Stop) × (status ≡ number_of (stop_status stop)))
 
--- an end of a run of frames: where its input is told, one of its frames asks for it, or it was made behind them
+-- an end of a run of frames: where its input is told, one of its frames asks for it, or it was made
+-- behind them
 abbrev pub IsEndOfRun : Bool → List ℕ → ℕ → ℕ → Type 0
-IsEndOfRun tells input number status = IsTrue tells → IsClosingStatus status ⊎ HasEndFrom 0 input number status
+IsEndOfRun tells input number status =
+    IsTrue tells → IsClosingStatus status ⊎ HasEndFrom 0 input number status

@@ -73,8 +73,8 @@ pub fn run_frames<S: Source, K: Sink>(
         (S.source_holds source.old) (S.source_holds source.new)
         (K.sink_holds sink.old) (K.sink_holds sink.new) }
 
-    // Where the source alone tells: how often it was read, and how the run ends by the bytes taken. Where the sink alone
-    // does: how often it was written.
+    // Where the source alone tells: how often it was read, and how the run ends by the bytes taken. Where the sink
+    // alone does: how often it was written.
     ensures reads { IsTrue (S.source_tells source.old) →
         ReadsFrames result (S.source_holds source.old) (S.source_holds source.new) }
     ensures writes { IsTrue (K.sink_tells sink.old) →
