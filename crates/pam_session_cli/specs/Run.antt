@@ -52,8 +52,8 @@ abbrev pub events_in : Setting → Ending → RunState → List ℕ → Run RunS
 events_in setting ending start script r =
     run_events setting (ending_status ending) start script r.items r.last
 
--- The report of this run is written whole, and the world is the one behind it. The receipts of data
--- are those that the births and ends of the run make due.
+-- The report of this run is written whole, and the world is the one behind it. The receipts of data are those that
+-- the births and ends of the run make due.
 pub record IsReported (setting : Setting) (ending : Ending) (start : RunState) (script : List ℕ)
     (r : Run RunState) (world : PlainWorld) (p q : SinkState) : Type 0 where
   pub written : q.written ≡ p.written ++ report_of setting ending r
@@ -68,8 +68,8 @@ pub record IsDone (setting : Setting) (start : RunState) (world : PlainWorld) (x
   pub reported : IsReported setting Done start x.left (run_over setting start x.left true) world p q
   pub read_out : y.left ≡ []
 
--- Status 7: a line of the whole script is refused, for this. Of the bytes taken, all but at most
--- the last 512 (those of the last read) hold no line that is refused.
+-- Status 7: a line of the whole script is refused, for this. Of the bytes taken, all but at most the last 512 (those
+-- of the last read) hold no line that is refused.
 pub record IsRefused (setting : Setting) (start : RunState) (world : PlainWorld) (x y : SourceState)
     (p q : SinkState) : Type 0 where
   pub kind : ScriptKind
@@ -106,18 +106,17 @@ pub record IsNotBegun (old new : PlainWorld) (x y : SourceState) (p q : SinkStat
   pub source : y ≡ x
   pub sink : q ≡ p
 
--- The lines among some bytes, number by number: the place of each behind them and the outcomes of
--- its steps are those of its own steps alone, each in the world before it; and what is reported of
--- the lines is what is told of these steps.
+-- The lines among some bytes, number by number: the place of each behind them and the outcomes of its steps are those
+-- of its own steps alone, each in the world before it; and what is reported of the lines is what is told of these
+-- steps.
 pub record StandsSideBySide (setting : Setting) (start : RunState) (bytes : List ℕ)
     (ended : Bool) : Type 0 where
   pub alone : (number : ℕ) (slot : PlainSlot) → slot_at start.slots number ≡ Some slot
       → ComesAlone setting start bytes ended number slot
   pub steps : TellsSteps setting start bytes ended
 
--- a run was begun: what was taken and written, how often it was read and written, and the world
--- behind it; before it there was no birth and no end; and whatever lines it comes to stand side by
--- side
+-- a run was begun: what was taken and written, how often it was read and written, and the world behind it; before it
+-- there was no birth and no end; and whatever lines it comes to stand side by side
 pub record IsBegun (setting : Setting) (status : ℕ) (start : RunState) (world : PlainWorld)
     (x y : SourceState) (p q : SinkState) : Type 0 where
   pub result : Result Ending Stop
