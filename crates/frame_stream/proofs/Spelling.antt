@@ -323,7 +323,7 @@ module _ (settles : FrontSettles) (reads : ReadsTable) (opens : OpensByTable) wh
     rebuilt r t m a b c =
         ap (λ (x : State). come_to r.text x r.items r.refused) a ∙ ap (λ (x : ℕ). come_to r.text t x r.refused) b ∙ ap (λ (x : Option FrameFault). come_to r.text t m x) c
 
-    -- the first one, and those behind it
+    -- the first one, and those after it
     front_more : (n m : ℕ) (s t : State) (bytes item : List ℕ) (ended : Bool) (step : Step) (more : List ℕ) (items behind : List (List ℕ)) (text others : List ℕ) → item ≡ frame_of step → IsCut bytes step more → text ≡ (answers s step).1 ++ others
         → FrontIsOfSteps answers (n + 1) m (answers s step).0 t more ended items behind others → FrontIsOfSteps answers n m s t bytes ended (item ∷ items) behind text
     front_more n m s t bytes item ended step more items behind text others i c e f = record {

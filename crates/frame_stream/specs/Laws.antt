@@ -10,17 +10,17 @@ use Rattle.frame_stream.specs.Looked.{looked}
 use Rattle.frame_stream.specs.Run.{CallStep, step_at}
 use Rattle.frame_stream.specs.Spelled.{SpellsFrom, answers_to, state_behind}
 
--- the frames of steps are looked at first, and then what stands behind them
+-- the frames of steps are looked at first, and then what stands after them
 abbrev pub StepsAreLookedAt : Type 0
 StepsAreLookedAt = (n : ℕ) (bytes : List ℕ) (steps : List Step) (rest : List ℕ) (ended : Bool)
     → AreFramesOf bytes steps rest → n + length steps ≤ 65536
     → looked n bytes ended ≡ map frame_of steps ++ looked (n + length steps) rest ended
 
--- where the input ends behind some bytes, what is looked at is all of them, in order
+-- where the input ends after some bytes, what is looked at is all of them, in order
 abbrev pub AllAreLookedAt : Type 0
 AllAreLookedAt = (n : ℕ) (bytes : List ℕ) → concat (looked n bytes true) ≡ bytes
 
--- all bytes spell some steps, and have something behind them
+-- all bytes spell some steps, and have something after them
 abbrev pub BytesSpell : Type 0
 BytesSpell = (n : ℕ) (bytes : List ℕ) (ended : Bool) → n ≤ 65536 → AreBytes bytes →
     (steps : List Step) × (rest : List ℕ) × (fault : Option FrameFault)

@@ -4,8 +4,8 @@ use Rattle.pam_wire.specs.declared.front.Front.{Front}
 use Rattle.pam_wire.specs.declared.front.Front.TheVariants.{Open, OutOfRange, Whole}
 use Rattle.pam_wire.specs.Read.{front_of, step_of}
 
--- A frame that is whole is looked at, and then what stands behind it. A length that no frame has is
--- looked at with all that stands behind it, and the beginning of a frame where the input has ended.
+-- A frame that is whole is looked at, and then what stands after it. A length that no frame has is
+-- looked at with all that stands after it, and the beginning of a frame where the input has ended.
 abbrev pub looked_by : Front → List ℕ → Bool → (ℕ → List (List ℕ)) → List (List ℕ)
 looked_by Open bytes ended behind = if ended then bytes ∷ [] else []
 looked_by OutOfRange bytes ended behind = bytes ∷ []

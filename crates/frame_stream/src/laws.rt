@@ -4,7 +4,7 @@ use crate::frames::CallStepping;
 
 // None of these does anything: its contract is a law about the definitions.
 
-/// Where some bytes are the frames of steps and a rest behind them, these frames are looked at first, and then the
+/// Where some bytes are the frames of steps and a rest after them, these frames are looked at first, and then the
 /// rest.
 pub fn steps_are_looked_at()
     ensures { StepsAreLookedAt }
@@ -29,7 +29,7 @@ pub fn bytes_spell_steps()
     pam_wire::laws::front_opens_by_the_table();
 }
 
-/// A run over some bytes is one over the steps that they spell: its text is their answers, one behind the other. Where
+/// A run over some bytes is one over the steps that they spell: its text is their answers, one after the other. Where
 /// it stops, what was served is the answers of the first steps.
 pub fn runs_are_of_steps<R: CallStepping>()
     ensures run { (setting : R.Setting) → RunIsOfSteps (R.answers setting) }

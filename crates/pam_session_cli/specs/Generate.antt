@@ -20,7 +20,7 @@ generate_status (Err WriteFault) = 6
 abbrev pub IsGenerateStatus : ℕ → Type 0
 IsGenerateStatus n = (result : Result Drawn Stop) × (n ≡ generate_status result)
 
--- the line of a generation is written, or a front of it, and the world is the one behind it
+-- the line of a generation is written, or a front of it, and the world is the one after it
 pub record IsGenerated (status : ℕ) (g : Generation) (world : PlainWorld) (p q : SinkState) : Type
     0 where
   pub result : Result Drawn Stop

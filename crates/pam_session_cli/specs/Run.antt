@@ -39,7 +39,7 @@ abbrev pub run_over : Setting → RunState → List ℕ → Bool → Run RunStat
 run_over setting start bytes ended = run_of (line_step setting) 0 start bytes ended
 
 -- the report of a run that ends so: its lines', the closings, and the last line; and the world
--- behind it
+-- after it
 abbrev pub report_of : Setting → Ending → Run RunState → List ℕ
 report_of setting ending r = r.text ++ last_words setting.players ending r.items r.last
 
@@ -47,12 +47,12 @@ abbrev pub world_behind : Setting → Ending → Run RunState → PlainWorld
 world_behind setting ending r = (all_closed setting.players (ending_status ending) r.last).world
 
 -- the births and ends of a run that ends so: those of the lines that were applied, and of the
--- closings behind them
+-- closings after them
 abbrev pub events_in : Setting → Ending → RunState → List ℕ → Run RunState → List Event
 events_in setting ending start script r =
     run_events setting (ending_status ending) start script r.items r.last
 
--- The report of this run is written whole, and the world is the one behind it. The receipts of data are those that
+-- The report of this run is written whole, and the world is the one after it. The receipts of data are those that
 -- the births and ends of the run make due.
 pub record IsReported (setting : Setting) (ending : Ending) (start : RunState) (script : List ℕ)
     (r : Run RunState) (world : PlainWorld) (p q : SinkState) : Type 0 where
@@ -106,7 +106,7 @@ pub record IsNotBegun (old new : PlainWorld) (x y : SourceState) (p q : SinkStat
   pub source : y ≡ x
   pub sink : q ≡ p
 
--- The lines among some bytes, number by number: the place of each behind them and the outcomes of its steps are those
+-- The lines among some bytes, number by number: the place of each after them and the outcomes of its steps are those
 -- of its own steps alone, each in the world before it; and what is reported of the lines is what is told of these
 -- steps.
 pub record StandsSideBySide (setting : Setting) (start : RunState) (bytes : List ℕ)
@@ -115,7 +115,7 @@ pub record StandsSideBySide (setting : Setting) (start : RunState) (bytes : List
       → ComesAlone setting start bytes ended number slot
   pub steps : TellsSteps setting start bytes ended
 
--- a run was begun: what was taken and written, how often it was read and written, and the world behind it; before it
+-- a run was begun: what was taken and written, how often it was read and written, and the world after it; before it
 -- there was no birth and no end; and whatever lines it comes to stand side by side
 pub record IsBegun (setting : Setting) (status : ℕ) (start : RunState) (world : PlainWorld)
     (x y : SourceState) (p q : SinkState) : Type 0 where

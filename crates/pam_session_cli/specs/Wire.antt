@@ -18,7 +18,7 @@ use Rattle.session_wire.specs.Reading.{LooksBefore, SpellsTo}
 use Rattle.session_wire.specs.Whole.{Answers, AnswersAll, ending_by}
 use Rattle.pam_session_cli.specs.Run.{IsNotBegun, opening}
 
--- 0 where the input ends behind a frame, 5 where it can't be read on, 13 at a bad frame, 14 at one
+-- 0 where the input ends after a frame, 5 where it can't be read on, 13 at a bad frame, 14 at one
 -- frame too many
 abbrev pub wire_status : Result (Ending FrameFault) Stop → ℕ
 wire_status (Ok Done) = 0
@@ -38,7 +38,7 @@ IsReadThrough n = (n ≡ 0) ⊎ ((n ≡ 13) ⊎ (n ≡ 14))
 -- ---- where all objects tell
 
 -- A run of frames was begun: by the steps that the bytes taken spell, which answers are written,
--- and the world behind it.
+-- and the world after it.
 pub record IsServed (setting : Setting) (status : ℕ) (start : RunState) (world : PlainWorld)
     (x y : SourceState) (p q : SinkState) : Type 0 where
   pub result : Result (Ending FrameFault) Stop
@@ -56,7 +56,7 @@ Serves setting status slots root old new x y p q =
     ⊎ ((status ≡ 4) × IsNotBegun old new x y p q)
 
 -- the run came to this ending: all steps that the bytes taken spell are answered, and the closings
--- behind them
+-- after them
 pub record IsAnswered (setting : Setting) (ending : Ending FrameFault) (start : RunState)
     (world : PlainWorld) (x y : SourceState) (p q : SinkState) : Type 0 where
   pub end : RunState
@@ -73,7 +73,7 @@ AnswersBy setting status start world x y p q =
 -- ---- where the source alone tells
 
 -- What was taken, with at most one read more than it has bytes. With status 0, 5, 13 and 14 it is
--- the frames of steps, at most 65,536, and a rest behind them by which the run ended. A run that
+-- the frames of steps, at most 65,536, and a rest after them by which the run ended. A run that
 -- wasn't begun for want of memory took nothing.
 pub record ReadsFramesBy (status : ℕ) (x y : SourceState) : Type 0 where
   pub taken : List ℕ
@@ -84,7 +84,7 @@ pub record ReadsFramesBy (status : ℕ) (x y : SourceState) : Type 0 where
       → SpellsTo ending taken y.left
   pub looks : LooksBefore taken
 
--- Where the whole input is bytes that spell these steps and have this behind them, and nothing
+-- Where the whole input is bytes that spell these steps and have this after them, and nothing
 -- failed, the status is that of it, or there was no memory.
 abbrev pub WireCompletes : ℕ → List ℕ → Type 0 → Type 0 → Type 0
 WireCompletes status input read_failed write_failed =

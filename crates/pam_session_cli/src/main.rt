@@ -148,7 +148,7 @@ fn begins_with(command: &str, words: &[String]) -> bool {
 }
 
 // Calls it with the shipped modules, and a delay function that waits as long as it is asked to, but three seconds at most, and not
-// behind SUCCESS.
+// after SUCCESS.
 fn serve<S: Source, K: Sink>(
     alloc: Global,
     words: &[String],

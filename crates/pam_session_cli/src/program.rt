@@ -46,7 +46,7 @@ use std::alloc::Global;
 ///   but what the vault counts.
 /// - `login ROOT SERVICE [USER]` logs somebody in at the desk's terminal, in the place of the first transaction, and
 ///   writes what each call answered, and last whether the login was denied.
-/// - `generate SEED LINES` draws a service of so many lines, authenticates by it, and writes what that came to.
+/// - `generate SEED LINES` draws a service of that many lines, authenticates by it, and writes what that came to.
 /// - `tally ROOT USER` lists the failures of a user that `pam_faillock(8)` has recorded, and changes nothing of the
 ///   world but what the vault counts. A USER that can be no file's name is none.
 /// - `wire ROOT` does what `run` does for the frames of a front end, of at most 65,536 calls, and writes an answer to
@@ -66,7 +66,7 @@ use std::alloc::Global;
 /// - 9: the tally is damaged
 /// - 10: the tally can't be read
 /// - 13: the frames have a bad one, or end within one
-/// - 14: another byte stands behind 65,536 frames
+/// - 14: another byte stands after 65,536 frames
 ///
 /// On every way out each transaction that is open is ended: with SUCCESS, BUF_ERR (4), SYSTEM_ERR (5 and 6) or ABORT
 /// (7, 13 and 14).
@@ -90,7 +90,7 @@ pub fn pamsess<S: Source, K: Sink>(
     requires no_receipts { world.old.process.ledger.filed ≡ [] }
 
     // Where the words are run ROOT, and all objects tell: with status 0 the whole script was read,
-    // its report is written, and the world is the one behind it.
+    // its report is written, and the world is the one after it.
     ensures done { (root : List ℕ) (number : Code → ℕ → ℕ) →
         request_of words.now ≡ Some (runs root) → IsNumberGiven (DelayRule.post desk.delay) number →
         IsTrue (S.source_tells script.old) → IsTrue (K.sink_tells out.old) →
@@ -124,7 +124,7 @@ pub fn pamsess<S: Source, K: Sink>(
         (⟦<World as WorldTold>⟧.plain world.new)
         (S.source_holds script.old) (S.source_holds script.new) (K.sink_holds out.old)
         (K.sink_holds out.new) }
-    // By any status, 4 and 6 too: what was read and written, how often, and the world behind it.
+    // By any status, 4 and 6 too: what was read and written, how often, and the world after it.
     ensures told { (root : List ℕ) (number : Code → ℕ → ℕ) →
         request_of words.now ≡ Some (runs root) → IsNumberGiven (DelayRule.post desk.delay) number →
         IsTrue (S.source_tells script.old) → IsTrue (K.sink_tells out.old) →
@@ -178,7 +178,7 @@ pub fn pamsess<S: Source, K: Sink>(
         OnlyCalls (vault_holds (in_box world.old.vault)) (vault_holds (in_box world.new.vault)) }
 
     // Where they are login ROOT SERVICE [USER], and all objects tell: what the definition's login writes is written, or a
-    // front of it, and the world is the one behind it. With 0, 3 and 8 it is written whole.
+    // front of it, and the world is the one after it. With 0, 3 and 8 it is written whole.
     ensures logged_in { (root service : List ℕ) (user : Option (List ℕ)) (number : Code → ℕ → ℕ) →
         request_of words.now ≡ Some (logs_in root service user) →
         IsNumberGiven (DelayRule.post desk.delay) number → IsTrue (K.sink_tells out.old) →
@@ -197,7 +197,7 @@ pub fn pamsess<S: Source, K: Sink>(
         request_of words.now ≡ Some (logs_in root service user) → script.new ≡ script.old }
 
     // Where they are generate SEED LINES, and all objects tell: the line of what was drawn is written, or a front of it, and
-    // the world is the one behind it.
+    // the world is the one after it.
     ensures generated { (seed lines : ℕ) (number : Code → ℕ → ℕ) →
         request_of words.now ≡ Some (generates seed lines) →
         IsNumberGiven (DelayRule.post desk.delay) number → IsTrue (K.sink_tells out.old) →
@@ -235,7 +235,7 @@ pub fn pamsess<S: Source, K: Sink>(
         (vault_faults (in_box world.new.vault)) }
 
     // Where they are wire ROOT, and all objects tell: with status 0, 5, 13 and 14 all steps that the bytes taken spell
-    // are answered, and the closings, and the world is the one behind them. With 4 and 6 it is a front of that.
+    // are answered, and the closings, and the world is the one after them. With 4 and 6 it is a front of that.
     ensures wire_answered { (root : List ℕ) (number : Code → ℕ → ℕ) →
         request_of words.now ≡ Some (wires root) →
         IsNumberGiven (DelayRule.post desk.delay) number →

@@ -5,7 +5,7 @@ use item_stream::Stop;
 use session_check::Found;
 use session_tally::Tallied;
 
-/// The program's status behind a check.
+/// The program's status after a check.
 pub(crate) fn status_of_check(found: Result<Found, Stop>) -> u8
     ensures { result ≡ check_status found }
 {
@@ -17,7 +17,7 @@ pub(crate) fn status_of_check(found: Result<Found, Stop>) -> u8
     }
 }
 
-/// The program's status behind a list of failures.
+/// The program's status after a list of failures.
 pub(crate) fn status_of_tally(tallied: Result<Tallied, Stop>) -> u8
     ensures { result ≡ tally_status tallied }
 {

@@ -1,4 +1,4 @@
-//! What the program says, and what it leaves behind, where calls of the source, the sink or the vault are to fail.
+//! What the program says, and what it leaves, where calls of the source, the sink or the vault are to fail.
 
 use super::*;
 use pam_outside::{MemSink, MemSource};
@@ -100,7 +100,7 @@ static ROWS: [Row; 19] = [
         failing_writes: &[10000],
         ..LOGIN
     },
-    // The sink: at each line of a script with data, behind its last line, and while a refused line
+    // The sink: at each line of a script with data, after its last line, and while a refused line
     // or a read fault is told.
     Row {
         failing_writes: &[1],

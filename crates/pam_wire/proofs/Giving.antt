@@ -19,7 +19,7 @@ framed-append : (steps : List Step) (step : Step) → AllByRecursion (λ (s : St
 framed-append [] step all e = (e, tt)
 framed-append (s ∷ steps) step all e = (all.0, framed-append steps step all.1 e)
 
--- the bytes behind the steps given are bytes
+-- the bytes after the steps given are bytes
 rest-bytes : (fed : List ℕ) (steps : List Step) (now : FramesState) → AreBytes fed → Gave fed steps now → AreBytes now.rest
 rest-bytes fed steps now all g =
     All-same (λ b. b < 256) now.rest (drop (length (frames_of steps)) fed) (sym (ap (drop (length (frames_of steps))) g.frames.parts ∙ drop-append_seam (frames_of steps) now.rest))

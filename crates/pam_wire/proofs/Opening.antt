@@ -34,7 +34,7 @@ short_by said follow false false false h k l e = record { low = ltb-false said 2
 short_of : (said follow : ℕ) → front_by said follow ≡ Open → IsShort said follow
 short_of said follow e = short_by said follow _ _ _ refl refl refl e
 
--- bytes that begin with a length, with zeros behind them
+-- bytes that begin with a length, with zeros after them
 opened : (a b : ℕ) (more : List ℕ) (said : ℕ) → a < 256 → b < 256 → from_be_bytes w16 (a ∷ b ∷ []) ≡ said → IsShort said (length more) → IsOpen (a ∷ b ∷ more)
 opened a b more said a' b' s is =
     let body = more ++ zeros (said - length more) in

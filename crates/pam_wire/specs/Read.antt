@@ -15,7 +15,7 @@ use Rattle.pam_wire.specs.declared.front.Front.TheVariants.{Open, OutOfRange, Wh
 use Rattle.pam_wire.specs.Frame.{is_text, is_name}
 use Rattle.pam_wire.specs.Kind.{kind_of_number}
 
--- ---- what stands behind a kind
+-- ---- what stands after a kind
 
 abbrev pub number_in : List ℕ → Option ℕ
 number_in rest = if length rest == 4 then Some (from_be_bytes w32 rest) else None
@@ -91,7 +91,7 @@ call_of_kind (Some kind) rest = call_in kind rest
 abbrev pub step_with : ℕ → AppCall → Step
 step_with number call = record { number = number; call = call }
 
--- the step of what stands behind a length
+-- the step of what stands after a length
 abbrev pub step_in : List ℕ → Option Step
 step_in (number ∷ kind ∷ rest) =
     option_map (step_with number) (call_of_kind (kind_of_number kind) rest)

@@ -57,7 +57,7 @@ pub record IsOpen (rest : List ℕ) : Type 0 where
   pub some : 0 < length more
   pub parts : sized body ≡ rest ++ more
 
--- the bytes are the frames of these steps, and a rest behind them
+-- the bytes are the frames of these steps, and a rest after them
 pub record AreFramesOf (bytes : List ℕ) (steps : List Step) (rest : List ℕ) : Type 0 where
   pub framed : AllByRecursion (λ (step : Step). IsTrue (has_frame step)) steps
   pub parts : bytes ≡ frames_of steps ++ rest
@@ -73,7 +73,7 @@ pub record Gave (fed : List ℕ) (steps : List Step) (now : FramesState) : Type 
   pub place : now.place ≡ length (frames_of steps)
 
 -- The steps given are those at the front of the bytes fed, and a step is given where one more is
--- there; none is exactly where what is behind them is open, and a fault names the first byte behind
+-- there; none is exactly where what is after them is open, and a fault names the first byte after
 -- them.
 abbrev pub GivesNext : Result (Option Step) (Refuse BadFrame) → List ℕ → List Step → FramesState
     → Type 0

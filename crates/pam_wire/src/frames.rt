@@ -43,7 +43,7 @@ impl Frames {
         }
     }
 
-    /// Adds a piece behind what was fed before; all together has fewer than 2^63 bytes. Without memory all is as
+    /// Adds a piece after what was fed before; all together has fewer than 2^63 bytes. Without memory all is as
     /// before.
     pub fn feed(&mut self, piece: &[u8]) -> Result<(), NoMemory>
         requires { self.old.place + length self.old.rest + length piece.now < 2 ^ 63 }

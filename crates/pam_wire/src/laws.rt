@@ -18,7 +18,7 @@ pub fn no_frame_begins_another()
     ensures { BeginsNoOther }
 {}
 
-/// The steps that are read of some bytes, and what is left behind them, depend on the bytes alone, and not on how they
+/// The steps that are read of some bytes, and what is left after them, depend on the bytes alone, and not on how they
 /// were cut into pieces.
 pub fn steps_are_those_of_the_bytes()
     ensures { HasOneReading }

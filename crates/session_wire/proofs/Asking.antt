@@ -22,7 +22,7 @@ use Rattle.session_wire.specs.Endings.{ending_status, stop_status}
 use Rattle.session_wire.specs.Ends.{AsksEndAt, HasEndFrom, IsEndOfRun, LeadsTo, end_call}
 use Rattle.session_wire.specs.Reading.{TakesBytes}
 
--- ---- frames behind one another
+-- ---- frames after one another
 
 abbrev Framed : List Step → Type 0
 Framed steps = AllByRecursion (λ (step : Step). has_frame step ≡ true) steps
@@ -107,7 +107,7 @@ asks_before n m a b p number status h =
       few = omega (arith, h.few, p.number, length-append p.steps h.before);
     }
 
--- ---- behind the frames
+-- ---- after the frames
 
 pub by_ending : (tells : Bool) (input : List ℕ) (ending : Ending FrameFault) (code : Code) → code ≡ ending_status ending → (number status : ℕ) → HasStatus code number status → IsEndOfRun tells input number status
 by_ending tells input ending code e number status is told = inl (inl (ending, is ∙ ap number_of e))

@@ -34,7 +34,7 @@ use Rattle.session_wire.specs.Whole.{AnswersAll, Completes, IsCutIn, IsNextStep,
 -- ---- how a run over the bytes taken ended
 
 module _ {State : Type 0} (answer : CallStep State) (Failing : State → List ℕ → State → Type 0) where
-  -- the run over them, whether the input ended behind them or not
+  -- the run over them, whether the input ended after them or not
   record IsRunOf (ending : Ending FrameFault) (m : ℕ) (c d : State) (taken left text : List ℕ) : Type 0 where
     spelled : SpellsTo ending taken left
     text_is : text ≡ answers_to answer c spelled.steps

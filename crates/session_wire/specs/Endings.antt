@@ -1,4 +1,4 @@
--- With which status open transactions are ended behind the frames of a run (this project's own).
+-- With which status open transactions are ended after the frames of a run (this project's own).
 use Rattle.pam_base.specs.declared.code.Code.{Code}
 use Rattle.pam_base.specs.declared.code.Code.TheVariants.{Success, SystemErr, Abort}
 use Rattle.item_stream.specs.declared.ending.Ending.{Ending}

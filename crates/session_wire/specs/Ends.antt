@@ -16,7 +16,7 @@ use Rattle.session_wire.specs.Endings.{ending_status, stop_status}
 abbrev pub end_call : ℕ → ℕ → Step
 end_call number status = record { number = number; call = End status }
 
--- this frame asks for it, behind so many others, and it isn't one too many
+-- this frame asks for it, after n others, and it isn't one too many
 abbrev pub AsksEndAt : ℕ → List ℕ → ℕ → ℕ → Type 0
 AsksEndAt n frame number status = (n < 65536) × IsFrame frame (end_call number status)
 
@@ -32,7 +32,7 @@ pub record HasEndFrom (n : ℕ) (bytes : List ℕ) (number status : ℕ) : Type 
 abbrev pub IsEndIn : Bool → ℕ → List ℕ → ℕ → ℕ → Type 0
 IsEndIn tells n bytes number status = IsTrue tells → HasEndFrom n bytes number status
 
--- behind the frames of steps, before which n stand and behind which m do, others begin
+-- after the frames of steps, before which n stand and after which m do, others begin
 pub record LeadsTo (n m : ℕ) (bytes rest : List ℕ) : Type 0 where
   pub steps : List Step
   pub frames : AreFramesOf bytes steps rest
@@ -40,14 +40,14 @@ pub record LeadsTo (n m : ℕ) (bytes rest : List ℕ) : Type 0 where
 
 -- ---- all ends
 
--- a status with which a run ends what is open behind its frames
+-- a status with which a run ends what is open after its frames
 abbrev pub IsClosingStatus : ℕ → Type 0
 IsClosingStatus status =
     ((ending : Ending FrameFault) × (status ≡ number_of (ending_status ending)))
     ⊎ ((stop : Stop) × (status ≡ number_of (stop_status stop)))
 
 -- an end of a run of frames: where its input is told, one of its frames asks for it, or it was made
--- behind them
+-- after them
 abbrev pub IsEndOfRun : Bool → List ℕ → ℕ → ℕ → Type 0
 IsEndOfRun tells input number status =
     IsTrue tells → IsClosingStatus status ⊎ HasEndFrom 0 input number status

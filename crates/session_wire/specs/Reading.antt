@@ -31,7 +31,7 @@ ReadsTurn result n m before held x y =
 abbrev pub ReadsAll : Result (Ending FrameFault) Stop → ℕ → SourceState → SourceState → Type 0
 ReadsAll result m x y = Runs looked (step_at call_read) Whatever result m tt tt x y nowhere nowhere
 
--- what was taken behind these is bytes, as they are
+-- what was taken after these is bytes, as they are
 pub record TakesBytes (before : List ℕ) (x y : SourceState) : Type 0 where
   pub got : List ℕ
   pub source : x.left ≡ got ++ y.left

@@ -1,4 +1,4 @@
--- A whole run of frames: their calls, and how the open transactions are ended behind them (this
+-- A whole run of frames: their calls, and how the open transactions are ended after them (this
 -- project's own).
 use Rattle.std.specs.Prelude.{◌≡◌, ◌⊎◌, ℕ, ◌≤◌, true, List, [], ◌∷◌, ◌++◌, length, Option, Some, None, Result, Ok, Err}
 use Rattle.pam_base.specs.declared.call.Step.{Step}
@@ -55,8 +55,8 @@ pub record IsNextStep (rest : List ℕ) (step : Step) : Type 0 where
   pub frames : AreFramesOf rest (step ∷ []) behind
 
 module _ (setting : Setting) where
-  -- It came to an end: what is written is the answers to these steps, one behind the other, and
-  -- then the answers of the closings. The world is that behind them.
+  -- It came to an end: what is written is the answers to these steps, one after the other, and
+  -- then the answers of the closings. The world is that after them.
   pub record AnswersAll (ending : Ending FrameFault) (start end : RunState) (x y : SourceState)
       (p q : SinkState) : Type 0 where
     pub taken : List ℕ
@@ -81,7 +81,7 @@ module _ (setting : Setting) where
       × ((t ≡ (answers setting s step).0) ⊎ Fails setting s (frame_of step) t)))
 
   -- It stopped among its frames: these steps are answered whole, the next one not, and all
-  -- transactions are ended. Nothing is written behind that.
+  -- transactions are ended. Nothing is written after that.
   pub record StopsAmong (stop : Stop) (start end : RunState) (x y : SourceState)
       (p q : SinkState) : Type 0 where
     pub taken : List ℕ
@@ -96,7 +96,7 @@ module _ (setting : Setting) where
     pub cut : IsCutIn stop rest (state_behind (answers setting) start steps) last part
     pub closed : end ≡ all_closed setting.players (stop_status stop) last
 
-  -- It stopped behind them: all steps are answered, and some closings, up to one whose answer isn't
+  -- It stopped after them: all steps are answered, and some closings, up to one whose answer isn't
   -- whole; the others are ended.
   pub record StopsBehind (stop : Stop) (start end : RunState) (x y : SourceState)
       (p q : SinkState) : Type 0 where
@@ -130,7 +130,7 @@ abbrev pub ending_by : Option FrameFault → Ending FrameFault
 ending_by None = Done
 ending_by (Some fault) = Refused fault
 
--- Where the whole input is bytes that spell these steps and have this behind them, and neither
+-- Where the whole input is bytes that spell these steps and have this after them, and neither
 -- source nor sink failed, the run ends by that, or there was no memory.
 abbrev pub Completes : Result (Ending FrameFault) Stop → List ℕ → Type 0 → Type 0 → Type 0
 Completes result input read_failed write_failed =

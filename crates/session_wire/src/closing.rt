@@ -22,7 +22,7 @@ use session_run::end_next;
 use std::alloc::Global;
 
 /// Ends every open transaction with this status, the lowest number first, and writes the answer of each before the next
-/// is ended. Where that stops, the one that was ended last isn't answered whole, and those behind it are open.
+/// is ended. Where that stops, the one that was ended last isn't answered whole, and those after it are open.
 pub(crate) fn close_answered<K: Sink>(
     alloc: Global,
     library: &mut Library,

@@ -1,5 +1,5 @@
 //! A run of a front end's calls over sixteen transactions: each frame is applied and its answer
-//! written before the next is looked at, and behind the last one every open transaction is ended.
+//! written before the next is looked at, and after the last one every open transaction is ended.
 #![tactic(auto)]
 
 mod closing;

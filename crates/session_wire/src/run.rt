@@ -31,7 +31,7 @@ use std::alloc::Global;
 /// Runs a stream of frames. Each call is applied to the transactions and its answer written before
 /// the next frame is looked at.
 ///
-/// Behind the last frame every open transaction is ended, the lowest number first, each answered
+/// After the last frame every open transaction is ended, the lowest number first, each answered
 /// before the next: with SUCCESS at the end of the input; with SYSTEM_ERR where the source failed;
 /// with ABORT where a frame was refused. Where a write failed nothing more is written, and the
 /// transactions that are open are ended with SYSTEM_ERR; where memory was wanting likewise, with

@@ -30,7 +30,7 @@ use pam_wire::{answer_of, step_of};
 use session_report::step_report;
 use std::alloc::Global;
 
-/// Serves one frame that has so many before it: its call is applied, and then its answer is written. Answers why it was
+/// Serves one frame that has n before it: its call is applied, and then its answer is written. Answers why it was
 /// refused, if it was; then nothing happened.
 pub(crate) fn serve_frame<K: Sink>(
     alloc: Global,
