@@ -4,21 +4,8 @@
 
 ghost use Rattle.std.specs.Prelude.{◌≡◌, [], IfOk, OnErr, length};
 
-mod command;
-mod desk;
-mod frame_run;
-mod generation;
-mod login;
-mod opening;
-mod operand;
-mod program;
-mod script_run;
-mod status;
-mod usage;
-
 use conv_port::{Conv, QueueConv, TermConv, WireConv};
 use data_cleanup::Ledger;
-pub use desk::Desk;
 use mod_basic::{Debug, Deny, Permit, Probe, Rootok};
 use mod_env::Env as EnvModule;
 use mod_history::{Pwhistory, Securetty, Wheel};
@@ -31,7 +18,7 @@ use pam_outside::{
     Source, Vault, WriterSink,
 };
 use pam_room::{Module, Process, World};
-pub use program::pamsess;
+use session_program::{Desk, pamsess};
 use std::alloc::Global;
 use std::io::ErrorKind;
 use std::process::ExitCode;
