@@ -1,9 +1,5 @@
 -- What the checker finds of a block is what the block comes to.
-use Rattle.std.proofs.Common.{◌≡◌, ℕ, zero, suc, ◌+◌, ◌-◌, ◌≤◌, ◌<◌, Bool, true, false, ◌&&◌, eqb, if◌then◌else◌, List, [], ◌∷◌, ◌++◌, map, length, take, drop, Option, Some, None, refl, sym, ◌∙◌, ap, subst, arith, cond}
-use Rattle.std.specs.Prelude.{is_some}
-use Rattle.std.specs.List.{position_or_len}
-use Rattle.std.proofs.lemmas.List.Recursion.{is_position_or_len}
-use Rattle.std.proofs.lemmas.Grind.{common_steps}
+use Rattle.std.proofs.Common.{◌≡◌, ℕ, zero, suc, ◌+◌, ◌-◌, ◌≤◌, ◌<◌, Bool, true, false, ◌&&◌, eqb, if◌then◌else◌, List, [], ◌∷◌, ◌++◌, map, length, take, drop, Option, Some, None, refl, sym, ◌∙◌, ap, subst, arith}
 use Rattle.std.proofs.lemmas.Bool.Decides.{nat_tests}
 use Rattle.pam_base.specs.declared.code.Code.{Code}
 use Rattle.pam_base.specs.declared.call.Func.{Func}
@@ -12,10 +8,11 @@ use Rattle.stack_walk.specs.Seen.{seen_of}
 use Rattle.stack_walk.specs.Retell as retell
 use Rattle.service_load.specs.Stacks.{Stacks}
 use Rattle.dispatch_core.specs.Calls.{Held}
-use Rattle.pass_replay.specs.Told.{visits_in}
+use Rattle.pass_replay.specs.Told.{visits_in, lines_before}
 use Rattle.report_lines.specs.Line.{Told, told_missing, told_visit, Command, starts, ends, runs, sets_item, gets_item, puts_env, gets_env, lists_env, asks_delay, switches_delay, replies, Shown, shows_code, shows_fault, shows_value, shows_count, shows_not_open, shows_already_open, shows_bad_number, shows_pending, Result, answered, closed_by_program}
 use Rattle.session_audit.specs.Fits.{Place, shut, running, visits_told, is_none, without_visits, behind_result}
-use Rattle.session_audit.specs.Differs.{lines_before, visits_good}
+use Rattle.session_audit.specs.Differs as told_lines
+use Rattle.session_audit.specs.Differs.{visits_good}
 use Rattle.session_audit.specs.Checked.{told_in, behind_quiet, IsCall}
 
 -- ---- visits among told lines
@@ -25,17 +22,15 @@ visits_are [] = refl
 visits_are (None ∷ told) = visits_are told
 visits_are (Some v ∷ told) = ap (λ (vs : List retell.Seen). seen_of v ∷ vs) (visits_are told)
 
-before_first : List (Option Seen) → ℕ
-before_first told = lines_before 0 (told_in told)
+pub lines_are : (i : ℕ) (told : List (Option Seen)) → told_lines.lines_before i (told_in told) ≡ lines_before i told
+lines_are zero [] = refl
+lines_are (suc i) [] = refl
+lines_are zero (None ∷ told) = ap (λ (n : ℕ). n + 1) (lines_are zero told)
+lines_are (suc i) (None ∷ told) = ap (λ (n : ℕ). n + 1) (lines_are (suc i) told)
+lines_are zero (Some v ∷ told) = refl
+lines_are (suc i) (Some v ∷ told) = ap (λ (n : ℕ). n + 1) (lines_are i told)
 
-more_before : (t : Option Seen) (told : List (Option Seen)) → before_first (t ∷ told) ≡ cond (is_some t) 0 (1 + before_first told)
-more_before None told = grind arith
-more_before (Some v) told = refl
-
-pub first_is : (told : List (Option Seen)) → lines_before 0 (told_in told) ≡ position_or_len is_some told
-first_is told = is_position_or_len before_first is_some refl more_before told
-
-pub within_all : (i : ℕ) (told : List (Option Seen)) → lines_before i (told_in told) ≤ length told
+pub within_all : (i : ℕ) (told : List (Option Seen)) → lines_before i told ≤ length told
 within_all zero [] = omega arith
 within_all (suc i) [] = omega arith
 within_all zero (None ∷ told) = omega (arith, within_all zero told)
@@ -44,40 +39,10 @@ within_all zero (Some v ∷ told) = omega arith
 within_all (suc i) (Some v ∷ told) = omega (arith, within_all i told)
 
 -- no visit is among them exactly where all are before the first
-pub quiet_is : (told : List (Option Seen)) → eqb (lines_before 0 (told_in told)) (length told) ≡ is_none (visits_told (told_in told))
+pub quiet_is : (told : List (Option Seen)) → eqb (lines_before 0 told) (length told) ≡ is_none (visits_in told)
 quiet_is [] = refl
 quiet_is (None ∷ told) = grind (arith, nat_tests, quiet_is told)
 quiet_is (Some v ∷ told) = refl
-
--- visits from a line on are no more than all
-pub fewer : (n : ℕ) (told : List (Option Seen)) → length (visits_in (drop n told)) ≤ length (visits_in told)
-fewer zero told = omega arith
-fewer (suc n) [] = omega arith
-fewer (suc n) (None ∷ told) = fewer n told
-fewer (suc n) (Some v ∷ told) = omega (arith, fewer n told)
-
--- the visits before a line were taken: the first one that wasn't is the first from there on
-skips : (i : ℕ) (told : List Told) → lines_before i (told_missing [] ∷ told) ≡ lines_before i told + 1
-skips zero told = refl
-skips (suc i) told = refl
-
-takes : (i j : ℕ) (v : retell.Seen) (told : List Told) → i ≡ suc j → lines_before i (told_visit v ∷ told) ≡ lines_before j told + 1
-takes i j v told is = ap (λ (k : ℕ). lines_before k (told_visit v ∷ told)) is
-
-pub named_from : (n : ℕ) (told : List (Option Seen)) → n ≤ length told
-    → lines_before (length (visits_in told) - length (visits_in (drop n told))) (told_in told) ≡ n + lines_before 0 (told_in (drop n told))
-named_from zero told le =
-    let none : length (visits_in told) - length (visits_in told) ≡ 0 = omega arith in
-    ap (λ (k : ℕ). lines_before k (told_in told)) none ∙ (omega arith)
-named_from (suc n) [] le = absurd (omega arith)
-named_from (suc n) (None ∷ told) le =
-    let more : lines_before (length (visits_in told) - length (visits_in (drop n told))) (told_in told) ≡ n + lines_before 0 (told_in (drop n told)) = named_from n told (omega arith) in
-    skips (length (visits_in told) - length (visits_in (drop n told))) (told_in told) ∙ omega arith
-named_from (suc n) (Some v ∷ told) le =
-    let more : lines_before (length (visits_in told) - length (visits_in (drop n told))) (told_in told) ≡ n + lines_before 0 (told_in (drop n told)) = named_from n told (omega arith) in
-    takes (suc (length (visits_in told)) - length (visits_in (drop n told))) (length (visits_in told) - length (visits_in (drop n told))) (seen_of v) (told_in told)
-      (omega (arith, fewer n told))
-    ∙ omega arith
 
 -- ---- results that are no code of a stack call
 

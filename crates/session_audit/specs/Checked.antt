@@ -3,10 +3,7 @@ use Rattle.std.specs.Prelude.{◌≡◌, ◌≤◌, ℕ, ◌+◌, Bool, true, fa
 use Rattle.std.specs.Option.{option_map}
 use Rattle.pam_base.specs.declared.code.Code.{Code}
 use Rattle.pam_base.specs.declared.call.Func.{Func}
-use Rattle.control_words.specs.Stack.{stack_of}
-use Rattle.service_load.specs.declared.trees.Trees.{Trees}
-use Rattle.service_load.specs.Stacks.{Stacks, stacks_of}
-use Rattle.service_load.specs.Trees.{nodes_in}
+use Rattle.service_load.specs.Stacks.{Stacks}
 use Rattle.dispatch_core.specs.Calls.{Held}
 use Rattle.pass_replay.specs.Held.{held_of}
 use Rattle.stack_walk.specs.declared.seen.Seen.{Seen}
@@ -26,10 +23,6 @@ use Rattle.session_audit.specs.declared.verdict.Verdict.TheVariants as verdicts
 use Rattle.session_audit.specs.Fits.{Place, shut, running, place_at, visits_told, is_none, is_bad_number, only_if, aborted_by, at_shut, at_running, behind_block}
 use Rattle.session_audit.specs.Differs.{Gathered, nothing_yet, gathered, lines_before, bad_line, differs_from}
 use Rattle.session_audit.specs.Whole.{lines_read}
-
--- the stacks that trees hold
-abbrev pub stacks_in : Trees → Stacks
-stacks_in trees = stacks_of (λ type. stack_of (nodes_in trees type).vec.items)
 
 abbrev pub place_of : held.Place → Place
 place_of helds.Closed = shut

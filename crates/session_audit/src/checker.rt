@@ -1,11 +1,12 @@
 ghost use Rattle.std.specs.Prelude.{◌≡◌, ◌≤◌, ◌<◌, ◌+◌, ◌-◌, ◌^◌, ℕ, nat_eq, IfOk, List, Option, Some, None, length};
 ghost use Rattle.std.specs.Option.{option_map};
 ghost use Rattle.service_load.specs.Stacks.{Stacks};
-ghost use Rattle.service_load.specs.Loading.{AreBounded};
+ghost use Rattle.service_load.specs.Load.{AreBounded};
+ghost use Rattle.pass_replay.specs.Retold.{stacks_in};
 ghost use Rattle.report_lines.specs.Line.{unread};
 ghost use Rattle.report_reader.specs.Form.{result_of, says_of, told_of};
 ghost use Rattle.report_reader.specs.Says.{Says, lasts, results, tells};
-ghost use Rattle.session_audit.specs.Checked.{IsBehind, IsTaken, begun_within, differs_at, gathered_of, line_of, stacks_in, told_in};
+ghost use Rattle.session_audit.specs.Checked.{IsBehind, IsTaken, begun_within, differs_at, gathered_of, line_of, told_in};
 ghost use Rattle.session_audit.specs.Differs.{differs, may_follow, told_so_far};
 ghost use Rattle.session_audit.specs.Fits.{is_none};
 ghost use Rattle.session_audit.specs.Whole.{formless};

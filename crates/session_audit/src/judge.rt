@@ -1,19 +1,19 @@
 ghost use Rattle.std.specs.Prelude.{◌≡◌, ◌-◌, [], IfOk, Some, length};
-ghost use Rattle.service_load.specs.Loading.{AreBounded};
+ghost use Rattle.service_load.specs.Load.{AreBounded};
 ghost use Rattle.stack_walk.specs.Retell.{telling};
 ghost use Rattle.dispatch_core.specs.Calls.{goes};
 ghost use Rattle.pass_replay.specs.Held.{held_of};
 ghost use Rattle.pass_replay.specs.Replay.{as_told};
+ghost use Rattle.pass_replay.specs.Retold.{stacks_in};
 ghost use Rattle.report_lines.specs.Line.{answered, runs, shows_code};
 ghost use Rattle.report_reader.specs.Form.{result_of};
-ghost use Rattle.session_audit.specs.Checked.{IsCall, IsJudged, behind_quiet, place_of, stacks_in, told_in};
+ghost use Rattle.session_audit.specs.Checked.{IsCall, IsJudged, behind_quiet, place_of, told_in};
 ghost use Rattle.session_audit.specs.Differs.{lines_before, visits_good};
 ghost use Rattle.session_audit.specs.Fits.{behind_call, behind_result, is_refused_change, running, visits_told, without_visits};
 
 use crate::place::{Place, behind_quiet};
-use crate::visits::next_visit;
 use pam_base::{Code, Func, NoMemory};
-use pass_replay::{Held, retold};
+use pass_replay::{Held, first_visit, retell};
 use report_reader::{Answer, Outcome, Spoken};
 use service_load::Trees;
 use stack_walk::Seen;
@@ -71,7 +71,7 @@ fn judge_quiet(place: Place, told: &[Option<Seen>], outcome: Outcome) -> Judged
         (without_visits (visits_told (told_in told.now)) (behind_quiet (place_of place) (result_of outcome)))
         (lines_before 0 (told_in told.now)) }
 {
-    let first = next_visit(told, 0);
+    let first = first_visit(told);
     if first < told.len() {
         return Judged::Differs(first);
     }
@@ -94,7 +94,7 @@ fn judge_call(
         (behind_result (stacks_in trees.now) (running (held_of held)) (visits_told (told_in told.now)) (answered (runs func) (shows_code code)))
         (lines_before (visits_good (stacks_in trees.now) (Some (running (held_of held))) (visits_told (told_in told.now)) (answered (runs func) (shows_code code))) (told_in told.now))) }
 {
-    let first = next_visit(told, 0);
+    let first = first_visit(told);
     if first == told.len() && is_refused_change(func, code) {
         return Ok(Judged::Fits(Place::Open(held)));
     }
@@ -124,11 +124,10 @@ fn judge_retold(
         (behind_call code (goes as_told (stacks_in trees.now) func (held_of held) (telling (visits_told (told_in told.now)))))
         (lines_before (length (visits_told (told_in told.now)) - length (goes as_told (stacks_in trees.now) func (held_of held) (telling (visits_told (told_in told.now)))).state.left) (told_in told.now))) }
 {
-    let retold = retold(alloc, trees, func, held, told)?;
-    let next = next_visit(told, retold.next);
-    if !retold.astray && next == told.len() && code == retold.code {
+    let retold = retell(alloc, trees, func, held, told)?;
+    if !retold.astray && retold.next == told.len() && code == retold.code {
         Ok(Judged::Fits(Place::Open(retold.held)))
     } else {
-        Ok(Judged::Differs(next))
+        Ok(Judged::Differs(retold.next))
     }
 }

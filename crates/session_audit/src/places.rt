@@ -1,15 +1,16 @@
 ghost use Rattle.std.specs.Prelude.{◌≡◌, IfOk, map};
 ghost use Rattle.service_load.specs.Stacks.{Stacks};
-ghost use Rattle.service_load.specs.Loading.{AreBounded};
+ghost use Rattle.service_load.specs.Load.{AreBounded};
+ghost use Rattle.pass_replay.specs.Retold.{stacks_in};
 ghost use Rattle.report_lines.specs.Line.{block_of};
 ghost use Rattle.report_reader.specs.Form.{result_of};
-ghost use Rattle.session_audit.specs.Checked.{IsPlaced, IsUnplaced, place_of, stacks_in, told_in};
+ghost use Rattle.session_audit.specs.Checked.{IsPlaced, IsUnplaced, place_of, told_in};
 ghost use Rattle.session_audit.specs.Fits.{all_shut, is_bad_number};
 
 use crate::judge::{Judged, judge};
 use crate::place::Place;
-use crate::visits::next_visit;
 use pam_base::NoMemory;
+use pass_replay::first_visit;
 use report_reader::{Answer, Outcome};
 use service_load::Trees;
 use stack_walk::Seen;
@@ -61,7 +62,7 @@ pub fn judge_at(
 fn judge_nowhere(told: &[Option<Seen>], outcome: Outcome) -> Option<usize>
     ensures { IsUnplaced result (told_in told.now) (result_of outcome) }
 {
-    let first = next_visit(told, 0);
+    let first = first_visit(told);
     if first == told.len() && is_bad_number(outcome) {
         None
     } else {

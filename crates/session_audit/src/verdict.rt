@@ -1,7 +1,8 @@
 ghost use Rattle.std.specs.Prelude.{◌≡◌, ◌≤◌, ◌^◌, ◌↔◌, IfOk, length};
-ghost use Rattle.service_load.specs.Loading.{AreBounded};
+ghost use Rattle.service_load.specs.Load.{AreBounded};
+ghost use Rattle.pass_replay.specs.Retold.{stacks_in};
 ghost use Rattle.report_reader.specs.Guess.{read_line};
-ghost use Rattle.session_audit.specs.Checked.{line_of, stacks_in};
+ghost use Rattle.session_audit.specs.Checked.{line_of};
 ghost use Rattle.session_audit.specs.Differs.{differs};
 ghost use Rattle.session_audit.specs.Fits.{Fits};
 ghost use Rattle.session_audit.specs.Whole.{lines_read};
