@@ -1,5 +1,5 @@
 -- Each form as a line: its words, and what is guessed of them.
-use Rattle.std.proofs.Common.{◌≡◌, ℕ, ◌-◌, ◌<◌, ◌^◌, Bool, true, false, ◌||◌, eqb, if◌then◌else◌, List, [], ◌∷◌, ◌++◌, codes, Option, Some, None, refl, sym, ◌∙◌, ap, subst, arith, ltb-true, append_assoc, eqb_refl}
+use Rattle.std.proofs.Common.{◌≡◌, ℕ, ◌-◌, ◌<◌, ◌^◌, Bool, true, false, ◌||◌, eqb, if◌then◌else◌, List, [], ◌∷◌, ◌++◌, codes, Option, Some, None, refl, sym, ◌∙◌, ap, subst, arith, ltb-true, append_assoc, eq-eqb}
 use Rattle.std.specs.Fmt.{decimal}
 use Rattle.pam_base.specs.declared.code.Code.{Code}
 use Rattle.pam_base.specs.declared.code.Code.TheVariants.{Abort}
@@ -137,7 +137,7 @@ or_true true b is = refl
 or_true false b is = is
 
 has_middle : (byte : ℕ) (one two : List ℕ) → has_byte byte (one ++ byte ∷ two) ≡ true
-has_middle byte [] two = ap (λ (c : Bool). c || has_byte byte two) (eqb_refl byte)
+has_middle byte [] two = ap (λ (c : Bool). c || has_byte byte two) (eq-eqb byte byte refl)
 has_middle byte (b ∷ one) two = or_true (eqb b byte) (has_byte byte (one ++ byte ∷ two)) (has_middle byte one two)
 
 recut_text : (number : ℕ) (c : Cleanup) → told_text number (told_cleanup (recut c)) ≡ told_text number (told_cleanup c)

@@ -7,3 +7,4 @@ pub mod Reading
 pub mod Printing
 pub mod Commands
 pub mod Padding
+pub mod Tested

@@ -96,14 +96,14 @@ zeros zero ds = refl
 zeros (suc k) ds = zeros k ds
 
 hexes_lack : (b : ℕ) (ds : List ℕ) → 16 ≤ digit_value b → AllDigits 16 ds → has_byte b ds ≡ false
-hexes_lack b [] no all = refl
-hexes_lack b (c ∷ ds) no all =
+hexes_lack b [] lacks all = refl
+hexes_lack b (c ∷ ds) lacks all =
     let here : eqb c b ≡ false = ne_eqb c b (λ e. let small : digit_value b < 16 = subst (λ (x : ℕ). digit_value x < 16) e all.0 in omega arith) in
-    ap (λ (x : Bool). x || has_byte b ds) here ∙ hexes_lack b ds no all.1
+    ap (λ (x : Bool). x || has_byte b ds) here ∙ hexes_lack b ds lacks all.1
 
 zeros_lack : (b k : ℕ) → eqb 48 b ≡ false → has_byte b (replicate k 48) ≡ false
-zeros_lack b zero no = refl
-zeros_lack b (suc k) no = ap (λ (x : Bool). x || has_byte b (replicate k 48)) no ∙ zeros_lack b k no
+zeros_lack b zero lacks = refl
+zeros_lack b (suc k) lacks = ap (λ (x : Bool). x || has_byte b (replicate k 48)) lacks ∙ zeros_lack b k lacks
 
 pub record Status (status : ℕ) (word : List ℕ) : Type 0 where
   pub value : guessed_status word ≡ status

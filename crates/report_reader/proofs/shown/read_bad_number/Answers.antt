@@ -5,4 +5,4 @@ use Rattle.report_reader.specs.Says.{results}
 use Rattle.report_reader.proofs.shown.read_bad_number.Goals as goal
 
 pub returns : goal.returns
-returns c = c.if_printed.ensures (results c.args.number (answered (command_of c.args.command) shows_bad_number)) (search rules) (search rules)
+returns c = c.if_printed.ensures (results c.args.number (answered (command_of c.args.command) shows_bad_number)) cc (search rules)

@@ -3,4 +3,4 @@ use Rattle.report_reader.proofs.Cutting.{rest_is, last_at}
 use Rattle.report_reader.proofs.words.last_word.Goals as goal
 
 pub returns : goal.returns
-returns c = rest_is _ _ ∙ last_at _ _ c.last_place-n.ensures.within c.last_place-n.ensures.none c.last_place-n.ensures.space
+returns c = rest_is c.args.text.now c.last_place-n.result ∙ last_at c.args.text.now c.last_place-n.result c.last_place-n.ensures.within c.last_place-n.ensures.none c.last_place-n.ensures.space
