@@ -1,5 +1,5 @@
 -- Commands by their words.
-use Rattle.std.proofs.Common.{◌≡◌, ℕ, Bool, true, false, cond, List, [], ◌∷◌, Option, Some, None, unwrap_or, refl}
+use Rattle.std.proofs.Common.{◌≡◌, Bool, true, false, cond, List, [], ◌∷◌, Some, unwrap_or, refl}
 use Rattle.std.specs.List.{find}
 use Rattle.report_lines.specs.Line.{Command, starts}
 use Rattle.report_reader.specs.declared.form.Spoken.{Spoken}

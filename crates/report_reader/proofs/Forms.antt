@@ -1,29 +1,28 @@
 -- Each form as a line: its words, and what is guessed of them.
-use Rattle.std.proofs.Common.{◌≡◌, ℕ, ◌-◌, ◌<◌, ◌^◌, Bool, true, false, ◌||◌, eqb, if◌then◌else◌, List, [], ◌∷◌, ◌++◌, codes, Option, Some, None, refl, sym, ◌∙◌, ap, subst, arith, ltb-true, append_assoc, eq-eqb}
+use Rattle.std.proofs.Common.{◌≡◌, ℕ, ◌<◌, ◌^◌, Bool, true, false, ◌||◌, eqb, if◌then◌else◌, List, [], ◌∷◌, ◌++◌, codes, Some, None, refl, sym, ◌∙◌, ap, arith, ltb-true, append_assoc, eq-eqb}
 use Rattle.std.specs.Fmt.{decimal}
 use Rattle.pam_base.specs.declared.code.Code.{Code}
 use Rattle.pam_base.specs.declared.code.Code.TheVariants.{Abort}
 use Rattle.pam_base.specs.declared.call.Func.{Func}
 use Rattle.pam_base.specs.declared.fault.FaultKind.{FaultKind}
-use Rattle.pam_base.specs.declared.fault.ScriptKind.{ScriptKind}
 use Rattle.pam_base.specs.declared.style.Style.{Style}
 use Rattle.pam_base.specs.Bytes.{has_byte}
 use Rattle.pam_base.specs.Code.{number_of, name_of}
-use Rattle.pam_base.specs.Fault.{fault_number, fault_name, script_fault_number, script_fault_name}
+use Rattle.pam_base.specs.Fault.{fault_number, fault_name}
 use Rattle.pam_base.specs.Quote.{quoted_text}
 use Rattle.pam_base.specs.Style.{style_number}
 use Rattle.script_lang.specs.Command.{word_of_func}
 use Rattle.service_load.specs.declared.load_fault.LoadFault.{LoadFault}
 use Rattle.service_load.specs.FirstFault.{fault_at}
 use Rattle.stack_walk.specs.Retell.{Seen, seen_at}
-use Rattle.report_lines.specs.Line.{Cleanup, Told, told_message, told_visit, told_cleanup, told_wait, told_missing, told_variable, Shown, shows_code, shows_fault, shows_value, shows_count, shows_not_open, shows_already_open, shows_bad_number, shows_pending, Result, answered, closed_by_program, command_word, number_words, code_words, status_words, shown_words, refused_words, pending_words, told_text, result_text, AreBytes, IsSeen, IsVariable, IsTold, IsShown}
+use Rattle.report_lines.specs.Line.{Cleanup, Told, told_message, told_visit, told_cleanup, told_wait, told_missing, told_variable, Shown, shows_code, shows_fault, shows_value, shows_count, shows_not_open, shows_already_open, shows_bad_number, shows_pending, Result, answered, closed_by_program, command_word, number_words, code_words, status_words, shown_words, refused_words, pending_words, told_text, result_text, AreBytes, IsSeen, IsTold, IsShown}
 use Rattle.report_reader.specs.Says.{bare_told}
-use Rattle.report_reader.specs.Words.{before_space, behind_space, last_word, before_last, guessed_number, guessed_status, unquoted, guessed_code, guessed_style, guessed_fault, guessed_script_fault, guessed_func}
-use Rattle.report_reader.specs.Guess.{guessed_message, guessed_seen, guessed_cleanup, guessed_wait, guessed_told, guessed_refusal, guessed_by, guessed_shown, answer_by, by_keyword, has_form}
-use Rattle.report_reader.proofs.Cutting.{before_space-word, behind_space-word, before_space-all, behind_space-all, cut_again, has-append, last_word-cut, before_last-cut}
+use Rattle.report_reader.specs.Words.{before_space, behind_space, last_word, before_last, guessed_number, guessed_status, unquoted, guessed_code, guessed_style, guessed_fault}
+use Rattle.report_reader.specs.Guess.{guessed_message, guessed_seen, guessed_cleanup, guessed_wait, guessed_told, guessed_by, guessed_shown, answer_by, by_keyword, has_form}
+use Rattle.report_reader.proofs.Cutting.{before_space-word, behind_space-word, before_space-all, behind_space-all, cut_again, last_word-cut, before_last-cut}
 use Rattle.report_reader.proofs.Numbers.{Numeral, writes, numbered, Status, status_read}
-use Rattle.report_reader.proofs.Unquoting.{unquoted-quoted, quoted-append, quoted_line}
-use Rattle.report_reader.proofs.Known.{KnownCode, known_code, KnownFault, known_fault, KnownScript, known_script, KnownStyle, known_style, KnownFunc, known_func}
+use Rattle.report_reader.proofs.Unquoting.{unquoted-quoted, quoted-append}
+use Rattle.report_reader.proofs.Known.{KnownCode, known_code, KnownFault, known_fault, KnownStyle, known_style, known_func}
 
 -- ---- the words of a form
 

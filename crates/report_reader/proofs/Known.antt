@@ -1,5 +1,5 @@
 -- The words of codes, faults, functions and commands: each is one word of one line, and names what it is the word of.
-use Rattle.std.proofs.Common.{◌≡◌, ℕ, true, false, nat_lt, List, codes, Option, None, refl}
+use Rattle.std.proofs.Common.{◌≡◌, ℕ, true, false, nat_lt, List, None, refl}
 use Rattle.pam_base.specs.declared.code.Code.{Code}
 use Rattle.pam_base.specs.declared.code.Code.TheVariants as names
 use Rattle.pam_base.specs.declared.call.Func.{Func}

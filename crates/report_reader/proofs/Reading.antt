@@ -17,8 +17,8 @@ use Rattle.pam_base.specs.Fault.{fault_number, fault_name, script_fault_number, 
 use Rattle.pam_base.specs.Quote.{quoted_text}
 use Rattle.pam_base.specs.Style.{style_number}
 use Rattle.script_lang.specs.Command.{word_of_func}
-use Rattle.report_lines.specs.Line.{Told, told_message, told_visit, told_cleanup, told_wait, told_missing, told_variable, Shown, shows_code, shows_fault, shows_value, shows_count, shows_not_open, shows_already_open, shows_bad_number, shows_pending, Result, answered, closed_by_program, Last, unread, refused_at, command_word, number_words, code_words, status_words, shown_words, told_text, result_text, script_text, last_text, AreBytes, IsSeen, IsVariable, IsTold, IsShown, IsResult, IsLast}
-use Rattle.report_reader.specs.Says.{Says, tells, results, lasts, says_text, IsSays, bare, bare_told, IsLine, ReadAs, ReadsLines}
+use Rattle.report_lines.specs.Line.{Told, told_message, told_visit, told_cleanup, told_wait, told_missing, told_variable, Shown, shows_code, shows_fault, shows_value, shows_count, shows_not_open, shows_already_open, shows_bad_number, shows_pending, Result, answered, closed_by_program, Last, unread, refused_at, command_word, number_words, code_words, status_words, shown_words, script_text, AreBytes, IsSeen, IsVariable, IsTold, IsShown, IsResult, IsLast}
+use Rattle.report_reader.specs.Says.{Says, tells, results, lasts, says_text, IsSays, ReadAs, ReadsLines}
 use Rattle.report_reader.specs.Words.{before_space, behind_space, before_last, last_word, guessed_number, guessed_code, guessed_script_fault, guessed_func, guessed_command, unquoted}
 use Rattle.report_reader.specs.Guess.{guessed_message, guessed_seen, guessed_cleanup, guessed_wait, guessed_told, guessed_refusal, guessed_answer, by_keyword, guessed_result, guessed_shown, guessed_last, has_form, if_printed, told_or, read_numbered, read_line}
 use Rattle.report_reader.proofs.Cutting.{before_space-word, behind_space-word, has-append}
@@ -92,8 +92,8 @@ told_read number t small is =
     record {
       found = tells number f.found;
       is = numbered_line number (told_word t) (told_words t) small (told_one t)
-      ∙ ap (λ (x : Option Told). told_or line number x (guessed_result (told_word t) (told_words t))) f.is
-      ∙ ap (λ (b : Bool). if b then if_printed line (tells number f.found) else None) f.formed ∙ printed line (tells number f.found) (f.text ∙ told_ends number t);
+          ∙ ap (λ (x : Option Told). told_or line number x (guessed_result (told_word t) (told_words t))) f.is
+          ∙ ap (λ (b : Bool). if b then if_printed line (tells number f.found) else None) f.formed ∙ printed line (tells number f.found) (f.text ∙ told_ends number t);
       same = ap (tells number) f.same;
     }
 
@@ -105,9 +105,9 @@ result_read number (answered command shown) small is =
     record {
       found = results number (answered command shown);
       is = numbered_line number (command_word command) words small k.one
-      ∙ ap (λ (x : Option Told). told_or line number x (guessed_result (command_word command) words)) (k.told words)
-      ∙ ap (λ (x : Result). if_printed line (results number x)) (k.back words ∙ ap (answered command) (shown_is shown is))
-      ∙ printed line (results number (answered command shown)) (result_ends number (answered command shown));
+          ∙ ap (λ (x : Option Told). told_or line number x (guessed_result (command_word command) words)) (k.told words)
+          ∙ ap (λ (x : Result). if_printed line (results number x)) (k.back words ∙ ap (answered command) (shown_is shown is))
+          ∙ printed line (results number (answered command shown)) (result_ends number (answered command shown));
       same = refl;
     }
 result_read number (closed_by_program code) small is =
@@ -117,9 +117,9 @@ result_read number (closed_by_program code) small is =
     record {
       found = results number (closed_by_program code);
       is = numbered_line number (codes "closed") words small refl
-      ∙ ap (λ (x : List ℕ). if_printed line (results number (closed_by_program (guessed_code x)))) (before_space-word (name_of code) (decimal (number_of code)) k.one)
-      ∙ ap (λ (x : _). if_printed line (results number (closed_by_program x))) k.back
-      ∙ printed line (results number (closed_by_program code)) (result_ends number (closed_by_program code));
+          ∙ ap (λ (x : List ℕ). if_printed line (results number (closed_by_program (guessed_code x)))) (before_space-word (name_of code) (decimal (number_of code)) k.one)
+          ∙ ap (λ (x : _). if_printed line (results number (closed_by_program x))) k.back
+          ∙ printed line (results number (closed_by_program code)) (result_ends number (closed_by_program code));
       same = refl;
     }
 

@@ -1,6 +1,6 @@
 -- The words of a line (this project's own): where they are cut, and which number, bytes, code or command each may stand for. Each
 -- gives something for any bytes; whether a line is so printed is tested behind it.
-use Rattle.std.specs.Prelude.{ℕ, ◌+◌, ◌-◌, ◌*◌, ◌%◌, ◌^◌, nat_eq, if◌then◌else◌, List, [], ◌∷◌, fold, reverse, unwrap_or, Option}
+use Rattle.std.specs.Prelude.{ℕ, ◌+◌, ◌-◌, ◌*◌, ◌%◌, ◌^◌, nat_eq, if◌then◌else◌, List, [], ◌∷◌, fold, reverse, unwrap_or}
 use Rattle.std.specs.Char.{digit_value}
 use Rattle.std.specs.List.{find}
 use Rattle.std.specs.Str.{bytes_eq}

@@ -5,9 +5,7 @@ ghost use Rattle.report_reader.specs.Guess.{guessed_result, guessed_told, read_l
 use crate::form::Form;
 use crate::last::read_last;
 use crate::outcome::read_result;
-use crate::told::{
-    read_cleanup, read_message, read_missing, read_variable, read_visit, read_wait,
-};
+use crate::told::{read_cleanup, read_message, read_missing, read_variable, read_visit, read_wait};
 use crate::words::{before_space, behind_space, number_of};
 use pam_base::{NoMemory, are_digits};
 use std::alloc::Global;

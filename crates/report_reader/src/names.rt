@@ -144,10 +144,7 @@ pub fn func_in(word: &[u8]) -> Func
 fn func_named(word: &[u8]) -> Option<Func>
     ensures { result ≡ find (λ kind. bytes_eq (word_of_func kind) word.now) all_funcs }
 {
-    ALL_FUNCS
-        .iter()
-        .copied()
-        .find(|func| is_func(*func, word))
+    ALL_FUNCS.iter().copied().find(|func| is_func(*func, word))
 }
 
 fn is_func(func: Func, word: &[u8]) -> bool

@@ -122,5 +122,9 @@ pub fn push_refused(
 pub fn if_printed(text: &str, line: &[u8], form: Form) -> Option<Form>
     ensures { (s : Says) → says_text s ≡ text.now → IsRead (Some form) (Some s) → IsRead result (if_printed line.now s) }
 {
-    if is_line(text, line) { Some(form) } else { None }
+    if is_line(text, line) {
+        Some(form)
+    } else {
+        None
+    }
 }

@@ -1,5 +1,5 @@
-ghost use Rattle.std.specs.Prelude.{◌≡◌, Some, None};
-ghost use Rattle.report_lines.specs.Line.{answered, shows_already_open, shows_bad_number, shows_code, shows_count, shows_fault, shows_not_open, shows_pending, shows_value};
+ghost use Rattle.std.specs.Prelude.{◌≡◌, IfOk, Some, None, string_bytes};
+ghost use Rattle.report_lines.specs.Line.{answered, shows_already_open, shows_bad_number, shows_code, shows_count, shows_fault, shows_not_open, shows_pending, shows_value, words_text, command_word};
 ghost use Rattle.report_reader.specs.Form.{Reads, command_of, shown_of};
 ghost use Rattle.report_reader.specs.Guess.{guessed_answer, guessed_refusal, if_printed};
 ghost use Rattle.report_reader.specs.Says.{results};
@@ -24,6 +24,15 @@ fn result_form(number: u32, command: Spoken, answer: Answer) -> Form
         number,
         outcome: Outcome::Answered(command, answer),
     }
+}
+
+// The line of a result, `H COMMAND WORDS`.
+fn result_line(alloc: Global, number: u32, command: Spoken, words: &str) -> Result<String, NoMemory>
+    ensures { IfOk result (λ text. string_bytes text ≡ words_text number (command_word (command_of command)) words.now) }
+{
+    let mut text = String::new(alloc);
+    write_result(&mut text, number, command_word(command), words)?;
+    Ok(text)
 }
 
 /// Reads a count.
@@ -106,8 +115,7 @@ pub fn read_unset(
 ) -> Result<Option<Form>, NoMemory>
     ensures { Reads result (if_printed line.now (results number (answered (command_of command) (shows_value None)))) }
 {
-    let mut text = String::new(alloc);
-    write_result(&mut text, number, command_word(command), "unset")?;
+    let text = result_line(alloc, number, command, "unset")?;
     Ok(if_printed(
         text.as_str(),
         line,
@@ -124,8 +132,7 @@ pub fn read_not_open(
 ) -> Result<Option<Form>, NoMemory>
     ensures { Reads result (if_printed line.now (results number (answered (command_of command) shows_not_open))) }
 {
-    let mut text = String::new(alloc);
-    write_result(&mut text, number, command_word(command), "not open")?;
+    let text = result_line(alloc, number, command, "not open")?;
     Ok(if_printed(
         text.as_str(),
         line,
@@ -142,8 +149,7 @@ pub fn read_already_open(
 ) -> Result<Option<Form>, NoMemory>
     ensures { Reads result (if_printed line.now (results number (answered (command_of command) shows_already_open))) }
 {
-    let mut text = String::new(alloc);
-    write_result(&mut text, number, command_word(command), "already open")?;
+    let text = result_line(alloc, number, command, "already open")?;
     Ok(if_printed(
         text.as_str(),
         line,
@@ -160,8 +166,7 @@ pub fn read_bad_number(
 ) -> Result<Option<Form>, NoMemory>
     ensures { Reads result (if_printed line.now (results number (answered (command_of command) shows_bad_number))) }
 {
-    let mut text = String::new(alloc);
-    write_result(&mut text, number, command_word(command), "bad number")?;
+    let text = result_line(alloc, number, command, "bad number")?;
     Ok(if_printed(
         text.as_str(),
         line,

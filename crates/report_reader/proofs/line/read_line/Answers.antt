@@ -1,4 +1,4 @@
-use Rattle.std.proofs.Common.{◌≡◌, true, List, ℕ, sym, ◌∙◌, subst, Option, rules}
+use Rattle.std.proofs.Common.{◌≡◌, true, sym, subst, Option}
 use Rattle.std.specs.Char.{is_ascii_digit}
 use Rattle.std.specs.List.{list_all}
 use Rattle.report_reader.specs.Form.{Reads}

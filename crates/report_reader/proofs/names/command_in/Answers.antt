@@ -1,4 +1,4 @@
-use Rattle.std.proofs.Common.{ℕ, ◌∙◌, ap, unwrap_or, Option}
+use Rattle.std.proofs.Common.{◌∙◌, ap, unwrap_or, Option}
 use Rattle.std.specs.Str.{bytes_eq}
 use Rattle.report_lines.specs.Line.{Command, command_word}
 use Rattle.report_reader.specs.declared.form.Spoken.{Spoken}

@@ -1,4 +1,4 @@
-use Rattle.std.proofs.Common.{rules, refl}
+use Rattle.std.proofs.Common.{rules}
 use Rattle.report_lines.specs.Line.{closed_by_program}
 use Rattle.report_reader.specs.Says.{results}
 use Rattle.report_reader.proofs.outcome.read_closed.Goals as goal

@@ -1,4 +1,4 @@
-use Rattle.std.proofs.Common.{◌≡◌, ◌++◌, ◌∷◌, [], ◌∙◌, ap, List, ℕ}
+use Rattle.std.proofs.Common.{◌++◌, ◌∷◌, [], ◌∙◌, ap, List, ℕ}
 use Rattle.std.specs.Str.{bytes_eq}
 use Rattle.report_reader.proofs.Printing.{is_line_some, is_line_none}
 use Rattle.report_reader.proofs.printed.is_line.Goals as goal

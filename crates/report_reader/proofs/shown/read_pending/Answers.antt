@@ -1,4 +1,4 @@
-use Rattle.std.proofs.Common.{rules, refl}
+use Rattle.std.proofs.Common.{rules}
 use Rattle.report_lines.specs.Line.{answered, shows_pending}
 use Rattle.report_reader.specs.Form.{command_of}
 use Rattle.report_reader.specs.Says.{results}

@@ -1,4 +1,4 @@
-use Rattle.std.proofs.Common.{rules, Some}
+use Rattle.std.proofs.Common.{rules}
 use Rattle.report_lines.specs.Line.{answered, shows_fault}
 use Rattle.report_reader.specs.Form.{command_of}
 use Rattle.report_reader.specs.Guess.{guessed_refusal}

@@ -1,4 +1,3 @@
-use Rattle.std.proofs.Common.{sym, arith}
 use Rattle.report_reader.proofs.Cutting.{before_at, before_none}
 use Rattle.report_reader.proofs.words.before_last.Goals as goal
 
