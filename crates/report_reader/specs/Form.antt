@@ -33,7 +33,10 @@ command_of spoken.DelayFn = lines.switches_delay
 command_of spoken.Reply = lines.replies
 
 abbrev pub all_spoken : List Spoken
-all_spoken = spoken.Start ∷ spoken.End ∷ spoken.Run funcs.Authenticate ∷ spoken.Run funcs.SetCred ∷ spoken.Run funcs.AcctMgmt ∷ spoken.Run funcs.OpenSession ∷ spoken.Run funcs.CloseSession ∷ spoken.Run funcs.ChAuthTok ∷ spoken.SetItem ∷ spoken.GetItem ∷ spoken.PutEnv ∷ spoken.GetEnv ∷ spoken.EnvList ∷ spoken.FailDelay ∷ spoken.DelayFn ∷ spoken.Reply ∷ []
+all_spoken = spoken.Start ∷ spoken.End ∷ spoken.Run funcs.Authenticate ∷ spoken.Run funcs.SetCred
+    ∷ spoken.Run funcs.AcctMgmt ∷ spoken.Run funcs.OpenSession ∷ spoken.Run funcs.CloseSession
+    ∷ spoken.Run funcs.ChAuthTok ∷ spoken.SetItem ∷ spoken.GetItem ∷ spoken.PutEnv ∷ spoken.GetEnv
+    ∷ spoken.EnvList ∷ spoken.FailDelay ∷ spoken.DelayFn ∷ spoken.Reply ∷ []
 
 abbrev pub shown_of : Answer → lines.Shown
 shown_of (answers.Code code) = lines.shows_code code

@@ -1,5 +1,5 @@
--- How a line of a report is read (this project's own): what it may say is guessed from its words, and it says so where that is
--- printed as the line.
+-- How a line of a report is read (this project's own): what it may say is guessed from its words, and it says so where
+-- that is printed as the line.
 use Rattle.std.specs.Prelude.{ℕ, ◌^◌, Bool, true, nat_lt, if◌then◌else◌, List, [], ◌∷◌, ◌++◌, codes, Option, Some, None}
 use Rattle.std.specs.Char.{is_ascii_digit}
 use Rattle.std.specs.List.{list_all}
@@ -16,13 +16,15 @@ use Rattle.report_reader.specs.Words.{before_space, behind_space, last_word, bef
 
 -- STYLE TEXT
 abbrev pub guessed_message : List ℕ → Told
-guessed_message words = told_message (guessed_style (guessed_number (before_space words))) (unquoted (behind_space words))
+guessed_message words = told_message (guessed_style (guessed_number (before_space words)))
+    (unquoted (behind_space words))
 
 -- PLACE MODULE NAME NUMBER; the module's name may hold spaces, so what stands behind it is cut off from the end
 abbrev pub guessed_seen : List ℕ → Seen
 guessed_seen words =
     let named = before_last (behind_space words) in
-    seen_at (guessed_number (before_space words)) (unquoted (before_last named)) (guessed_code (last_word named))
+    seen_at (guessed_number (before_space words)) (unquoted (before_last named))
+    (guessed_code (last_word named))
 
 -- ID STATUS NOTE MODULE DATUM; where a name holds spaces any of them may divide the two
 abbrev pub guessed_cleanup : List ℕ → Cleanup
@@ -42,7 +44,8 @@ guessed_cleanup words =
 abbrev pub guessed_wait : List ℕ → Told
 guessed_wait words =
     let behind_code = behind_space (behind_space words) in
-    told_wait (guessed_code (before_space words)) (guessed_number (before_space behind_code)) (guessed_number (behind_space behind_code))
+    told_wait (guessed_code (before_space words)) (guessed_number (before_space behind_code))
+    (guessed_number (behind_space behind_code))
 
 -- by the line's word; None where the line is another one
 abbrev pub guessed_told : List ℕ → List ℕ → Option Told
@@ -62,12 +65,14 @@ abbrev pub guessed_refusal : List ℕ → LoadFault
 guessed_refusal words =
     let named = before_last words in
     let placed = before_last named in
-    fault_at (unquoted (before_last placed)) (guessed_number (last_word placed)) (guessed_fault (last_word named))
+    fault_at (unquoted (before_last placed)) (guessed_number (last_word placed))
+    (guessed_fault (last_word named))
 
 -- NAME NUMBER, or ABORT 26 pending NAME
 abbrev pub answer_by : List ℕ → List ℕ → Shown
 answer_by words behind_code =
-    if bytes_eq (before_space behind_code) (codes "pending") then shows_pending (guessed_func (behind_space behind_code))
+    if bytes_eq (before_space behind_code) (codes "pending")
+    then shows_pending (guessed_func (behind_space behind_code))
     else shows_code (guessed_code (before_space words))
 
 abbrev pub guessed_answer : List ℕ → Shown
@@ -84,7 +89,9 @@ by_keyword word words =
     else guessed_answer words
 
 abbrev pub guessed_by : List ℕ → List ℕ → Shown
-guessed_by word words = if list_all is_ascii_digit word then shows_count (guessed_number word) else by_keyword word words
+guessed_by word words =
+    if list_all is_ascii_digit word then shows_count (guessed_number word)
+    else by_keyword word words
 
 abbrev pub guessed_shown : List ℕ → Shown
 guessed_shown words = guessed_by (before_space words) words
@@ -100,7 +107,8 @@ guessed_result word words =
 abbrev pub guessed_last : List ℕ → Last
 guessed_last line =
     if bytes_eq line (codes "read fault") then unread
-    else (let words = behind_space line in refused_at (guessed_number (before_space words)) (guessed_script_fault (before_space (behind_space words))))
+    else (let words = behind_space line in refused_at (guessed_number (before_space words))
+    (guessed_script_fault (before_space (behind_space words))))
 
 -- ---- a line, without its newline
 
@@ -118,10 +126,14 @@ told_or line number (Some t) result = if has_form t then if_printed line (tells 
 told_or line number None result = if_printed line (results number result)
 
 abbrev pub read_numbered : List ℕ → ℕ → List ℕ → List ℕ → Option Says
-read_numbered line number word words = if nat_lt number (2 ^ 32) then told_or line number (guessed_told word words) (guessed_result word words) else None
+read_numbered line number word words =
+    if nat_lt number (2 ^ 32)
+    then told_or line number (guessed_told word words) (guessed_result word words) else None
 
 abbrev pub read_line : List ℕ → Option Says
 read_line line =
     let behind_number = behind_space line in
-    if list_all is_ascii_digit (before_space line) then read_numbered line (guessed_number (before_space line)) (before_space behind_number) (behind_space behind_number)
+    if list_all is_ascii_digit (before_space line)
+    then read_numbered line (guessed_number (before_space line)) (before_space behind_number)
+    (behind_space behind_number)
     else if_printed line (lasts (guessed_last line))

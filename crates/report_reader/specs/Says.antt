@@ -58,9 +58,11 @@ pub record ReadAs (read : Option Says) (s : Says) : Type 0 where
   pub is : read ≡ Some found
   pub same : bare found ≡ bare s
 
--- A reader gives a form that is printed as the line, in the ranges of its values, where there is one; of several the one is as good
--- as the other.
+-- A reader gives a form that is printed as the line, in the ranges of its values, where there is one; of several the
+-- one is as good as the other.
 pub record ReadsLines (read : List ℕ → Option Says) : Type 0 where
-  pub sound : (line : List ℕ) (s : Says) → read line ≡ Some s → (says_text s ≡ line ++ 10 ∷ []) × IsSays s
-  pub complete : (line : List ℕ) (s : Says) → says_text s ≡ line ++ 10 ∷ [] → IsSays s → ReadAs (read line) s
+  pub sound : (line : List ℕ) (s : Says) → read line ≡ Some s → (says_text s ≡ line ++ 10 ∷ [])
+      × IsSays s
+  pub complete : (line : List ℕ) (s : Says) → says_text s ≡ line ++ 10 ∷ [] → IsSays s →
+      ReadAs (read line) s
   pub lines : (s : Says) → IsSays s → IsLine s

@@ -1,5 +1,5 @@
--- The words of a line (this project's own): where they are cut, and which number, bytes, code or command each may stand for. Each
--- gives something for any bytes; whether a line is so printed is tested behind it.
+-- The words of a line (this project's own): where they are cut, and which number, bytes, code or command each may stand
+-- for. Each gives something for any bytes; whether a line is so printed is tested behind it.
 use Rattle.std.specs.Prelude.{ℕ, ◌+◌, ◌-◌, ◌*◌, ◌%◌, ◌^◌, nat_eq, if◌then◌else◌, List, [], ◌∷◌, fold, reverse, unwrap_or}
 use Rattle.std.specs.Char.{digit_value}
 use Rattle.std.specs.List.{find}
@@ -41,7 +41,8 @@ abbrev pub guessed_number : List ℕ → ℕ
 guessed_number digits = fold (λ value digit. (value * 10 % 2 ^ 64 + (digit - 48)) % 2 ^ 64) 0 digits
 
 abbrev pub guessed_status : List ℕ → ℕ
-guessed_status digits = fold (λ value digit. (value * 16 % 2 ^ 32 + digit_value digit) % 2 ^ 32) 0 digits
+guessed_status digits =
+    fold (λ value digit. (value * 16 % 2 ^ 32 + digit_value digit) % 2 ^ 32) 0 digits
 
 -- within a quoted text: between two bytes, behind a backslash, behind \x, behind \x and a digit
 pub data Unquoting : Type 0 where
@@ -53,10 +54,13 @@ pub data Unquoting : Type 0 where
 -- the bytes that a quoted text may stand for
 abbrev pub unquoted_from : Unquoting → List ℕ → List ℕ
 unquoted_from state [] = []
-unquoted_from between (b ∷ bs) = if nat_eq b 92 then unquoted_from escaped bs else (b % 256) ∷ unquoted_from between bs
-unquoted_from escaped (b ∷ bs) = if nat_eq b 120 then unquoted_from coded bs else (b % 256) ∷ unquoted_from between bs
+unquoted_from between (b ∷ bs) =
+    if nat_eq b 92 then unquoted_from escaped bs else (b % 256) ∷ unquoted_from between bs
+unquoted_from escaped (b ∷ bs) =
+    if nat_eq b 120 then unquoted_from coded bs else (b % 256) ∷ unquoted_from between bs
 unquoted_from coded (b ∷ bs) = unquoted_from (half_coded (digit_value b)) bs
-unquoted_from (half_coded high) (b ∷ bs) = ((16 * high + digit_value b) % 256) ∷ unquoted_from between bs
+unquoted_from (half_coded high) (b ∷ bs) = ((16 * high + digit_value b) % 256)
+    ∷ unquoted_from between bs
 
 abbrev pub unquoted : List ℕ → List ℕ
 unquoted text = unquoted_from between text
@@ -72,26 +76,37 @@ abbrev pub guessed_style : ℕ → Style
 guessed_style n = unwrap_or (find (λ style. nat_eq (style_number style) n) all_styles) TextInfo
 
 abbrev pub all_faults : List FaultKind
-all_faults = OpenBracket ∷ NulByte ∷ RuleTooLong ∷ FileTooLong ∷ BadControl ∷ BadReturnName ∷ BadAction ∷ ZeroJump ∷ BadType ∷ MissingField ∷ IncludeAbsent ∷ TooDeep ∷ TooManyLines ∷ TooManyFiles ∷ NoService ∷ ReadFailed ∷ []
+all_faults = OpenBracket ∷ NulByte ∷ RuleTooLong ∷ FileTooLong ∷ BadControl ∷ BadReturnName
+    ∷ BadAction ∷ ZeroJump ∷ BadType ∷ MissingField ∷ IncludeAbsent ∷ TooDeep ∷ TooManyLines
+    ∷ TooManyFiles ∷ NoService ∷ ReadFailed ∷ []
 
 abbrev pub guessed_fault : List ℕ → FaultKind
-guessed_fault word = unwrap_or (find (λ kind. bytes_eq (fault_name kind) word) all_faults) ReadFailed
+guessed_fault word =
+    unwrap_or (find (λ kind. bytes_eq (fault_name kind) word) all_faults) ReadFailed
 
 abbrev pub all_script_faults : List ScriptKind
-all_script_faults = script_kinds.BadWord ∷ script_kinds.BadNumeral ∷ script_kinds.LineTooLong ∷ script_kinds.TooManyLines ∷ []
+all_script_faults = script_kinds.BadWord ∷ script_kinds.BadNumeral ∷ script_kinds.LineTooLong
+    ∷ script_kinds.TooManyLines ∷ []
 
 abbrev pub guessed_script_fault : List ℕ → ScriptKind
-guessed_script_fault word = unwrap_or (find (λ kind. bytes_eq (script_fault_name kind) word) all_script_faults) script_kinds.BadWord
+guessed_script_fault word =
+    unwrap_or (find (λ kind. bytes_eq (script_fault_name kind) word) all_script_faults)
+    script_kinds.BadWord
 
 abbrev pub all_funcs : List Func
-all_funcs = funcs.Authenticate ∷ funcs.SetCred ∷ funcs.AcctMgmt ∷ funcs.OpenSession ∷ funcs.CloseSession ∷ funcs.ChAuthTok ∷ []
+all_funcs = funcs.Authenticate ∷ funcs.SetCred ∷ funcs.AcctMgmt ∷ funcs.OpenSession
+    ∷ funcs.CloseSession ∷ funcs.ChAuthTok ∷ []
 
 abbrev pub guessed_func : List ℕ → Func
-guessed_func word = unwrap_or (find (λ func. bytes_eq (word_of_func func) word) all_funcs) funcs.Authenticate
+guessed_func word =
+    unwrap_or (find (λ func. bytes_eq (word_of_func func) word) all_funcs) funcs.Authenticate
 
 -- the commands of a table by their words
 abbrev pub all_commands : List Command
-all_commands = starts ∷ ends ∷ runs funcs.Authenticate ∷ runs funcs.SetCred ∷ runs funcs.AcctMgmt ∷ runs funcs.OpenSession ∷ runs funcs.CloseSession ∷ runs funcs.ChAuthTok ∷ sets_item ∷ gets_item ∷ puts_env ∷ gets_env ∷ lists_env ∷ asks_delay ∷ switches_delay ∷ replies ∷ []
+all_commands = starts ∷ ends ∷ runs funcs.Authenticate ∷ runs funcs.SetCred ∷ runs funcs.AcctMgmt
+    ∷ runs funcs.OpenSession ∷ runs funcs.CloseSession ∷ runs funcs.ChAuthTok ∷ sets_item
+    ∷ gets_item ∷ puts_env ∷ gets_env ∷ lists_env ∷ asks_delay ∷ switches_delay ∷ replies ∷ []
 
 abbrev pub guessed_command : List ℕ → Command
-guessed_command word = unwrap_or (find (λ command. bytes_eq (command_word command) word) all_commands) starts
+guessed_command word =
+    unwrap_or (find (λ command. bytes_eq (command_word command) word) all_commands) starts

@@ -17,7 +17,8 @@ pub enum Spoken {
     Reply,
 }
 
-/// What a command came to. What is checked for its form alone is left out: why a start was refused, the value, the count.
+/// What a command came to. What is checked for its form alone is left out: why a start was refused, the value, the
+/// count.
 #[derive(Clone, Copy, Debug, PartialEq, Eq)]
 pub enum Answer {
     Code(Code),

@@ -1,4 +1,5 @@
-//! Reads the lines of a report: what a line says is guessed from its words, and it says so where that is printed as the line.
+//! Reads the lines of a report: what a line says is guessed from its words, and it says so where that is printed as the
+//! line.
 #![tactic(auto)]
 
 mod form;

@@ -51,7 +51,9 @@ fn read_words(
     word: &[u8],
     words: &[u8],
 ) -> Result<Option<Form>, NoMemory>
-    ensures { Reads result (told_or line.now number (guessed_told word.now words.now) (guessed_result word.now words.now)) }
+    ensures { Reads result
+        (told_or line.now number (guessed_told word.now words.now)
+        (guessed_result word.now words.now)) }
 {
     if word == b"say".as_slice() {
         read_message(alloc, line, number, words)

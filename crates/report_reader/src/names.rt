@@ -161,7 +161,8 @@ pub fn command_in(word: &[u8]) -> Spoken
 }
 
 fn spoken_named(word: &[u8]) -> Option<Spoken>
-    ensures { result ≡ find (λ command. bytes_eq (command_word (command_of command)) word.now) all_spoken }
+    ensures { result ≡ find (λ command. bytes_eq (command_word (command_of command)) word.now)
+        all_spoken }
 {
     ALL_SPOKEN
         .iter()

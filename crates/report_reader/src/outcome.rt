@@ -24,7 +24,8 @@ pub fn read_result(
     word: &[u8],
     words: &[u8],
 ) -> Result<Option<Form>, NoMemory>
-    ensures { Reads result (if_printed line.now (results number (guessed_result word.now words.now))) }
+    ensures { Reads result
+        (if_printed line.now (results number (guessed_result word.now words.now))) }
 {
     if word == b"closed".as_slice() {
         read_closed(alloc, line, number, code_in(before_space(words)))
@@ -61,7 +62,9 @@ fn read_shown(
     command: Spoken,
     words: &[u8],
 ) -> Result<Option<Form>, NoMemory>
-    ensures { Reads result (if_printed line.now (results number (answered (command_of command) (guessed_shown words.now)))) }
+    ensures { Reads result
+        (if_printed line.now (results number
+        (answered (command_of command) (guessed_shown words.now)))) }
 {
     let word = before_space(words);
     if are_digits(word) {

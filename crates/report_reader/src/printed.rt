@@ -37,7 +37,8 @@ pub fn push_visit(
     name: &[u8],
     answer: Code,
 ) -> Result<(), NoMemory>
-    ensures { OnOk result (string_bytes text.new ≡ string_bytes text.old ++ visit_text number (seen_at place name.now answer)) }
+    ensures { OnOk result (string_bytes text.new ≡ string_bytes text.old
+        ++ visit_text number (seen_at place name.now answer)) }
 {
     write!(text, "{number} line {place} ")?;
     push_quoted(text, name)?;
@@ -58,7 +59,14 @@ pub fn push_cleaned(
     datum: &[u8],
 ) -> Result<(), NoMemory>
     ensures { OnOk result (string_bytes text.new ≡ string_bytes text.old
-        ++ cleanup_text number (record { id = id; status = status; note = note; owner = owner.now; datum = datum.now })) }
+        ++ cleanup_text number
+        (record {
+          id = id;
+          status = status;
+          note = note;
+          owner = owner.now;
+          datum = datum.now;
+        })) }
 {
     write!(text, "{number} clean {id} ")?;
     push_status(text, status)?;
@@ -67,7 +75,8 @@ pub fn push_cleaned(
 }
 
 fn push_names(text: &mut String, owner: &[u8], datum: &[u8]) -> Result<(), NoMemory>
-    ensures { OnOk result (string_bytes text.new ≡ string_bytes text.old ++ names_text owner.now datum.now) }
+    ensures { OnOk result (string_bytes text.new ≡ string_bytes text.old
+        ++ names_text owner.now datum.now) }
 {
     push_quoted(text, owner)?;
     text.push_str(" ")?;
@@ -90,7 +99,8 @@ pub fn push_waited(
     asked: u64,
     wait: u64,
 ) -> Result<(), NoMemory>
-    ensures { OnOk result (string_bytes text.new ≡ string_bytes text.old ++ wait_text number code asked wait) }
+    ensures { OnOk result (string_bytes text.new ≡ string_bytes text.old
+        ++ wait_text number code asked wait) }
 {
     write!(text, "{number} wait ")?;
     push_code(text, code)?;
@@ -120,7 +130,8 @@ pub fn push_refused(
 
 /// A form, where its text is the line.
 pub fn if_printed(text: &str, line: &[u8], form: Form) -> Option<Form>
-    ensures { (s : Says) → says_text s ≡ text.now → IsRead (Some form) (Some s) → IsRead result (if_printed line.now s) }
+    ensures { (s : Says) → says_text s ≡ text.now → IsRead (Some form) (Some s) →
+        IsRead result (if_printed line.now s) }
 {
     if is_line(text, line) {
         Some(form)

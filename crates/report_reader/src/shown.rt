@@ -28,7 +28,9 @@ fn result_form(number: u32, command: Spoken, answer: Answer) -> Form
 
 // The line of a result, `H COMMAND WORDS`.
 fn result_line(alloc: Global, number: u32, command: Spoken, words: &str) -> Result<String, NoMemory>
-    ensures { IfOk result (λ text. string_bytes text ≡ words_text number (command_word (command_of command)) words.now) }
+    ensures { IfOk result
+        (λ text. string_bytes text
+        ≡ words_text number (command_word (command_of command)) words.now) }
 {
     let mut text = String::new(alloc);
     write_result(&mut text, number, command_word(command), words)?;
@@ -43,7 +45,9 @@ pub fn read_count(
     command: Spoken,
     word: &[u8],
 ) -> Result<Option<Form>, NoMemory>
-    ensures { Reads result (if_printed line.now (results number (answered (command_of command) (shows_count (guessed_number word.now))))) }
+    ensures { Reads result
+        (if_printed line.now (results number
+        (answered (command_of command) (shows_count (guessed_number word.now))))) }
 {
     let count = number_of(word);
     let mut text = String::new(alloc);
@@ -63,7 +67,9 @@ pub fn read_refusal(
     command: Spoken,
     words: &[u8],
 ) -> Result<Option<Form>, NoMemory>
-    ensures { Reads result (if_printed line.now (results number (answered (command_of command) (shows_fault (guessed_refusal words.now))))) }
+    ensures { Reads result
+        (if_printed line.now (results number
+        (answered (command_of command) (shows_fault (guessed_refusal words.now))))) }
 {
     let named = before_last(words);
     let placed = before_last(named);
@@ -94,7 +100,9 @@ pub fn read_set(
     command: Spoken,
     words: &[u8],
 ) -> Result<Option<Form>, NoMemory>
-    ensures { Reads result (if_printed line.now (results number (answered (command_of command) (shows_value (Some (unquoted words.now)))))) }
+    ensures { Reads result
+        (if_printed line.now (results number
+        (answered (command_of command) (shows_value (Some (unquoted words.now)))))) }
 {
     let value: Option<Text> = Some(unquoted(alloc, words)?);
     let mut text = String::new(alloc);
@@ -113,7 +121,8 @@ pub fn read_unset(
     number: u32,
     command: Spoken,
 ) -> Result<Option<Form>, NoMemory>
-    ensures { Reads result (if_printed line.now (results number (answered (command_of command) (shows_value None)))) }
+    ensures { Reads result
+        (if_printed line.now (results number (answered (command_of command) (shows_value None)))) }
 {
     let text = result_line(alloc, number, command, "unset")?;
     Ok(if_printed(
@@ -130,7 +139,8 @@ pub fn read_not_open(
     number: u32,
     command: Spoken,
 ) -> Result<Option<Form>, NoMemory>
-    ensures { Reads result (if_printed line.now (results number (answered (command_of command) shows_not_open))) }
+    ensures { Reads result
+        (if_printed line.now (results number (answered (command_of command) shows_not_open))) }
 {
     let text = result_line(alloc, number, command, "not open")?;
     Ok(if_printed(
@@ -147,7 +157,8 @@ pub fn read_already_open(
     number: u32,
     command: Spoken,
 ) -> Result<Option<Form>, NoMemory>
-    ensures { Reads result (if_printed line.now (results number (answered (command_of command) shows_already_open))) }
+    ensures { Reads result
+        (if_printed line.now (results number (answered (command_of command) shows_already_open))) }
 {
     let text = result_line(alloc, number, command, "already open")?;
     Ok(if_printed(
@@ -164,7 +175,8 @@ pub fn read_bad_number(
     number: u32,
     command: Spoken,
 ) -> Result<Option<Form>, NoMemory>
-    ensures { Reads result (if_printed line.now (results number (answered (command_of command) shows_bad_number))) }
+    ensures { Reads result
+        (if_printed line.now (results number (answered (command_of command) shows_bad_number))) }
 {
     let text = result_line(alloc, number, command, "bad number")?;
     Ok(if_printed(
@@ -182,7 +194,9 @@ pub fn read_answer(
     command: Spoken,
     words: &[u8],
 ) -> Result<Option<Form>, NoMemory>
-    ensures { Reads result (if_printed line.now (results number (answered (command_of command) (guessed_answer words.now)))) }
+    ensures { Reads result
+        (if_printed line.now (results number
+        (answered (command_of command) (guessed_answer words.now)))) }
 {
     let behind_code = behind_space(behind_space(words));
     if before_space(behind_code) == b"pending".as_slice() {
@@ -205,7 +219,8 @@ fn read_pending(
     command: Spoken,
     func: Func,
 ) -> Result<Option<Form>, NoMemory>
-    ensures { Reads result (if_printed line.now (results number (answered (command_of command) (shows_pending func)))) }
+    ensures { Reads result
+        (if_printed line.now (results number (answered (command_of command) (shows_pending func)))) }
 {
     let mut text = String::new(alloc);
     write_pending_result(&mut text, number, command_word(command), func)?;
@@ -223,7 +238,8 @@ fn read_code(
     command: Spoken,
     code: Code,
 ) -> Result<Option<Form>, NoMemory>
-    ensures { Reads result (if_printed line.now (results number (answered (command_of command) (shows_code code)))) }
+    ensures { Reads result
+        (if_printed line.now (results number (answered (command_of command) (shows_code code)))) }
 {
     let mut text = String::new(alloc);
     write_code_result(&mut text, number, command_word(command), code)?;

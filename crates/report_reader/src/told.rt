@@ -45,7 +45,8 @@ pub fn read_visit(
     number: u32,
     words: &[u8],
 ) -> Result<Option<Form>, NoMemory>
-    ensures { Reads result (if_printed line.now (tells number (told_visit (guessed_seen words.now)))) }
+    ensures { Reads result
+        (if_printed line.now (tells number (told_visit (guessed_seen words.now)))) }
 {
     let place = number_of(before_space(words));
     let named = before_last(behind_space(words));
@@ -74,7 +75,8 @@ pub fn read_cleanup(
     number: u32,
     words: &[u8],
 ) -> Result<Option<Form>, NoMemory>
-    ensures { Reads result (if_printed line.now (tells number (told_cleanup (guessed_cleanup words.now)))) }
+    ensures { Reads result
+        (if_printed line.now (tells number (told_cleanup (guessed_cleanup words.now)))) }
 {
     let behind_id = behind_space(words);
     let behind_status = behind_space(behind_id);
@@ -134,7 +136,8 @@ pub fn read_missing(
     number: u32,
     words: &[u8],
 ) -> Result<Option<Form>, NoMemory>
-    ensures { Reads result (if_printed line.now (tells number (told_missing (unquoted (behind_space words.now))))) }
+    ensures { Reads result
+        (if_printed line.now (tells number (told_missing (unquoted (behind_space words.now))))) }
 {
     let name = unquoted(alloc, behind_space(words))?;
     let mut text = String::new(alloc);
@@ -156,7 +159,8 @@ pub fn read_variable(
     number: u32,
     words: &[u8],
 ) -> Result<Option<Form>, NoMemory>
-    ensures { Reads result (if has_form (told_variable (unquoted words.now)) then if_printed line.now (tells number (told_variable (unquoted words.now))) else None) }
+    ensures { Reads result (if has_form (told_variable (unquoted words.now))
+        then if_printed line.now (tells number (told_variable (unquoted words.now))) else None) }
 {
     let variable = unquoted(alloc, words)?;
     if first_place(b'=', variable.bytes()).is_none() {
