@@ -1,1 +1,6 @@
--- Lemmas.
+pub mod Dropping
+pub mod Telling
+pub mod Keeping
+pub mod Peeling
+pub mod Walking
+pub mod Finishing

@@ -1,5 +1,5 @@
 -- A walk over lines that answer what was told of them (this project's own).
-use Rattle.std.specs.Prelude.{◌≡◌, ℕ, ◌+◌, Bool, true, List, drop, Option, Some, None}
+use Rattle.std.specs.Prelude.{◌≡◌, ℕ, List, drop, Option, Some, None}
 use Rattle.pam_base.specs.declared.code.Code.{Code}
 use Rattle.control_words.specs.Stack.{Stack}
 use Rattle.stack_walk.specs.declared.opinion.Opinion.{Opinion}
@@ -30,4 +30,4 @@ behind_line kind serve rest at entry opinion (Some onward) state = walk kind ser
 -- a walk ended with this opinion and state, or was put off at this state
 abbrev pub Comes : {State : Type 0} → Walked State → Option Opinion → State → Type 0
 Comes w (Some opinion) state = w ≡ walked opinion state
-Comes w None state = (w.stopped ≡ true) × (w.state ≡ state)
+Comes w None state = w ≡ halted w.opinion state

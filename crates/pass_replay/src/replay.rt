@@ -1,4 +1,4 @@
-ghost use Rattle.std.specs.Prelude.{◌≡◌, ◌<◌, ◌+◌, ◌^◌, IfOk, is_none};
+ghost use Rattle.std.specs.Prelude.{◌≡◌, ◌<◌, ◌+◌, ◌∷◌, ◌++◌, [], IfOk, OnOk, is_none};
 ghost use Rattle.dispatch_core.specs.Passes.{answer_in};
 ghost use Rattle.stack_walk.specs.declared.pass_kind.PassKind.{PassKind};
 ghost use Rattle.stack_walk.specs.Pass.{AnswersAs, decides, is_incomplete, serving};
@@ -100,13 +100,13 @@ fn ask(rule: &Rule, told: &[Option<Seen>], replay: &mut Replay) -> Code
     ensures same { replay.new ≡ record replay.old {
       next = replay.new.next; astray = replay.new.astray } }
 {
-    let Some((behind, seen)) = next_seen(told, replay.next) else {
+    let Some((found, seen)) = next_seen(told, replay.next) else {
         return stray(replay);
     };
     if !is_of(seen, rule, replay.at + 1) {
         return stray(replay);
     }
-    replay.next = behind;
+    replay.next = found + 1;
     replay.astray = false;
     seen.answer
 }
