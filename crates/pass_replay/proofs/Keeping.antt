@@ -10,14 +10,17 @@ use Rattle.pass_replay.specs.Kept.{answers_in, visits_of}
 abbrev pub one_at : ℕ → Code → ℕ → Option Code
 one_at place answer other = if nat_eq other place then Some answer else None
 
-pub kept_in_more : (vs : List Visit) (v : Visit) (place : ℕ) → kept_in (vs ++ v ∷ []) place ≡ option_or (kept_in vs place) (one_at v.place v.answer place)
+first_of : (b : Bool) (answer : Code) (old new extra : Option Code) → new ≡ option_or old extra
+    → (if b then Some answer else new) ≡ option_or (if b then Some answer else old) extra
+first_of true answer old new extra is = refl
+first_of false answer old new extra is = is
+
+pub kept_in_more : (vs : List Visit) (v : Visit) (place : ℕ)
+    → kept_in (vs ++ v ∷ []) place ≡ option_or (kept_in vs place) (one_at v.place v.answer place)
 kept_in_more [] v place = refl
-kept_in_more (w ∷ vs) v place = by (nat_eq place w.place) (kept_in vs place) (kept_in (vs ++ v ∷ []) place) (kept_in_more vs v place)
-  where
-  by : (b : Bool) (old new : Option Code) → new ≡ option_or old (one_at v.place v.answer place)
-      → (if b then Some w.answer else new) ≡ option_or (if b then Some w.answer else old) (one_at v.place v.answer place)
-  by true old new is = refl
-  by false old new is = is
+kept_in_more (w ∷ vs) v place =
+    first_of (nat_eq place w.place) w.answer (kept_in vs place) (kept_in (vs ++ v ∷ []) place)
+    (one_at v.place v.answer place) (kept_in_more vs v place)
 
 pub visits_of-append : (xs ys : List Visited) → visits_of (xs ++ ys) ≡ visits_of xs ++ visits_of ys
 visits_of-append [] ys = refl

@@ -15,7 +15,7 @@ pub struct Onward {
 }
 
 /// Where a list goes on, of which so many nodes are left, behind an action that came to an opinion.
-pub fn onward(action: Action, left: usize, new: Opinion) -> Onward
+pub fn onward_from(action: Action, left: usize, new: Opinion) -> Onward
     ensures opinion { result.opinion ≡ settled action left new }
     ensures skip { result.skip ≡ skip_of (next_of action left new) left }
 {

@@ -81,7 +81,7 @@ fn puts_off(answer: Code) -> bool
 // Adds the visit of the present line.
 fn visit(answer: Code, replay: &mut Replay) -> Result<(), NoMemory>
     requires few { replay.old.at < 4096 }
-    ensures { OnOk result (replay.new ≡ record replay.old { visits = replay.old.visits
+    ensures added { OnOk result (replay.new ≡ record replay.old { visits = replay.old.visits
         ++ record { place = replay.old.at + 1; answer = answer } ∷ [] }) }
     ensures at { replay.new.at ≡ replay.old.at }
 {

@@ -8,7 +8,7 @@ ghost use Rattle.pass_replay.specs.Kept.{kept_answers};
 ghost use Rattle.pass_replay.specs.Walk.{Comes, behind_line, state_in};
 
 use crate::answers::Answers;
-use crate::onward::{Onward, onward};
+use crate::onward::{Onward, onward_from};
 use crate::replay::{Replay, next_answer};
 use control_words::{Node, Nodes, Rule};
 use pam_base::{Code, NoMemory};
@@ -87,7 +87,7 @@ fn walk_line(
     let deciding = decide(kind, follows, replay.at, answer);
     let action = rule.control.action(deciding);
     let new = opinion.after(kind, action, answer, deciding, entry);
-    Ok(Some(onward(action, left, new)))
+    Ok(Some(onward_from(action, left, new)))
 }
 
 /// Walks a list from an opinion on, which is also that at its entry. None where the walk is put off.
