@@ -1,9 +1,11 @@
 -- The visits among told lines, from one on.
-use Rattle.std.proofs.Common.{◌≡◌, ℕ, zero, suc, ◌+◌, ◌-◌, ◌≤◌, List, [], ◌∷◌, Option, Some, None, drop, length, refl, sym, ◌∙◌, ap, arith, add-one}
+use Rattle.std.proofs.Common.{◌≡◌, ℕ, zero, suc, ◌+◌, ◌-◌, ◌≤◌, List, [], ◌∷◌, Option, Some, None, drop, length, refl, ap, arith}
 use Rattle.std.specs.List.{slice_get}
+use Rattle.std.proofs.Math.Seq.{drop-length}
 use Rattle.stack_walk.specs.declared.seen.Seen.{Seen}
+use Rattle.stack_walk.specs.Seen.{seen_of}
 use Rattle.pass_replay.specs.Told.{visits_in, lines_before}
-use Rattle.pass_replay.proofs.Dropping.{drop_next, drop_past}
+use Rattle.pass_replay.proofs.Dropping.{drop_next}
 
 pub fewer : (told : List (Option Seen)) (n : ℕ) → length (visits_in (drop n told)) ≤ length (visits_in told)
 fewer [] zero = omega arith
@@ -44,3 +46,11 @@ left_visit told n v is = before_visit told n _ v is (omega (arith, fewer told n)
 pub left_end : (told : List (Option Seen)) (n : ℕ) → visits_in (drop n told) ≡ []
     → length told ≡ lines_before (length (visits_in told) - length (visits_in (drop n told))) told
 left_end told n none = before_end told _ (omega (arith, ap length none))
+
+-- a visit that stands at this line
+pub visit_here : (told : List (Option Seen)) (n : ℕ) (v : Seen) → slice_get told n ≡ Some (Some v)
+    → visits_in (drop n told) ≡ seen_of v ∷ visits_in (drop (n + 1) told)
+visit_here told n v is = ap visits_in (drop_next told n (Some v) is)
+
+pub no_visit_after : (told : List (Option Seen)) → visits_in (drop (length told) told) ≡ []
+no_visit_after told = ap visits_in (drop-length told)

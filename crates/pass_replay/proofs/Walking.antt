@@ -1,5 +1,5 @@
 -- A walk over a list, node by node.
-use Rattle.std.proofs.Common.{◌≡◌, ℕ, zero, suc, ◌+◌, ◌-◌, ◌<◌, ◌≤◌, Bool, true, false, Option, Some, None, refl, sym, ◌∙◌, ap, arith, add-one, add-zero}
+use Rattle.std.proofs.Common.{◌≡◌, ℕ, suc, ◌+◌, ◌-◌, ◌<◌, ◌≤◌, Bool, true, false, if◌then◌else◌, None, refl, sym, ◌∙◌, ap, arith, add-one, add-zero}
 use Rattle.pam_base.specs.declared.code.Code.{Code}
 use Rattle.control_words.specs.declared.control.Action.{Action}
 use Rattle.control_words.specs.declared.nodes.Node.{Node, Line, Sub'}
@@ -9,24 +9,11 @@ use Rattle.control_words.specs.Stack.{Stack, none, line, sub, count, lines_in, d
 use Rattle.stack_walk.specs.declared.opinion.Opinion.{Opinion}
 use Rattle.stack_walk.specs.declared.pass_kind.PassKind.{PassKind}
 use Rattle.stack_walk.specs.Opinion.{acted}
-use Rattle.stack_walk.specs.Walk.{Next, after, stop, Serving, Served, ServedAs, Walked, walk, walked, halted, next_of, settled} 
+use Rattle.stack_walk.specs.Walk.{Next, after, stop, Serving, Served, ServedAs, Walked, walk, walked, halted, next_of, settled}
 use Rattle.stack_walk.specs.Walk.{onward as onto}
 use Rattle.pass_replay.specs.declared.onward.Onward.{Onward}
-use Rattle.pass_replay.specs.Walk.{skip_of, behind_line, Comes}
-
--- ---- a node of a list
-
-count_node : (node : Node) (rest : Stack) → count (node_on node rest) ≡ count rest + 1
-count_node (Line rule) rest = refl
-count_node (Sub' shape all) rest = refl
-
-pub lines_node : (node : Node) (rest : Stack) → lines_in (node_on node rest) ≡ lines_in (node_on node none) + lines_in rest
-lines_node (Line rule) rest = omega arith
-lines_node (Sub' shape all) rest = omega arith
-
-depth_node : (node : Node) (rest : Stack) → depth rest ≤ depth (node_on node rest)
-depth_node (Line rule) rest = omega arith
-depth_node (Sub' shape all) rest = omega arith
+use Rattle.pass_replay.specs.Walk.{skip_of, Comes}
+use Rattle.pass_replay.proofs.Peeling.{count_node, lines_node, depth_node}
 
 module _ {State : Type 0} (kind : PassKind) (serve : Serving State) where
   -- a list all of whose nodes are passed over
@@ -42,27 +29,28 @@ module _ {State : Type 0} (kind : PassKind) (serve : Serving State) where
 
   -- ---- a line that was served
 
-  pub line_halts : (rule : Rule) (rest : Stack) (at : ℕ) (entry opinion : Opinion) (old new : State) (answer deciding : Code)
-      → ServedAs (serve rule at old) answer deciding true new → walk kind serve 0 (line rule rest) at entry opinion old ≡ halted opinion new
-  line_halts rule rest at entry opinion old new answer deciding served =
-      let is : (serve rule at old).stopped ≡ true = sym served.stopped_is in
-      rw is (ap (halted opinion) (sym served.state_is))
-
   line_serves : (rule : Rule) (rest : Stack) (at : ℕ) (entry opinion : Opinion) (old : State) → (serve rule at old).stopped ≡ false
       → let served : Served State = serve rule at old in
       let action : Action = action_at rule.control served.deciding in
       let new : Opinion = acted kind action served.answer served.deciding entry opinion in
       walk kind serve 0 (line rule rest) at entry opinion old
       ≡ walk kind serve (skip_of (next_of action (count rest) new) (count rest)) rest (at + 1) entry (settled action (count rest) new) served.state
-  line_serves rule rest at entry opinion old is = rw is (goes_on _ rest (at + 1) entry _ _)
+  line_serves rule rest at entry opinion old is =
+      let served : Served State = serve rule at old in
+      let action : Action = action_at rule.control served.deciding in
+      let new : Opinion = acted kind action served.answer served.deciding entry opinion in
+      rw is (goes_on (next_of action (count rest) new) rest (at + 1) entry (settled action (count rest) new) served.state)
 
-  pub line_goes : (rule : Rule) (rest : Stack) (at : ℕ) (entry opinion : Opinion) (old new : State) (answer deciding : Code) (on : Onward)
-      → ServedAs (serve rule at old) answer deciding false new
-      → on.opinion ≡ settled (action_at rule.control deciding) (count rest) (acted kind (action_at rule.control deciding) answer deciding entry opinion)
-      → on.skip ≡ skip_of (next_of (action_at rule.control deciding) (count rest) (acted kind (action_at rule.control deciding) answer deciding entry opinion)) (count rest)
+  pub line_goes : (rule : Rule) (rest : Stack) (at : ℕ) (entry opinion : Opinion) (old new : State) (answer deciding : Code)
+      (action : Action) (left : ℕ) (acts : Opinion) (on : Onward)
+      → ServedAs (serve rule at old) answer deciding false new → action ≡ action_at rule.control deciding
+      → acts ≡ acted kind action answer deciding entry opinion → count rest ≡ left
+      → on.opinion ≡ settled action left acts → on.skip ≡ skip_of (next_of action left acts) left
       → walk kind serve 0 (line rule rest) at entry opinion old ≡ walk kind serve on.skip rest (at + 1) entry on.opinion new
-  line_goes rule rest at entry opinion old new answer deciding on served opinion_is skip_is =
-      rw (skip_is, opinion_is, served.answer_is, served.deciding_is, served.state_is) (line_serves rule rest at entry opinion old (sym served.stopped_is))
+  line_goes rule rest at entry opinion old new answer deciding action left acts on served action_is acts_is counted opinion_is skip_is =
+      let left_is : left ≡ count rest = sym counted in
+      rw (skip_is, opinion_is, left_is, acts_is, action_is, served.answer_is, served.deciding_is, served.state_is)
+      (line_serves rule rest at entry opinion old (sym served.stopped_is))
 
   -- ---- all nodes
 
@@ -72,9 +60,6 @@ module _ {State : Type 0} (kind : PassKind) (serve : Serving State) where
     pub placed : at + lines_in here ≡ first + lines_in all
     pub counted : left ≡ count here
     pub shallow : depth here ≤ depth all
-
-  pub walking_start : (all : Stack) (first left : ℕ) (entry : Opinion) (start : State) → left ≡ count all → IsWalking all first entry start all 0 first left entry start
-  walking_start all first left entry start counted = record { goes = refl; placed = refl; counted = counted; shallow = omega arith }
 
   skipped : (node : Node) (rest : Stack) (skip at : ℕ) (entry opinion : Opinion) (state : State)
       → walk kind serve (suc skip) (node_on node rest) at entry opinion state ≡ walk kind serve skip rest (at + lines_in (node_on node none)) entry opinion state
@@ -129,35 +114,19 @@ module _ {State : Type 0} (kind : PassKind) (serve : Serving State) where
         shallow = omega (arith, was.shallow, ap depth is);
       }
 
-  -- ---- the end, and where the walk is put off
-
-  pub walking_end : (all : Stack) (first : ℕ) (entry : Opinion) (start : State) (here : Stack) (skip at left : ℕ) (opinion : Opinion) (state : State)
-      → IsWalking all first entry start here skip at left opinion state → here ≡ none
-      → walk kind serve 0 all (first + 1) entry entry start ≡ walked opinion state
-  walking_end all first entry start here skip at left opinion state was is =
-      sym was.goes ∙ ap (λ (s : Stack). walk kind serve skip s (at + 1) entry opinion state) is
-
-  pub walking_behind : (all : Stack) (first : ℕ) (entry : Opinion) (start : State) (here : Stack) (skip at left : ℕ) (opinion : Opinion) (state : State)
-      → IsWalking all first entry start here skip at left opinion state → here ≡ none → at ≡ first + lines_in all
-  walking_behind all first entry start here skip at left opinion state was is = omega (arith, was.placed, ap lines_in is)
+  -- ---- where the walk is put off
 
   put_off : (w : Walked State) (opinion : Opinion) (state : State) → w ≡ halted opinion state → w ≡ halted w.opinion state
   put_off w opinion state is = is ∙ ap (λ (o : Opinion). halted o state) (sym (ap (λ (v : Walked State). v.opinion) is))
 
-  pub line_put_off : (all : Stack) (first : ℕ) (entry : Opinion) (start : State) (here rest : Stack) (rule : Rule) (skip at left left' : ℕ) (opinion : Opinion) (state new : State)
-      → IsWalking all first entry start here skip at left opinion state → here ≡ line rule rest → skip ≡ 0 → left' ≡ left - 1
-      → (count rest ≡ left' → walk kind serve 0 (line rule rest) (at + 1) entry opinion state ≡ halted opinion new)
-      → Comes (walk kind serve 0 all (first + 1) entry entry start) None new
-  line_put_off all first entry start here rest rule skip at left left' opinion state new was is none_over fewer goes =
-      let counted : count rest ≡ left' = omega (arith, was.counted, ap count is, fewer) in
-      put_off _ opinion new
-      (sym was.goes ∙ ap (λ n. walk kind serve n here (at + 1) entry opinion state) none_over ∙ ap (λ (s : Stack). walk kind serve 0 s (at + 1) entry opinion state) is ∙ goes counted)
+  on_halt : (inside other : Walked State) → inside.stopped ≡ true → (if inside.stopped then inside else other) ≡ inside
+  on_halt inside other is = ap (λ (b : Bool). if b then inside else other) is
 
   sub_halts : (inner rest : Stack) (at : ℕ) (entry opinion : Opinion) (state new : State) → Comes (walk kind serve 0 inner at opinion opinion state) None new
       → walk kind serve 0 (sub inner rest) at entry opinion state ≡ halted (walk kind serve 0 inner at opinion opinion state).opinion new
   sub_halts inner rest at entry opinion state new is =
-      let stopped : (walk kind serve 0 inner at opinion opinion state).stopped ≡ true = ap (λ (v : Walked State). v.stopped) is in
-      rw stopped is
+      let inside : Walked State = walk kind serve 0 inner at opinion opinion state in
+      on_halt inside (walk kind serve 0 rest (at + lines_in inner) entry inside.opinion inside.state) (ap (λ (v : Walked State). v.stopped) is) ∙ is
 
   pub sub_put_off : (all : Stack) (first : ℕ) (entry : Opinion) (start : State) (here inner rest : Stack) (skip at left : ℕ) (opinion : Opinion) (state new : State)
       → IsWalking all first entry start here skip at left opinion state → here ≡ sub inner rest → skip ≡ 0
