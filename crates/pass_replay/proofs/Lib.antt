@@ -1,1 +1,7 @@
--- Lemmas.
+pub mod Dropping
+pub mod Telling
+pub mod Keeping
+pub mod Peeling
+pub mod Serving
+pub mod Walking
+pub mod Finishing

@@ -1,12 +1,12 @@
 -- Answers kept for the places of lines, as cells (this project's own).
-use Rattle.std.specs.Prelude.{ℕ, List, [], ◌∷◌, Option, Some, None, slice_get}
+use Rattle.std.specs.Prelude.{List, [], ◌∷◌, Option, Some, None, slice_get}
 use Rattle.std.specs.Option.{option_flatten}
 use Rattle.pam_base.specs.declared.code.Code.{Code}
 use Rattle.stack_walk.specs.Route.{KeptAnswers}
 use Rattle.stack_walk.specs.Pass.{Visit, visit}
 use Rattle.pass_replay.specs.declared.visited.Visited.{Visited}
 
--- a cell for each place from 0 on; behind the last one nothing is kept
+-- a cell for each place from 0 on; after the last one nothing is kept
 abbrev pub answers_in : List (Option Code) → KeptAnswers
 answers_in cells place = option_flatten (slice_get cells place)
 

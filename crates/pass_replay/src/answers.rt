@@ -1,4 +1,4 @@
-ghost use Rattle.std.specs.Prelude.{◌≡◌, ◌+◌, ◌≤◌, ◌<◌, ℕ, Some, None, IfOk, OnOk, length};
+ghost use Rattle.std.specs.Prelude.{◌≡◌, ◌≢◌, ◌+◌, ◌≤◌, ◌<◌, ℕ, Some, None, IfOk, OnOk, length};
 ghost use Rattle.std.specs.Option.{option_or};
 ghost use Rattle.stack_walk.specs.Pass.{kept_in};
 ghost use Rattle.pass_replay.specs.Kept.{answers_in, visits_of};
@@ -9,7 +9,7 @@ use std::alloc::Global;
 use std::marker::Model;
 
 /// Answers kept for the places of lines. Contracts see a cell for each place from 0 on: None, or the answer that is
-/// kept for it. Behind the last cell nothing is kept.
+/// kept for it. After the last cell nothing is kept.
 #[derive(Debug, Drop)]
 pub struct Answers {
     cells: Vec<Option<Code>>,

@@ -2,7 +2,7 @@
 //! that is of this line. Whoever checks a transcript trusts nothing of the program that printed it, so this stands on
 //! the loaded stacks alone.
 //!
-//! Begin at retell.rt; pass.rt is one pass, walk.rt the walk over a list, replay.rt the answer of a line.
+//! Begin at retelling.rt; pass.rt is one pass, walk.rt the walk over a list, replay.rt the answer of a line.
 #![tactic(auto)]
 
 mod answers;
@@ -11,13 +11,13 @@ mod onward;
 mod pass;
 mod passed;
 mod replay;
-mod retell;
+mod retelling;
 mod retold;
 mod told;
 mod visited;
 mod walk;
 
 pub use held::Held;
-pub use retell::retell;
+pub use retelling::retell;
 pub use retold::Retold;
 pub use told::first_visit;

@@ -6,7 +6,7 @@ ghost use Rattle.pass_replay.specs.Walk.{skip_of};
 use control_words::Action;
 use stack_walk::Opinion;
 
-/// Where a list goes on behind a line: the opinion, and how many of its nodes are passed over, all that are left where
+/// Where a list goes on after a line: the opinion, and how many of its nodes are passed over, all that are left where
 /// it ends.
 #[derive(Clone, Copy, Debug)]
 pub struct Onward {
@@ -14,8 +14,8 @@ pub struct Onward {
     pub skip: usize,
 }
 
-/// Where a list goes on, of which so many nodes are left, behind an action that came to an opinion.
-pub fn onward(action: Action, left: usize, new: Opinion) -> Onward
+/// Where a list of which `left` nodes are left goes on, after an action that came to an opinion.
+pub fn onward_from(action: Action, left: usize, new: Opinion) -> Onward
     ensures opinion { result.opinion ≡ settled action left new }
     ensures skip { result.skip ≡ skip_of (next_of action left new) left }
 {

@@ -1,13 +1,11 @@
-ghost use Rattle.std.specs.Prelude.{◌≡◌, ◌≤◌, List, Option, IfOk, None, Some};
+ghost use Rattle.std.specs.Prelude.{◌≡◌, ◌≤◌, List, Option, IfOk};
 ghost use Rattle.control_words.specs.Stack.{lines_in, stack_of};
 ghost use Rattle.dispatch_core.specs.Calls.{answers_held, kept_behind, passed_by};
-ghost use Rattle.dispatch_core.specs.Passes.{};
-ghost use Rattle.stack_walk.specs.Opinion.{verdict};
 ghost use Rattle.stack_walk.specs.Pass.{PassState, answers_of, pass_after};
 ghost use Rattle.stack_walk.specs.Retell.{Telling, replaying};
 ghost use Rattle.stack_walk.specs.Walk.{Walked};
 ghost use Rattle.pass_replay.specs.Kept.{kept_answers, visits_of};
-ghost use Rattle.pass_replay.specs.Passed.{passed_of};
+ghost use Rattle.pass_replay.specs.Passed.{ended_code, ended_paused, passed_of};
 ghost use Rattle.pass_replay.specs.Told.{telling_from};
 ghost use Rattle.pass_replay.specs.Walk.{Comes, state_in};
 
@@ -68,7 +66,7 @@ fn finish(
 }
 
 fn code_of(end: Option<Opinion>) -> Code
-    ensures { result ≡ elim end [ Some opinion ↦ verdict opinion | None ↦ Code.Incomplete ] }
+    ensures { result ≡ ended_code end }
 {
     match end {
         Some(opinion) => opinion.verdict(),
@@ -97,8 +95,7 @@ fn paused_after(
     end: Option<Opinion>,
     visits: &[Visited],
 ) -> Result<Option<Sequence<Code>>, NoMemory>
-    ensures { IfOk result (λ paused. paused
-        ≡ elim end [ Some opinion ↦ None | None ↦ Some (answers_of (visits_of visits.now)) ]) }
+    ensures { IfOk result (λ paused. paused ≡ ended_paused end (visits_of visits.now)) }
 {
     match end {
         Some(_) => Ok(None),

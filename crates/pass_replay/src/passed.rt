@@ -5,7 +5,7 @@ use pam_base::{Code, Sequence};
 #[derive(Debug, Drop)]
 pub struct Passed {
     pub code: Code,
-    /// What is kept behind it: its own answers, what was kept before, or nothing.
+    /// What is kept after it: its own answers, what was kept before, or nothing.
     pub kept: Option<Answers>,
     /// The answers to go on after, where it was put off.
     pub paused: Option<Sequence<Code>>,

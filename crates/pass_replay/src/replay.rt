@@ -1,4 +1,4 @@
-ghost use Rattle.std.specs.Prelude.{◌≡◌, ◌<◌, ◌+◌, ◌^◌, IfOk, is_none};
+ghost use Rattle.std.specs.Prelude.{◌≡◌, ◌<◌, ◌+◌, ◌∷◌, ◌++◌, [], IfOk, OnOk, is_none, true};
 ghost use Rattle.dispatch_core.specs.Passes.{answer_in};
 ghost use Rattle.stack_walk.specs.declared.pass_kind.PassKind.{PassKind};
 ghost use Rattle.stack_walk.specs.Pass.{AnswersAs, decides, is_incomplete, serving};
@@ -18,7 +18,7 @@ use std::alloc::Global;
 /// How far a pass has come that is gone over again by what was told of it.
 #[derive(Debug, Drop)]
 pub struct Replay {
-    /// How many lines of the stack are behind.
+    /// How many lines of the stack it has passed.
     pub at: usize,
     /// How many of the answers that its earlier calls were given are used.
     pub used: usize,
@@ -81,8 +81,10 @@ fn puts_off(answer: Code) -> bool
 // Adds the visit of the present line.
 fn visit(answer: Code, replay: &mut Replay) -> Result<(), NoMemory>
     requires few { replay.old.at < 4096 }
-    ensures { OnOk result (replay.new ≡ record replay.old { visits = replay.old.visits
-        ++ record { place = replay.old.at + 1; answer = answer } ∷ [] }) }
+    ensures added { OnOk result (replay.new ≡ record replay.old {
+      visits = replay.old.visits
+          ++ record { place = replay.old.at + 1; answer = answer } ∷ [];
+    }) }
     ensures at { replay.new.at ≡ replay.old.at }
 {
     replay.visits.push(Visited {
@@ -98,15 +100,17 @@ fn ask(rule: &Rule, told: &[Option<Seen>], replay: &mut Replay) -> Code
         (telling_from told.now replay.old.next replay.old.astray))
         result (telling_from told.now replay.new.next replay.new.astray) }
     ensures same { replay.new ≡ record replay.old {
-      next = replay.new.next; astray = replay.new.astray } }
+      next = replay.new.next;
+      astray = replay.new.astray;
+    } }
 {
-    let Some((behind, seen)) = next_seen(told, replay.next) else {
+    let Some((found, seen)) = next_seen(told, replay.next) else {
         return stray(replay);
     };
     if !is_of(seen, rule, replay.at + 1) {
         return stray(replay);
     }
-    replay.next = behind;
+    replay.next = found + 1;
     replay.astray = false;
     seen.answer
 }

@@ -5,7 +5,7 @@ use pam_base::Code;
 #[derive(Debug, Drop)]
 pub struct Retold {
     pub code: Code,
-    /// What the transaction holds behind it.
+    /// What the transaction holds after it.
     pub held: Held,
     /// The index of the first told visit that it didn't take; how many told lines there are where it took all.
     pub next: usize,

@@ -1,4 +1,4 @@
-ghost use Rattle.std.specs.Prelude.{◌≡◌, ◌≤◌, ◌-◌, ◌∷◌, [], IfSome, IfNone, drop, length};
+ghost use Rattle.std.specs.Prelude.{◌≡◌, ◌≤◌, ◌+◌, ◌-◌, ◌∷◌, [], Some, IfSome, IfNone, drop, length, slice_get};
 ghost use Rattle.stack_walk.specs.Retell.{is_of};
 ghost use Rattle.stack_walk.specs.Seen.{seen_of};
 ghost use Rattle.pass_replay.specs.Told.{lines_before, visits_in};
@@ -20,25 +20,25 @@ pub fn first_left(told: &[Option<Seen>], from: usize) -> usize
     ensures left { result ≡ lines_before
         (length (visits_in told.now) - length (visits_in (drop result told.now))) told.now }
 {
-    let mut next = from.min(told.len());
-    while next < told.len() && told[next].is_none() {
-        next += 1;
+    match next_seen(told, from) {
+        Some((at, _)) => at,
+        None => told.len(),
     }
-    next
 }
 
-/// The first visit among the told lines from one on, with the index of the line behind it.
+/// The first visit among the told lines from one on, with its index.
 pub fn next_seen(told: &[Option<Seen>], from: usize) -> Option<(usize, &Seen)>
     ensures some { IfSome result (λ found. visits_in (drop from told.now)
-        ≡ seen_of found.1.now ∷ visits_in (drop found.0 told.now)) }
+        ≡ seen_of found.1.now ∷ visits_in (drop (found.0 + 1) told.now)) }
+    ensures at { IfSome result (λ found. slice_get told.now found.0 ≡ Some (Some found.1.now)) }
     ensures none { IfNone result (visits_in (drop from told.now) ≡ []) }
 {
     let mut next = from;
     while let Some(line) = told.get(next) {
-        next += 1;
         if let Some(seen) = line {
             return Some((next, seen));
         }
+        next += 1;
     }
     None
 }

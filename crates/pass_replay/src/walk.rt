@@ -1,14 +1,14 @@
 ghost use Rattle.std.specs.Prelude.{◌≡◌, ◌<◌, ◌≤◌, ◌+◌, IfOk, IfSome};
-ghost use Rattle.control_words.specs.Stack.{Stack, count, line, lines_in, node_on, stack_of};
+ghost use Rattle.control_words.specs.Stack.{Stack, count, line, lines_in, node_on, none, stack_of};
 ghost use Rattle.dispatch_core.specs.Calls.{answers_held};
 ghost use Rattle.stack_walk.specs.Pass.{decides, serving};
 ghost use Rattle.stack_walk.specs.Retell.{replaying};
 ghost use Rattle.stack_walk.specs.Walk.{walk};
 ghost use Rattle.pass_replay.specs.Kept.{kept_answers};
-ghost use Rattle.pass_replay.specs.Walk.{Comes, behind_line, state_in};
+ghost use Rattle.pass_replay.specs.Walk.{Comes, after_line, state_in};
 
 use crate::answers::Answers;
-use crate::onward::{Onward, onward};
+use crate::onward::{Onward, onward_from};
 use crate::replay::{Replay, next_answer};
 use control_words::{Node, Nodes, Rule};
 use pam_base::{Code, NoMemory};
@@ -58,7 +58,7 @@ fn held_at(follows: &Option<Answers>, place: usize) -> Option<Code>
     }
 }
 
-// Walks the present line, behind which so many nodes are left in its list. None where it puts the walk off.
+// Walks the present line, after which `left` nodes of its list are left. None where it puts the walk off.
 fn walk_line(
     rule: &Rule,
     left: usize,
@@ -75,7 +75,7 @@ fn walk_line(
         walk kind (serving kind (answers_held (kept_answers follows.now)) replaying)
         0 (line rule.now rest) (replay.old.at + 1) entry opinion
         (state_in past.now told.now replay.old)
-        ≡ behind_line kind (serving kind (answers_held (kept_answers follows.now)) replaying)
+        ≡ after_line kind (serving kind (answers_held (kept_answers follows.now)) replaying)
         rest (replay.old.at + 1 + 1) entry opinion onward
         (state_in past.now told.now replay.new)) }
     ensures at { IfOk result (λ onward. IfSome onward (λ _. replay.new.at ≡ replay.old.at + 1)) }
@@ -87,7 +87,7 @@ fn walk_line(
     let deciding = decide(kind, follows, replay.at, answer);
     let action = rule.control.action(deciding);
     let new = opinion.after(kind, action, answer, deciding, entry);
-    Ok(Some(onward(action, left, new)))
+    Ok(Some(onward_from(action, left, new)))
 }
 
 /// Walks a list from an opinion on, which is also that at its entry. None where the walk is put off.
@@ -132,8 +132,9 @@ pub fn walk_nodes(
                     skip = onward.skip;
                 }
                 Node::Sub(inner) => {
-                    let Some(inside) =
-                        walk_nodes(inner, kind, follows, opinion, past, told, replay)?
+                    let Some(inside) = walk_nodes(
+                        inner, kind, follows, opinion, past, told, replay,
+                    )?
                     else {
                         return Ok(None);
                     };

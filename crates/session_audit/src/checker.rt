@@ -1,4 +1,4 @@
-ghost use Rattle.std.specs.Prelude.{◌≡◌, ◌≤◌, ◌<◌, ◌+◌, ◌-◌, ◌^◌, ℕ, nat_eq, IfOk, List, Option, Some, None, length};
+ghost use Rattle.std.specs.Prelude.{◌≡◌, ◌≤◌, ◌<◌, ◌+◌, ◌-◌, ◌^◌, ℕ, Bool, nat_eq, IfOk, List, Option, Some, None, length};
 ghost use Rattle.std.specs.Option.{option_map};
 ghost use Rattle.service_load.specs.Stacks.{Stacks};
 ghost use Rattle.service_load.specs.Load.{AreBounded};

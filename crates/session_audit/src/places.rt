@@ -24,7 +24,7 @@ pub fn closed_places(alloc: Global) -> Result<Vec<Place>, NoMemory>
     ensures { IfOk result (λ places. map place_of places.items ≡ all_shut) }
 {
     let mut places = Vec::new(alloc);
-    for _ in 0..HANDLE_LIMIT {
+    while places.len() < HANDLE_LIMIT {
         places.push(Place::Closed)?;
     }
     Ok(places)
@@ -63,7 +63,10 @@ fn judge_nowhere(told: &[Option<Seen>], outcome: Outcome) -> Option<usize>
     ensures { IsUnplaced result (told_in told.now) (result_of outcome) }
 {
     let first = first_visit(told);
-    if first == told.len() && is_bad_number(outcome) {
+    if first < told.len() {
+        return Some(first);
+    }
+    if is_bad_number(outcome) {
         None
     } else {
         Some(first)

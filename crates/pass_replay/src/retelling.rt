@@ -45,7 +45,7 @@ pub fn retell(
     Ok(retold)
 }
 
-// The same, but for `next`, which is behind the last visit that was taken.
+// The same, but `next` is the line after the last visit that was taken.
 fn call(
     alloc: Global,
     trees: &Trees,
@@ -96,7 +96,7 @@ fn following(kept: &Option<Answers>) -> PassKind
     }
 }
 
-// What is pending behind a pass: its call, where it was put off.
+// What is pending after a pass: its call, where it was put off.
 fn pending_behind(
     func: Func,
     first: Option<Answers>,
@@ -138,7 +138,16 @@ fn auth_call(
         ..
     } = held;
     let nodes = &trees.auth;
-    let passed = pass(alloc, nodes, kind, authenticated, past.items(), told, 0, false)?;
+    let passed = pass(
+        alloc,
+        nodes,
+        kind,
+        authenticated,
+        past.items(),
+        told,
+        0,
+        false,
+    )?;
     let pending = pending_behind(func, None, passed.paused);
     Ok(Retold {
         code: passed.code,
@@ -207,7 +216,16 @@ fn account_call(
         (telling (visits_in told.now))) }
 {
     let nodes = &trees.account;
-    let passed = pass(alloc, nodes, PassKind::Keep, None, past.items(), told, 0, false)?;
+    let passed = pass(
+        alloc,
+        nodes,
+        PassKind::Keep,
+        None,
+        past.items(),
+        told,
+        0,
+        false,
+    )?;
     let pending = pending_behind(Func::AcctMgmt, None, passed.paused);
     Ok(Retold {
         code: passed.code,
@@ -232,7 +250,16 @@ fn change(
         (telling (visits_in told.now))) }
 {
     match first {
-        Some(first) => update(alloc, trees, Some(first), past.items(), held, told, 0, false),
+        Some(first) => update(
+            alloc,
+            trees,
+            Some(first),
+            past.items(),
+            held,
+            told,
+            0,
+            false,
+        ),
         None => check(alloc, trees, past, held, told),
     }
 }
@@ -251,10 +278,22 @@ fn check(
         (telling (visits_in told.now))) }
 {
     let nodes = &trees.password;
-    let passed = pass(alloc, nodes, PassKind::Keep, None, past.items(), told, 0, false)?;
+    let passed = pass(
+        alloc,
+        nodes,
+        PassKind::Keep,
+        None,
+        past.items(),
+        told,
+        0,
+        false,
+    )?;
     if passed.code == Code::Success {
         let Passed {
-            kept, next, astray, ..
+            kept,
+            next,
+            astray,
+            ..
         } = passed;
         return update(alloc, trees, kept, &[], held, told, next, astray);
     }
@@ -284,7 +323,16 @@ fn update(
         (telling_from told.now next astray)) }
 {
     let nodes = &trees.password;
-    let passed = pass(alloc, nodes, PassKind::Follow, first, past, told, next, astray)?;
+    let passed = pass(
+        alloc,
+        nodes,
+        PassKind::Follow,
+        first,
+        past,
+        told,
+        next,
+        astray,
+    )?;
     let pending = pending_behind(Func::ChAuthTok, passed.kept, passed.paused);
     Ok(Retold {
         code: passed.code,
