@@ -50,6 +50,10 @@ within_all (suc i) (None ∷ told) = omega (arith, within_all (suc i) told)
 within_all zero (Some v ∷ told) = omega arith
 within_all (suc i) (Some v ∷ told) = omega (arith, within_all i told)
 
+-- a line of a block that is named is one of its told lines, or the one after them
+pub named_within : (i line : ℕ) (told : List (Option Seen)) → line ≡ told_lines.lines_before i (told_in told) → line ≤ length told
+named_within i line told is = omega (arith, lines_are i told, within_all i told)
+
 -- ---- no visit is among told lines exactly where all stand before the first
 
 skips : (i : ℕ) (told : List (Option Seen)) → lines_before i (None ∷ told) ≡ lines_before i told + 1
@@ -134,26 +138,23 @@ if_false : {A : Type 0} → (b : Bool) (x y : A) → b ≡ false → (if b then 
 if_false true x y is = absurd (cc)
 if_false false x y is = refl
 
-abbrev pub is_change : Func → Bool
-is_change funcs.ChAuthTok = true
-is_change func = false
+no_more : (b : Bool) → b ≡ (b && true)
+no_more true = refl
+no_more false = refl
 
-and_true : (b : Bool) → b ≡ (b && true)
-and_true true = refl
-and_true false = refl
+nothing_more : (b : Bool) → false ≡ (b && false)
+nothing_more true = refl
+nothing_more false = refl
 
-and_false : (b : Bool) → false ≡ (b && false)
-and_false true = refl
-and_false false = refl
-
-pub refused_is : (func : Func) (code : Code) (vs : List retell.Seen) → is_refused_change func code vs ≡ (is_change func && (same_code code codes.SystemErr && is_none vs))
-refused_is funcs.Authenticate code vs = refl
-refused_is funcs.SetCred code vs = refl
-refused_is funcs.AcctMgmt code vs = refl
-refused_is funcs.OpenSession code vs = refl
-refused_is funcs.CloseSession code vs = refl
-refused_is funcs.ChAuthTok code [] = and_true (same_code code codes.SystemErr)
-refused_is funcs.ChAuthTok code (v ∷ vs) = and_false (same_code code codes.SystemErr)
+-- visits aside, a change of token was refused
+pub refused_by : (func : Func) (code : Code) (vs : List retell.Seen) → is_refused_change func code vs ≡ (is_refused_change func code [] && is_none vs)
+refused_by funcs.Authenticate code vs = refl
+refused_by funcs.SetCred code vs = refl
+refused_by funcs.AcctMgmt code vs = refl
+refused_by funcs.OpenSession code vs = refl
+refused_by funcs.CloseSession code vs = refl
+refused_by funcs.ChAuthTok code [] = no_more (same_code code codes.SystemErr)
+refused_by funcs.ChAuthTok code (v ∷ vs) = nothing_more (same_code code codes.SystemErr)
 
 module _ (stacks : Stacks) where
   pub call_refused : (func : Func) (code : Code) (vs : List retell.Seen) (h : Held) → is_refused_change func code vs ≡ true → at_call stacks func code vs h ≡ Some (running h)
@@ -189,12 +190,12 @@ retold_line told r w is at =
     ∙ sym (lines_are (length (visits_told (told_in told)) - length w.state.left) told)
 
 pub only_true : (b : Bool) (p : Place) (x : Option Place) → x ≡ only_if b p → b ≡ true → x ≡ Some p
-only_true true p x is yes = is
-only_true false p x is yes = absurd (cc)
+only_true true p x is holds = is
+only_true false p x is holds = absurd (cc)
 
 pub only_false : (b : Bool) (p : Place) (x : Option Place) → x ≡ only_if b p → b ≡ false → x ≡ None
-only_false true p x is yes = absurd (cc)
-only_false false p x is yes = is
+only_false true p x is holds = absurd (cc)
+only_false false p x is holds = is
 
 -- ---- results that are no code of a stack call
 

@@ -1,4 +1,4 @@
-ghost use Rattle.std.specs.Prelude.{◌≡◌, ◌-◌, ◌&&◌, not, nat_eq, IfOk, Some, length};
+ghost use Rattle.std.specs.Prelude.{◌≡◌, ◌-◌, ◌&&◌, [], not, nat_eq, IfOk, Some, length};
 ghost use Rattle.service_load.specs.Load.{AreBounded};
 ghost use Rattle.stack_walk.specs.Retell.{telling};
 ghost use Rattle.dispatch_core.specs.Calls.{goes};
@@ -108,7 +108,16 @@ fn judge_call(
 fn is_refused_change(func: Func, code: Code, told: &[Option<Seen>]) -> bool
     ensures { result ≡ is_refused_change func code (visits_told (told_in told.now)) }
 {
-    func == Func::ChAuthTok && code == Code::SystemErr && first_visit(told) == told.len()
+    if first_visit(told) < told.len() {
+        return false;
+    }
+    is_change_fault(func, code)
+}
+
+fn is_change_fault(func: Func, code: Code) -> bool
+    ensures { result ≡ is_refused_change func code [] }
+{
+    func == Func::ChAuthTok && code == Code::SystemErr
 }
 
 fn judge_retold(
