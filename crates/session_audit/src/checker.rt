@@ -51,8 +51,7 @@ impl Checker {
     }
 
     /// Takes the next line, which is handed in without its newline. The number of the line that differs is given, if
-    /// one
-    /// does.
+    /// one does.
     pub fn take_line(
         &mut self,
         alloc: Global,
