@@ -3,10 +3,12 @@
 #![tactic(auto)]
 
 mod accounts;
+mod arguments;
 mod content;
 pub mod laws;
 mod speech;
 
 pub use accounts::{Account, Accounts, read_shells};
+pub use arguments::has_argument;
 pub use content::{Content, is_rooted, read_content, read_named, replace_named};
 pub use speech::{has_user, show, user_of};

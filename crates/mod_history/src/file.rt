@@ -45,7 +45,8 @@ pub(crate) fn store_text(
     ensures tells { vault_tells vault.new ≡ vault_tells vault.old }
     ensures told { IsTrue (vault_tells vault.old) → (room : PlainRoom) (clock : ClockState) →
         IfOk result (λ code. Came code (stores_text text.now)
-        (scene_of room (vault_holds vault.old) clock (plain_process process.now)) (scene_of room (vault_holds vault.new) clock (plain_process process.now))) }
+        (scene_of room (vault_holds vault.old) clock (plain_process process.now))
+        (scene_of room (vault_holds vault.new) clock (plain_process process.now))) }
 {
     if text.len() > HISTORY_LIMIT as usize {
         return Ok(Code::AuthtokErr);

@@ -81,7 +81,8 @@ fn at_once(call: &Call) -> Option<Code>
 
 // The answer, which is CONV_ERR where the conversation gave no reply.
 fn ended(answer: Result<Code, Refuse<ConvErr>>) -> Result<Code, NoMemory>
-    ensures told { (step : (Code → Act) → Act) (old new : Scene) → Comes answer step old new → IfOk result (λ code. Goes (step answers) old code new) }
+    ensures told { (step : (Code → Act) → Act) (old new : Scene) → Comes answer step old new →
+        IfOk result (λ code. Goes (step answers) old code new) }
 {
     laws::acting();
     match answer {

@@ -8,8 +8,7 @@ ghost use Rattle.module_acts.specs.Comes.{Came, Leads, lent};
 ghost use Rattle.module_acts.specs.Talks.{Talks};
 ghost use Rattle.mod_history.specs.Pwhistory.{has_hash, is_enforced, is_refused, refuses_token, unsets_item, was_used};
 
-use crate::arguments::has_argument;
-use account_files::{laws, show};
+use account_files::{has_argument, laws, show};
 use conv_port::Conv;
 use item_store::Items;
 use pam_base::{Code, ItemName, NoMemory, Refuse, Style, Text};
@@ -27,7 +26,8 @@ pub(crate) fn is_refused(
     hashes: &[Text],
 ) -> Result<bool, NoMemory>
     requires { length token.now ≤ 512 }
-    ensures { IfOk result (λ refused. refused ≡ is_refused call.now.args.now caller token.now hash.now hashes.now) }
+    ensures { IfOk result (λ refused. refused ≡ is_refused call.now.args.now caller token.now
+        hash.now hashes.now) }
 {
     if !is_enforced(call, caller) {
         return Ok(false);
@@ -80,9 +80,11 @@ pub(crate) fn refuse_token(
     conv: &mut dyn Conv,
 ) -> Result<(), NoMemory>
     ensures tells { conv_tells conv.new ≡ conv_tells conv.old }
-    ensures told { IsTrue (conv_tells conv.old) → (vault : VaultState) (clock : ClockState) (process : PlainProcess) →
+    ensures told { IsTrue (conv_tells conv.old) →
+        (vault : VaultState) (clock : ClockState) (process : PlainProcess) →
         OnOk result (Came Code.AuthtokErr refuses_token
-        (lent transaction.old (conv_holds conv.old) vault clock process) (lent transaction.new (conv_holds conv.new) vault clock process)) }
+        (lent transaction.old (conv_holds conv.old) vault clock process)
+        (lent transaction.new (conv_holds conv.new) vault clock process)) }
     ensures talks { Talks transaction.old transaction.new }
 {
     laws::act_steps();
@@ -100,8 +102,10 @@ pub(crate) fn refuse_token(
 
 // Unsets AUTHTOK (`pam_set_item(3)`).
 fn unset_token(transaction: &mut Transaction)
-    ensures told { (conv : ConvState) (vault : VaultState) (clock : ClockState) (process : PlainProcess) →
-        Leads (unsets_item ItemName.AuthTok) (lent transaction.old conv vault clock process) (lent transaction.new conv vault clock process) }
+    ensures told { (conv : ConvState) (vault : VaultState) (clock : ClockState)
+        (process : PlainProcess) →
+        Leads (unsets_item ItemName.AuthTok) (lent transaction.old conv vault clock process)
+        (lent transaction.new conv vault clock process) }
     ensures talks { Talks transaction.old transaction.new }
 {
     unset(&mut transaction.items);

@@ -85,10 +85,13 @@ fn check_terminal(
 ) -> Result<Code, NoMemory>
     ensures conv_tells { conv_tells conv.new ≡ conv_tells conv.old }
     ensures vault_tells { vault_tells vault.new ≡ vault_tells vault.old }
-    ensures told { IsTrue (conv_tells conv.old) → IsTrue (vault_tells vault.old) → (clock : ClockState) →
+    ensures told { IsTrue (conv_tells conv.old) → IsTrue (vault_tells vault.old) →
+        (clock : ClockState) →
         IfOk result (λ code. Acts checks_terminal nothing_known
-        (standing transaction.old (conv_holds conv.old) (vault_holds vault.old) clock process.now) code
-        (standing transaction.new (conv_holds conv.new) (vault_holds vault.new) clock process.now)) }
+        (standing transaction.old (conv_holds conv.old) (vault_holds vault.old) clock process.now)
+        code
+        (standing transaction.new (conv_holds conv.new) (vault_holds vault.new) clock
+        process.now)) }
     ensures speaks { Speaks transaction.old transaction.new }
 {
     laws::act_steps();
@@ -117,7 +120,8 @@ fn check_root(
     vault: &mut dyn Vault,
 ) -> Result<Code, NoMemory>
     ensures tells { vault_tells vault.new ≡ vault_tells vault.old }
-    ensures told { IsTrue (vault_tells vault.old) → (conv : ConvState) (clock : ClockState) (known : Known) →
+    ensures told { IsTrue (vault_tells vault.old) →
+        (conv : ConvState) (clock : ClockState) (known : Known) →
         IfOk result (λ code. Acts checks_root known
         (standing transaction.now conv (vault_holds vault.old) clock process.now) code
         (standing transaction.now conv (vault_holds vault.new) clock process.now)) }

@@ -7,9 +7,8 @@ ghost use Rattle.account_files.specs.Act.{Acts, standing};
 ghost use Rattle.account_files.specs.Speaks.{Speaks};
 ghost use Rattle.mod_history.specs.Wheel.{at_once, by_group, by_membership, checks_wheel, code_by_groups, code_by_passwds, entry_of_uid, group_of_gid, is_passed_over, trusted, wheel_group, wheel_plays};
 
-use crate::arguments::has_argument;
 use account_db::{Group, Groups, Passwd, Passwds, entry_of, group_of, is_member};
-use account_files::{Accounts, has_user, laws, user_of};
+use account_files::{Accounts, has_argument, has_user, laws, user_of};
 use conv_port::Conv;
 use data_cleanup::{Datum, Receipt};
 use pam_base::{Code, Func, NoMemory, Texts};
@@ -85,10 +84,13 @@ fn check_wheel(
 ) -> Result<Code, NoMemory>
     ensures conv_tells { conv_tells conv.new ≡ conv_tells conv.old }
     ensures vault_tells { vault_tells vault.new ≡ vault_tells vault.old }
-    ensures told { IsTrue (conv_tells conv.old) → IsTrue (vault_tells vault.old) → (clock : ClockState) →
+    ensures told { IsTrue (conv_tells conv.old) → IsTrue (vault_tells vault.old) →
+        (clock : ClockState) →
         IfOk result (λ code. Acts (checks_wheel call.now.args.now process.now.caller) nothing_known
-        (standing transaction.old (conv_holds conv.old) (vault_holds vault.old) clock process.now) code
-        (standing transaction.new (conv_holds conv.new) (vault_holds vault.new) clock process.now)) }
+        (standing transaction.old (conv_holds conv.old) (vault_holds vault.old) clock process.now)
+        code
+        (standing transaction.new (conv_holds conv.new) (vault_holds vault.new) clock
+        process.now)) }
     ensures speaks { Speaks transaction.old transaction.new }
 {
     laws::act_steps();
@@ -109,7 +111,8 @@ fn check_wheel(
 
 // The answer by the password file, where that decides it.
 fn code_by_passwds(call: &Call, caller: u32, user: &[u8], passwds: Option<&Passwds>) -> Option<Code>
-    ensures { result ≡ code_by_passwds call.now.args.now caller user.now (option_copied passwds.entry) }
+    ensures { result ≡ code_by_passwds call.now.args.now caller user.now
+        (option_copied passwds.entry) }
 {
     let Some(entries) = passwds else {
         return Some(Code::ServiceErr);
@@ -145,7 +148,8 @@ fn code_by_groups(
     passwds: Option<&Passwds>,
     groups: Option<&Groups>,
 ) -> Code
-    ensures { result ≡ code_by_groups call.now.args.now caller (option_copied passwds.entry) (option_copied groups.entry) }
+    ensures { result ≡ code_by_groups call.now.args.now caller (option_copied passwds.entry)
+        (option_copied groups.entry) }
 {
     let Some(groups) = groups else {
         return Code::ServiceErr;

@@ -98,7 +98,8 @@ pub data PlainCondition : Type 0 where
   grouped : Bool → List (List ℕ) → PlainCondition
 
 abbrev pub group_sense : List ℕ → Option Bool
-group_sense word = if bytes_eq word (codes "ingroup") then Some true else if bytes_eq word (codes "notingroup") then Some false else None
+group_sense word = if bytes_eq word (codes "ingroup") then Some true
+    else if bytes_eq word (codes "notingroup") then Some false else None
 
 abbrev pub with_test : Option Field → Option PlainTest → Option PlainCondition
 with_test (Some field) (Some test) = Some (on field test)
@@ -106,7 +107,8 @@ with_test (Some field) None = None
 with_test None test = None
 
 abbrev pub by_sense : Option Bool → List ℕ → List ℕ → List ℕ → Option PlainCondition
-by_sense (Some sense) field word value = if bytes_eq field (codes "user") then Some (grouped sense (items_of value)) else None
+by_sense (Some sense) field word value =
+    if bytes_eq field (codes "user") then Some (grouped sense (items_of value)) else None
 by_sense None field word value = with_test (field_of field) (test_of word value)
 
 -- the condition of three words, if it is one; a test of groups is one of the field `user` alone

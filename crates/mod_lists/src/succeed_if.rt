@@ -19,6 +19,7 @@ ghost use Rattle.mod_lists.specs.SucceedIf.{at_once, by_groups, by_passwds, by_t
 use crate::condition::{
     AccountField, Condition, Field, ItemField, Test, Truth, condition_of, in_sense,
 };
+use crate::found::found_entry;
 use account_db::{Groups, Passwd, is_in_group};
 use account_files::{Account, Accounts, has_user, laws, user_of};
 use conv_port::Conv;
@@ -95,10 +96,13 @@ fn check_conditions(
 ) -> Result<Code, NoMemory>
     ensures conv_tells { conv_tells conv.new ≡ conv_tells conv.old }
     ensures vault_tells { vault_tells vault.new ≡ vault_tells vault.old }
-    ensures told { IsTrue (conv_tells conv.old) → IsTrue (vault_tells vault.old) → (clock : ClockState) →
+    ensures told { IsTrue (conv_tells conv.old) → IsTrue (vault_tells vault.old) →
+        (clock : ClockState) →
         IfOk result (λ code. Acts (checks_conditions args.now) nothing_known
-        (standing transaction.old (conv_holds conv.old) (vault_holds vault.old) clock process.now) code
-        (standing transaction.new (conv_holds conv.new) (vault_holds vault.new) clock process.now)) }
+        (standing transaction.old (conv_holds conv.old) (vault_holds vault.old) clock process.now)
+        code
+        (standing transaction.new (conv_holds conv.new) (vault_holds vault.new) clock
+        process.now)) }
     ensures speaks { Speaks transaction.old transaction.new }
 {
     laws::act_steps();
@@ -158,7 +162,8 @@ fn meet_all(
     requires { transaction.now.items.user ≢ None }
     ensures tells { vault_tells vault.new ≡ vault_tells vault.old }
     ensures told { IsTrue (vault_tells vault.old) → (conv : ConvState) (clock : ClockState) →
-        IfOk result (λ code. Acts (meets_all conditions.now (unwrap_or transaction.now.items.user [])) nothing_known
+        IfOk result (λ code. Acts (meets_all conditions.now (unwrap_or transaction.now.items.user
+        [])) nothing_known
         (standing transaction.now conv (vault_holds vault.old) clock process.now) code
         (standing transaction.now conv (vault_holds vault.new) clock process.now)) }
 {
@@ -199,9 +204,13 @@ fn try_words(
 ) -> Result<Truth, NoMemory>
     requires { transaction.now.items.user ≢ None }
     ensures tells { vault_tells vault.new ≡ vault_tells vault.old }
-    ensures told { IsTrue (vault_tells vault.old) → (conv : ConvState) (clock : ClockState) (act : Truth → Act) (code : Code) (end : Scene) →
-        IfOk result (λ truth. Acts (act truth) accounts.new (standing transaction.now conv (vault_holds vault.new) clock process.now) code end →
-        Acts (tries_words (option_map plain_condition condition.entry) (unwrap_or transaction.now.items.user []) act) accounts.old (standing transaction.now conv (vault_holds vault.old) clock process.now) code end) }
+    ensures told { IsTrue (vault_tells vault.old) →
+        (conv : ConvState) (clock : ClockState) (act : Truth → Act) (code : Code) (end : Scene) →
+        IfOk result (λ truth. Acts (act truth) accounts.new (standing transaction.now conv
+        (vault_holds vault.new) clock process.now) code end →
+        Acts (tries_words (option_map plain_condition condition.entry)
+        (unwrap_or transaction.now.items.user []) act) accounts.old (standing transaction.now conv
+        (vault_holds vault.old) clock process.now) code end) }
 {
     laws::act_steps();
     let condition = match condition {
@@ -259,11 +268,14 @@ fn try_account(
 ) -> Result<Truth, NoMemory>
     ensures tells { vault_tells vault.new ≡ vault_tells vault.old }
     ensures told { IsTrue (vault_tells vault.old) →
-        IfOk result (λ truth. LooksTo (tests_field (Field.Account field) (plain_test test.entry) user.now) truth process.now accounts.old (vault_holds vault.old) accounts.new (vault_holds vault.new)) }
+        IfOk result (λ truth. LooksTo (tests_field (Field.Account field) (plain_test test.entry)
+        user.now) truth process.now accounts.old (vault_holds vault.old) accounts.new
+        (vault_holds vault.new)) }
 {
     laws::act_steps();
     accounts.read_passwds(alloc, vault, process.root.bytes())?;
-    let truth = on_account(alloc, field, test, accounts.account(user))?;
+    let account = accounts.account(alloc, user)?;
+    let truth = on_account(alloc, field, test, account)?;
     Ok(truth)
 }
 
@@ -273,10 +285,11 @@ fn on_account(
     test: Test,
     account: Account,
 ) -> Result<Truth, NoMemory>
-    ensures { IfOk result (λ truth. truth ≡ on_account (plain_test test.entry) field (plain_account account.entry)) }
+    ensures { IfOk result (λ truth. truth ≡ on_account (plain_test test.entry) field
+        (plain_account account)) }
 {
     match account {
-        Account::Found(entry) => on_entry(alloc, field, test, entry),
+        Account::Found(entry) => on_entry(alloc, field, test, &entry),
         Account::Missing => Ok(Truth::NoUser),
         Account::Unreadable => Ok(Truth::Faulty),
     }
@@ -310,7 +323,9 @@ fn try_groups(
 ) -> Result<Truth, NoMemory>
     ensures tells { vault_tells vault.new ≡ vault_tells vault.old }
     ensures told { IsTrue (vault_tells vault.old) →
-        IfOk result (λ truth. LooksTo (λ act. reads_passwds (by_passwds sense (items_of names.now) user.now act)) truth process.now accounts.old (vault_holds vault.old) accounts.new (vault_holds vault.new)) }
+        IfOk result (λ truth. LooksTo (λ act. reads_passwds (by_passwds sense (items_of names.now)
+        user.now act)) truth process.now accounts.old (vault_holds vault.old) accounts.new
+        (vault_holds vault.new)) }
 {
     laws::act_steps();
     accounts.read_passwds(alloc, vault, process.root.bytes())?;
@@ -319,24 +334,28 @@ fn try_groups(
         Some(_) => {}
     }
     accounts.read_groups(alloc, vault, process.root.bytes())?;
-    Ok(by_groups(sense, names, user, accounts))
+    let truth = by_groups(alloc, sense, names, user, accounts)?;
+    Ok(truth)
 }
 
 // Whether the user is in one of the groups, by files that were read.
-fn by_groups(sense: bool, names: &[u8], user: &[u8], accounts: &Accounts) -> Truth
+fn by_groups(
+    alloc: Global,
+    sense: bool,
+    names: &[u8],
+    user: &[u8],
+    accounts: &Accounts,
+) -> Result<Truth, NoMemory>
     requires passwds { accounts.now.passwds ≢ None }
     requires groups { accounts.now.groups ≢ None }
-    ensures { result ≡ by_groups sense (items_of names.now) user.now (entry_known user.now (known_passwds accounts.now)) (known_groups accounts.now) }
+    ensures { IfOk result (λ truth. truth ≡ by_groups sense (items_of names.now) user.now
+        (entry_known user.now (known_passwds accounts.now)) (known_groups accounts.now)) }
 {
-    let entry = match accounts.account(user) {
-        Account::Found(entry) => Some(entry),
-        Account::Missing => None,
-        Account::Unreadable => None,
-    };
+    let entry = found_entry(alloc, user, accounts)?;
     match (accounts.groups(), entry) {
-        (Some(groups), Some(entry)) => in_sense(sense, is_in_any(names, user, entry, groups)),
-        (Some(_), None) => Truth::NoUser,
-        (None, _) => Truth::Faulty,
+        (Some(groups), Some(entry)) => Ok(in_sense(sense, is_in_any(names, user, &entry, groups))),
+        (Some(_), None) => Ok(Truth::NoUser),
+        (None, _) => Ok(Truth::Faulty),
     }
 }
 

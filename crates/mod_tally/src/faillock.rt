@@ -111,10 +111,13 @@ fn check_tally(
 ) -> Result<Code, NoMemory>
     ensures conv_tells { conv_tells conv.new ≡ conv_tells conv.old }
     ensures vault_tells { vault_tells vault.new ≡ vault_tells vault.old }
-    ensures told { IsTrue (conv_tells conv.old) → IsTrue (vault_tells vault.old) → IsTrue (clock_tells clock.now) →
+    ensures told { IsTrue (conv_tells conv.old) → IsTrue (vault_tells vault.old) →
+        IsTrue (clock_tells clock.now) →
         IfOk result (λ code. Acts (checks_tally task (plain_settings settings.now)) nothing_known
-        (standing transaction.old (conv_holds conv.old) (vault_holds vault.old) (clock_holds clock.now) process.now) code
-        (standing transaction.new (conv_holds conv.new) (vault_holds vault.new) (clock_holds clock.now) process.now)) }
+        (standing transaction.old (conv_holds conv.old) (vault_holds vault.old)
+        (clock_holds clock.now) process.now) code
+        (standing transaction.new (conv_holds conv.new) (vault_holds vault.new)
+        (clock_holds clock.now) process.now)) }
     ensures speaks { Speaks transaction.old transaction.new }
 {
     laws::act_steps();
@@ -138,12 +141,15 @@ fn check_user(
 ) -> Result<Code, NoMemory>
     requires { transaction.now.items.user ≢ None }
     ensures tells { vault_tells vault.new ≡ vault_tells vault.old }
-    ensures told { IsTrue (vault_tells vault.old) → IsTrue (clock_tells clock.now) → (conv : ConvState) →
+    ensures told { IsTrue (vault_tells vault.old) → IsTrue (clock_tells clock.now) →
+        (conv : ConvState) →
         IfOk result (λ code.
         let user = unwrap_or transaction.now.items.user [] in
         Acts (by_name (is_no_file user) task (plain_settings settings.now) user) nothing_known
-        (standing transaction.now conv (vault_holds vault.old) (clock_holds clock.now) process.now) code
-        (standing transaction.now conv (vault_holds vault.new) (clock_holds clock.now) process.now)) }
+        (standing transaction.now conv (vault_holds vault.old) (clock_holds clock.now) process.now)
+        code
+        (standing transaction.now conv (vault_holds vault.new) (clock_holds clock.now)
+        process.now)) }
 {
     laws::act_steps();
     let user = user_of(transaction);
@@ -152,7 +158,8 @@ fn check_user(
     }
     let mut accounts = Accounts::new();
     accounts.read_passwds(alloc, vault, process.root.bytes())?;
-    match accounts.account(user) {
+    let account = accounts.account(alloc, user)?;
+    match account {
         Account::Unreadable => Ok(Code::ServiceErr),
         Account::Missing => Ok(Code::Ignore),
         Account::Found(entry) => {
@@ -202,10 +209,14 @@ fn by_spared(
     clock: &dyn Clock,
 ) -> Result<Code, NoMemory>
     ensures tells { vault_tells vault.new ≡ vault_tells vault.old }
-    ensures told { IsTrue (vault_tells vault.old) → IsTrue (clock_tells clock.now) → (conv : ConvState) (known : Known) →
-        IfOk result (λ code. Acts (by_spared spared task (plain_settings settings.now) user.now) known
-        (standing transaction.now conv (vault_holds vault.old) (clock_holds clock.now) process.now) code
-        (standing transaction.now conv (vault_holds vault.new) (clock_holds clock.now) process.now)) }
+    ensures told { IsTrue (vault_tells vault.old) → IsTrue (clock_tells clock.now) →
+        (conv : ConvState) (known : Known) →
+        IfOk result (λ code. Acts (by_spared spared task (plain_settings settings.now) user.now)
+        known
+        (standing transaction.now conv (vault_holds vault.old) (clock_holds clock.now) process.now)
+        code
+        (standing transaction.now conv (vault_holds vault.new) (clock_holds clock.now)
+        process.now)) }
 {
     laws::act_steps();
     if spared {
@@ -244,10 +255,14 @@ fn by_task(
     clock: &dyn Clock,
 ) -> Result<Code, NoMemory>
     ensures tells { vault_tells vault.new ≡ vault_tells vault.old }
-    ensures told { IsTrue (vault_tells vault.old) → IsTrue (clock_tells clock.now) → (conv : ConvState) (known : Known) →
-        IfOk result (λ code. Acts (by_task task (plain_settings settings.now) name.now failures) known
-        (standing transaction.now conv (vault_holds vault.old) (clock_holds clock.now) process.now) code
-        (standing transaction.now conv (vault_holds vault.new) (clock_holds clock.now) process.now)) }
+    ensures told { IsTrue (vault_tells vault.old) → IsTrue (clock_tells clock.now) →
+        (conv : ConvState) (known : Known) →
+        IfOk result (λ code. Acts (by_task task (plain_settings settings.now) name.now failures)
+        known
+        (standing transaction.now conv (vault_holds vault.old) (clock_holds clock.now) process.now)
+        code
+        (standing transaction.now conv (vault_holds vault.new) (clock_holds clock.now)
+        process.now)) }
 {
     laws::act_steps();
     let moment = current_moment(clock);
@@ -304,7 +319,8 @@ fn clear(
     vault: &mut dyn Vault,
 ) -> Result<Code, NoMemory>
     ensures tells { vault_tells vault.new ≡ vault_tells vault.old }
-    ensures told { IsTrue (vault_tells vault.old) → (room : PlainRoom) (clock : ClockState) (known : Known) →
+    ensures told { IsTrue (vault_tells vault.old) →
+        (room : PlainRoom) (clock : ClockState) (known : Known) →
         IfOk result (λ code. Acts (clears name.now failures.now) known
         (scene_of room (vault_holds vault.old) clock (plain_process process.now)) code
         (scene_of room (vault_holds vault.new) clock (plain_process process.now))) }
@@ -332,9 +348,11 @@ fn record_failure(
     vault: &mut dyn Vault,
 ) -> Result<Code, NoMemory>
     ensures tells { vault_tells vault.new ≡ vault_tells vault.old }
-    ensures told { IsTrue (vault_tells vault.old) → (room : PlainRoom) (clock : ClockState) (known : Known) →
+    ensures told { IsTrue (vault_tells vault.old) →
+        (room : PlainRoom) (clock : ClockState) (known : Known) →
         IfOk result (λ code.
-        Acts (writes_tally name.now (counting interval (failures ++ new_failure moment transaction.now.items ∷ [])) Code.Ignore) known
+        Acts (writes_tally name.now (counting interval (failures ++ new_failure moment
+        transaction.now.items ∷ [])) Code.Ignore) known
         (scene_of room (vault_holds vault.old) clock (plain_process process.now)) code
         (scene_of room (vault_holds vault.new) clock (plain_process process.now))) }
 {
@@ -351,7 +369,8 @@ fn text_with(
     failures: Failures,
     failure: Failure,
 ) -> Result<Text, NoMemory>
-    ensures { IfOk result (λ text. text ≡ tally_text (counting interval (failures ++ failure ∷ []))) }
+    ensures { IfOk result (λ text. text ≡ tally_text
+        (counting interval (failures ++ failure ∷ []))) }
 {
     let mut all = failures;
     all.push(failure)?;
@@ -383,7 +402,8 @@ struct Origin<'a> {
 }
 
 fn origin_of<'a>(host: &'a [u8], terminal: &'a [u8], service: &'a [u8]) -> Origin<'a>
-    ensures { (moment : ℕ) → from_host moment host.now terminal.now service.now ≡ from result.kind moment result.source.now }
+    ensures { (moment : ℕ) → from_host moment host.now terminal.now service.now
+        ≡ from result.kind moment result.source.now }
 {
     if !host.is_empty() {
         Origin {

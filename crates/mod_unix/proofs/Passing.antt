@@ -14,7 +14,7 @@ use Rattle.module_acts.specs.Steps.{requests_delay}
 use Rattle.mod_unix.specs.declared.authenticate.Answer.{Answer}
 use Rattle.mod_unix.specs.declared.authenticate.Answer.TheVariants.{Kept, Unkept}
 use Rattle.mod_unix.specs.declared.look.Look.{Look}
-use Rattle.mod_unix.specs.Arguments.{has_argument}
+use Rattle.account_files.specs.Arguments.{has_argument}
 use Rattle.mod_unix.specs.Authenticate.{asks_password, by_look, by_open, by_pass, delays, is_open, is_success, try_first, unless_success, verifies_token, with_first}
 use Rattle.mod_unix.specs.Verify.{verified}
 

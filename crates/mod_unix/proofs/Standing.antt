@@ -37,7 +37,8 @@ use Rattle.mod_unix.specs.declared.look.Field.TheVariants as field
 use Rattle.mod_unix.specs.declared.look.Look.{Look}
 use Rattle.mod_unix.specs.declared.look.Look.TheVariants.{Unknown, Unavailable, Plain, Shadowed}
 use Rattle.mod_unix.specs.Aging.{aged, day_of}
-use Rattle.mod_unix.specs.Arguments.{change_expired_authtok, has_argument}
+use Rattle.account_files.specs.Arguments.{has_argument}
+use Rattle.mod_unix.specs.Arguments.{change_expired_authtok}
 use Rattle.mod_unix.specs.Change.{by_authtok, by_done, by_kept, by_pass, by_text, by_token, change_by, changed_by, changed_shadow, changes_entry, changes_shadow, changes_token, is_kept, new_prompts, same_reply, sets_new, stores_token, takes_token, usable}
 use Rattle.mod_unix.specs.Look.{by_field, by_x, field_in, is_x, looks, shadow_among, shadow_in, shadowed}
 use Rattle.mod_unix.specs.NewHash.{hashed_token, made_hash, new_setting}

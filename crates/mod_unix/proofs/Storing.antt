@@ -20,7 +20,7 @@ use Rattle.module_acts.specs.Steps.{exchanges, sees_clock, sets_item}
 use Rattle.mod_unix.specs.declared.look.Look.{Look}
 use Rattle.mod_unix.specs.declared.look.Look.TheVariants.{Unknown, Unavailable, Plain, Shadowed}
 use Rattle.mod_unix.specs.Aging.{day_of}
-use Rattle.mod_unix.specs.Arguments.{has_argument}
+use Rattle.account_files.specs.Arguments.{has_argument}
 use Rattle.mod_unix.specs.NewHash.{hashed_token}
 use Rattle.mod_unix.specs.Change.{change_by, by_authtok, by_done, by_kept, by_pass, by_text, changed_shadow, changes_entry, changes_shadow, is_kept, new_prompts, same_reply, sets_new, stores_token, takes_token, tries_change, usable}
 

@@ -27,10 +27,13 @@ pub(crate) fn check_account(
 ) -> Result<Code, Refuse<ConvErr>>
     ensures conv_tells { conv_tells conv.new ≡ conv_tells conv.old }
     ensures vault_tells { vault_tells vault.new ≡ vault_tells vault.old }
-    ensures told { IsTrue (conv_tells conv.old) → IsTrue (vault_tells vault.old) → IsTrue (clock_tells clock.now) →
+    ensures told { IsTrue (conv_tells conv.old) → IsTrue (vault_tells vault.old) →
+        IsTrue (clock_tells clock.now) →
         Comes result checks_account
-        (lent transaction.old (conv_holds conv.old) (vault_holds vault.old) (clock_holds clock.now) (plain_process process.now))
-        (lent transaction.new (conv_holds conv.new) (vault_holds vault.new) (clock_holds clock.now) (plain_process process.now)) }
+        (lent transaction.old (conv_holds conv.old) (vault_holds vault.old) (clock_holds clock.now)
+        (plain_process process.now))
+        (lent transaction.new (conv_holds conv.new) (vault_holds vault.new) (clock_holds clock.now)
+        (plain_process process.now)) }
     ensures talks { Talks transaction.old transaction.new }
 {
     require_user(alloc, transaction, conv)?;
@@ -41,8 +44,10 @@ pub(crate) fn check_account(
 
 // By what is known of the user's password.
 fn account_by(look: &Look, clock: &dyn Clock) -> Code
-    ensures told { IsTrue (clock_tells clock.now) → (room : PlainRoom) (vault : VaultState) (process : PlainProcess) →
-        Came result (account_by look.now) (scene_of room vault (clock_holds clock.now) process) (scene_of room vault (clock_holds clock.now) process) }
+    ensures told { IsTrue (clock_tells clock.now) →
+        (room : PlainRoom) (vault : VaultState) (process : PlainProcess) →
+        Came result (account_by look.now) (scene_of room vault (clock_holds clock.now) process)
+        (scene_of room vault (clock_holds clock.now) process) }
 {
     laws::acting();
     match look {

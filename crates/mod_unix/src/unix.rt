@@ -103,10 +103,13 @@ fn settle(
     answer: Result<Answer, Refuse<ConvErr>>,
 ) -> Result<Code, NoMemory>
     requires { transaction.old.datums.handle ≡ transaction.old.handle }
-    ensures told { (step : (Answer → Act) → Act) (s : Scene) (conv : ConvState) (vault : VaultState) (clock : ClockState) →
+    ensures told { (step : (Answer → Act) → Act) (s : Scene) (conv : ConvState) (vault : VaultState)
+        (clock : ClockState) →
         Comes answer step s (lent transaction.old conv vault clock (plain_process process.old)) →
-        IfOk result (λ code. Goes (step settles) s code (lent transaction.new conv vault clock (plain_process process.new))) }
-    ensures sets { Sets transaction.old.serving transaction.old.datums process.old.ledger transaction.new.datums process.new.ledger }
+        IfOk result (λ code. Goes (step settles) s code (lent transaction.new conv vault clock
+        (plain_process process.new))) }
+    ensures sets { Sets transaction.old.serving transaction.old.datums process.old.ledger
+        transaction.new.datums process.new.ledger }
     ensures data_handle { transaction.new.datums.handle ≡ transaction.old.datums.handle }
     ensures others { transaction.new ≡ record transaction.old { datums = transaction.new.datums } }
     ensures process { process.new ≡ record process.old { ledger = process.new.ledger } }
@@ -130,7 +133,8 @@ fn settle(
 
 // The answer, which is CONV_ERR where the conversation gave no reply.
 fn ended(answer: Result<Code, Refuse<ConvErr>>) -> Result<Code, NoMemory>
-    ensures told { (step : (Code → Act) → Act) (old new : Scene) → Comes answer step old new → IfOk result (λ code. Goes (step answers) old code new) }
+    ensures told { (step : (Code → Act) → Act) (old new : Scene) → Comes answer step old new →
+        IfOk result (λ code. Goes (step answers) old code new) }
 {
     laws::acting();
     match answer {

@@ -24,7 +24,8 @@ pub fn read_whole(
     ensures tells { vault_tells vault.new ≡ vault_tells vault.old }
     ensures told { IsTrue (vault_tells vault.old) → (room : PlainRoom) (clock : ClockState) →
         IfOk result (λ content. Came content (reads_file name.now limit)
-        (scene_of room (vault_holds vault.old) clock (plain_process process.now)) (scene_of room (vault_holds vault.new) clock (plain_process process.now))) }
+        (scene_of room (vault_holds vault.old) clock (plain_process process.now))
+        (scene_of room (vault_holds vault.new) clock (plain_process process.now))) }
 {
     laws::act_steps();
     let content = read_named(alloc, vault, process.root.bytes(), name, limit)?;
@@ -43,7 +44,8 @@ pub fn replace_whole(
     ensures tells { vault_tells vault.new ≡ vault_tells vault.old }
     ensures told { IsTrue (vault_tells vault.old) → (room : PlainRoom) (clock : ClockState) →
         IfOk result (λ done. Came done (replaces_file name.now bytes.now)
-        (scene_of room (vault_holds vault.old) clock (plain_process process.now)) (scene_of room (vault_holds vault.new) clock (plain_process process.now))) }
+        (scene_of room (vault_holds vault.old) clock (plain_process process.now))
+        (scene_of room (vault_holds vault.new) clock (plain_process process.now))) }
 {
     let done = replace_named(alloc, vault, process, name, bytes)?;
     Ok(done)

@@ -19,19 +19,29 @@ ghost use Rattle.module_acts.specs.Talks.{Talks};
 /// Does nothing: its contract is the laws of the steps that make no call.
 pub fn acting()
     ensures answers { (code : Code) (s : Scene) → Goes (answers code) s code s }
-    ensures items { (act : ItemTexts → Act) (s : Scene) (code : Code) (new : Scene) → Goes (act s.room.transaction.items) s code new → Goes (sees_items act) s code new }
-    ensures data { (act : List NamedData → Act) (s : Scene) (code : Code) (new : Scene) → Goes (act (named_data s.room.transaction.datums.live)) s code new → Goes (sees_data act) s code new }
-    ensures clock { (act : ClockState → Act) (s : Scene) (code : Code) (new : Scene) → Goes (act s.clock) s code new → Goes (sees_clock act) s code new }
-    ensures caller { (act : ℕ → Act) (s : Scene) (code : Code) (new : Scene) → Goes (act s.process.caller) s code new → Goes (sees_caller act) s code new }
-    ensures playing { (act : PlainCall → Act) (call : PlainCall) (old new : Scene) (result : Result Code NoMemory) →
-        IfOk result (λ code. Goes (act call) old code new) → IfOk result (λ code. PlaysIn (plays_by act) call old code new) }
+    ensures items { (act : ItemTexts → Act) (s : Scene) (code : Code) (new : Scene) →
+        Goes (act s.room.transaction.items) s code new → Goes (sees_items act) s code new }
+    ensures data { (act : List NamedData → Act) (s : Scene) (code : Code) (new : Scene) →
+        Goes (act (named_data s.room.transaction.datums.live)) s code new →
+        Goes (sees_data act) s code new }
+    ensures clock { (act : ClockState → Act) (s : Scene) (code : Code) (new : Scene) →
+        Goes (act s.clock) s code new → Goes (sees_clock act) s code new }
+    ensures caller { (act : ℕ → Act) (s : Scene) (code : Code) (new : Scene) →
+        Goes (act s.process.caller) s code new → Goes (sees_caller act) s code new }
+    ensures playing { (act : PlainCall → Act) (call : PlainCall) (old new : Scene)
+        (result : Result Code NoMemory) →
+        IfOk result (λ code. Goes (act call) old code new) →
+        IfOk result (λ code. PlaysIn (plays_by act) call old code new) }
 {}
 
 /// Does nothing: its contract is what holds of a module that talks, in any world.
 pub fn talking()
     ensures none { (t : Transaction) → Talks t t }
     ensures again { (t u v : Transaction) → Talks t u → Talks u v → Talks t v }
-    ensures stays { (t u : Transaction) (process : PlainProcess) → Talks t u → Stays (plain_transaction t) (plain_transaction u) process process }
-    ensures others { (t u : Transaction) → Talks t u → (u.serving ≡ t.serving) × (u.trail ≡ t.trail) × (u.handle ≡ t.handle) × (u.datums ≡ t.datums) }
-    ensures sets { (t u : Transaction) (ledger : PlainLedger) → Talks t u → Sets t.serving t.datums ledger u.datums ledger }
+    ensures stays { (t u : Transaction) (process : PlainProcess) → Talks t u →
+        Stays (plain_transaction t) (plain_transaction u) process process }
+    ensures others { (t u : Transaction) → Talks t u → (u.serving ≡ t.serving) × (u.trail ≡ t.trail)
+        × (u.handle ≡ t.handle) × (u.datums ≡ t.datums) }
+    ensures sets { (t u : Transaction) (ledger : PlainLedger) → Talks t u →
+        Sets t.serving t.datums ledger u.datums ledger }
 {}
