@@ -10,16 +10,12 @@ use Rattle.pam_room.specs.Module.{Plays}
 use Rattle.account_db.specs.declared.passwd.Passwd.{Passwd}
 use Rattle.account_db.specs.declared.group.Group.{Group}
 use Rattle.account_db.specs.Members.{group_of, is_member}
-use Rattle.account_db.specs.Passwd.{entry_of}
+use Rattle.account_db.specs.Passwd.{entry_of, entry_of_uid}
 use Rattle.account_files.specs.Act.{Act, answers, asks_user, plays_by, reads_groups, reads_passwds, unless_answered}
 use Rattle.module_acts.specs.Steps.{sees_caller}
 use Rattle.account_files.specs.Arguments.{has_argument}
 
 -- ---- who is tested
-
--- the first entry with the caller's user id
-abbrev pub entry_of_uid : ℕ → List Passwd → Option Passwd
-entry_of_uid uid entries = find (λ (p : Passwd). p.uid == uid) entries
 
 abbrev pub unknown_if_none : Option Passwd → Option Code
 unknown_if_none None = Some UserUnknown

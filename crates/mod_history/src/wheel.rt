@@ -5,9 +5,9 @@ ghost use Rattle.pam_room.specs.Module.{length_note};
 ghost use Rattle.account_files.specs.Accounts.{nothing_known};
 ghost use Rattle.account_files.specs.Act.{Acts, standing};
 ghost use Rattle.account_files.specs.Speaks.{Speaks};
-ghost use Rattle.mod_history.specs.Wheel.{at_once, by_group, by_membership, checks_wheel, code_by_groups, code_by_passwds, entry_of_uid, group_of_gid, is_passed_over, trusted, wheel_group, wheel_plays};
+ghost use Rattle.mod_history.specs.Wheel.{at_once, by_group, by_membership, checks_wheel, code_by_groups, code_by_passwds, group_of_gid, is_passed_over, trusted, wheel_group, wheel_plays};
 
-use account_db::{Group, Groups, Passwd, Passwds, entry_of, group_of, is_member};
+use account_db::{Group, Groups, Passwd, PasswdFile, entry_of, entry_of_uid, group_of, is_member};
 use account_files::{Accounts, has_argument, has_user, laws, user_of};
 use conv_port::Conv;
 use data_cleanup::{Datum, Receipt};
@@ -100,30 +100,42 @@ fn check_wheel(
     let caller = process.caller;
     let mut accounts = Accounts::new();
     accounts.read_passwds(alloc, vault, process.root.bytes())?;
-    match code_by_passwds(call, caller, user_of(transaction), accounts.passwds()) {
+    let user = user_of(transaction);
+    match code_by_passwds(alloc, call, caller, user, accounts.passwds())? {
         Some(code) => Ok(code),
         None => {
             accounts.read_groups(alloc, vault, process.root.bytes())?;
-            Ok(code_by_groups(call, caller, accounts.passwds(), accounts.groups()))
+            let code = code_by_groups(alloc, call, caller, accounts.passwds(), accounts.groups())?;
+            Ok(code)
         }
     }
 }
 
 // The answer by the password file, where that decides it.
-fn code_by_passwds(call: &Call, caller: u32, user: &[u8], passwds: Option<&Passwds>) -> Option<Code>
-    ensures { result ≡ code_by_passwds call.now.args.now caller user.now
-        (option_copied passwds.entry) }
+fn code_by_passwds(
+    alloc: Global,
+    call: &Call,
+    caller: u32,
+    user: &[u8],
+    passwds: Option<&PasswdFile>,
+) -> Result<Option<Code>, NoMemory>
+    ensures { IfOk result (λ code. code ≡ code_by_passwds call.now.args.now caller user.now
+        (option_copied passwds.entry)) }
 {
     let Some(entries) = passwds else {
-        return Some(Code::ServiceErr);
+        return Ok(Some(Code::ServiceErr));
     };
-    match entry_of(user, entries) {
-        None => Some(Code::UserUnknown),
-        Some(entry) if is_passed_over(call.args, entry) => Some(Code::Ignore),
-        Some(_) => match entry_of_uid(caller, entries) {
-            None => Some(Code::UserUnknown),
-            Some(_) => None,
-        },
+    match entry_of(alloc, user, entries)? {
+        None => Ok(Some(Code::UserUnknown)),
+        Some(entry) => {
+            if is_passed_over(call.args, &entry) {
+                return Ok(Some(Code::Ignore));
+            }
+            match entry_of_uid(alloc, caller, entries)? {
+                None => Ok(Some(Code::UserUnknown)),
+                Some(_) => Ok(None),
+            }
+        }
     }
 }
 
@@ -134,37 +146,31 @@ fn is_passed_over(args: &Texts, entry: &Passwd) -> bool
     has_argument(b"root_only", args) && entry.uid != 0
 }
 
-// The first entry with this user id.
-fn entry_of_uid(uid: u32, entries: &Passwds) -> Option<&Passwd>
-    ensures { option_copied result ≡ entry_of_uid uid entries.now }
-{
-    entries.items().iter().find(|entry| entry.uid == uid)
-}
-
 // The answer by both files.
 fn code_by_groups(
+    alloc: Global,
     call: &Call,
     caller: u32,
-    passwds: Option<&Passwds>,
+    passwds: Option<&PasswdFile>,
     groups: Option<&Groups>,
-) -> Code
-    ensures { result ≡ code_by_groups call.now.args.now caller (option_copied passwds.entry)
-        (option_copied groups.entry) }
+) -> Result<Code, NoMemory>
+    ensures { IfOk result (λ code. code ≡ code_by_groups call.now.args.now caller
+        (option_copied passwds.entry) (option_copied groups.entry)) }
 {
     let Some(groups) = groups else {
-        return Code::ServiceErr;
+        return Ok(Code::ServiceErr);
     };
     let Some(entries) = passwds else {
-        return Code::ServiceErr;
+        return Ok(Code::ServiceErr);
     };
-    match entry_of_uid(caller, entries) {
-        None => Code::UserUnknown,
-        Some(entry) => by_group(
+    match entry_of_uid(alloc, caller, entries)? {
+        None => Ok(Code::UserUnknown),
+        Some(entry) => Ok(by_group(
             has_argument(b"deny", call.args),
             has_argument(b"trust", call.args),
-            entry,
+            &entry,
             wheel_group(call.value(b"group="), groups),
-        ),
+        )),
     }
 }
 

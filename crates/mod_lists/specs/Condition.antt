@@ -16,8 +16,8 @@ use Rattle.mod_lists.specs.declared.condition.Test.{Test}
 use Rattle.mod_lists.specs.declared.condition.Test.TheVariants as lent_test
 use Rattle.mod_lists.specs.declared.condition.Condition.{Condition}
 use Rattle.mod_lists.specs.declared.condition.Condition.TheVariants as lent
-use Rattle.mod_lists.specs.declared.condition.Truth.{Truth}
-use Rattle.mod_lists.specs.declared.condition.Truth.TheVariants.{Holds, Fails, NoUser, Faulty}
+use Rattle.mod_lists.specs.declared.truth.Truth.{Truth}
+use Rattle.mod_lists.specs.declared.truth.Truth.TheVariants.{Holds, Fails, NoUser, Faulty}
 
 -- ---- fields
 

@@ -21,8 +21,8 @@ use Rattle.mod_lists.specs.declared.condition.ItemField.{ItemField}
 use Rattle.mod_lists.specs.declared.condition.ItemField.TheVariants as item_fields
 use Rattle.mod_lists.specs.declared.condition.Field.{Field}
 use Rattle.mod_lists.specs.declared.condition.Field.TheVariants as fields
-use Rattle.mod_lists.specs.declared.condition.Truth.{Truth}
-use Rattle.mod_lists.specs.declared.condition.Truth.TheVariants.{Holds, Fails, NoUser, Faulty}
+use Rattle.mod_lists.specs.declared.truth.Truth.{Truth}
+use Rattle.mod_lists.specs.declared.truth.Truth.TheVariants.{Holds, Fails, NoUser, Faulty}
 use Rattle.mod_lists.specs.Condition.{PlainCondition, on, grouped, PlainTest, condition_of, in_sense, on_number, on_text}
 
 -- ---- one condition

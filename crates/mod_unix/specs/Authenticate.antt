@@ -11,7 +11,7 @@ use Rattle.mod_unix.specs.declared.authenticate.Answer.TheVariants.{Kept, Unkept
 use Rattle.mod_unix.specs.declared.look.Look.{Look}
 use Rattle.mod_unix.specs.declared.look.Look.TheVariants.{Unknown, Unavailable, Plain, Shadowed}
 use Rattle.account_files.specs.Arguments.{has_argument}
-use Rattle.mod_unix.specs.Arguments.{disallow_null_authtok}
+use Rattle.mod_unix.specs.Flags.{disallow_null_authtok}
 use Rattle.mod_unix.specs.Look.{looks}
 use Rattle.mod_unix.specs.Verify.{verified}
 

@@ -21,7 +21,7 @@ use Rattle.mod_unix.specs.declared.look.Look.{Look}
 use Rattle.mod_unix.specs.declared.look.Look.TheVariants.{Unknown, Unavailable, Plain, Shadowed}
 use Rattle.mod_unix.specs.Aging.{aged, day_of}
 use Rattle.account_files.specs.Arguments.{has_argument}
-use Rattle.mod_unix.specs.Arguments.{change_expired_authtok}
+use Rattle.mod_unix.specs.Flags.{change_expired_authtok}
 use Rattle.mod_unix.specs.Authenticate.{is_empty}
 use Rattle.mod_unix.specs.Look.{looks, shadow_in}
 use Rattle.mod_unix.specs.NewHash.{hashed_token}

@@ -7,7 +7,7 @@ use Rattle.pam_room.specs.Module.{Played, SeenRoom, Sight}
 use Rattle.account_db.specs.declared.shadow.Shadow.{Shadow}
 use Rattle.account_db.specs.Shadow.{shadow_of, shadows_of}
 use Rattle.pam_outside.specs.Paths.{path_of}
-use Rattle.mod_unix.specs.Arguments.{change_expired_authtok}
+use Rattle.mod_unix.specs.Flags.{change_expired_authtok}
 use Rattle.mod_unix.specs.Verify.{hash_verified}
 
 -- the path of shadow
