@@ -11,8 +11,8 @@ use Rattle.account_db.specs.Shadow.{shadows_of}
 
 -- a line with this hash and this day of the last change: its second and its third field
 unfoldable pub changed_line : List ℕ → ℕ → List ℕ → List ℕ
-changed_line hash day line = join_with_byte 58 (field 0 line ∷ hash ∷ decimal day ∷ drop 3
-    (fields_of line))
+changed_line hash day line =
+    join_with_byte 58 (field 0 line ∷ hash ∷ decimal day ∷ drop 3 (fields_of line))
 
 -- the first line of the user is changed, and the others stay
 abbrev pub changed_lines : List ℕ → List ℕ → ℕ → List (List ℕ) → List (List ℕ)
@@ -31,8 +31,8 @@ unless_faulty_file (Err fault) text = Err fault
 
 -- the new text, or the first line at fault
 abbrev pub hash_replaced : List ℕ → List ℕ → ℕ → List ℕ → Result (List ℕ) DbFault
-hash_replaced user hash day text = unless_faulty_file (shadows_of text)
-    (with_hash user hash day text)
+hash_replaced user hash day text =
+    unless_faulty_file (shadows_of text) (with_hash user hash day text)
 
 -- an entry with this hash and this day of the last change
 abbrev pub renewed : List ℕ → ℕ → Shadow → Shadow

@@ -31,8 +31,8 @@ ends_word (m ∷ ms) = is_white_mark m
 -- a value within quotes may hold white space; it goes to the next quote
 abbrev pub quoted : Key → List Mark → Option ℕ → Setting
 quoted key marks None = broken
-quoted key marks (Some n) = if ends_word (drop (n + 1) marks) then one key (take n marks)
-    (drop (n + 1) marks) else broken
+quoted key marks (Some n) =
+    if ends_word (drop (n + 1) marks) then one key (take n marks) (drop (n + 1) marks) else broken
 
 -- any other value goes to the next white space
 abbrev pub unquoted : Key → List Mark → Option ℕ → Setting
@@ -42,7 +42,7 @@ unquoted key marks None = one key marks []
 abbrev pub at_value : Key → List Mark → Setting
 at_value key marks =
     if begins_with (34 ∷ []) marks then quoted key (drop 1 marks)
-        (position (is_byte 34) (drop 1 marks))
+    (position (is_byte 34) (drop 1 marks))
     else unquoted key marks (position is_white_mark marks)
 
 -- a setting is DEFAULT= or OVERRIDE= with a value

@@ -98,8 +98,8 @@ value_names_account None = false
 
 -- one of the values does, used or not
 abbrev pub asks_account : Entry → Bool
-asks_account entry = value_names_account entry.values.default
-    || value_names_account entry.values.overriding
+asks_account entry =
+    value_names_account entry.values.default || value_names_account entry.values.overriding
 
 -- as the code has them
 abbrev pub plain_sources : LentSources → Sources

@@ -64,13 +64,14 @@ is_enforced args caller = not (caller == 0) || has_argument (codes "enforce_for_
 
 -- an item is unset (pam_set_item(3))
 unfoldable pub unsets_item : ItemName → Act → Act
-unsets_item item act stage = act (in_room (record stage.room { items = with_text stage.room.items
-    item None }) stage)
+unsets_item item act stage =
+    let items = with_text stage.room.items item None in
+    act (in_room (record stage.room { items = items }) stage)
 
 -- AUTHTOK is unset, so that no later module takes it, and the user is told
 unfoldable pub refuses_token : (Code → Act) → Act
-refuses_token act = unsets_item AuthTok (shows ErrorMsg (codes "Password has been already used.")
-    (act AuthtokErr))
+refuses_token act =
+    unsets_item AuthTok (shows ErrorMsg (codes "Password has been already used.") (act AuthtokErr))
 
 -- ---- the file
 
@@ -110,7 +111,7 @@ abbrev pub by_history : PlainCall → ℕ → List ℕ → List ℕ → List ℕ
 by_history call remember user hash token None act = act AuthtokErr
 by_history call remember user hash token (Some history) act =
     sees_caller (λ caller. by_use (is_refused call.args caller token hash (hashes_of user history))
-        remember user hash history act)
+    remember user hash history act)
 
 -- with `remember=0` nothing is remembered, and nothing is looked up
 abbrev pub by_remember : Bool → PlainCall → ℕ → List ℕ → List ℕ → List ℕ → (Code → Act) → Act

@@ -54,8 +54,9 @@ account_text root name files = text_within account_limit (file_at (path_of root 
 
 -- a user's hash, by passwd and shadow
 abbrev pub present_hash : List ℕ → List File → List ℕ → Option (List ℕ)
-present_hash root files user = passwd_hash user (passwds_in (account_text root (codes "/etc/passwd")
-    files)) (account_text root (codes "/etc/shadow") files)
+present_hash root files user =
+    passwd_hash user (passwds_in (account_text root (codes "/etc/passwd") files))
+    (account_text root (codes "/etc/shadow") files)
 
 -- ---- what one call does
 
@@ -104,7 +105,8 @@ deeds_of calls = map (λ (s : Served). s.deed) calls
 -- Nothing but these calls changed the file with this path: each finds it as the one before left it.
 abbrev pub Follow : List ℕ → Option (List ℕ) → List Served → Option (List ℕ) → Type 0
 Follow path before [] after = after ≡ before
-Follow path before (s ∷ ss) after = (file_at path s.sight.files ≡ before)
+Follow path before (s ∷ ss) after =
+    (file_at path s.sight.files ≡ before)
     × Does path s.call s.room s.sight (played s) s.deed
     × Follow path (file_at path (played s).files) ss after
 

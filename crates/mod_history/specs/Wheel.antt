@@ -59,7 +59,8 @@ trusted false = Ignore
 
 -- who isn't in the group is kept out, or with `deny` who is
 abbrev pub by_membership : Bool → Bool → Bool → Code
-by_membership deny trust member = if deny then (if member then PermDenied else trusted trust)
+by_membership deny trust member =
+    if deny then (if member then PermDenied else trusted trust)
     else (if member then trusted trust else PermDenied)
 
 -- where there is no such group, nobody is in it, and with `deny` all are passed over
@@ -70,9 +71,9 @@ by_group deny trust entry (Some group) =
 
 abbrev pub by_entry : List (List ℕ) → List Group → Option Passwd → Code
 by_entry args groups None = UserUnknown
-by_entry args groups (Some entry) = by_group (has_argument (codes "deny") args)
-    (has_argument (codes "trust") args) entry (wheel_group (value_among (codes "group=") args)
-    groups)
+by_entry args groups (Some entry) =
+    by_group (has_argument (codes "deny") args) (has_argument (codes "trust") args) entry
+    (wheel_group (value_among (codes "group=") args) groups)
 
 abbrev pub by_passwds : List (List ℕ) → ℕ → List Group → Option (List Passwd) → Code
 by_passwds args caller groups None = ServiceErr
@@ -88,7 +89,7 @@ code_by_groups args caller passwds (Some groups) = by_passwds args caller groups
 abbrev pub checks_wheel : List (List ℕ) → ℕ → Act
 checks_wheel args caller = asks_user (λ user. reads_passwds (λ passwds.
     unless_answered (code_by_passwds args caller user passwds)
-        (reads_groups (λ groups. answers (code_by_groups args caller passwds groups)))))
+    (reads_groups (λ groups. answers (code_by_groups args caller passwds groups)))))
 
 -- it offers authenticate, acct_mgmt and setcred, of which the last is SUCCESS at once
 abbrev pub at_once : Func → Option Code

@@ -71,8 +71,8 @@ fn put_renewed_line(
 ) -> Result<(), NoMemory>
     requires { 0 < remember }
     ensures { OnOk result (out.new.items ≡ out.old.items
-        ++ whole_line (record { name = line.now.name; hashes = renewed_hashes remember hash.now
-        line.now.hashes })) }
+        ++ (let hashes = renewed_hashes remember hash.now line.now.hashes in
+        whole_line (record { name = line.now.name; hashes = hashes }))) }
 {
     out.extend_from_slice(line.name.bytes())?;
     put_renewed_hashes(out, remember as usize, hash, line.hashes.items())?;

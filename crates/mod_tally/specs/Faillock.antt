@@ -54,8 +54,8 @@ sets_if false name text code = answers returns.ServiceErr
 
 -- the file is replaced by one with this text, where that isn't too long
 abbrev pub sets_text : List ℕ → List ℕ → Code → Act
-sets_text name text code = sets_if (is_rooted name && nat_le (length text) tally_limit) name text
-    code
+sets_text name text code =
+    sets_if (is_rooted name && nat_le (length text) tally_limit) name text code
 
 -- the file is replaced by one with these failures
 abbrev pub writes_tally : List ℕ → List Failure → Code → Act
@@ -83,8 +83,8 @@ new_failure moment items = from_host moment (unwrap_or items.rhost []) (unwrap_o
 abbrev pub records : PlainSettings → List ℕ → List Failure → Act
 records s name failures =
     sees_moment (λ now. sees_items (λ items.
-        writes_tally name (counting s.interval (failures ++ new_failure now items ∷ []))
-        returns.Ignore))
+    writes_tally name (counting s.interval (failures ++ new_failure now items ∷ []))
+    returns.Ignore))
 
 -- failures are cleared where some stand
 abbrev pub clears : List ℕ → List Failure → Act
@@ -96,8 +96,8 @@ by_lock true act = answers returns.AuthErr
 by_lock false act = act
 
 abbrev pub unless_locked : PlainSettings → List Failure → Act → Act
-unless_locked s failures act = sees_moment (λ now. by_lock (is_locked s.deny s.interval s.unlock now
-    failures) act)
+unless_locked s failures act =
+    sees_moment (λ now. by_lock (is_locked s.deny s.interval s.unlock now failures) act)
 
 abbrev pub by_task : Task → PlainSettings → List ℕ → List Failure → Act
 by_task Preauth s name failures = unless_locked s failures (answers returns.Success)
@@ -118,8 +118,8 @@ spared_answer other = returns.Success
 
 abbrev pub by_spared : Bool → Task → PlainSettings → List ℕ → Act
 by_spared true task s user = answers (spared_answer task)
-by_spared false task s user = reads_tally (tally_name s.folder user)
-    (by_tally task s (tally_name s.folder user))
+by_spared false task s user =
+    reads_tally (tally_name s.folder user) (by_tally task s (tally_name s.folder user))
 
 abbrev pub by_account : Task → PlainSettings → List ℕ → Account → Act
 by_account task s user unreadable = answers returns.ServiceErr

@@ -121,8 +121,9 @@ is_soon unlock greatest now = unlock == 0 || nat_lt now (greatest + unlock)
 -- the user is locked where so many count, at least one stands, and the time after which the lock ends, if there is one, hasn't passed
 abbrev pub is_locked : ℕ → ℕ → ℕ → ℕ → List Failure → Bool
 is_locked deny interval unlock now failures =
-    nat_lt 0 (length failures) && nat_le deny (count_by (counts interval (latest failures))
-        failures) && is_soon unlock (latest failures) now
+    nat_lt 0 (length failures)
+    && nat_le deny (count_by (counts interval (latest failures)) failures)
+    && is_soon unlock (latest failures) now
 
 -- ---- failures that can be written and read
 

@@ -36,8 +36,8 @@ is_success code = number_of code == 0
 
 -- a token is asked for, and verified
 unfoldable pub asks_password : Look → (Answer → Act) → Act
-asks_password look act = asks_token false (codes "Password: ") (λ token.
-    act (Kept (verified look token)))
+asks_password look act =
+    asks_token false (codes "Password: ") (λ token. act (Kept (verified look token)))
 
 -- `use_first_pass`: the token that an earlier module asked for, and no other
 abbrev pub with_first : Look → Option (List ℕ) → (Answer → Act) → Act
@@ -69,8 +69,8 @@ delays false act = requests_delay 2000000 act
 
 abbrev pub by_open : Bool → PlainCall → Look → (Answer → Act) → Act
 by_open true call look act = act (Kept returns.Success)
-by_open false call look act = delays (has_argument (codes "nodelay") call.args)
-    (verifies_token call look act)
+by_open false call look act =
+    delays (has_argument (codes "nodelay") call.args) (verifies_token call look act)
 
 unfoldable pub by_look : PlainCall → Look → (Answer → Act) → Act
 by_look call look act = by_open (is_open call look) call look act
@@ -84,6 +84,6 @@ setcred_return = codes "unix_setcred_return"
 
 -- the answer is kept for setcred, but that of `use_first_pass` without a token
 unfoldable pub settles : Answer → Act
-settles (Kept code) = answers_keeping (record { name = setcred_return;
-    payload = number_of code ∷ [] }) code
+settles (Kept code) =
+    answers_keeping (record { name = setcred_return; payload = number_of code ∷ [] }) code
 settles (Unkept code) = answers code

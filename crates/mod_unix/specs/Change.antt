@@ -35,8 +35,8 @@ is_too_early today (Some last) None = false
 is_too_early today (Some last) (Some min) = nat_lt today (last + min)
 
 unfoldable pub asks_old : Shadow → (Code → Act) → Act
-asks_old entry act = asks_token true (codes "Password: ") (λ token.
-    act (hash_verified entry.hash token))
+asks_old entry act =
+    asks_token true (codes "Password: ") (λ token. act (hash_verified entry.hash token))
 
 -- a user without a password need not give the old one
 abbrev pub by_empty : Bool → Shadow → (Code → Act) → Act
@@ -63,8 +63,9 @@ usable None = None
 usable (Some token) = if length token == 0 || nat_lt 512 (length token) then None else Some token
 
 abbrev pub new_prompts : List Message
-new_prompts = record { style = EchoOff; text = codes "New password: " } ∷ record { style = EchoOff;
-    text = codes "Retype new password: " } ∷ []
+new_prompts =
+    record { style = EchoOff; text = codes "New password: " }
+    ∷ record { style = EchoOff; text = codes "Retype new password: " } ∷ []
 
 -- two replies that differ aren't taken either
 abbrev pub same_reply : List Reply → Option (List ℕ)

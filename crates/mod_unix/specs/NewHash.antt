@@ -25,8 +25,8 @@ rounds_in None = []
 
 -- the salt is eight characters of a random word
 unfoldable pub new_setting : List (List ℕ) → ℕ → List ℕ
-new_setting args word = method_text args ++ rounds_in (value_among (codes "rounds=") args)
-    ++ characters 8 word
+new_setting args word =
+    method_text args ++ rounds_in (value_among (codes "rounds=") args) ++ characters 8 word
 
 -- the hash that was made; a new setting has no fault, so there is one
 abbrev pub made_hash : Result (List ℕ) SettingFault → List ℕ

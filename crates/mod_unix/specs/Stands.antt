@@ -37,5 +37,5 @@ pub record TokenStands (root user : List ℕ) (before : List File) (room : SeenR
 abbrev pub StaysOrStands : PlainCall → Sight → Played → Type 0
 StaysOrStands call sight played =
     ((has_flag call.flags change_expired_authtok ≡ true) × (played.files ≡ sight.files)) ⊎
-        TokenStands sight.root (unwrap_or played.room.items.user []) sight.files played.room
-        played.files
+    TokenStands sight.root (unwrap_or played.room.items.user []) sight.files played.room
+    played.files
