@@ -12,4 +12,5 @@ answer_unless_nul None text = answer_at 1 text
 
 -- the rules of a text, or its first fault
 unfoldable pub answer_to : List ℕ → Result (List RawRule) LexFault
-answer_to text = if nat_lt 65536 (length text) then Err (record { line = 0; kind = FileTooLong }) else answer_unless_nul (nul_line 1 text) text
+answer_to text = if nat_lt 65536 (length text) then Err (record { line = 0; kind = FileTooLong })
+    else answer_unless_nul (nul_line 1 text) text

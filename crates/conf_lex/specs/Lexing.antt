@@ -48,8 +48,10 @@ begins_white (b ∷ bs) = is_white b
 
 -- a join was taken from the front, or none stands there
 abbrev pub TakesJoin : Bool → List ℕ → List ℕ → ℕ → ℕ → Type 0
-TakesJoin true before after old_line new_line = (j : Join) × (before ≡ join_bytes j ++ after) × (new_line ≡ old_line + 1)
-TakesJoin false before after old_line new_line = (join_at before ≡ None) × (after ≡ before) × (new_line ≡ old_line)
+TakesJoin true before after old_line new_line = (j : Join) × (before ≡ join_bytes j ++ after)
+    × (new_line ≡ old_line + 1)
+TakesJoin false before after old_line new_line = (join_at before ≡ None) × (after ≡ before)
+    × (new_line ≡ old_line)
 
 -- a unit of a bracket was taken, with what it gives, or none is left
 pub record UnitTaken (byte : ℕ) (before after : List ℕ) (old_line new_line : ℕ) : Type 0 where
@@ -62,7 +64,8 @@ pub record UnitTaken (byte : ℕ) (before after : List ℕ) (old_line new_line :
 -- the unit at the front was taken, if one stands there
 abbrev pub TakesUnit : Option ℕ → List ℕ → List ℕ → ℕ → ℕ → Type 0
 TakesUnit (Some byte) before after old_line new_line = UnitTaken byte before after old_line new_line
-TakesUnit None before after old_line new_line = (unit_at before ≡ None) × (after ≡ before) × (new_line ≡ old_line)
+TakesUnit None before after old_line new_line = (unit_at before ≡ None) × (after ≡ before)
+    × (new_line ≡ old_line)
 
 -- all units of a bracket were taken
 pub record TakesUnits (text before after : List ℕ) (old_line new_line : ℕ) : Type 0 where
@@ -128,12 +131,14 @@ unfoldable pub answer_at : ℕ → List ℕ → Result (List RawRule) LexFault
 answer_at n text = answer_of (numbered n (lines_of_pieces (pieces_of text)))
 
 -- with the rules of earlier lines
-abbrev pub with_front : List RawRule → Result (List RawRule) LexFault → Result (List RawRule) LexFault
+abbrev pub with_front : List RawRule → Result (List RawRule) LexFault
+    → Result (List RawRule) LexFault
 with_front front (Ok rules) = Ok (front ++ rules)
 with_front front (Err f) = Err f
 
 -- unless memory ran out, a line has these tokens or this fault, and the other lines what is left
-abbrev pub GivesLine : Result (List Token) (Refuse LexFault) → Result (List RawRule) LexFault → ℕ → Result (List RawRule) LexFault → Type 0
+abbrev pub GivesLine : Result (List Token) (Refuse LexFault) → Result (List RawRule) LexFault → ℕ
+    → Result (List RawRule) LexFault → Type 0
 GivesLine (Ok tokens) all first left = all ≡ with_front (rule_at first tokens) left
 GivesLine (Err (refusals.Named f)) all first left = all ≡ Err f
 GivesLine (Err refusals.NoMemory) all first left = Unit {0}

@@ -7,7 +7,8 @@ use Rattle.pam_base.specs.Bytes.{has_byte}
 use Rattle.pam_base.specs.White.{is_white}
 use Rattle.conf_lex.specs.declared.token.Token.{Token}
 
--- a join (pam.conf(5): an escaped end of line extends a rule): a backslash and a newline, or (own) with a carriage return between
+-- a join (pam.conf(5): an escaped end of line extends a rule): a backslash and a newline, or (own) with a carriage
+-- return between
 pub data Join : Type 0 where
   feed : Join
   return_feed : Join
@@ -43,7 +44,8 @@ units_bytes us = flat_map unit_bytes us
 abbrev pub units_text : List BracketUnit → List ℕ
 units_text us = flat_map unit_text us
 
--- the pieces (pam.conf(5): space separated tokens, arguments in brackets, comments, joins); an open bracket, which is a fault, goes on to the line's end (own)
+-- the pieces (pam.conf(5): space separated tokens, arguments in brackets, comments, joins); an open bracket, which is
+-- a fault, goes on to the line's end (own)
 pub data Piece : Type 0 where
   newline : Piece
   white : ℕ → Piece
@@ -102,7 +104,8 @@ at_line_end (b ∷ bs) = b == 10
 -- the join whose backslash stands before these bytes, if they make one (pam.conf(5), as above)
 abbrev pub join_after_backslash : List ℕ → Option Join
 join_after_backslash [] = None
-join_after_backslash (b ∷ bs) = if b == 10 then Some feed else if b == 13 && begins_with 10 bs then Some return_feed else None
+join_after_backslash (b ∷ bs) = if b == 10 then Some feed else if b == 13 && begins_with 10 bs
+    then Some return_feed else None
 
 -- the join at the front of a text, if one stands there (own: a backslash as the last byte makes none)
 abbrev pub join_at : List ℕ → Option Join
@@ -118,7 +121,8 @@ has_join (Some j) = true
 abbrev pub begins_join : List ℕ → Bool
 begins_join text = has_join (join_at text)
 
--- a plain token goes on at a byte that is no white space, `#` or newline and begins no join (pam.conf(5); `#` ends it, own)
+-- a plain token goes on at a byte that is no white space, `#` or newline and begins no join (pam.conf(5); `#` ends
+-- it, own)
 abbrev pub goes_on : List ℕ → Bool
 goes_on [] = false
 goes_on (b ∷ bs) = not (is_white b || b == 35 || b == 10 || begins_join (b ∷ bs))
@@ -128,10 +132,12 @@ abbrev pub all_go_on : List ℕ → List ℕ → Bool
 all_go_on [] rest = true
 all_go_on (b ∷ bs) rest = goes_on (b ∷ (bs ++ rest)) && all_go_on bs rest
 
--- a byte in brackets that stands for itself (pam.conf(5), own): no `]`, no newline, no backslash before `]`, and it begins no join
+-- a byte in brackets that stands for itself (pam.conf(5), own): no `]`, no newline, no backslash before `]`, and it
+-- begins no join
 abbrev pub is_single : List ℕ → Bool
 is_single [] = false
-is_single (b ∷ bs) = not (b == 93 || b == 10 || (b == 92 && begins_with 93 bs) || begins_join (b ∷ bs))
+is_single (b ∷ bs) = not (b == 93 || b == 10 || (b == 92 && begins_with 93 bs)
+    || begins_join (b ∷ bs))
 
 -- whether a unit may stand before the rest (own)
 abbrev pub unit_stands : BracketUnit → List ℕ → Bool
@@ -143,12 +149,15 @@ abbrev pub units_stand : List BracketUnit → List ℕ → Bool
 units_stand [] rest = true
 units_stand (u ∷ us) rest = unit_stands u (units_bytes us ++ rest) && units_stand us rest
 
--- whether a piece may stand before the rest (pam.conf(5), own): a plain token is as long as it can be and begins with no `[`, a bracket is closed by the first `]` that no backslash stands before, and a comment or an open bracket goes on to the line's end
+-- whether a piece may stand before the rest (pam.conf(5), own): a plain token is as long as it can be and begins with
+-- no `[`, a bracket is closed by the first `]` that no backslash stands before, and a comment or an open bracket goes
+-- on to the line's end
 abbrev pub stands : Piece → List ℕ → Bool
 stands newline rest = true
 stands (white b) rest = is_white b
 stands (join j) rest = true
-stands (plain run) rest = not (at_line_end run) && not (begins_with 91 run) && all_go_on run rest && not (goes_on rest)
+stands (plain run) rest = not (at_line_end run) && not (begins_with 91 run) && all_go_on run rest
+    && not (goes_on rest)
 stands (bracket us) rest = units_stand us (93 ∷ rest)
 stands (open_bracket us) rest = units_stand us rest && at_line_end rest
 stands (comment text) rest = not (has_byte 10 text) && at_line_end rest

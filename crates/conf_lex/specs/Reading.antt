@@ -17,7 +17,8 @@ rest_of_line (b ∷ bs) = if b == 10 then [] else b ∷ rest_of_line bs
 -- the unit at a byte, if no join stands there (own)
 abbrev pub unit_without_join : Option Join → ℕ → List ℕ → Option BracketUnit
 unit_without_join (Some j) b bs = Some (joined j)
-unit_without_join None b bs = if b == 92 && begins_with 93 bs then Some escaped else if b == 93 || b == 10 then None else Some (single b)
+unit_without_join None b bs = if b == 92 && begins_with 93 bs then Some escaped
+    else if b == 93 || b == 10 then None else Some (single b)
 
 -- the unit at the front of a text, or None where a bracket's units end (own)
 abbrev pub unit_at : List ℕ → Option BracketUnit
@@ -27,12 +28,14 @@ unit_at (b ∷ bs) = unit_without_join (join_at (b ∷ bs)) b bs
 -- the units behind the first n bytes, which an earlier unit has (own)
 unfoldable pub units_behind : ℕ → List ℕ → List BracketUnit
 units_behind n [] = []
-units_behind zero (b ∷ bs) = elim (unit_at (b ∷ bs)) [ Some u ↦ u ∷ units_behind (length (unit_bytes u) - 1) bs | None ↦ [] ]
+units_behind zero (b ∷ bs) =
+    elim (unit_at (b ∷ bs)) [ Some u ↦ u ∷ units_behind (length (unit_bytes u) - 1) bs | None ↦ [] ]
 units_behind (suc n) (b ∷ bs) = units_behind n bs
 
 -- the bracket of these units, closed or open by what stands behind them (own)
 abbrev pub bracket_of : List BracketUnit → List ℕ → Piece
-bracket_of us text = if begins_with 93 (drop (length (units_bytes us)) text) then bracket us else open_bracket us
+bracket_of us text = if begins_with 93 (drop (length (units_bytes us)) text) then bracket us
+    else open_bracket us
 
 -- the piece at a byte, if no join stands there (own)
 abbrev pub piece_without_join : Option Join → ℕ → List ℕ → Piece
@@ -52,7 +55,8 @@ first_piece (b ∷ bs) = piece_without_join (join_at (b ∷ bs)) b bs
 -- the pieces behind the first n bytes, which an earlier piece has (own)
 unfoldable pub pieces_behind : ℕ → List ℕ → List Piece
 pieces_behind n [] = []
-pieces_behind zero (b ∷ bs) = first_piece (b ∷ bs) ∷ pieces_behind (length (piece_bytes (first_piece (b ∷ bs))) - 1) bs
+pieces_behind zero (b ∷ bs) = first_piece (b ∷ bs)
+    ∷ pieces_behind (length (piece_bytes (first_piece (b ∷ bs))) - 1) bs
 pieces_behind (suc n) (b ∷ bs) = pieces_behind n bs
 
 -- the pieces of a text (own)

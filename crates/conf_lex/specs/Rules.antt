@@ -18,10 +18,12 @@ abbrev pub in_front : Piece → List (List Piece) → List (List Piece)
 in_front p [] = (p ∷ []) ∷ []
 in_front p (l ∷ ls) = (p ∷ l) ∷ ls
 
--- the pieces of each joined line (pam.conf(5): a rule is a line, with those joined to it): a newline that is no part of a join ends one
+-- the pieces of each joined line (pam.conf(5): a rule is a line, with those joined to it): a newline that is no part
+-- of a join ends one
 abbrev pub lines_of_pieces : List Piece → List (List Piece)
 lines_of_pieces [] = [] ∷ []
-lines_of_pieces (p ∷ ps) = if is_newline p then [] ∷ lines_of_pieces ps else in_front p (lines_of_pieces ps)
+lines_of_pieces (p ∷ ps) = if is_newline p then [] ∷ lines_of_pieces ps
+    else in_front p (lines_of_pieces ps)
 
 -- a joined line with the number of its first physical line, from 1 (own)
 pub record JoinedLine : Type 0 where
@@ -46,17 +48,20 @@ rule_at n (t ∷ ts) = record { line = n; tokens = t ∷ ts } ∷ []
 abbrev pub line_rules : JoinedLine → List RawRule
 line_rules l = rule_at l.first (tokens_of l.pieces)
 
--- the text is spelled by these rules (pam.conf(5)), whatever the limits: it has a reading without an open bracket, and they are the rules of its joined lines
+-- the text is spelled by these rules (pam.conf(5)), whatever the limits: it has a reading without an open bracket,
+-- and they are the rules of its joined lines
 pub record Spells (text : List ℕ) (rules : List RawRule) : Type 0 where
   pub pieces : List Piece
   pub reading : IsReading text pieces
   pub closed : list_any is_open pieces ≡ false
   pub rules_are : rules ≡ flat_map line_rules (joined_lines pieces)
 
--- the fault of a joined line (own): more than 4,096 bytes before its newline, else a bracket that is still open at its end
+-- the fault of a joined line (own): more than 4,096 bytes before its newline, else a bracket that is still open at
+-- its end
 abbrev pub line_fault : JoinedLine → Option LexFault
 line_fault l =
-    if nat_lt 4096 (length (spelling l.pieces)) then Some (record { line = l.first; kind = RuleTooLong })
+    if nat_lt 4096 (length (spelling l.pieces))
+    then Some (record { line = l.first; kind = RuleTooLong })
     else if list_any is_open l.pieces then Some (record { line = l.first; kind = OpenBracket })
     else None
 
@@ -85,7 +90,8 @@ pub record HasNul (text : List ℕ) (line : ℕ) : Type 0 where
   pub first : IsFirstPlace (Some place) 0 text
   pub line_is : line ≡ 1 + newlines (take place text)
 
--- the fault of this kind, at this line, is the first of the text (own): too long before a NUL byte, and that before the joined lines' faults in order
+-- the fault of this kind, at this line, is the first of the text (own): too long before a NUL byte, and that before
+-- the joined lines' faults in order
 abbrev pub IsFaultOf : FaultKind → ℕ → List ℕ → Type 0
 IsFaultOf FileTooLong line text = (65536 < length text) × (line ≡ 0)
 IsFaultOf NulByte line text = HasNul text line

@@ -4,6 +4,9 @@ ghost use Rattle.conf_lex.specs.Reading.{run_of, rest_of_line, unit_at};
 ghost use Rattle.conf_lex.specs.Rules.{newlines, rule_at};
 ghost use Rattle.conf_lex.specs.Lexing.{before_nul, nul_line, Moves, is_bracket_end, is_escape, begins_white, TakesJoin, TakesUnit, TakesUnits, TakesPiece, TakesPieces, EndsLine, GivesLine, Gives, found_tokens, found_open, fault_at, answer_at};
 
+use crate::front::{
+    at_end, at_line_end, is_bracket_end, is_escape, join_length, line_length, run_length,
+};
 use crate::token::{LexFault, RawRule, RawRules, Token, Tokens};
 use pam_base::{FaultKind, NoMemory, Refuse, Text, is_white};
 use std::alloc::Global;
@@ -34,74 +37,6 @@ pub enum Found {
 pub struct Line {
     pub tokens: Tokens,
     pub opened: bool,
-}
-
-/// Whether nothing is left to read.
-fn at_end(text: &[u8]) -> bool
-    ensures { result ≡ (length (before_nul text.now) == 0) }
-{
-    matches!(text, [] | [0, ..])
-}
-
-/// How many bytes the join at the front of the text has, if one stands there.
-fn join_length(text: &[u8]) -> Option<usize>
-    ensures { result ≡ option_map (λ j. length (join_bytes j)) (join_at (before_nul text.now)) }
-{
-    match text {
-        [b'\\', b'\n', ..] => Some(2),
-        [b'\\', b'\r', b'\n', ..] => Some(3),
-        _ => None,
-    }
-}
-
-fn at_line_end(text: &[u8]) -> bool
-    ensures { result ≡ at_line_end (before_nul text.now) }
-{
-    matches!(text, [] | [b'\n' | 0, ..])
-}
-
-fn goes_on(text: &[u8]) -> bool
-    ensures { result ≡ goes_on (before_nul text.now) }
-{
-    match text {
-        [] | [b'#' | b'\n' | 0, ..] => false,
-        [byte, ..] => !is_white(*byte) && join_length(text).is_none(),
-    }
-}
-
-/// How many bytes the plain token at the front of the text has.
-fn run_length(text: &[u8]) -> usize
-    ensures { result ≡ length (run_of (before_nul text.now)) }
-{
-    let mut rest = text;
-    while goes_on(rest) {
-        rest = &rest[1..];
-    }
-    text.len() - rest.len()
-}
-
-/// Whether a bracket ends here: by its `]`, or open, with the line.
-fn is_bracket_end(text: &[u8]) -> bool
-    ensures { result ≡ is_bracket_end (before_nul text.now) }
-{
-    matches!(text, [] | [b']' | b'\n' | 0, ..])
-}
-
-fn is_escape(text: &[u8]) -> bool
-    ensures { result ≡ is_escape (before_nul text.now) }
-{
-    matches!(text, [b'\\', b']', ..])
-}
-
-/// How many bytes stand before the end of the physical line.
-fn line_length(text: &[u8]) -> usize
-    ensures { result ≡ length (rest_of_line (before_nul text.now)) }
-{
-    let mut rest = text;
-    while !at_line_end(rest) {
-        rest = &rest[1..];
-    }
-    text.len() - rest.len()
 }
 
 /// The fault of a joined line of so many bytes that begins in this physical line.

@@ -2,6 +2,7 @@
 //! of the line that they begin in, or the first fault of the text. What the tokens mean is left to others.
 #![tactic(auto)]
 
+mod front;
 pub mod laws;
 mod lexer;
 mod service_file;

@@ -34,13 +34,15 @@ named_action word =
 
 -- a jump is over 1 to 255 nodes (pam.conf(5) asks for a number above 0; the bound is this project's own)
 abbrev pub jump_of : ℕ → Result Action ControlFault
-jump_of number = if number == 0 then Err (fault ZeroJump) else if nat_le number 255 then Ok (actions.Jump number) else Err (fault BadAction)
+jump_of number = if number == 0 then Err (fault ZeroJump) else if nat_le number 255
+    then Ok (actions.Jump number) else Err (fault BadAction)
 
 -- an action is one of the words or the digits of a jump (pam.conf(5)), with leading zeros (this project's own)
 abbrev pub action_of_word : List ℕ → Result Action ControlFault
 action_of_word word = elim (named_action word) [
   | Some action ↦ Ok action
-  | None ↦ if not (length word == 0) && list_all is_ascii_digit word then jump_of (value_of_digits word) else Err (fault BadAction)
+  | None ↦ if not (length word == 0) && list_all is_ascii_digit word
+      then jump_of (value_of_digits word) else Err (fault BadAction)
 ]
 
 -- `default`, in any case, stands for the codes that no entry names (pam.conf(5))
@@ -60,17 +62,22 @@ names code name = is_code code (code_of_word name)
 abbrev pub fault_of_entry : Entry → Option ControlFault
 fault_of_entry entry =
     if length entry.name == 0 || length entry.action == 0 then Some (fault BadControl)
-    else if is_default entry.name || is_some (code_of_word entry.name) then result_err (action_of_word entry.action)
+    else if is_default entry.name || is_some (code_of_word entry.name)
+    then result_err (action_of_word entry.action)
     else Some (fault BadReturnName)
 
 -- the action of the last entry whose name passes the test (that the last one holds is this project's own)
 abbrev pub last_action : (List ℕ → Bool) → List Entry → Option Action
-last_action test entries = option_and_then (λ entry. result_ok (action_of_word entry.action)) (last_or None (filter (λ entry. test entry.name) entries))
+last_action test entries =
+    option_and_then (λ entry. result_ok (action_of_word entry.action))
+    (last_or None (filter (λ entry. test entry.name) entries))
 
 -- the action of a code: that of the last entry that names it, else that of the last `default` (pam.conf(5)),
 -- else bad (this project's own)
 abbrev pub action_among : List Entry → Code → Action
-action_among entries code = unwrap_or (option_or (last_action (names code) entries) (last_action is_default entries)) actions.Bad
+action_among entries code =
+    unwrap_or (option_or (last_action (names code) entries) (last_action is_default entries))
+    actions.Bad
 
 -- the control of some entries where none has a fault, else the first of the faults (this project's own)
 abbrev pub control_unless : List ControlFault → List Entry → Result (List Action) ControlFault

@@ -32,17 +32,23 @@ behind_space text = from_first is_other text
 
 -- an action runs up to white space (this project's own)
 abbrev pub with_action : List ℕ → List ℕ → FirstEntry
-with_action name text = record { entry = record { name = name; action = before_first is_white text }; rest = from_first is_white text }
+with_action name text =
+    record {
+      entry = record { name = name; action = before_first is_white text };
+      rest = from_first is_white text;
+    }
 
 -- behind its name an entry has `=` and its action (pam.conf(5)), with white space on both sides of `=` (this
 -- project's own)
 abbrev pub with_name : List ℕ → List ℕ → FirstEntry
 with_name name [] = record { entry = record { name = name; action = [] }; rest = [] }
-with_name name (b ∷ bs) = if b == 61 then with_action name (behind_space bs) else record { entry = record { name = name; action = [] }; rest = b ∷ bs }
+with_name name (b ∷ bs) = if b == 61 then with_action name (behind_space bs)
+    else record { entry = record { name = name; action = [] }; rest = b ∷ bs }
 
 -- the first entry of a text that begins with no white space (this project's own)
 abbrev pub first_entry : List ℕ → FirstEntry
-first_entry text = with_name (before_first ends_name text) (behind_space (from_first ends_name text))
+first_entry text = with_name (before_first ends_name text)
+    (behind_space (from_first ends_name text))
 
 -- the entries behind the first so many bytes of a text, which were passed; white space stands between
 -- entries (pam.conf(5))
@@ -51,7 +57,8 @@ entries_behind passed [] = []
 entries_behind (suc passed) (b ∷ bs) = entries_behind passed bs
 entries_behind zero (b ∷ bs) = elim (is_white b) [
   | true ↦ entries_behind zero bs
-  | false ↦ (first_entry (b ∷ bs)).entry ∷ entries_behind (length bs - length (first_entry (b ∷ bs)).rest) bs
+  | false ↦ (first_entry (b ∷ bs)).entry
+      ∷ entries_behind (length bs - length (first_entry (b ∷ bs)).rest) bs
 ]
 
 -- the entries of a text, all of them (pam.conf(5))

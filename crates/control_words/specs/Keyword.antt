@@ -43,7 +43,8 @@ all_keywords = Required ∷ Requisite ∷ Sufficient ∷ Optional ∷ []
 
 -- the keyword that a word is, in any case
 abbrev pub keyword_of_word : List ℕ → Option Keyword
-keyword_of_word word = find (λ keyword. str_eq_ignore_ascii_case word (keyword_word keyword)) all_keywords
+keyword_of_word word =
+    find (λ keyword. str_eq_ignore_ascii_case word (keyword_word keyword)) all_keywords
 
 -- the control that a word stands for
 abbrev pub control_of_word : List ℕ → Option (List Action)

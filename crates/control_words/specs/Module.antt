@@ -9,7 +9,8 @@ last_part [] = []
 last_part (b ∷ bs) = if has_byte 47 (b ∷ bs) then last_part bs else b ∷ bs
 
 abbrev pub without_suffix : List ℕ → List ℕ → List ℕ
-without_suffix suffix name = if ends_with nat_eq name suffix then take (length name - length suffix) name else name
+without_suffix suffix name = if ends_with nat_eq name suffix
+    then take (length name - length suffix) name else name
 
 abbrev pub name_of_module : List ℕ → List ℕ
 name_of_module path = without_suffix (codes ".so") (last_part path)

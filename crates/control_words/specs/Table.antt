@@ -13,7 +13,10 @@ use Rattle.control_words.specs.Entries.{Entry}
 
 -- the table of some entries: what the last entry of each name says
 abbrev pub table_of : List Entry → Table
-table_of entries = record { named = map (λ code. last_action (names code) entries) all_codes; default = last_action is_default entries }
+table_of entries = record {
+  named = map (λ code. last_action (names code) entries) all_codes;
+  default = last_action is_default entries;
+}
 
 -- a code's place in the table, with an action
 abbrev pub named_with : Option Code → Option Action → List (Option Action) → List (Option Action)
@@ -23,8 +26,15 @@ named_with (Some code) action named = slice_set named (number_of code) action
 -- the table after one more entry
 abbrev pub filled : Table → Entry → Table
 filled table entry =
-    if is_default entry.name then record { named = table.named; default = result_ok (action_of_word entry.action) }
-    else record { named = named_with (code_of_word entry.name) (result_ok (action_of_word entry.action)) table.named; default = table.default }
+    if is_default entry.name then record {
+      named = table.named;
+      default = result_ok (action_of_word entry.action);
+    }
+    else record {
+      named = named_with (code_of_word entry.name)
+          (result_ok (action_of_word entry.action)) table.named;
+      default = table.default;
+    }
 
 -- the control that a table comes to
 abbrev pub settled : Table → List Action

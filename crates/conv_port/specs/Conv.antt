@@ -43,7 +43,9 @@ first_text (text ∷ texts) = text
 -- each prompt takes the next text, and any other message has the empty reply
 abbrev pub replies_from : List (List ℕ) → List Message → List Reply
 replies_from texts [] = []
-replies_from texts (m ∷ ms) = if is_prompt m.style then record { text = first_text texts } ∷ replies_from (drop 1 texts) ms else record { text = [] } ∷ replies_from texts ms
+replies_from texts (m ∷ ms) = if is_prompt m.style
+    then record { text = first_text texts } ∷ replies_from (drop 1 texts) ms
+    else record { text = [] } ∷ replies_from texts ms
 
 -- whether there is a reply for each prompt
 abbrev pub has_replies : ConvState → List Message → Bool
@@ -56,18 +58,25 @@ answer_to s messages =
     if has_replies s messages then Ok (replies_from (ready_replies s.offers) messages)
     else if s.waits || starts_with_mark s.offers then Err Again else Err Gone
 
--- What it holds after it. A mark puts off one exchange. Where a reply is missing, none is taken. It was handed these messages.
+-- What it holds after it. A mark puts off one exchange. Where a reply is missing, none is taken. It was handed these
+-- messages.
 abbrev pub state_after : ConvState → List Message → ConvState
 state_after s messages =
-    if has_replies s messages then record s { offers = drop (prompt_count messages) s.offers; handed = s.handed ++ messages ∷ [] }
+    if has_replies s messages then record s {
+      offers = drop (prompt_count messages) s.offers;
+      handed = s.handed ++ messages ∷ [];
+    }
     else if s.waits then record s { handed = s.handed ++ messages ∷ [] }
     else record s { offers = without_mark s.offers; handed = s.handed ++ messages ∷ [] }
 
 -- an exchange: exactly that answer, or there was no memory, and then nothing changed
 abbrev pub Talks : Result (List Reply) ConvFault → List Message → ConvState → ConvState → Type 0
-Talks (Ok replies) messages old new = (answer_to old messages ≡ Ok replies) × (new ≡ state_after old messages)
-Talks (Err Gone) messages old new = (answer_to old messages ≡ Err Gone) × (new ≡ state_after old messages)
-Talks (Err Again) messages old new = (answer_to old messages ≡ Err Again) × (new ≡ state_after old messages)
+Talks (Ok replies) messages old new = (answer_to old messages ≡ Ok replies)
+    × (new ≡ state_after old messages)
+Talks (Err Gone) messages old new = (answer_to old messages ≡ Err Gone)
+    × (new ≡ state_after old messages)
+Talks (Err Again) messages old new = (answer_to old messages ≡ Err Again)
+    × (new ≡ state_after old messages)
 Talks (Err NoMemory) messages old new = new ≡ old
 
 -- what a text offers: the six bytes \later are a mark
@@ -79,6 +88,7 @@ abbrev pub offer_taken : Bool → List ℕ → Offer
 offer_taken waits text = if waits then Answer text else offer_of text
 
 -- an offer goes behind the others, or there was no memory, and then nothing changed
-pub record TakesOffer {E : Type 0} (result : Result (Unit {0}) E) (text : List ℕ) (old new : ConvState) : Type 0 where
+pub record TakesOffer {E : Type 0} (result : Result (Unit {0}) E) (text : List ℕ)
+    (old new : ConvState) : Type 0 where
   pub ok : OnOk result (new ≡ record old { offers = old.offers ++ offer_taken old.waits text ∷ [] })
   pub err : OnErr result (new ≡ old)

@@ -25,17 +25,21 @@ behind_line bytes = after_first is_newline (take 512 bytes) ++ drop 512 bytes
 -- each prompt takes the next line, and any other message has the empty reply
 abbrev pub typed_replies : List Message → List ℕ → List Reply
 typed_replies [] bytes = []
-typed_replies (m ∷ ms) bytes = if is_prompt m.style then record { text = typed_line bytes } ∷ typed_replies ms (behind_line bytes) else record { text = [] } ∷ typed_replies ms bytes
+typed_replies (m ∷ ms) bytes = if is_prompt m.style
+    then record { text = typed_line bytes } ∷ typed_replies ms (behind_line bytes)
+    else record { text = [] } ∷ typed_replies ms bytes
 
 -- what is left behind them
 abbrev pub behind_replies : List Message → List ℕ → List ℕ
 behind_replies [] bytes = bytes
-behind_replies (m ∷ ms) bytes = if is_prompt m.style then behind_replies ms (behind_line bytes) else behind_replies ms bytes
+behind_replies (m ∷ ms) bytes = if is_prompt m.style then behind_replies ms (behind_line bytes)
+    else behind_replies ms bytes
 
 -- whether each prompt finds a byte
 abbrev pub has_lines : List Message → List ℕ → Bool
 has_lines [] bytes = true
-has_lines (m ∷ ms) bytes = if is_prompt m.style then nat_lt 0 (length bytes) && has_lines ms (behind_line bytes) else has_lines ms bytes
+has_lines (m ∷ ms) bytes = if is_prompt m.style then nat_lt 0 (length bytes)
+    && has_lines ms (behind_line bytes) else has_lines ms bytes
 
 -- the text of a message as it is shown: one that is no prompt ends its line
 abbrev pub shown : Message → List ℕ
@@ -45,7 +49,8 @@ abbrev pub all_shown : List Message → List ℕ
 all_shown messages = flat_map shown messages
 
 -- the replies to an exchange are those at the front of what was typed, and what is behind them is left
-pub record IsTyped (messages : List Message) (replies : List Reply) (bytes left : List ℕ) : Type 0 where
+pub record IsTyped (messages : List Message) (replies : List Reply) (bytes left : List ℕ) : Type
+    0 where
   pub replies_are : replies ≡ typed_replies messages bytes
   pub left_is : left ≡ behind_replies messages bytes
   pub enough : has_lines messages bytes ≡ true

@@ -17,11 +17,19 @@ Notes = ℕ → List ℕ → ℕ → ℕ
 
 -- the receipts of data that are cleaned up with a status, in order, with this mark
 abbrev pub receipts_for : Notes → ℕ → ℕ → List PlainDatum → List Filed
-receipts_for note status mark ds = map (λ (d : PlainDatum). record { receipt = record { id = d.id; status = status; note = note d.owner d.payload status }; mark = mark }) ds
+receipts_for note status mark ds =
+    map (λ (d : PlainDatum).
+    record {
+      receipt = record { id = d.id; status = status; note = note d.owner d.payload status };
+      mark = mark;
+    }) ds
 
 -- the ledger after their cleanup
 abbrev pub ledger_after : Notes → ℕ → List PlainDatum → PlainLedger → PlainLedger
-ledger_after note status ds ledger = record { births = ledger.births; filed = ledger.filed ++ receipts_for note status (length ledger.births) ds }
+ledger_after note status ds ledger = record {
+  births = ledger.births;
+  filed = ledger.filed ++ receipts_for note status (length ledger.births) ds;
+}
 
 -- A sweep cleans up what was replaced: the list after it, and the ledger.
 abbrev pub swept_list : PlainDataList → PlainDataList
@@ -32,15 +40,20 @@ swept_ledger note list ledger = ledger_after note data_replace list.gone ledger
 
 -- some data are to be cleaned up with a status: what was filed so far, and what the data that are left will
 -- add, is the whole
-pub record IsCleaningUp (note : Notes) (status : ℕ) (before : PlainLedger) (all : List PlainDatum) (now : PlainLedger) (left : List PlainDatum) : Type 0 where
+pub record IsCleaningUp (note : Notes) (status : ℕ) (before : PlainLedger) (all : List PlainDatum)
+    (now : PlainLedger) (left : List PlainDatum) : Type 0 where
   pub births : now.births ≡ before.births
-  pub filed : now.filed ++ receipts_for note status (length before.births) left ≡ before.filed ++ receipts_for note status (length before.births) all
+  pub filed : now.filed ++ receipts_for note status (length before.births) left ≡ before.filed
+      ++ receipts_for note status (length before.births) all
 
 -- the ledger after one receipt more
 abbrev pub ledger_with : PlainLedger → ℕ → ℕ → ℕ → PlainLedger
 ledger_with ledger id status note = record {
   births = ledger.births;
-  filed = ledger.filed ++ record { receipt = record { id = id; status = status; note = note }; mark = length ledger.births } ∷ [];
+  filed = ledger.filed ++ record {
+    receipt = record { id = id; status = status; note = note };
+    mark = length ledger.births;
+  } ∷ [];
 }
 
 -- a datum that was set and has no receipt, and whose owner is one of so many modules

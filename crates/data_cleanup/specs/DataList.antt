@@ -13,7 +13,8 @@ pub record PlainDataList : Type 0 where
   pub gone : List PlainDatum
 
 abbrev pub birth_of : ℕ → ℕ → ℕ → List ℕ → List ℕ → Birth
-birth_of id handle owner name payload = record { id = id; handle = handle; owner = owner; name = name; payload = payload }
+birth_of id handle owner name payload =
+    record { id = id; handle = handle; owner = owner; name = name; payload = payload }
 
 -- the datum that a birth is the record of
 abbrev pub datum_of : Birth → PlainDatum
@@ -34,7 +35,11 @@ payloads_of ds = map (λ (d : PlainDatum). d.payload) ds
 
 -- the list after a birth
 abbrev pub hold : PlainDataList → Birth → PlainDataList
-hold l b = record { handle = l.handle; live = with_datum l.live (datum_of b); gone = l.gone ++ data_named l.live b.name }
+hold l b = record {
+  handle = l.handle;
+  live = with_datum l.live (datum_of b);
+  gone = l.gone ++ data_named l.live b.name;
+}
 
 -- the list after some births
 abbrev pub hold_all : PlainDataList → List Birth → PlainDataList

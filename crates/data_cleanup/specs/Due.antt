@@ -16,7 +16,8 @@ pub data Event : Type 0 where
 -- the births of a transaction since its last end
 abbrev pub since_end : ℕ → List Event → List Birth
 since_end handle [] = []
-since_end handle (birth b ∷ past) = if nat_eq b.handle handle then b ∷ since_end handle past else since_end handle past
+since_end handle (birth b ∷ past) = if nat_eq b.handle handle then b ∷ since_end handle past
+    else since_end handle past
 since_end handle (ends h status ∷ past) = if nat_eq h handle then [] else since_end handle past
 
 -- the latest birth of a name, a list of none or one
@@ -27,20 +28,28 @@ latest name (b ∷ before) = if bytes_eq b.name name then b ∷ [] else latest n
 -- the first birth of each name, the last name first
 abbrev pub first_of_each : List Birth → List Birth
 first_of_each [] = []
-first_of_each (b ∷ before) = if list_any (λ (c : Birth). bytes_eq c.name b.name) before then first_of_each before else b ∷ first_of_each before
+first_of_each (b ∷ before) = if list_any (λ (c : Birth). bytes_eq c.name b.name) before
+    then first_of_each before else b ∷ first_of_each before
 
 -- the births that no later one of their name replaced, ordered by the first birth of their name, the last first
 abbrev pub standing_births : List Birth → List Birth
-standing_births births = flat_map (λ (first : Birth). latest first.name births) (first_of_each births)
+standing_births births =
+    flat_map (λ (first : Birth). latest first.name births) (first_of_each births)
 
 abbrev pub receipt_of : Notes → ℕ → Birth → Receipt
-receipt_of note status b = record { id = b.id; status = status; note = note b.owner b.payload status }
+receipt_of note status b = record {
+  id = b.id;
+  status = status;
+  note = note b.owner b.payload status;
+}
 
 -- what an event makes due, with what was before it: a birth, the cleanup of what it replaces; an end, that of
 -- all that stands
 abbrev pub made_due : Notes → List Event → Event → List Receipt
-made_due note past (birth b) = map (receipt_of note data_replace) (latest b.name (since_end b.handle past))
-made_due note past (ends h status) = map (receipt_of note status) (standing_births (since_end h past))
+made_due note past (birth b) =
+    map (receipt_of note data_replace) (latest b.name (since_end b.handle past))
+made_due note past (ends h status) =
+    map (receipt_of note status) (standing_births (since_end h past))
 
 abbrev pub due_after : Notes → List Event → List Event → List Receipt
 due_after note past [] = []

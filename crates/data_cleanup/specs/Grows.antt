@@ -16,7 +16,8 @@ with_births live (b ∷ bs) = with_births (with_datum live (datum_of b)) bs
 -- the data that some births replace, each with the id of the birth that does
 abbrev pub replacements : List PlainDatum → List Birth → List (PlainDatum × ℕ)
 replacements live [] = []
-replacements live (b ∷ bs) = map (λ (d : PlainDatum). (d, b.id)) (data_named live b.name) ++ replacements (with_datum live (datum_of b)) bs
+replacements live (b ∷ bs) = map (λ (d : PlainDatum). (d, b.id)) (data_named live b.name)
+    ++ replacements (with_datum live (datum_of b)) bs
 
 -- the receipt of a replaced datum, filed after the birth that replaced it
 pub record IsSwept (note : Notes) (limit : ℕ) (r : PlainDatum × ℕ) (f : Filed) : Type 0 where
@@ -39,7 +40,8 @@ pub record IsOf (modules handle : ℕ) (b : Birth) : Type 0 where
   pub owner_is : b.owner < modules
 
 -- Data of the list's transaction were set, and those that they replaced have their receipts.
-pub record Grows (note : Notes) (modules : ℕ) (old : PlainDataList) (before : PlainLedger) (new : PlainDataList) (after : PlainLedger) : Type 0 where
+pub record Grows (note : Notes) (modules : ℕ) (old : PlainDataList) (before : PlainLedger)
+    (new : PlainDataList) (after : PlainLedger) : Type 0 where
   pub added : List Birth
   pub receipts : List Filed
   pub births : after.births ≡ before.births ++ added

@@ -11,7 +11,8 @@ pub record IsBy (handle owner : ℕ) (b : Birth) : Type 0 where
   pub owner_is : b.owner ≡ owner
 
 -- The module with this number set some data of the list's transaction, and nothing was filed.
-pub record Sets (owner : ℕ) (old : PlainDataList) (before : PlainLedger) (new : PlainDataList) (after : PlainLedger) : Type 0 where
+pub record Sets (owner : ℕ) (old : PlainDataList) (before : PlainLedger) (new : PlainDataList)
+    (after : PlainLedger) : Type 0 where
   pub added : List Birth
   pub births : after.births ≡ before.births ++ added
   pub each : AllByRecursion (IsBy old.handle owner) added

@@ -10,13 +10,16 @@ use Rattle.data_cleanup.specs.declared.receipt.Filed.{Filed}
 -- mark, the status says that the datum was replaced.
 pub record IsReceiptOf (note : Notes) (births : List Birth) (b : Birth) (f : Filed) : Type 0 where
   pub by_owner : f.receipt.note ≡ note b.owner b.payload f.receipt.status
-  pub due_status : AllByRecursion (λ (later : Birth). b.id < later.id → later.id < f.mark → later.handle ≡ b.handle → later.name ≡ b.name → f.receipt.status ≡ data_replace) births
+  pub due_status : AllByRecursion (λ (later : Birth).
+      b.id < later.id → later.id < f.mark → later.handle ≡ b.handle → later.name ≡ b.name
+      → f.receipt.status ≡ data_replace) births
 
 -- the receipt of a birth below its mark
 pub record IsTidy (note : Notes) (births : List Birth) (f : Filed) : Type 0 where
   pub below : f.receipt.id < f.mark
   pub within : f.mark ≤ length births
-  pub is_of : AllByRecursion (λ (b : Birth). b.id ≡ f.receipt.id → IsReceiptOf note births b f) births
+  pub is_of : AllByRecursion (λ (b : Birth). b.id ≡ f.receipt.id → IsReceiptOf note births b f)
+      births
 
 -- Each birth's id is its place, no id is filed twice, and each receipt is tidy.
 pub record Tidy (note : Notes) (ledger : PlainLedger) : Type 0 where

@@ -20,4 +20,9 @@ abbrev pub replaced_data : List PlainDatum → List Birth → List PlainDatum
 replaced_data live births = map (λ (r : PlainDatum × ℕ). r.0) (replacements live births)
 
 abbrev pub receipts : Notes → ℕ → List PlainDatum → List Receipt
-receipts note status ds = map (λ (d : PlainDatum). record { id = d.id; status = status; note = note d.owner d.payload status }) ds
+receipts note status ds =
+    map (λ (d : PlainDatum). record {
+      id = d.id;
+      status = status;
+      note = note d.owner d.payload status;
+    }) ds

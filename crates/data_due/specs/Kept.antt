@@ -12,11 +12,13 @@ use Rattle.data_due.specs.Stands.{EachOnce, Lists, clean_list}
 pub record IsOfHandle (modules handle : ℕ) (births : List Birth) (d : PlainDatum) : Type 0 where
   pub below : d.id < length births
   pub owner : d.owner < modules
-  pub is : AllByRecursion (λ (b : Birth). b.id ≡ d.id → (datum_of b ≡ d) × (b.handle ≡ handle)) births
+  pub is : AllByRecursion (λ (b : Birth). b.id ≡ d.id → (datum_of b ≡ d)
+      × (b.handle ≡ handle)) births
 
 -- The births without a receipt are exactly the data in the lists, each in the list of its own transaction, and
 -- nothing waits for its cleanup.
 pub record AreHeld (modules limit : ℕ) (ledger : PlainLedger) (lists : Lists) : Type 0 where
   pub once : EachOnce limit ledger (λ (handle : ℕ). (lists handle).live)
-  pub each : (handle : ℕ) → AllByRecursion (IsOfHandle modules handle ledger.births) (lists handle).live
+  pub each : (handle : ℕ)
+      → AllByRecursion (IsOfHandle modules handle ledger.births) (lists handle).live
   pub clean : (handle : ℕ) → lists handle ≡ clean_list handle (lists handle).live

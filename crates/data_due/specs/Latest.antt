@@ -8,8 +8,10 @@ use Rattle.data_cleanup.specs.declared.datum.Birth.{Birth}
 -- a datum of a transaction: its birth, which no later one of its name replaced
 pub record IsLatest (handle : ℕ) (births : List Birth) (d : PlainDatum) : Type 0 where
   pub below : d.id < length births
-  pub is : AllByRecursion (λ (b : Birth). b.id ≡ d.id → (datum_of b ≡ d) × (b.handle ≡ handle)) births
-  pub latest : AllByRecursion (λ (c : Birth). d.id < c.id → c.handle ≡ handle → c.name ≡ d.name → ⊥) births
+  pub is : AllByRecursion (λ (b : Birth). b.id ≡ d.id → (datum_of b ≡ d)
+      × (b.handle ≡ handle)) births
+  pub latest : AllByRecursion (λ (c : Birth). d.id < c.id → c.handle ≡ handle → c.name
+      ≡ d.name → ⊥) births
 
 -- every datum of a list is
 abbrev pub AreLatest : List Birth → PlainDataList → Type 0

@@ -7,7 +7,9 @@ use Rattle.data_cleanup.specs.declared.datum.Birth.{Birth}
 use Rattle.data_due.specs.Stands.{Lists, StandFor}
 
 -- Whatever they stood for, they stand for it and then the births that were added, in order, and then what ended.
-pub record Moves (note : Notes) (limit : ℕ) (ended : List Event) (before : PlainLedger) (lists : Lists) (after : PlainLedger) (next : Lists) : Type 0 where
+pub record Moves (note : Notes) (limit : ℕ) (ended : List Event) (before : PlainLedger)
+    (lists : Lists) (after : PlainLedger) (next : Lists) : Type 0 where
   pub added : List Birth
   pub births : after.births ≡ before.births ++ added
-  pub stand : (events : List Event) → StandFor note limit before lists events → StandFor note limit after next (events ++ (map birth added ++ ended))
+  pub stand : (events : List Event) → StandFor note limit before lists events
+      → StandFor note limit after next (events ++ (map birth added ++ ended))

@@ -40,11 +40,13 @@ times_held (suc limit) id data_of = times_held limit id data_of + times id (data
 
 -- What was born has one receipt, or stands once in one list; and nothing else has or does.
 abbrev pub EachOnce : ℕ → PlainLedger → (ℕ → List PlainDatum) → Type 0
-EachOnce limit ledger data_of = (id : ℕ) → times_filed id (receipts_in ledger.filed) + times_held limit id data_of ≡ (if nat_lt id (length ledger.births) then 1 else 0)
+EachOnce limit ledger data_of = (id : ℕ) → times_filed id (receipts_in ledger.filed)
+    + times_held limit id data_of ≡ (if nat_lt id (length ledger.births) then 1 else 0)
 
 -- The ledger and the lists of the transactions, whose numbers are below a limit, are those of these events. A
 -- transaction that is closed has no data.
-pub record StandFor (note : Notes) (limit : ℕ) (ledger : PlainLedger) (lists : Lists) (events : List Event) : Type 0 where
+pub record StandFor (note : Notes) (limit : ℕ) (ledger : PlainLedger) (lists : Lists)
+    (events : List Event) : Type 0 where
   pub births : ledger.births ≡ births_of events
   pub receipts : receipts_in ledger.filed ≡ due note events
   pub tidy : Tidy note ledger

@@ -7,7 +7,8 @@ use Rattle.pam_room.specs.Stays.{Stays}
 use Rattle.pam_room.specs.declared.visits.Visit.{Visit}
 
 -- what modules may not change stays, visits are only added, and the data and the ledger grow
-pub record GoesSoundly (note : Notes) (modules : ℕ) (old new : PlainTransaction) (before after : PlainProcess) : Type 0 where
+pub record GoesSoundly (note : Notes) (modules : ℕ) (old new : PlainTransaction)
+    (before after : PlainProcess) : Type 0 where
   pub stays : Stays old new before after
   pub trail : (more : List Visit) × (new.trail ≡ old.trail ++ more)
   pub grows : Grows note modules old.datums before.ledger new.datums after.ledger

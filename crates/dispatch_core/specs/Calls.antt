@@ -1,4 +1,5 @@
--- The passes of the six calls that run a stack, whatever its lines answer by: which stacks they go over, what they keep and
+-- The passes of the six calls that run a stack, whatever its lines answer by: which stacks they go over, what they
+-- keep and
 -- follow, how they are put off and go on (the Module Writers' Guide; putting off is this project's own).
 use Rattle.std.specs.Prelude.{Bool, true, false, List, [], Option, Some, None}
 use Rattle.pam_base.specs.declared.code.Code.{Code}
@@ -31,7 +32,8 @@ abbrev pub following : Option KeptAnswers → PassKind
 following None = kinds.Loose
 following (Some kept) = kinds.Follow
 
--- what a transaction holds between its calls: what the last authentication and the last opening of a session kept, and the
+-- what a transaction holds between its calls: what the last authentication and the last opening of a session kept,
+-- and the
 -- call that is pending
 pub record Held : Type 0 where
   pub authenticated : Option KeptAnswers
@@ -39,7 +41,11 @@ pub record Held : Type 0 where
   pub pending : Option Pending
 
 abbrev pub held : Option KeptAnswers → Option KeptAnswers → Option Pending → Held
-held authenticated opened pending = record { authenticated = authenticated; opened = opened; pending = pending }
+held authenticated opened pending = record {
+  authenticated = authenticated;
+  opened = opened;
+  pending = pending;
+}
 
 abbrev pub nothing_held : Held
 nothing_held = held None None None
@@ -51,16 +57,26 @@ pub record Passed (State : Type 0) : Type 0 where
   pub paused : Option (List Code)
   pub state : State
 
-abbrev pub passed_by : {State : Type 0} → PassKind → Option KeptAnswers → Walked (PassState State) → Passed State
-passed_by kind kept w = record { code = code_of w; kept = kept_behind kind w.state.visits kept; paused = paused_after w; state = w.state.state }
+abbrev pub passed_by : {State : Type 0} → PassKind → Option KeptAnswers → Walked (PassState State)
+    → Passed State
+passed_by kind kept w = record {
+  code = code_of w;
+  kept = kept_behind kind w.state.visits kept;
+  paused = paused_after w;
+  state = w.state.state;
+}
 
--- what is held behind a pass of a call: what an authentication and an opening of a session keep, and those that follow them leave, and
+-- what is held behind a pass of a call: what an authentication and an opening of a session keep, and those that
+-- follow them leave, and
 -- the call, where it was put off; `first` is what the first pass of a change of token kept, where this is its second
 abbrev pub held_behind : {State : Type 0} → Func → Option KeptAnswers → Passed State → Held → Held
-held_behind Authenticate first p h = held p.kept h.opened (pending_behind Authenticate first p.paused)
+held_behind Authenticate first p h =
+    held p.kept h.opened (pending_behind Authenticate first p.paused)
 held_behind SetCred first p h = held p.kept h.opened (pending_behind SetCred first p.paused)
-held_behind OpenSession first p h = held h.authenticated p.kept (pending_behind OpenSession first p.paused)
-held_behind CloseSession first p h = held h.authenticated p.kept (pending_behind CloseSession first p.paused)
+held_behind OpenSession first p h =
+    held h.authenticated p.kept (pending_behind OpenSession first p.paused)
+held_behind CloseSession first p h =
+    held h.authenticated p.kept (pending_behind CloseSession first p.paused)
 held_behind func first p h = held h.authenticated h.opened (pending_behind func first p.paused)
 
 -- what a call came to
@@ -77,17 +93,24 @@ abbrev pub Asking : Type 0 → Type 0
 Asking State = Func → Bool → Answering State
 
 module _ {State : Type 0} (asking : Asking State) (stacks : Stacks) where
-  abbrev pub passes : Func → Bool → PassKind → Option KeptAnswers → Stack → List Code → State → Passed State
-  passes func second kind kept stack past s = passed_by kind kept (pass_after kind (answers_held kept) (asking func second) stack past s)
+  abbrev pub passes : Func → Bool → PassKind → Option KeptAnswers → Stack → List Code → State
+      → Passed State
+  passes func second kind kept stack past s =
+      passed_by kind kept (pass_after kind (answers_held kept) (asking func second) stack past s)
 
-  -- the first pass of a call, after the answers that it was given in its earlier calls: over which stack, of which kind, and by
+  -- the first pass of a call, after the answers that it was given in its earlier calls: over which stack, of which
+  -- kind, and by
   -- which kept answers
   abbrev pub first_pass : Func → List Code → Held → State → Passed State
-  first_pass Authenticate past h s = passes Authenticate false kinds.Keep h.authenticated stacks.auth past s
-  first_pass SetCred past h s = passes SetCred false (following h.authenticated) h.authenticated stacks.auth past s
+  first_pass Authenticate past h s =
+      passes Authenticate false kinds.Keep h.authenticated stacks.auth past s
+  first_pass SetCred past h s =
+      passes SetCred false (following h.authenticated) h.authenticated stacks.auth past s
   first_pass AcctMgmt past h s = passes AcctMgmt false kinds.Keep None stacks.account past s
-  first_pass OpenSession past h s = passes OpenSession false kinds.Keep h.opened stacks.session past s
-  first_pass CloseSession past h s = passes CloseSession false (following h.opened) h.opened stacks.session past s
+  first_pass OpenSession past h s =
+      passes OpenSession false kinds.Keep h.opened stacks.session past s
+  first_pass CloseSession past h s =
+      passes CloseSession false (following h.opened) h.opened stacks.session past s
   first_pass ChAuthTok past h s = passes ChAuthTok false kinds.Keep None stacks.password past s
 
   -- the second pass of a change of token, which follows the first

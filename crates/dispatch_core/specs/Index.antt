@@ -18,9 +18,11 @@ passed (after n) left = n
 passed stop left = left
 
 -- with so many lines at the front passed over
-abbrev pub run : {State : Type 0} → PassKind → Serving State → List FlatLine → ℕ → ℕ → Entries → Opinion → State → Walked State
+abbrev pub run : {State : Type 0} → PassKind → Serving State → List FlatLine → ℕ → ℕ → Entries
+    → Opinion → State → Walked State
 run kind serve [] skip at entries opinion state = walked opinion state
-run kind serve (line ∷ lines) (suc skip) at entries opinion state = run kind serve lines skip (at + 1) entries opinion state
+run kind serve (line ∷ lines) (suc skip) at entries opinion state =
+    run kind serve lines skip (at + 1) entries opinion state
 run kind serve (line ∷ lines) zero at entries opinion state =
     let now = entered line.level line.opens opinion entries in
     let served = serve line.rule at state in
@@ -28,31 +30,43 @@ run kind serve (line ∷ lines) zero at entries opinion state =
     let left = count line.rest in
     let new = acted kind action served.answer served.deciding (now line.level) opinion in
     if served.stopped then halted opinion served.state
-    else run kind serve lines (lines_in_first (passed (next_of action left new) left) line.rest) (at + 1) now (settled action left new) served.state
+    else run kind serve lines (lines_in_first (passed (next_of action left new) left) line.rest) (at
+    + 1) now (settled action left new) served.state
 
 -- from an index on
-abbrev pub run_from : {State : Type 0} → PassKind → Serving State → Stack → ℕ → Entries → Opinion → State → Walked State
-run_from kind serve stack i entries opinion state = run kind serve (drop i (flat_lines 0 0 stack)) 0 (i + 1) entries opinion state
+abbrev pub run_from : {State : Type 0} → PassKind → Serving State → Stack → ℕ → Entries → Opinion
+    → State → Walked State
+run_from kind serve stack i entries opinion state =
+    run kind serve (drop i (flat_lines 0 0 stack)) 0 (i + 1) entries opinion state
 
 -- from where a walker is
-abbrev pub walk_on : {State : Type 0} → PassKind → Serving State → Stack → Walker → State → Walked State
-walk_on kind serve stack walker state = run_from kind serve stack walker.at (entry_at walker.entries) walker.opinion state
+abbrev pub walk_on : {State : Type 0} → PassKind → Serving State → Stack → Walker → State
+    → Walked State
+walk_on kind serve stack walker state =
+    run_from kind serve stack walker.at (entry_at walker.entries) walker.opinion state
 
 -- a line stands at an index
 abbrev pub Stands : Stack → ℕ → FlatLine → Type 0
 Stands stack i line = drop i (flat_lines 0 0 stack) ≡ line ∷ drop (i + 1) (flat_lines 0 0 stack)
 
 -- where a list goes on behind its line of index i, of which `rest` is left
-pub record LeadsTo (action : Action) (rest : Stack) (new : Opinion) (i : ℕ) (opinion : Opinion) (next : ℕ) : Type 0 where
+pub record LeadsTo (action : Action) (rest : Stack) (new : Opinion) (i : ℕ) (opinion : Opinion)
+    (next : ℕ) : Type 0 where
   pub opinion_is : opinion ≡ settled action (count rest) new
-  pub next_is : next ≡ i + 1 + lines_in_first (passed (next_of action (count rest) new) (count rest)) rest
+  pub next_is : next ≡ i + 1
+      + lines_in_first (passed (next_of action (count rest) new) (count rest)) rest
 
 -- the opinion that the action of a line comes to
 abbrev pub opinion_after : PassKind → FlatLine → Code → Code → Walker → Opinion
 opinion_after kind line answer deciding walker =
-    acted kind (action_at line.rule.control deciding) answer deciding (entered line.level line.opens walker.opinion (entry_at walker.entries) line.level) walker.opinion
+    acted kind (action_at line.rule.control deciding) answer deciding
+    (entered line.level line.opens walker.opinion (entry_at walker.entries) line.level)
+    walker.opinion
 
 -- a walker acts on its line, which has answered
-pub record GoesOn (kind : PassKind) (line : FlatLine) (answer deciding : Code) (old new : Walker) : Type 0 where
-  pub entries : (k : ℕ) → entry_at new.entries k ≡ entered line.level line.opens old.opinion (entry_at old.entries) k
-  pub leads : LeadsTo (action_at line.rule.control deciding) line.rest (opinion_after kind line answer deciding old) old.at new.opinion new.at
+pub record GoesOn (kind : PassKind) (line : FlatLine) (answer deciding : Code)
+    (old new : Walker) : Type 0 where
+  pub entries : (k : ℕ) → entry_at new.entries k
+      ≡ entered line.level line.opens old.opinion (entry_at old.entries) k
+  pub leads : LeadsTo (action_at line.rule.control deciding) line.rest
+      (opinion_after kind line answer deciding old) old.at new.opinion new.at

@@ -19,5 +19,6 @@ call_of func flags rule = record { func = func; flags = flags; args = rule.args 
 -- the line of a rule at a place is visited: the first player that its path names serves the call
 abbrev pub answers_by : List Player → Func → ℕ → Answering State
 answers_by players func flags rule place s =
-    let a = serve_line players (module_of (names_of players) rule) place rule.path (call_of func flags rule) s in
+    let a = serve_line players (module_of (names_of players) rule) place rule.path
+    (call_of func flags rule) s in
     record { answer = a.answer; state = a.state }

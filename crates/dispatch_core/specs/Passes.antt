@@ -43,7 +43,8 @@ IsAhead None old new = Unit {0}
 IsAhead (Some answer) old new = old.at < new.at
 
 -- what is left of a pass behind a turn
-abbrev pub turned : {State : Type 0} → PassKind → Serving State → Stack → Option Code → Opinion → Walker → State → Walked State
+abbrev pub turned : {State : Type 0} → PassKind → Serving State → Stack → Option Code → Opinion
+    → Walker → State → Walked State
 turned kind serve stack None opinion walker state = halted opinion state
 turned kind serve stack (Some answer) opinion walker state = walk_on kind serve stack walker state
 
@@ -62,7 +63,8 @@ abbrev pub KeepsAll : Answers → List Visit → Type 0
 KeepsAll kept visits = (is_some kept ≡ true) × Keeps kept visits
 
 -- what a walk over all lines gave, kept and took is that of a walk
-pub record WalksAs {State : Type 0} (w : Walked (PassState State)) (ended : Option Code) (kept : Answers) (given : GivenView) (state : State) : Type 0 where
+pub record WalksAs {State : Type 0} (w : Walked (PassState State)) (ended : Option Code)
+    (kept : Answers) (given : GivenView) (state : State) : Type 0 where
   pub end_is : ended ≡ end_of w
   pub kept_is : is_some kept ≡ true → Keeps kept w.state.visits
   pub taken_is : given.taken ≡ answers_of w.state.visits
@@ -73,7 +75,8 @@ abbrev pub paused_after : {State : Type 0} → Walked (PassState State) → Opti
 paused_after w = if w.stopped then Some (answers_of w.state.visits) else None
 
 -- a code, the answers kept in a pass that keeps, what is paused and a state are those of a walk
-pub record PassesAs {State : Type 0} (kind : PassKind) (w : Walked (PassState State)) (code : Code) (kept : Answers) (paused : Option (List Code)) (state : State) : Type 0 where
+pub record PassesAs {State : Type 0} (kind : PassKind) (w : Walked (PassState State)) (code : Code)
+    (kept : Answers) (paused : Option (List Code)) (state : State) : Type 0 where
   pub code_is : code ≡ code_of w
   pub kept_is : kind ≡ kinds.Keep → KeepsAll kept w.state.visits
   pub paused_is : paused ≡ paused_after w
@@ -97,7 +100,9 @@ kept_behind kinds.Follow answered keeps old = old
 kept_behind kinds.Loose answered keeps old = if answered then None else old
 
 -- a code, what is kept, what is paused and a state are those of a pass
-pub record LeavesAs {State : Type 0} (kind : PassKind) (w : Walked (PassState State)) (before : Answers) (code : Code) (kept : Answers) (paused : Option (List Code)) (state : State) : Type 0 where
+pub record LeavesAs {State : Type 0} (kind : PassKind) (w : Walked (PassState State))
+    (before : Answers) (code : Code) (kept : Answers) (paused : Option (List Code))
+    (state : State) : Type 0 where
   pub code_is : code ≡ code_of w
   pub kept_is : KeepsAfter kind w.state.visits before kept
   pub paused_is : paused ≡ paused_after w

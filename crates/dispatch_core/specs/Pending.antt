@@ -5,7 +5,8 @@ use Rattle.pam_base.specs.declared.call.Func.{Func}
 use Rattle.pam_base.specs.declared.call.Func.TheVariants.{Authenticate, SetCred, AcctMgmt, OpenSession, CloseSession, ChAuthTok}
 use Rattle.stack_walk.specs.Route.{KeptAnswers}
 
--- a stack call that was put off: its function, the answers that were given in the pass that was put off, and where that is the
+-- a stack call that was put off: its function, the answers that were given in the pass that was put off, and where
+-- that is the
 -- second pass of a change of token, the answers that the first one kept
 pub record Pending : Type 0 where
   pub func : Func
@@ -26,7 +27,8 @@ abbrev pub pending_func : Option Pending → Option Func
 pending_func None = None
 pending_func (Some p) = Some p.func
 
--- the answers that the call that is pending was given, and those of the first pass of a change of token; none where nothing is pending
+-- the answers that the call that is pending was given, and those of the first pass of a change of token; none where
+-- nothing is pending
 abbrev pub past_in : Option Pending → List Code
 past_in None = []
 past_in (Some p) = p.past

@@ -22,15 +22,20 @@ is_odd k = nat_eq (k % 2) 1
 -- the lines of a file; behind those of an odd one the file after it is a substack, where there is one
 abbrev pub text_of : ℕ → ℕ → ℕ → List ℕ
 text_of seed lines k =
-    drawn_lines seed (32 * (k - 1)) (min (32 * k) lines - 32 * (k - 1)) ++ (if is_odd k && nat_lt k (count_of lines) then substack_line (k + 1) else [])
+    drawn_lines seed (32 * (k - 1)) (min (32 * k) lines - 32 * (k - 1))
+    ++ (if is_odd k && nat_lt k (count_of lines) then substack_line (k + 1) else [])
 
 abbrev pub drawn_file : ℕ → ℕ → ℕ → DrawnFile
 drawn_file seed lines k = record { name = name_of k; text = text_of seed lines k }
 
 -- the service, with each odd file as a substack
 abbrev pub service : ℕ → DrawnFile
-service count = record { name = codes "gen"; text = flat_map substack_line (filter is_odd (range_with_len 1 count)) }
+service count = record {
+  name = codes "gen";
+  text = flat_map substack_line (filter is_odd (range_with_len 1 count));
+}
 
 -- all files in their order, and the service behind them
 abbrev pub drawn_files : ℕ → ℕ → List DrawnFile
-drawn_files seed lines = map (drawn_file seed lines) (range_with_len 1 (count_of lines)) ++ service (count_of lines) ∷ []
+drawn_files seed lines = map (drawn_file seed lines) (range_with_len 1 (count_of lines))
+    ++ service (count_of lines) ∷ []

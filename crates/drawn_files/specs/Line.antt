@@ -5,7 +5,8 @@ use Rattle.drawn_files.specs.Draws.{draw}
 
 -- what is done at SUCCESS, what is done at any other code, and what the module answers
 abbrev pub success_words : List (List ℕ)
-success_words = codes "ok" ∷ codes "ok" ∷ codes "done" ∷ codes "ignore" ∷ codes "reset" ∷ codes "1" ∷ codes "2" ∷ codes "3" ∷ []
+success_words = codes "ok" ∷ codes "ok" ∷ codes "done" ∷ codes "ignore" ∷ codes "reset" ∷ codes "1"
+    ∷ codes "2" ∷ codes "3" ∷ []
 
 abbrev pub default_words : List (List ℕ)
 default_words = codes "ignore" ∷ codes "bad" ∷ codes "die" ∷ codes "reset" ∷ []
@@ -19,11 +20,14 @@ picked words n = get_or words (n % length words) []
 
 abbrev pub line_text : List ℕ → List ℕ → List ℕ → List ℕ
 line_text success default answer =
-    codes "auth [success=" ++ (success ++ (codes " new_authtok_reqd=ok default=" ++ (default ++ (codes "] pam_debug.so auth=" ++ (answer ++ codes "\n")))))
+    codes "auth [success="
+    ++ (success ++ (codes " new_authtok_reqd=ok default="
+    ++ (default ++ (codes "] pam_debug.so auth=" ++ (answer ++ codes "\n")))))
 
 -- the line that has so many before it, by three draws
 abbrev pub drawn_line : ℕ → ℕ → List ℕ
-drawn_line seed n = line_text (picked success_words (draw seed (3 * n))) (picked default_words (draw seed (3 * n + 1))) (picked answer_words (draw seed (3 * n + 2)))
+drawn_line seed n = line_text (picked success_words (draw seed (3 * n)))
+    (picked default_words (draw seed (3 * n + 1))) (picked answer_words (draw seed (3 * n + 2)))
 
 -- count lines, of which the first has so many before it
 abbrev pub drawn_lines : ℕ → ℕ → ℕ → List ℕ

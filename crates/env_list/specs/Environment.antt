@@ -27,7 +27,8 @@ value_of name variables = option_map (λ variable. variable.value) (find (is_nam
 abbrev pub with_value : List ℕ → List ℕ → List Variable → List Variable
 with_value name value variables =
     if is_set name variables
-    then map (λ variable. if is_named name variable then record variable { value = value } else variable) variables
+    then map (λ variable. if is_named name variable then record variable { value = value }
+    else variable) variables
     else variables ++ record { name = name; value = value } ∷ []
 
 -- the variables without a name
@@ -56,8 +57,10 @@ is_deletion text = not (has_byte 61 text)
 
 -- a text is refused where its name is empty, or where it deletes a name that isn't set
 abbrev pub is_refused : List ℕ → List Variable → Bool
-is_refused text variables = length (name_in text) == 0 || (is_deletion text && not (is_set (name_in text) variables))
+is_refused text variables = length (name_in text) == 0
+    || (is_deletion text && not (is_set (name_in text) variables))
 
 -- the variables after a text that isn't refused
 abbrev pub after_put : List ℕ → List Variable → List Variable
-after_put text variables = if is_deletion text then without (name_in text) variables else with_value (name_in text) (value_in text) variables
+after_put text variables = if is_deletion text then without (name_in text) variables
+    else with_value (name_in text) (value_in text) variables

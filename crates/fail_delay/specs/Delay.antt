@@ -1,4 +1,5 @@
--- The delay that is asked for, pam_fail_delay(3): the longest of the requests, spread at random about it. The bounds, and
+-- The delay that is asked for, pam_fail_delay(3): the longest of the requests, spread at random about it. The bounds,
+-- and
 -- how far and by which word it is spread, are this project's own.
 use Rattle.std.specs.Prelude.{ℕ, ◌+◌, ◌-◌, ◌*◌, ◌/◌, ◌%◌, List, [], ◌∷◌, max, min, nat_le, ◌==◌, if◌then◌else◌}
 
@@ -13,8 +14,10 @@ longest_of (micros ∷ requests) = max (counted_request micros) (longest_of requ
 
 -- a longest request spread by a random word: the remainders up to its half lengthen it, the others shorten it
 abbrev pub spread : ℕ → ℕ → ℕ → ℕ
-spread longest half remainder = if nat_le remainder half then longest + remainder else longest - (remainder - half)
+spread longest half remainder = if nat_le remainder half then longest + remainder
+    else longest - (remainder - half)
 
 -- the delay that is asked for
 abbrev pub asked_delay : ℕ → ℕ → ℕ
-asked_delay longest word = if longest == 0 then 0 else spread longest (longest / 2) (word % (2 * (longest / 2) + 1))
+asked_delay longest word = if longest == 0 then 0
+    else spread longest (longest / 2) (word % (2 * (longest / 2) + 1))

@@ -6,4 +6,5 @@ use Rattle.pam_room.specs.Module.{Plays, answered}
 
 -- it wants PAM_ESTABLISH_CRED
 abbrev pub establisher_plays : Plays
-establisher_plays call room held sight = answered (if has_flag call.flags 2 then returns.Success else returns.CredErr) room sight
+establisher_plays call room held sight =
+    answered (if has_flag call.flags 2 then returns.Success else returns.CredErr) room sight

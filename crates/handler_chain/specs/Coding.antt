@@ -22,18 +22,27 @@ abbrev pub first_made : List Stack → Stack
 first_made [] = none
 first_made (stack ∷ made) = stack
 
-pub build-words : (stack : Stack) (more : List (Option (Option Rule))) (made : List Stack) → build (words stack ++ more) made ≡ build more (stack ∷ made)
+pub build-words : (stack : Stack) (more : List (Option (Option Rule))) (made : List Stack)
+    → build (words stack ++ more) made ≡ build more (stack ∷ made)
 build-words none more made = refl
 build-words (line rule rest) more made =
-    ap (λ (ws : List (Option (Option Rule))). build ws made) (append_assoc (words rest) (Some (Some rule) ∷ []) more) ∙ build-words rest (Some (Some rule) ∷ more) made
+    ap (λ (ws : List (Option (Option Rule))). build ws made)
+    (append_assoc (words rest) (Some (Some rule) ∷ []) more)
+    ∙ build-words rest (Some (Some rule) ∷ more) made
 build-words (sub inner rest) more made =
-    ap (λ (ws : List (Option (Option Rule))). build ws made) (append_assoc (words inner) (words rest ++ Some None ∷ []) more)
+    ap (λ (ws : List (Option (Option Rule))). build ws made)
+    (append_assoc (words inner) (words rest ++ Some None ∷ []) more)
     ∙ build-words inner ((words rest ++ Some None ∷ []) ++ more) made
-    ∙ ap (λ (ws : List (Option (Option Rule))). build ws (inner ∷ made)) (append_assoc (words rest) (Some None ∷ []) more)
+    ∙ ap (λ (ws : List (Option (Option Rule))). build ws (inner ∷ made))
+    (append_assoc (words rest) (Some None ∷ []) more)
     ∙ build-words rest (Some None ∷ more) (inner ∷ made)
 
 pub made-words : (stack : Stack) → first_made (build (words stack) []) ≡ stack
-made-words stack = ap (λ (ws : List (Option (Option Rule))). first_made (build ws [])) (sym (append-nil (words stack))) ∙ ap first_made (build-words stack [] [])
+made-words stack = ap (λ (ws : List (Option (Option Rule))).
+    first_made (build ws [])) (sym (append-nil (words stack)))
+    ∙ ap first_made (build-words stack [] [])
 
 abbrev pub stack_code : Coded Rule → Coded Stack
-stack_code rule = code_by (List (Option (Option Rule))) (coded_list (coded_option (coded_option rule))) words (λ ws. first_made (build ws [])) made-words
+stack_code rule = code_by (List (Option (Option Rule)))
+    (coded_list (coded_option (coded_option rule))) words (λ ws.
+    first_made (build ws [])) made-words

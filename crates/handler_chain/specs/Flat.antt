@@ -7,10 +7,12 @@ use Rattle.handler_chain.specs.FlatLines.{FlatLine, module_of, flat_lines, lines
 -- from an index on, positions hold the positions between the nodes of a list whose first line has the index `first`
 pub record IsBlock (positions : List ℕ) (start first : ℕ) (stack : Stack) : Type 0 where
   pub room : start + count stack < length positions
-  pub placed : (n : ℕ) → n ≤ count stack → get_or positions (start + n) 0 ≡ first + lines_in_first n stack
+  pub placed : (n : ℕ) → n ≤ count stack → get_or positions (start + n) 0
+      ≡ first + lines_in_first n stack
 
 -- a line of a chain is that of index i
-pub record IsChainLine (names : List (List ℕ)) (positions : List ℕ) (i : ℕ) (flat_line : FlatLine) (line : ChainLine) : Type 0 where
+pub record IsChainLine (names : List (List ℕ)) (positions : List ℕ) (i : ℕ) (flat_line : FlatLine)
+    (line : ChainLine) : Type 0 where
   pub rule : line.rule ≡ flat_line.rule
   pub module_number : line.module_number ≡ module_of names flat_line.rule
   pub level : line.level ≡ flat_line.level
@@ -21,11 +23,13 @@ pub record IsChainLine (names : List (List ℕ)) (positions : List ℕ) (i : ℕ
 -- so are all, from index i on
 abbrev pub AreLines : List (List ℕ) → List ℕ → ℕ → List FlatLine → List ChainLine → Type 0
 AreLines names positions i [] [] = Unit {0}
-AreLines names positions i (s ∷ ss) (e ∷ es) = IsChainLine names positions i s e × AreLines names positions (i + 1) ss es
+AreLines names positions i (s ∷ ss) (e ∷ es) = IsChainLine names positions i s e
+    × AreLines names positions (i + 1) ss es
 AreLines names positions i [] (e ∷ es) = ⊥
 AreLines names positions i (s ∷ ss) [] = ⊥
 
-pub record IsFlat (stack : Stack) (names : List (List ℕ)) (lines : List ChainLine) (positions : List ℕ) : Type 0 where
+pub record IsFlat (stack : Stack) (names : List (List ℕ)) (lines : List ChainLine)
+    (positions : List ℕ) : Type 0 where
   pub are : AreLines names positions 0 (flat_lines 0 0 stack) lines
   pub few : lines_in stack ≤ 4096
   pub shallow : depth stack ≤ 16
@@ -34,10 +38,12 @@ pub record IsFlat (stack : Stack) (names : List (List ℕ)) (lines : List ChainL
 abbrev pub positions_behind : ℕ → Stack → List ℕ
 positions_behind first none = []
 positions_behind first (line rule rest) = (first + 1) ∷ positions_behind (first + 1) rest
-positions_behind first (sub inner rest) = (first + lines_in inner) ∷ positions_behind (first + lines_in inner) rest
+positions_behind first (sub inner rest) = (first + lines_in inner)
+    ∷ positions_behind (first + lines_in inner) rest
 
 -- the lines of a list were added to lines and positions
-pub record AddsList (names : List (List ℕ)) (level opens : ℕ) (stack : Stack) (old new : List ChainLine) (before after : List ℕ) : Type 0 where
+pub record AddsList (names : List (List ℕ)) (level opens : ℕ) (stack : Stack)
+    (old new : List ChainLine) (before after : List ℕ) : Type 0 where
   pub more : List ChainLine
   pub added : new ≡ old ++ more
   pub positions : List ℕ

@@ -24,7 +24,8 @@ pending (suc lines) opens = 0
 abbrev pub flat_lines : ℕ → ℕ → Stack → List FlatLine
 flat_lines level opens none = []
 flat_lines level opens (line rule rest) = flat_line rule level opens rest ∷ flat_lines level 0 rest
-flat_lines level opens (sub inner rest) = flat_lines (level + 1) (opens + 1) inner ++ flat_lines level (pending (lines_in inner) opens) rest
+flat_lines level opens (sub inner rest) = flat_lines (level + 1) (opens + 1) inner
+    ++ flat_lines level (pending (lines_in inner) opens) rest
 
 -- how many lines stand in the first n nodes of a list
 abbrev pub lines_in_first : ℕ → Stack → ℕ
@@ -58,7 +59,8 @@ opens_at = at_line 0 (λ l. l.opens)
 -- the number of the first of several names that is this one, where the first of them has the number i
 abbrev pub number_of_name : List ℕ → ℕ → List (List ℕ) → Option ℕ
 number_of_name wanted i [] = None
-number_of_name wanted i (name ∷ names) = if bytes_eq name wanted then Some i else number_of_name wanted (i + 1) names
+number_of_name wanted i (name ∷ names) = if bytes_eq name wanted then Some i
+    else number_of_name wanted (i + 1) names
 
 abbrev pub module_of : List (List ℕ) → Rule → Option ℕ
 module_of names rule = number_of_name (name_of_module rule.path) 0 names
@@ -72,4 +74,5 @@ end_at stack i = at_line 0 (λ l. i + 1 + lines_in l.rest) stack i
 
 -- the index of the position behind the n nodes that follow the line in its list, where there are so many
 abbrev pub target_at : Stack → ℕ → ℕ → Option ℕ
-target_at stack i n = at_line None (λ l. if nat_le n (count l.rest) then Some (i + 1 + lines_in_first n l.rest) else None) stack i
+target_at stack i n = at_line None (λ l. if nat_le n (count l.rest)
+    then Some (i + 1 + lines_in_first n l.rest) else None) stack i

@@ -17,4 +17,5 @@ refused_items ModuleGets = Conv ∷ FailDelay ∷ []
 
 -- whether the item is among them
 abbrev pub is_refused : Access → ItemName → Bool
-is_refused access item = list_any (λ refused. item_number refused == item_number item) (refused_items access)
+is_refused access item =
+    list_any (λ refused. item_number refused == item_number item) (refused_items access)

@@ -5,11 +5,15 @@ use Rattle.item_stream.specs.Run.{Looks, Refuses, ItemStep, Run, run_of}
 -- Nothing is looked at of no bytes, and what is waited with is the last item where the input ends.
 pub record Cuts (looked : Looks) : Type 0 where
   pub none : (n : ℕ) (ended : Bool) → looked n [] ended ≡ []
-  pub rest : (n : ℕ) (held : List ℕ) → looked n held false ≡ [] → 0 < length held → looked n held true ≡ held ∷ []
+  pub rest : (n : ℕ) (held : List ℕ) → looked n held false ≡ [] → 0 < length held
+      → looked n held true ≡ held ∷ []
 
 -- What is refused in every state is so; and what is refused among some bytes is refused, whatever stands behind them,
 -- and with the same text before it.
-pub record Keeps {State Kind : Type 0} (looked : Looks) (refuses : Refuses) (step : ItemStep State Kind) : Type 0 where
-  pub refused : (n : ℕ) (item : List ℕ) → refuses n item → (s : State) (x : State × List ℕ) → step n s item ≡ Ok x → ⊥
-  pub stays : (n : ℕ) (c : State) (taken more : List ℕ) (ended : Bool) (kind : Kind) → (run_of looked step n c taken false).refused ≡ Some kind →
+pub record Keeps {State Kind : Type 0} (looked : Looks) (refuses : Refuses)
+    (step : ItemStep State Kind) : Type 0 where
+  pub refused : (n : ℕ) (item : List ℕ) → refuses n item → (s : State) (x : State × List ℕ)
+      → step n s item ≡ Ok x → ⊥
+  pub stays : (n : ℕ) (c : State) (taken more : List ℕ) (ended : Bool) (kind : Kind)
+      → (run_of looked step n c taken false).refused ≡ Some kind →
       run_of looked step n c (taken ++ more) ended ≡ run_of looked step n c taken false

@@ -8,9 +8,11 @@ use Rattle.item_stream.specs.Run.{Looks, Refuses}
 pub record IsItem (looked : Looks) (n item_size size : ℕ) (held : List ℕ) : Type 0 where
   pub within : item_size ≤ size
   pub whole : size ≤ length held
-  pub seen : (more : List ℕ) (ended : Bool) → looked n (held ++ more) ended ≡ take item_size held ∷ looked (n + 1) (drop size held ++ more) ended
+  pub seen : (more : List ℕ) (ended : Bool) → looked n (held ++ more) ended
+      ≡ take item_size held ∷ looked (n + 1) (drop size held ++ more) ended
 
 abbrev pub IsFront : Looks → Refuses → Front → ℕ → List ℕ → Type 0
 IsFront looked refuses Wait n held = (looked n held false ≡ []) × (length held ≤ 581)
 IsFront looked refuses (Item item_size size) n held = IsItem looked n item_size size held
-IsFront looked refuses Last n held = (0 < length held) × (looked n held false ≡ held ∷ []) × refuses n held
+IsFront looked refuses Last n held = (0 < length held) × (looked n held false ≡ held ∷ [])
+    × refuses n held

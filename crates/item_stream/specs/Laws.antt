@@ -17,7 +17,8 @@ abbrev pub written_by : {Kind : Type 0} → Result (Unit {0}) Failed → Result 
 written_by (Ok done) = Ok None
 written_by (Err failed) = Err WriteFault
 
-module _ {State Kind : Type 0} (step : ItemStep State Kind) (Fails : State → List ℕ → State → Type 0) where
+module _ {State Kind : Type 0} (step : ItemStep State Kind)
+    (Fails : State → List ℕ → State → Type 0) where
   -- ---- one item is served
 
   -- it writes nothing
@@ -27,7 +28,8 @@ module _ {State Kind : Type 0} (step : ItemStep State Kind) (Fails : State → L
 
   -- its text was written, whole or up to a write that failed
   abbrev pub WrittenIsServed : Type 0
-  WrittenIsServed = (result : Result (Unit {0}) Failed) (n : ℕ) (item text : List ℕ) (c d : State) (p q : SinkState) →
+  WrittenIsServed = (result : Result (Unit {0}) Failed) (n : ℕ) (item text : List ℕ) (c d : State)
+      (p q : SinkState) →
       step n c item ≡ Ok (d, text) → WritesWhole result text p q →
       ServesTold step Fails (written_by result) n item c d p q
 
@@ -38,42 +40,52 @@ module _ {State Kind : Type 0} (step : ItemStep State Kind) (Fails : State → L
 
   -- there was no memory to begin it
   abbrev pub UnbegunIsServed : Type 0
-  UnbegunIsServed = (n : ℕ) (item : List ℕ) (c : State) (p : SinkState) → ServesTold step Fails (Err NoMemory) n item c c p p
+  UnbegunIsServed = (n : ℕ) (item : List ℕ) (c : State) (p : SinkState)
+      → ServesTold step Fails (Err NoMemory) n item c c p p
 
   -- there was none behind that
   abbrev pub BegunIsServed : Type 0
   BegunIsServed = (n : ℕ) (item : List ℕ) (c d : State) (p : SinkState) →
       IsBegun step Fails n item c d → ServesTold step Fails (Err NoMemory) n item c d p p
 
-module _ {State Kind : Type 0} (looked : Looks) (step : ItemStep State Kind) (Fails : State → List ℕ → State → Type 0) where
+module _ {State Kind : Type 0} (looked : Looks) (step : ItemStep State Kind)
+    (Fails : State → List ℕ → State → Type 0) where
   -- ---- before the first byte
 
   abbrev pub NoTurnYet : Type 0
-  NoTurnYet = (c : State) (x : SourceState) (p : SinkState) → Turns looked step Fails (Ok None) 0 0 c c [] [] x x p p
+  NoTurnYet = (c : State) (x : SourceState) (p : SinkState)
+      → Turns looked step Fails (Ok None) 0 0 c c [] [] x x p p
 
   -- there was no memory
   abbrev pub StopsAtOnce : Type 0
-  StopsAtOnce = (c : State) (x : SourceState) (p : SinkState) → Turns looked step Fails (Err NoMemory) 0 0 c c [] [] x x p p
+  StopsAtOnce = (c : State) (x : SourceState) (p : SinkState)
+      → Turns looked step Fails (Err NoMemory) 0 0 c c [] [] x x p p
 
   -- ---- turns
 
   -- turns, and others behind them
   abbrev pub TurnsGoOn : Type 0
-  TurnsGoOn = (result : Result (Option (Ending Kind)) Stop) (n m k : ℕ) (c d e : State) (held rest : List ℕ) (x y z : SourceState) (p q s : SinkState) →
-      Turns looked step Fails (Ok None) n m c d [] held x y p q → Turns looked step Fails result m k d e held rest y z q s →
+  TurnsGoOn = (result : Result (Option (Ending Kind)) Stop) (n m k : ℕ) (c d e : State)
+      (held rest : List ℕ) (x y z : SourceState) (p q s : SinkState) →
+      Turns looked step Fails (Ok None) n m c d [] held x y p q
+      → Turns looked step Fails result m k d e held rest y z q s →
       Turns looked step Fails result n k c e [] rest x z p s
 
   -- turns from the first byte on, up to the last
   abbrev pub TurnsAreRun : Type 0
-  TurnsAreRun = (result : Result (Ending Kind) Stop) (m : ℕ) (c d : State) (held : List ℕ) (x y : SourceState) (p q : SinkState) →
-      Turns looked step Fails (at_last result) 0 m c d [] held x y p q → Runs looked step Fails result m c d x y p q
+  TurnsAreRun = (result : Result (Ending Kind) Stop) (m : ℕ) (c d : State) (held : List ℕ)
+      (x y : SourceState) (p q : SinkState) →
+      Turns looked step Fails (at_last result) 0 m c d [] held x y p q
+      → Runs looked step Fails result m c d x y p q
 
-module _ {State Kind : Type 0} (looked : Looks) (refuses : Refuses) (step : ItemStep State Kind) (Fails : State → List ℕ → State → Type 0) where
+module _ {State Kind : Type 0} (looked : Looks) (refuses : Refuses) (step : ItemStep State Kind)
+    (Fails : State → List ℕ → State → Type 0) where
   -- ---- what was found is a turn
 
   -- the source failed
   abbrev pub FaultIsTurn : Type 0
-  FaultIsTurn = (n : ℕ) (before held : List ℕ) (e : Failed) (c : State) (x y : SourceState) (p : SinkState) →
+  FaultIsTurn = (n : ℕ) (before held : List ℕ) (e : Failed) (c : State) (x y : SourceState)
+      (p : SinkState) →
       IsFound looked (Err e) n held → Finds looked refuses (Err e) n before held x y →
       Turns looked step Fails (Ok (Some ReadFault)) n n c c before held x y p p
 
@@ -85,14 +97,18 @@ module _ {State Kind : Type 0} (looked : Looks) (refuses : Refuses) (step : Item
 
   -- an item with its end was found, and served
   abbrev pub ItemIsTurn : Type 0
-  ItemIsTurn = (n item_size size : ℕ) (before held : List ℕ) (c d : State) (x y : SourceState) (p q : SinkState) (result : Result (Option Kind) Stop) →
-      IsFound looked (Ok (Item item_size size)) n held → Finds looked refuses (Ok (Item item_size size)) n before held x y →
+  ItemIsTurn = (n item_size size : ℕ) (before held : List ℕ) (c d : State) (x y : SourceState)
+      (p q : SinkState) (result : Result (Option Kind) Stop) →
+      IsFound looked (Ok (Item item_size size)) n held
+      → Finds looked refuses (Ok (Item item_size size)) n before held x y →
       ServesTold step Fails result n (take item_size held) c d p q →
-      Turns looked step Fails (after_item result) n (items_after result n) c d before (held_after result size held) x y p q
+      Turns looked step Fails (after_item result) n (items_after result n) c d before
+      (held_after result size held) x y p q
 
   -- the last item was found, and served
   abbrev pub RestIsTurn : Type 0
-  RestIsTurn = (n : ℕ) (before held : List ℕ) (c d : State) (x y : SourceState) (p q : SinkState) (result : Result (Option Kind) Stop) →
+  RestIsTurn = (n : ℕ) (before held : List ℕ) (c d : State) (x y : SourceState) (p q : SinkState)
+      (result : Result (Option Kind) Stop) →
       IsFound looked (Ok Rest) n held → Finds looked refuses (Ok Rest) n before held x y →
       ServesTold step Fails result n held c d p q →
       Turns looked step Fails (after_rest result) n (items_after result n) c d before held x y p q

@@ -23,21 +23,34 @@ pub record Run (State Kind : Type 0) : Type 0 where
   pub refused : Option Kind
 
 abbrev pub come_to : {State Kind : Type 0} → List ℕ → State → ℕ → Option Kind → Run State Kind
-come_to text last items refused = record { text = text; last = last; items = items; refused = refused }
+come_to text last items refused = record {
+  text = text;
+  last = last;
+  items = items;
+  refused = refused;
+}
 
 abbrev pub with_text : {State Kind : Type 0} → List ℕ → Run State Kind → Run State Kind
-with_text text r = record { text = text ++ r.text; last = r.last; items = r.items; refused = r.refused }
+with_text text r = record {
+  text = text ++ r.text;
+  last = r.last;
+  items = r.items;
+  refused = r.refused;
+}
 
 -- an item's outcome, and what follows it
-abbrev pub after : {State Kind : Type 0} → ℕ → State → Result (State × List ℕ) Kind → (State → Run State Kind) → Run State Kind
+abbrev pub after : {State Kind : Type 0} → ℕ → State → Result (State × List ℕ) Kind
+    → (State → Run State Kind) → Run State Kind
 after n s (Ok x) next = with_text x.1 (next x.0)
 after n s (Err kind) next = come_to [] s n (Some kind)
 
 -- the fold of the steps over items that have n items before them
-unfoldable pub run_items : {State Kind : Type 0} → ItemStep State Kind → ℕ → State → List (List ℕ) → Run State Kind
+unfoldable pub run_items : {State Kind : Type 0} → ItemStep State Kind → ℕ → State → List (List ℕ)
+    → Run State Kind
 run_items step n s [] = come_to [] s n None
 run_items step n s (l ∷ ls) = after n s (step n s l) (λ t. run_items step (n + 1) t ls)
 
 -- what bytes come to that stand behind n items; `ended` says that the input ends behind them
-unfoldable pub run_of : {State Kind : Type 0} → Looks → ItemStep State Kind → ℕ → State → List ℕ → Bool → Run State Kind
+unfoldable pub run_of : {State Kind : Type 0} → Looks → ItemStep State Kind → ℕ → State → List ℕ
+    → Bool → Run State Kind
 run_of looked step n s bytes ended = run_items step n s (looked n bytes ended)

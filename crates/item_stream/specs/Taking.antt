@@ -12,7 +12,8 @@ abbrev pub Adds : ℕ → List ℕ → List ℕ → Type 0
 Adds n before held = (got : List ℕ) × (length got ≡ n) × (held ≡ before ++ got)
 
 -- one read: what it got is held
-pub record Fills (result : Result ℕ Failed) (before held : List ℕ) (old new : SourceState) : Type 0 where
+pub record Fills (result : Result ℕ Failed) (before held : List ℕ) (old new : SourceState) : Type
+    0 where
   pub got : List ℕ
   pub held_is : held ≡ before ++ got
   pub source : old.left ≡ got ++ new.left
@@ -58,7 +59,8 @@ pub record LastGot (looked : Looks) (n : ℕ) (before got : List ℕ) : Type 0 w
   pub waited : looked n (before ++ early) false ≡ []
 
 -- the bytes taken until an item is whole, or until what is held is refused
-pub record Finds (looked : Looks) (refuses : Refuses) (result : Result Found Failed) (n : ℕ) (before held : List ℕ) (old new : SourceState) : Type 0 where
+pub record Finds (looked : Looks) (refuses : Refuses) (result : Result Found Failed) (n : ℕ)
+    (before held : List ℕ) (old new : SourceState) : Type 0 where
   pub got : List ℕ
   pub held_is : held ≡ before ++ got
   pub source : old.left ≡ got ++ new.left

@@ -10,37 +10,46 @@ use Rattle.item_stream.specs.Run.{Looks, ItemStep, come_to, run_items, run_of}
 -- ---- one item
 
 -- a write failed: the item was applied, and a front of its text is written
-pub record IsCutShort {State Kind : Type 0} (step : ItemStep State Kind) (n : ℕ) (item : List ℕ) (c d : State) (written : List ℕ) : Type 0 where
+pub record IsCutShort {State Kind : Type 0} (step : ItemStep State Kind) (n : ℕ) (item : List ℕ)
+    (c d : State) (written : List ℕ) : Type 0 where
   pub text : List ℕ
   pub applied : step n c item ≡ Ok (d, text)
   pub more : List ℕ
   pub parts : text ≡ written ++ more
 
 -- memory was wanting: the item isn't one that is refused, and it was applied, or its call found no memory
-pub record IsBegun {State Kind : Type 0} (step : ItemStep State Kind) (Fails : State → List ℕ → State → Type 0) (n : ℕ) (item : List ℕ) (c d : State) : Type 0 where
+pub record IsBegun {State Kind : Type 0} (step : ItemStep State Kind)
+    (Fails : State → List ℕ → State → Type 0) (n : ℕ) (item : List ℕ) (c d : State) : Type 0 where
   pub after : State
   pub text : List ℕ
   pub accepted : step n c item ≡ Ok (after, text)
   pub state : (d ≡ after) ⊎ Fails c item d
 
 -- how a run stops, and in which item if it began one
-abbrev pub StopsAt : {State Kind : Type 0} → ItemStep State Kind → (State → List ℕ → State → Type 0) → Stop → ℕ → Option (List ℕ) → State → State
+abbrev pub StopsAt : {State Kind : Type 0} → ItemStep State Kind → (State → List ℕ → State → Type 0)
+    → Stop → ℕ → Option (List ℕ) → State → State
     → List ℕ → Type 0
 StopsAt step Fails WriteFault n None c d written = ⊥
 StopsAt step Fails WriteFault n (Some item) c d written = IsCutShort step n item c d written
 StopsAt step Fails NoMemory n None c d written = (d ≡ c) × (written ≡ [])
-StopsAt step Fails NoMemory n (Some item) c d written = IsBegun step Fails n item c d × (written ≡ [])
+StopsAt step Fails NoMemory n (Some item) c d written = IsBegun step Fails n item c d
+    × (written ≡ [])
 
 -- One item is served: it is applied and its text is written, or it is refused and nothing happened, or the run stops
 -- in it, or before it was begun.
-abbrev pub Serves : {State Kind : Type 0} → ItemStep State Kind → (State → List ℕ → State → Type 0) → Result (Option Kind) Stop → ℕ → List ℕ → State
+abbrev pub Serves : {State Kind : Type 0} → ItemStep State Kind → (State → List ℕ → State → Type 0)
+    → Result (Option Kind) Stop → ℕ → List ℕ → State
     → State → List ℕ → Type 0
 Serves step Fails (Ok None) n item c d written = step n c item ≡ Ok (d, written)
-Serves step Fails (Ok (Some kind)) n item c d written = (step n c item ≡ Err kind) × (d ≡ c) × (written ≡ [])
-Serves step Fails (Err stop) n item c d written = StopsAt step Fails stop n (Some item) c d written ⊎ StopsAt step Fails stop n None c d written
+Serves step Fails (Ok (Some kind)) n item c d written = (step n c item ≡ Err kind) × (d ≡ c)
+    × (written ≡ [])
+Serves step Fails (Err stop) n item c d written = StopsAt step Fails stop n (Some item) c d written
+    ⊎ StopsAt step Fails stop n None c d written
 
 -- what a told sink shows of it
-pub record ServesTold {State Kind : Type 0} (step : ItemStep State Kind) (Fails : State → List ℕ → State → Type 0) (result : Result (Option Kind) Stop) (n : ℕ) (item : List ℕ) (c d : State) (old new : SinkState) : Type 0 where
+pub record ServesTold {State Kind : Type 0} (step : ItemStep State Kind)
+    (Fails : State → List ℕ → State → Type 0) (result : Result (Option Kind) Stop) (n : ℕ)
+    (item : List ℕ) (c d : State) (old new : SinkState) : Type 0 where
   pub text : List ℕ
   pub written : new.written ≡ old.written ++ text
   pub served : Serves step Fails result n item c d text
@@ -50,10 +59,12 @@ pub record ServesTold {State Kind : Type 0} (step : ItemStep State Kind) (Fails 
 -- ---- many items
 
 -- Lines among the bytes met were served. Behind them, and whatever follows, the run goes on with what is held.
-pub record GoesOn {State Kind : Type 0} (looked : Looks) (step : ItemStep State Kind) (n m : ℕ) (c d : State) (met held text : List ℕ) : Type 0 where
+pub record GoesOn {State Kind : Type 0} (looked : Looks) (step : ItemStep State Kind) (n m : ℕ)
+    (c d : State) (met held text : List ℕ) : Type 0 where
   pub served : List (List ℕ)
   pub number : m ≡ n + length served
-  pub among : (more : List ℕ) (ended : Bool) → looked n (met ++ more) ended ≡ served ++ looked m (held ++ more) ended
+  pub among : (more : List ℕ) (ended : Bool) → looked n (met ++ more) ended ≡ served
+      ++ looked m (held ++ more) ended
   pub run : run_items step n c served ≡ come_to text d m None
 
 abbrev pub refusal_of : {Kind : Type 0} → Ending Kind → Option Kind
@@ -68,7 +79,8 @@ IsEndedBy ReadFault ended = ended ≡ false
 IsEndedBy (Refused kind) ended = Unit {0}
 
 -- the run over the bytes met has come to its end
-pub record EndsBy {State Kind : Type 0} (looked : Looks) (step : ItemStep State Kind) (ending : Ending Kind) (n m : ℕ) (c d : State) (met left text : List ℕ) : Type 0 where
+pub record EndsBy {State Kind : Type 0} (looked : Looks) (step : ItemStep State Kind)
+    (ending : Ending Kind) (n m : ℕ) (c d : State) (met left text : List ℕ) : Type 0 where
   pub ended : Bool
   pub at_end : ended ≡ true → left ≡ []
   pub by : IsEndedBy ending ended
@@ -80,7 +92,9 @@ begun_items (Some item) = item ∷ []
 
 -- The run has stopped: items at the front, both of those among the bytes met and of all, were served whole, and at
 -- most one item more was begun.
-pub record StopsBy {State Kind : Type 0} (looked : Looks) (step : ItemStep State Kind) (Fails : State → List ℕ → State → Type 0) (stop : Stop) (n : ℕ) (c d : State) (met left text : List ℕ) : Type 0 where
+pub record StopsBy {State Kind : Type 0} (looked : Looks) (step : ItemStep State Kind)
+    (Fails : State → List ℕ → State → Type 0) (stop : Stop) (n : ℕ) (c d : State)
+    (met left text : List ℕ) : Type 0 where
   pub served : List (List ℕ)
   pub begun : Option (List ℕ)
   pub items : ℕ
@@ -99,15 +113,20 @@ pub record StopsBy {State Kind : Type 0} (looked : Looks) (step : ItemStep State
   pub stopped : StopsAt step Fails stop items begun middle d part
 
 -- what was written for the bytes that a state met
-abbrev pub Tells : {State Kind : Type 0} → Looks → ItemStep State Kind → (State → List ℕ → State → Type 0) → Result (Option (Ending Kind)) Stop → ℕ
+abbrev pub Tells : {State Kind : Type 0} → Looks → ItemStep State Kind
+    → (State → List ℕ → State → Type 0) → Result (Option (Ending Kind)) Stop → ℕ
     → ℕ → State → State → List ℕ → List ℕ → List ℕ → List ℕ → Type 0
-Tells looked step Fails (Ok None) n m c d met held left text = GoesOn looked step n m c d met held text
-Tells looked step Fails (Ok (Some ending)) n m c d met held left text = EndsBy looked step ending n m c d met left text
-Tells looked step Fails (Err stop) n m c d met held left text = StopsBy looked step Fails stop n c d met left text
+Tells looked step Fails (Ok None) n m c d met held left text =
+    GoesOn looked step n m c d met held text
+Tells looked step Fails (Ok (Some ending)) n m c d met held left text =
+    EndsBy looked step ending n m c d met left text
+Tells looked step Fails (Err stop) n m c d met held left text =
+    StopsBy looked step Fails stop n c d met left text
 
 -- the last read, by what was got behind other bytes: it took at most a buffer, and nothing that was there before it
 -- was refused
-pub record LastRead {State Kind : Type 0} (looked : Looks) (step : ItemStep State Kind) (n : ℕ) (c : State) (before got : List ℕ) : Type 0 where
+pub record LastRead {State Kind : Type 0} (looked : Looks) (step : ItemStep State Kind) (n : ℕ)
+    (c : State) (before got : List ℕ) : Type 0 where
   pub early : List ℕ
   pub late : List ℕ
   pub parts : got ≡ early ++ late
@@ -116,7 +135,10 @@ pub record LastRead {State Kind : Type 0} (looked : Looks) (step : ItemStep Stat
 
 -- What was taken and written, by one turn or by many: n items stand before them and m behind them, the state is c
 -- before and d after them.
-pub record Turns {State Kind : Type 0} (looked : Looks) (step : ItemStep State Kind) (Fails : State → List ℕ → State → Type 0) (result : Result (Option (Ending Kind)) Stop) (n m : ℕ) (c d : State) (before held : List ℕ) (x y : SourceState) (p q : SinkState) : Type 0 where
+pub record Turns {State Kind : Type 0} (looked : Looks) (step : ItemStep State Kind)
+    (Fails : State → List ℕ → State → Type 0) (result : Result (Option (Ending Kind)) Stop)
+    (n m : ℕ) (c d : State) (before held : List ℕ) (x y : SourceState) (p q : SinkState) : Type
+    0 where
   pub got : List ℕ
   pub text : List ℕ
   pub source : x.left ≡ got ++ y.left
@@ -133,13 +155,15 @@ pub record Turns {State Kind : Type 0} (looked : Looks) (step : ItemStep State K
 -- ---- the result of a turn
 
 -- behind an item that was found with its end the run goes on
-abbrev pub after_item : {Kind : Type 0} → Result (Option Kind) Stop → Result (Option (Ending Kind)) Stop
+abbrev pub after_item : {Kind : Type 0} → Result (Option Kind) Stop
+    → Result (Option (Ending Kind)) Stop
 after_item (Ok None) = Ok None
 after_item (Ok (Some kind)) = Ok (Some (Refused kind))
 after_item (Err stop) = Err stop
 
 -- the last item, without one, is the end
-abbrev pub after_rest : {Kind : Type 0} → Result (Option Kind) Stop → Result (Option (Ending Kind)) Stop
+abbrev pub after_rest : {Kind : Type 0} → Result (Option Kind) Stop
+    → Result (Option (Ending Kind)) Stop
 after_rest (Ok None) = Ok (Some Done)
 after_rest (Ok (Some kind)) = Ok (Some (Refused kind))
 after_rest (Err stop) = Err stop

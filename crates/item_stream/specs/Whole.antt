@@ -7,24 +7,32 @@ use Rattle.item_stream.specs.declared.ending.Stop.{Stop}
 use Rattle.item_stream.specs.Run.{Looks, ItemStep, come_to, run_of}
 use Rattle.item_stream.specs.Turns.{StopsBy, LastRead}
 
-abbrev pub at_last : {Kind : Type 0} → Result (Ending Kind) Stop → Result (Option (Ending Kind)) Stop
+abbrev pub at_last : {Kind : Type 0} → Result (Ending Kind) Stop
+    → Result (Option (Ending Kind)) Stop
 at_last (Ok ending) = Ok (Some ending)
 at_last (Err stop) = Err stop
 
 -- What a run tells of the whole input, by how it comes to its end: that it was read out, and what it comes to; what the
 -- bytes taken come to before the source failed; the refused item, which is that of the bytes taken and that of the
 -- whole input; or where it stopped.
-abbrev pub Reports : {State Kind : Type 0} → Looks → ItemStep State Kind → (State → List ℕ → State → Type 0) → Result (Ending Kind) Stop → ℕ → State
+abbrev pub Reports : {State Kind : Type 0} → Looks → ItemStep State Kind
+    → (State → List ℕ → State → Type 0) → Result (Ending Kind) Stop → ℕ → State
     → State → List ℕ → List ℕ → List ℕ → List ℕ → Type 0
-Reports looked step Fails (Ok Done) m c d input taken left text = (left ≡ []) × (run_of looked step 0 c input true ≡ come_to text d m None)
-Reports looked step Fails (Ok ReadFault) m c d input taken left text = run_of looked step 0 c taken false ≡ come_to text d m None
+Reports looked step Fails (Ok Done) m c d input taken left text = (left ≡ [])
+    × (run_of looked step 0 c input true ≡ come_to text d m None)
+Reports looked step Fails (Ok ReadFault) m c d input taken left text =
+    run_of looked step 0 c taken false ≡ come_to text d m None
 Reports looked step Fails (Ok (Refused kind)) m c d input taken left text =
     (run_of looked step 0 c input true ≡ come_to text d m (Some kind))
-    × (ended : Bool) × (ended ≡ true → left ≡ []) × (run_of looked step 0 c taken ended ≡ come_to text d m (Some kind))
-Reports looked step Fails (Err stop) m c d input taken left text = StopsBy looked step Fails stop 0 c d taken left text
+    × (ended : Bool) × (ended ≡ true → left ≡ [])
+    × (run_of looked step 0 c taken ended ≡ come_to text d m (Some kind))
+Reports looked step Fails (Err stop) m c d input taken left text =
+    StopsBy looked step Fails stop 0 c d taken left text
 
 -- a run from the first byte on: the state is c before and d after it, and m items were applied
-pub record Runs {State Kind : Type 0} (looked : Looks) (step : ItemStep State Kind) (Fails : State → List ℕ → State → Type 0) (result : Result (Ending Kind) Stop) (m : ℕ) (c d : State) (x y : SourceState) (p q : SinkState) : Type 0 where
+pub record Runs {State Kind : Type 0} (looked : Looks) (step : ItemStep State Kind)
+    (Fails : State → List ℕ → State → Type 0) (result : Result (Ending Kind) Stop) (m : ℕ)
+    (c d : State) (x y : SourceState) (p q : SinkState) : Type 0 where
   pub taken : List ℕ
   pub text : List ℕ
   pub source : x.left ≡ taken ++ y.left

@@ -24,4 +24,6 @@ code_or_success None = Success
 code_or_success (Some word) = unwrap_or (code_of_word word) Success
 
 abbrev pub debug_plays : Plays
-debug_plays call room held sight = answered (code_or_success (value_among (debug_key call.func (has_flag call.flags prelim_check)) call.args)) room sight
+debug_plays call room held sight =
+    answered (code_or_success (value_among (debug_key call.func (has_flag call.flags prelim_check))
+    call.args)) room sight

@@ -8,7 +8,10 @@ use Rattle.pam_room.specs.Module.{Plays, SeenRoom, answered}
 
 -- a user who isn't set is nobody
 abbrev pub with_nobody : SeenRoom → SeenRoom
-with_nobody room = record room { items = record room.items { user = option_or room.items.user (Some (codes "nobody")) } }
+with_nobody room = record room {
+  items = record room.items
+      { user = option_or room.items.user (Some (codes "nobody")) };
+}
 
 abbrev pub permitted : Func → SeenRoom → SeenRoom
 permitted Authenticate room = with_nobody room

@@ -52,28 +52,37 @@ room_after (set_data name payload) room = room
 room_after nothing room = room
 
 abbrev pub probed : PlainRequest → Probing → Probing
-probed request p = probing (refuses request p.room) (room_after request p.room) (p.births ++ births_in request)
+probed request p = probing (refuses request p.room) (room_after request p.room) (p.births
+    ++ births_in request)
 
 -- all arguments in order, up to a message that got no reply
 abbrev pub probed_all : List (List ℕ) → Probing → Probing
 probed_all [] p = p
-probed_all (arg ∷ args) p = if (probed (request_of arg) p).refused then probed (request_of arg) p else probed_all args (probed (request_of arg) p)
+probed_all (arg ∷ args) p = if (probed (request_of arg) p).refused then probed (request_of arg) p
+    else probed_all args (probed (request_of arg) p)
 
 -- what one request does, where the conversation tells; without memory nothing is said of it
-abbrev pub Probes : {T : Type 0} → Result T (Refuse ConvErr) → PlainRequest → SeenRoom → SeenRoom → Type 0
+abbrev pub Probes : {T : Type 0} → Result T (Refuse ConvErr) → PlainRequest → SeenRoom → SeenRoom
+    → Type 0
 Probes (Ok v) request old new = (refuses request old ≡ false) × (new ≡ room_after request old)
-Probes (Err (refusals.Named e)) request old new = (refuses request old ≡ true) × (new ≡ room_after request old)
+Probes (Err (refusals.Named e)) request old new = (refuses request old ≡ true)
+    × (new ≡ room_after request old)
 Probes (Err refusals.NoMemory) request old new = Unit {0}
 
 -- what all of them come to: how they ended, the room, and the data that were set
-pub record ComesTo (refused : Bool) (p : Probing) (room : SeenRoom) (owner : ℕ) (list : PlainDataList) (ledger : PlainLedger) (later : PlainDataList) (after : PlainLedger) : Type 0 where
+pub record ComesTo (refused : Bool) (p : Probing) (room : SeenRoom) (owner : ℕ)
+    (list : PlainDataList) (ledger : PlainLedger) (later : PlainDataList)
+    (after : PlainLedger) : Type 0 where
   pub refused_is : p.refused ≡ refused
   pub room_is : room ≡ p.room
   pub births_are : HasSet owner p.births list ledger later after
 
-abbrev pub ProbesAll : {T : Type 0} → Result T (Refuse ConvErr) → Probing → SeenRoom → ℕ → PlainDataList → PlainLedger → PlainDataList → PlainLedger → Type 0
-ProbesAll (Ok v) p room owner list ledger later after = ComesTo false p room owner list ledger later after
-ProbesAll (Err (refusals.Named e)) p room owner list ledger later after = ComesTo true p room owner list ledger later after
+abbrev pub ProbesAll : {T : Type 0} → Result T (Refuse ConvErr) → Probing → SeenRoom → ℕ
+    → PlainDataList → PlainLedger → PlainDataList → PlainLedger → Type 0
+ProbesAll (Ok v) p room owner list ledger later after =
+    ComesTo false p room owner list ledger later after
+ProbesAll (Err (refusals.Named e)) p room owner list ledger later after =
+    ComesTo true p room owner list ledger later after
 ProbesAll (Err refusals.NoMemory) p room owner list ledger later after = Unit {0}
 
 abbrev pub code_in : List ℕ → Option Code
@@ -84,10 +93,17 @@ abbrev pub fixed_answer : List (List ℕ) → Code
 fixed_answer args = unwrap_or (last_or None (filter_map code_in args)) returns.Success
 
 abbrev pub played_so : Probing → List (List ℕ) → Sight → Played
-played_so p args sight = record { code = if p.refused then returns.ConvErr else fixed_answer args; room = p.room; births = p.births; files = sight.files; calls = 0 }
+played_so p args sight = record {
+  code = if p.refused then returns.ConvErr else fixed_answer args;
+  room = p.room;
+  births = p.births;
+  files = sight.files;
+  calls = 0;
+}
 
 abbrev pub probe_plays : Plays
-probe_plays call room held sight = played_so (probed_all call.args (probing false room [])) call.args sight
+probe_plays call room held sight =
+    played_so (probed_all call.args (probing false room [])) call.args sight
 
 -- its note tells payload and status
 abbrev pub probe_note : Note

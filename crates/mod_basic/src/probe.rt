@@ -79,7 +79,8 @@ fn do_all(
         ProbesAll result (probed_all args.now (probing false (seen_of (room_of
         (plain_transaction transaction.old) (conv_holds conv.old))) []))
         (seen_of (room_of (plain_transaction transaction.new) (conv_holds conv.new)))
-        transaction.old.serving transaction.old.datums ledger.old transaction.new.datums ledger.new }
+        transaction.old.serving transaction.old.datums ledger.old
+        transaction.new.datums ledger.new }
     ensures sets { Sets transaction.old.serving transaction.old.datums ledger.old
         transaction.new.datums ledger.new }
     ensures data_handle { transaction.new.datums.handle ≡ transaction.old.datums.handle }

@@ -8,5 +8,6 @@ has_byte byte text = list_any (λ b. b == byte) text
 
 -- the place of the byte's first occurrence, from 0, or None where it doesn't stand in the text
 abbrev pub IsFirstPlace : Option ℕ → ℕ → List ℕ → Type 0
-IsFirstPlace (Some n) byte text = (n < length text) × (has_byte byte (take n text) ≡ false) × (text ≡ take n text ++ byte ∷ drop (n + 1) text)
+IsFirstPlace (Some n) byte text = (n < length text) × (has_byte byte (take n text) ≡ false)
+    × (text ≡ take n text ++ byte ∷ drop (n + 1) text)
 IsFirstPlace None byte text = has_byte byte text ≡ false

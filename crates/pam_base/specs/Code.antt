@@ -82,7 +82,11 @@ code_word code = str_to_ascii_lowercase (name_of code)
 
 -- all codes, in the order of their numbers
 abbrev pub all_codes : List Code
-all_codes = Success ∷ OpenErr ∷ SymbolErr ∷ ServiceErr ∷ SystemErr ∷ BufErr ∷ PermDenied ∷ AuthErr ∷ CredInsufficient ∷ AuthinfoUnavail ∷ UserUnknown ∷ MaxTries ∷ NewAuthtokReqd ∷ AcctExpired ∷ SessionErr ∷ CredUnavail ∷ CredExpired ∷ CredErr ∷ NoModuleData ∷ ConvErr ∷ AuthtokErr ∷ AuthtokRecoveryErr ∷ AuthtokLockBusy ∷ AuthtokDisableAging ∷ TryAgain ∷ Ignore ∷ Abort ∷ AuthtokExpired ∷ ModuleUnknown ∷ BadItem ∷ ConvAgain ∷ Incomplete ∷ []
+all_codes = Success ∷ OpenErr ∷ SymbolErr ∷ ServiceErr ∷ SystemErr ∷ BufErr ∷ PermDenied ∷ AuthErr
+    ∷ CredInsufficient ∷ AuthinfoUnavail ∷ UserUnknown ∷ MaxTries ∷ NewAuthtokReqd ∷ AcctExpired
+    ∷ SessionErr ∷ CredUnavail ∷ CredExpired ∷ CredErr ∷ NoModuleData ∷ ConvErr ∷ AuthtokErr
+    ∷ AuthtokRecoveryErr ∷ AuthtokLockBusy ∷ AuthtokDisableAging ∷ TryAgain ∷ Ignore ∷ Abort
+    ∷ AuthtokExpired ∷ ModuleUnknown ∷ BadItem ∷ ConvAgain ∷ Incomplete ∷ []
 
 -- the other words that pam.conf(5) has for a code
 abbrev pub other_words : Code → List (List ℕ)

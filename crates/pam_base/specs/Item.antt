@@ -39,7 +39,8 @@ item_word AuthTokType = codes "authtok_type"
 
 -- all items, in the order of their numbers
 abbrev pub all_items : List ItemName
-all_items = Service ∷ User ∷ Tty ∷ Rhost ∷ Conv ∷ AuthTok ∷ OldAuthTok ∷ Ruser ∷ UserPrompt ∷ FailDelay ∷ XDisplay ∷ XAuthData ∷ AuthTokType ∷ []
+all_items = Service ∷ User ∷ Tty ∷ Rhost ∷ Conv ∷ AuthTok ∷ OldAuthTok ∷ Ruser ∷ UserPrompt
+    ∷ FailDelay ∷ XDisplay ∷ XAuthData ∷ AuthTokType ∷ []
 
 -- the item that a word names
 abbrev pub item_of_word : List ℕ → Option ItemName

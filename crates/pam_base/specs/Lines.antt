@@ -15,7 +15,8 @@ onto b (l ∷ ls) rest = record { lines = (b ∷ l) ∷ ls; rest = rest }
 
 unfoldable pub cut : List ℕ → Cut
 cut [] = record { lines = []; rest = [] }
-cut (b ∷ bs) = if b == 10 then record { lines = [] ∷ (cut bs).lines; rest = (cut bs).rest } else onto b (cut bs).lines (cut bs).rest
+cut (b ∷ bs) = if b == 10 then record { lines = [] ∷ (cut bs).lines; rest = (cut bs).rest }
+    else onto b (cut bs).lines (cut bs).rest
 
 -- what stands behind the last newline is a line where it isn't empty
 abbrev pub last_line : List ℕ → List (List ℕ)
@@ -33,7 +34,8 @@ neither true b e = absurd cc
 neither false b e = (refl, e)
 
 -- a line with its newline is cut off first
-pub cut-line : (line more : List ℕ) → has_byte 10 line ≡ false → cut (line ++ 10 ∷ more) ≡ record { lines = line ∷ (cut more).lines; rest = (cut more).rest }
+pub cut-line : (line more : List ℕ) → has_byte 10 line ≡ false
+    → cut (line ++ 10 ∷ more) ≡ record { lines = line ∷ (cut more).lines; rest = (cut more).rest }
 unfolding cut
 cut-line [] more e = refl
 cut-line (b ∷ bs) more e =
@@ -41,14 +43,16 @@ cut-line (b ∷ bs) more e =
     rw (both.0, cut-line bs more both.1) refl
 
 -- bytes without a newline are no whole line
-pub cut-part : (part : List ℕ) → has_byte 10 part ≡ false → cut part ≡ record { lines = []; rest = part }
+pub cut-part : (part : List ℕ) → has_byte 10 part ≡ false
+    → cut part ≡ record { lines = []; rest = part }
 unfolding cut
 cut-part [] e = refl
 cut-part (b ∷ bs) e =
     let both = neither (eqb b 10) (has_byte 10 bs) e in
     rw (both.0, cut-part bs both.1) refl
 
-pub lines_of-line : (line more : List ℕ) → has_byte 10 line ≡ false → lines_of (line ++ 10 ∷ more) ≡ line ∷ lines_of more
+pub lines_of-line : (line more : List ℕ) → has_byte 10 line ≡ false
+    → lines_of (line ++ 10 ∷ more) ≡ line ∷ lines_of more
 unfolding lines_of
 lines_of-line line more e = rw (cut-line line more e) refl
 

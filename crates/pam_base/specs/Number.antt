@@ -13,4 +13,5 @@ is_numeral word = nat_lt 0 (length word) && nat_le (length word) 10 && list_all 
 
 -- the number that a word stands for, if it is one
 abbrev pub number_of_word : List ℕ → Option ℕ
-number_of_word word = if is_numeral word && nat_lt (value_of_digits word) (2 ^ 32) then Some (value_of_digits word) else None
+number_of_word word = if is_numeral word && nat_lt (value_of_digits word) (2 ^ 32)
+    then Some (value_of_digits word) else None

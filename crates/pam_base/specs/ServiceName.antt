@@ -9,4 +9,6 @@ is_name_byte b = is_ascii_alphanumeric b || b == 45 || b == 95 || b == 46
 
 -- 1 to 64 letters, digits, -, _ and ., but neither . nor ..
 abbrev pub is_service_name : List ℕ → Bool
-is_service_name name = nat_lt 0 (length name) && nat_le (length name) 64 && list_all is_name_byte name && not (bytes_eq name (codes ".")) && not (bytes_eq name (codes ".."))
+is_service_name name = nat_lt 0 (length name) && nat_le (length name) 64
+    && list_all is_name_byte name && not (bytes_eq name (codes "."))
+    && not (bytes_eq name (codes ".."))

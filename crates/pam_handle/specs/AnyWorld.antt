@@ -15,12 +15,15 @@ use Rattle.dispatch_core.specs.Pending.{Pending}
 use Rattle.pam_handle.specs.Handle.{PlainHandle}
 use Rattle.pam_handle.specs.Call.{waited_by}
 
--- what a stack call leaves: the stacks, the names and the delay function; what was told is only added to, and data and ledger grow
-pub record RunsSoundly (note : Notes) (modules : ℕ) (old new : PlainHandle) (before after : PlainProcess) : Type 0 where
+-- what a stack call leaves: the stacks, the names and the delay function; what was told is only added to, and data
+-- and ledger grow
+pub record RunsSoundly (note : Notes) (modules : ℕ) (old new : PlainHandle)
+    (before after : PlainProcess) : Type 0 where
   pub stacks : new.stacks ≡ old.stacks
   pub names : new.names ≡ old.names
   pub delay_on : new.delay_on ≡ old.delay_on
-  pub goes : GoesSoundly note modules (record old.room.transaction { delay = 0 }) new.room.transaction before after
+  pub goes : GoesSoundly note modules (record old.room.transaction { delay = 0 })
+      new.room.transaction before after
 
 -- ---- what a call leaves that isn't its own
 
@@ -57,14 +60,18 @@ ClearsTokens Authenticate items = AreUnset items
 ClearsTokens ChAuthTok items = AreUnset items
 ClearsTokens func items = Unit {0}
 
--- A call that has ended leaves nothing pending, and no request for a delay. Behind INCOMPLETE alone it may be pending itself;
+-- A call that has ended leaves nothing pending, and no request for a delay. Behind INCOMPLETE alone it may be pending
+-- itself;
 -- then no request for a delay is forgotten, and nothing was waited.
 abbrev pub LeavesPending : Func → Code → PlainHandle → PlainHandle → Option Pending → Type 0
-LeavesPending func code old new None = (new.room.transaction.delay ≡ 0) × ClearsTokens func new.room.transaction.items
+LeavesPending func code old new None = (new.room.transaction.delay ≡ 0)
+    × ClearsTokens func new.room.transaction.items
 LeavesPending func code old new (Some p) =
-    (p.func ≡ func) × (code ≡ codes.Incomplete) × (old.room.transaction.delay ≤ new.room.transaction.delay) × (new.waited ≡ old.waited)
+    (p.func ≡ func) × (code ≡ codes.Incomplete)
+    × (old.room.transaction.delay ≤ new.room.transaction.delay) × (new.waited ≡ old.waited)
 
--- Of what was waited behind the code of an authentication, only which delay it asked for and what the application's delay function
+-- Of what was waited behind the code of an authentication, only which delay it asked for and what the application's
+-- delay function
 -- made of it isn't known; where that is off, the delay that was asked for was waited.
 pub record WaitsFor (code : Code) (delay_on : Bool) (old new : Option Wait) : Type 0 where
   pub asked : ℕ

@@ -1,4 +1,5 @@
--- What a call of the application comes to, and what of a transaction's calls is common to several (pam_fail_delay(3); that a
+-- What a call of the application comes to, and what of a transaction's calls is common to several (pam_fail_delay(3);
+-- that a
 -- call may be put off, and what others answer meanwhile, is this project's own).
 use Rattle.std.specs.Prelude.{◌≡◌, ℕ, Bool, Option, Some, None, List, Result, if◌then◌else◌, ◌==◌}
 use Rattle.std.specs.Result.{result_ok}
@@ -24,7 +25,8 @@ abbrev pub called : Code → PlainHandle → PlainWorld → Called
 called code h w = record { code = code; handle = h; world = w }
 
 -- a code, a transaction and a world are those of a call
-pub record CallsAs (c : Called) (code : Code) (handle : PlainHandle) (world : PlainWorld) : Type 0 where
+pub record CallsAs (c : Called) (code : Code) (handle : PlainHandle) (world : PlainWorld) : Type
+    0 where
   pub code_is : code ≡ c.code
   pub handle_is : handle ≡ c.handle
   pub world_is : world ≡ c.world
@@ -33,7 +35,8 @@ pub record CallsAs (c : Called) (code : Code) (handle : PlainHandle) (world : Pl
 
 -- with both tokens unset
 abbrev pub without_its_tokens : PlainRoom → PlainRoom
-without_its_tokens r = record r { transaction = record r.transaction { items = without_tokens r.transaction.items } }
+without_its_tokens r =
+    record r { transaction = record r.transaction { items = without_tokens r.transaction.items } }
 
 -- with no request for a delay
 abbrev pub without_request : PlainRoom → PlainRoom
@@ -47,11 +50,13 @@ request_forgotten h = in_room (without_request h.room) h
 
 -- ---- calls that were put off
 
--- The call of a function: where another is pending it is aborted and nothing changes; where it is pending itself it goes on
+-- The call of a function: where another is pending it is aborted and nothing changes; where it is pending itself it
+-- goes on
 -- after what it was given; else it begins.
 abbrev pub begun_or_going_on : Option Pending → Func → Called → Called → (Pending → Called) → Called
 begun_or_going_on None func aborted begins goes_on = begins
-begun_or_going_on (Some p) func aborted begins goes_on = if same_func p.func func then goes_on p else aborted
+begun_or_going_on (Some p) func aborted begins goes_on = if same_func p.func func then goes_on p
+    else aborted
 
 -- the items when a call that clears the tokens takes them up: it clears them where it begins
 abbrev pub items_begun : Option Pending → ItemTexts → ItemTexts
@@ -86,7 +91,8 @@ rested_by None w = w
 rested_by (Some n) w = if n == 0 then w else record w { nap = rested w.nap n }
 
 abbrev pub waits : Code → ℕ → Option ℕ → PlainHandle → PlainWorld → Called
-waits code asked wait h w = called code (record h { waited = waited_by code asked wait h.waited }) (rested_by wait w)
+waits code asked wait h w =
+    called code (record h { waited = waited_by code asked wait h.waited }) (rested_by wait w)
 
 -- `number` is what the application's delay function gives
 abbrev pub waits_after : (Code → ℕ → ℕ) → Code → PlainHandle → PlainWorld → Called
@@ -95,8 +101,10 @@ waits_after number code h w =
     waits code asked (wait_of h.delay_on number code asked) h w
 
 -- what was to be told of a wait and what the world is behind a call that has ended with a code, or that hasn't
-abbrev pub WaitsBehind : (Code → ℕ → ℕ) → Option Code → ℕ → Bool → Option Wait → PlainWorld → Option Wait → PlainWorld → Type 0
+abbrev pub WaitsBehind : (Code → ℕ → ℕ) → Option Code → ℕ → Bool → Option Wait → PlainWorld
+    → Option Wait → PlainWorld → Type 0
 WaitsBehind number None longest on before w after last = (after ≡ before) × (last ≡ w)
 WaitsBehind number (Some code) longest on before w after last =
     let asked = asked_delay longest w.clock.word in
-    (after ≡ waited_by code asked (wait_of on number code asked) before) × (last ≡ rested_by (wait_of on number code asked) w)
+    (after ≡ waited_by code asked (wait_of on number code asked) before)
+    × (last ≡ rested_by (wait_of on number code asked) w)

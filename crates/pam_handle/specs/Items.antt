@@ -1,4 +1,5 @@
--- The calls that run no stack: items, environment, delays, conversations and what is missing (pam_set_item(3), pam_putenv(3),
+-- The calls that run no stack: items, environment, delays, conversations and what is missing (pam_set_item(3),
+-- pam_putenv(3),
 -- pam_fail_delay(3); that missing modules are told is this project's own).
 use Rattle.std.specs.Prelude.{ℕ, Bool, ◌||◌, if◌then◌else◌, None, is_some, List, [], ◌∷◌, ◌++◌, max}
 use Rattle.item_store.specs.Items.{ItemTexts}
@@ -24,7 +25,9 @@ with_environment env h = with_transaction (record h.room.transaction { env = env
 
 -- a request for a delay, in microseconds
 abbrev pub with_request : ℕ → PlainHandle → PlainHandle
-with_request micros h = with_transaction (record h.room.transaction { delay = max (counted_request micros) h.room.transaction.delay }) h
+with_request micros h =
+    with_transaction (record h.room.transaction
+    { delay = max (counted_request micros) h.room.transaction.delay }) h
 
 abbrev pub with_delay_function : Bool → PlainHandle → PlainHandle
 with_delay_function on h = record h { delay_on = on }
@@ -34,13 +37,15 @@ with_conversation conv h = in_room (record h.room { conv = conv }) h
 
 -- with nothing left to tell of what was said, visited and waited
 abbrev pub all_told : PlainHandle → PlainHandle
-all_told h = record (with_transaction (record h.room.transaction { said = []; trail = [] }) h) { waited = None }
+all_told h = record (with_transaction (record h.room.transaction { said = []; trail = [] }) h)
+    { waited = None }
 
 -- ---- what is missing
 
 -- a line whose module isn't there and that isn't silent about it
 abbrev pub missing_of : List (List ℕ) → Rule → List (List ℕ)
-missing_of names rule = if rule.silent || is_some (module_of names rule) then [] else name_of_module rule.path ∷ []
+missing_of names rule = if rule.silent || is_some (module_of names rule) then []
+    else name_of_module rule.path ∷ []
 
 -- the names of the modules that the lines of a stack name and that aren't there, in written order
 abbrev pub missing_in : List (List ℕ) → Stack → List (List ℕ)
@@ -49,4 +54,5 @@ missing_in names (line rule rest) = missing_of names rule ++ missing_in names re
 missing_in names (sub inner rest) = missing_in names inner ++ missing_in names rest
 
 abbrev pub missing_from : List (List ℕ) → Stacks → List (List ℕ)
-missing_from names s = missing_in names s.auth ++ (missing_in names s.account ++ (missing_in names s.password ++ missing_in names s.session))
+missing_from names s = missing_in names s.auth
+    ++ (missing_in names s.account ++ (missing_in names s.password ++ missing_in names s.session))

@@ -18,16 +18,21 @@ use Rattle.pam_room.specs.Module.{Player}
 abbrev pub kept_answers : Answers → Option KeptAnswers
 kept_answers cells = if is_some cells then Some (by_place cells) else None
 
--- a pass's code, what is kept behind it, the answers that it was given where it was put off, and the room and world after it
+-- a pass's code, what is kept behind it, the answers that it was given where it was put off, and the room and world
+-- after it
 abbrev pub Passed : Type 0
 Passed = calls.Passed State
 
 -- a pass of a kind over a stack, with what is kept, after answers given in its earlier calls
-abbrev pub passed : List Player → Func → ℕ → PassKind → Option KeptAnswers → Stack → List Code → State → Passed
-passed players func flags kind kept stack past s = passed_by kind kept (pass_after kind (answers_held kept) (answers_by players func flags) stack past s)
+abbrev pub passed : List Player → Func → ℕ → PassKind → Option KeptAnswers → Stack → List Code
+    → State → Passed
+passed players func flags kind kept stack past s =
+    passed_by kind kept (pass_after kind (answers_held kept) (answers_by players func flags) stack
+    past s)
 
 -- a code, what is kept and what is paused behind a pass, and a state are those of a pass
-pub record PassesTo (p : Passed) (code : Code) (kept : Option KeptAnswers) (paused : Option (List Code)) (state : State) : Type 0 where
+pub record PassesTo (p : Passed) (code : Code) (kept : Option KeptAnswers)
+    (paused : Option (List Code)) (state : State) : Type 0 where
   pub code_is : code ≡ p.code
   pub kept_is : kept ≡ p.kept
   pub paused_is : paused ≡ p.paused

@@ -15,7 +15,12 @@ use Rattle.pam_handle.specs.Pass.{kept_answers}
 
 -- the stacks that four chains were made from
 abbrev pub stacks_in : Chains → Stacks
-stacks_in c = record { auth = c.auth.nodes; account = c.account.nodes; password = c.password.nodes; session = c.session.nodes }
+stacks_in c = record {
+  auth = c.auth.nodes;
+  account = c.account.nodes;
+  password = c.password.nodes;
+  session = c.session.nodes;
+}
 
 abbrev pub pending_of : PutOff → Pending
 pending_of p = record { func = p.func; past = past_of p.paused; first = kept_answers p.first }

@@ -8,4 +8,5 @@ use Rattle.pam_handle.specs.Handle.{PlainHandle}
 
 -- a transaction may be called with these modules in this process: it was started with them, and its data are sound
 abbrev pub IsReadyFor : List Player → PlainHandle → PlainProcess → Type 0
-IsReadyFor players h process = (h.names ≡ names_of players) × IsReady (length players) h.room.transaction process
+IsReadyFor players h process = (h.names ≡ names_of players)
+    × IsReady (length players) h.room.transaction process

@@ -1,5 +1,6 @@
 -- The six calls that run a stack: pam_authenticate(3), pam_setcred(3), pam_acct_mgmt(3), pam_open_session(3),
--- pam_close_session(3), pam_chauthtok(3). Which answers the second of two calls follows is the Module Writers' Guide's; that a
+-- pam_close_session(3), pam_chauthtok(3). Which answers the second of two calls follows is the Module Writers'
+-- Guide's; that a
 -- call may be put off and goes on is this project's own.
 use Rattle.std.specs.Prelude.{ℕ, Bool, true, false, ◌||◌, ◌==◌, if◌then◌else◌, bit_or, Option, Some, None, List, []}
 use Rattle.pam_base.specs.declared.code.Code.{Code}
@@ -47,14 +48,24 @@ held_in h = held h.authenticated h.opened h.pending
 abbrev pub behind_pass : Func → Option KeptAnswers → Passed → PlainHandle → PlainHandle
 behind_pass func first p h =
     let k = held_behind func first p (held_in h) in
-    record h { room = p.state.room; authenticated = k.authenticated; opened = k.opened; pending = k.pending }
+    record h {
+      room = p.state.room;
+      authenticated = k.authenticated;
+      opened = k.opened;
+      pending = k.pending;
+    }
 
 -- behind the only pass of a call
 abbrev pub ended : Func → Passed → PlainHandle → Called
-ended func p h = called p.code (record h { room = request_behind p.paused p.state.room; pending = pending_behind func None p.paused }) p.state.world
+ended func p h = called p.code (record h {
+  room = request_behind p.paused p.state.room;
+  pending = pending_behind func None p.paused;
+}) p.state.world
 
--- behind the pass of an authentication: the tokens are cleared, the wait follows, and then the request is forgotten, unless it was put off
-abbrev pub authenticated : (Code → ℕ → ℕ) → Option (List Code) → Code → PlainHandle → PlainWorld → Called
+-- behind the pass of an authentication: the tokens are cleared, the wait follows, and then the request is forgotten,
+-- unless it was put off
+abbrev pub authenticated : (Code → ℕ → ℕ) → Option (List Code) → Code → PlainHandle → PlainWorld
+    → Called
 authenticated number (Some past) code h w = called code h w
 authenticated number None code h w =
     let waited = waits_after number code (tokens_cleared h) w in
@@ -72,10 +83,12 @@ module _ (players : List Player) where
 
   -- the first pass of a call, and the second of a change of token
   abbrev pub passes_first : Func → ℕ → List Code → PlainHandle → PlainWorld → Passed
-  passes_first func flags past h w = first_pass (asking_by flags) h.stacks func past (held_in h) (state_of h.room w)
+  passes_first func flags past h w =
+      first_pass (asking_by flags) h.stacks func past (held_in h) (state_of h.room w)
 
   abbrev pub passes_second : ℕ → Option KeptAnswers → List Code → PlainHandle → PlainWorld → Passed
-  passes_second flags first past h w = second_pass (asking_by flags) h.stacks first past (state_of h.room w)
+  passes_second flags first past h w =
+      second_pass (asking_by flags) h.stacks first past (state_of h.room w)
 
   -- ---- pam_authenticate(3)
 
@@ -97,7 +110,8 @@ module _ (players : List Player) where
       ended SetCred p (behind_pass SetCred None p h)
 
   abbrev pub setcred : ℕ → PlainHandle → PlainWorld → Called
-  setcred flags h w = begun_or_going_on h.pending SetCred (called codes.Abort h w) (credentials flags [] h w) (λ p. credentials flags p.past h w)
+  setcred flags h w = begun_or_going_on h.pending SetCred (called codes.Abort h w)
+      (credentials flags [] h w) (λ p. credentials flags p.past h w)
 
   -- ---- pam_acct_mgmt(3): its answers aren't kept
 
@@ -105,7 +119,9 @@ module _ (players : List Player) where
   account flags past h w = ended AcctMgmt (passes_first AcctMgmt flags past h w) h
 
   abbrev pub acct_mgmt : ℕ → PlainHandle → PlainWorld → Called
-  acct_mgmt flags h w = begun_or_going_on h.pending AcctMgmt (called codes.Abort h w) (account flags [] h w) (λ p. account flags p.past h w)
+  acct_mgmt flags h w =
+      begun_or_going_on h.pending AcctMgmt (called codes.Abort h w) (account flags [] h w) (λ p.
+      account flags p.past h w)
 
   -- ---- pam_open_session(3), and pam_close_session(3), which goes by what the last opening kept
 
@@ -115,7 +131,9 @@ module _ (players : List Player) where
       ended OpenSession p (behind_pass OpenSession None p h)
 
   abbrev pub open_session : ℕ → PlainHandle → PlainWorld → Called
-  open_session flags h w = begun_or_going_on h.pending OpenSession (called codes.Abort h w) (opening flags [] h w) (λ p. opening flags p.past h w)
+  open_session flags h w =
+      begun_or_going_on h.pending OpenSession (called codes.Abort h w) (opening flags [] h w) (λ p.
+      opening flags p.past h w)
 
   abbrev pub closing : ℕ → List Code → PlainHandle → PlainWorld → Called
   closing flags past h w =
@@ -123,7 +141,9 @@ module _ (players : List Player) where
       ended CloseSession p (behind_pass CloseSession None p h)
 
   abbrev pub close_session : ℕ → PlainHandle → PlainWorld → Called
-  close_session flags h w = begun_or_going_on h.pending CloseSession (called codes.Abort h w) (closing flags [] h w) (λ p. closing flags p.past h w)
+  close_session flags h w =
+      begun_or_going_on h.pending CloseSession (called codes.Abort h w) (closing flags [] h w) (λ p.
+      closing flags p.past h w)
 
   -- ---- pam_chauthtok(3): two passes, the second only where the first gave SUCCESS, and by the answers of the first
 
@@ -132,7 +152,8 @@ module _ (players : List Player) where
       let p = passes_second flags first past h w in
       changed p.paused p.code (behind_pass ChAuthTok first p h) p.state.world
 
-  abbrev pub behind_check : ℕ → Code → Option (List Code) → Option KeptAnswers → PlainHandle → PlainWorld → Called
+  abbrev pub behind_check : ℕ → Code → Option (List Code) → Option KeptAnswers → PlainHandle
+      → PlainWorld → Called
   behind_check flags codes.Success paused kept h w = update flags kept [] h w
   behind_check flags code paused kept h w = changed paused code h w
 

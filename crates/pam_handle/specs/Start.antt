@@ -21,7 +21,10 @@ use Rattle.pam_handle.specs.Handle.{PlainHandle}
 
 -- only SERVICE and, where it is known, USER are set
 abbrev pub first_texts : List ℕ → Option (List ℕ) → ItemTexts
-first_texts service user = record no_texts { service = Some (str_to_ascii_lowercase service); user = user }
+first_texts service user = record no_texts {
+  service = Some (str_to_ascii_lowercase service);
+  user = user;
+}
 
 -- a transaction of this number with these items, in which nothing else is set
 abbrev pub handle_with : ℕ → ItemTexts → ConvState → List (List ℕ) → Stacks → PlainHandle
@@ -36,14 +39,22 @@ handle_with number items conv names stacks = record {
   waited = None;
 }
 
-abbrev pub new_handle : ℕ → List ℕ → Option (List ℕ) → ConvState → List (List ℕ) → Stacks → PlainHandle
-new_handle number service user conv names stacks = handle_with number (first_texts service user) conv names stacks
+abbrev pub new_handle : ℕ → List ℕ → Option (List ℕ) → ConvState → List (List ℕ) → Stacks
+    → PlainHandle
+new_handle number service user conv names stacks =
+    handle_with number (first_texts service user) conv names stacks
 
 -- the stacks that the trees of a load are
 abbrev pub stacks_of_trees : Trees → Stacks
-stacks_of_trees trees = record { auth = stack_of trees.auth.vec.items; account = stack_of trees.account.vec.items; password = stack_of trees.password.vec.items; session = stack_of trees.session.vec.items }
+stacks_of_trees trees = record {
+  auth = stack_of trees.auth.vec.items;
+  account = stack_of trees.account.vec.items;
+  password = stack_of trees.password.vec.items;
+  session = stack_of trees.session.vec.items;
+}
 
--- a start: a transaction, or the first fault of its configuration; of the world only the vault's number of calls changes
+-- a start: a transaction, or the first fault of its configuration; of the world only the vault's number of calls
+-- changes
 pub record Started : Type 0 where
   pub answer : Result PlainHandle LoadFault
   pub world : PlainWorld
@@ -52,15 +63,20 @@ abbrev pub with_calls : ℕ → PlainWorld → PlainWorld
 with_calls calls w = record w { vault = record w.vault { calls = calls } }
 
 abbrev pub started_by : (Stacks → PlainHandle) → Result Counts Stop → Stacks → PlainWorld → Started
-started_by opened (Ok counts) stacks w = record { answer = Ok (opened stacks); world = with_calls counts.calls w }
-started_by opened (Err stop) stacks w = record { answer = Err stop.fault; world = with_calls stop.calls w }
+started_by opened (Ok counts) stacks w =
+    record { answer = Ok (opened stacks); world = with_calls counts.calls w }
+started_by opened (Err stop) stacks w =
+    record { answer = Err stop.fault; world = with_calls stop.calls w }
 
 -- the stacks that a service has under the root
 abbrev pub stacks_under : VaultState → List ℕ → List ℕ → Stacks
-stacks_under vault root service = stacks_of (tree (texts_of root vault) (has_folder vault root) service)
+stacks_under vault root service =
+    stacks_of (tree (texts_of root vault) (has_folder vault root) service)
 
 abbrev pub started : ℕ → List ℕ → Option (List ℕ) → ConvState → List (List ℕ) → PlainWorld → Started
-started number service user conv names w = started_by (new_handle number service user conv names) (loaded w.vault w.process.root service) (stacks_under w.vault w.process.root service) w
+started number service user conv names w =
+    started_by (new_handle number service user conv names) (loaded w.vault w.process.root service)
+    (stacks_under w.vault w.process.root service) w
 
 -- ---- what a start gives
 
@@ -79,7 +95,11 @@ abbrev pub RefusalCounts : Refuse LoadFault → ℕ → ℕ → Type 0
 RefusalCounts why before after = CountsFaults {A = Unit {0}} (Err why) before after
 
 -- the stacks of a service that has no fault, with the calls of the vault, or why it has none
-abbrev pub Prepares : {A : Type 0} → Result (A × Chains) (Refuse LoadFault) → PlainWorld → VaultState → List ℕ → Type 0
-Prepares (Ok parts) w new service = (counts : Counts) × (loaded w.vault w.process.root service ≡ Ok counts) × (new.calls ≡ counts.calls) × (stacks_in parts.1 ≡ stacks_under w.vault w.process.root service)
-Prepares (Err (Named fault)) w new service = loaded w.vault w.process.root service ≡ Err (record { fault = fault; calls = new.calls })
+abbrev pub Prepares : {A : Type 0} → Result (A × Chains) (Refuse LoadFault) → PlainWorld
+    → VaultState → List ℕ → Type 0
+Prepares (Ok parts) w new service = (counts : Counts)
+    × (loaded w.vault w.process.root service ≡ Ok counts) × (new.calls ≡ counts.calls)
+    × (stacks_in parts.1 ≡ stacks_under w.vault w.process.root service)
+Prepares (Err (Named fault)) w new service = loaded w.vault w.process.root service
+    ≡ Err (record { fault = fault; calls = new.calls })
 Prepares (Err NoMemory) w new service = Unit {0}

@@ -105,11 +105,14 @@ GetsItem true answer = answer ≡ answers.Code codes.BadItem
 GetsItem false answer = IsTrue (is_value answer)
 
 abbrev pub CanAnswer : AppCall → Answer → Type 0
-CanAnswer (calls.Start service user) answer = (answer ≡ answers.Code codes.Success) ⊎ IsTrue (is_refused answer)
+CanAnswer (calls.Start service user) answer = (answer ≡ answers.Code codes.Success)
+    ⊎ IsTrue (is_refused answer)
 CanAnswer (calls.End status) answer = answer ≡ answers.Code codes.Success
-CanAnswer (calls.SetItem item value) answer = answer ≡ succeeds_or_bad_item (is_refused_item ApplicationSets item)
+CanAnswer (calls.SetItem item value) answer =
+    answer ≡ succeeds_or_bad_item (is_refused_item ApplicationSets item)
 CanAnswer (calls.GetItem item) answer = GetsItem (is_refused_item ApplicationGets item) answer
-CanAnswer (calls.PutEnv text) answer = (answer ≡ answers.Code codes.Success) ⊎ (answer ≡ answers.Code codes.BadItem)
+CanAnswer (calls.PutEnv text) answer = (answer ≡ answers.Code codes.Success)
+    ⊎ (answer ≡ answers.Code codes.BadItem)
 CanAnswer (calls.GetEnv name) answer = IsTrue (is_value answer)
 CanAnswer calls.EnvList answer = IsTrue (is_list answer)
 CanAnswer (calls.FailDelay micros) answer = answer ≡ answers.Code codes.Success
@@ -122,7 +125,8 @@ abbrev pub AnswersBy : Option Answer → AppCall → Answer → Type 0
 AnswersBy (Some refused) call answer = answer ≡ refused
 AnswersBy None call answer = CanAnswer call answer
 
--- in any world: where a start is refused, the vault's count of faults rises where a file couldn't be read, and with no other fault
+-- in any world: where a start is refused, the vault's count of faults rises where a file couldn't be read, and with
+-- no other fault
 abbrev pub CountsRefusal : Answer → ℕ → ℕ → Type 0
 CountsRefusal (answers.Refused fault) before now = KindCounts fault.kind before now
 CountsRefusal answer before now = Unit {0}
@@ -164,7 +168,8 @@ pub record ReplyFails (tells : Bool) (old new : PlainSlot) : Type 0 where
   pub rest : new ≡ with_conv (conv_of new) (told_slot old)
   pub told : IsTrue tells → new ≡ told_slot old
 
--- A step found no memory. A start leaves its place closed with its conversation; any other call that isn't a stack call or a
+-- A step found no memory. A start leaves its place closed with its conversation; any other call that isn't a stack
+-- call or a
 -- reply leaves all as it was.
 abbrev pub Fails : Bool → AppCall → PlainSlot → PlainSlot → Type 0
 Fails tells (calls.Authenticate flags) old new = StackFails funcs.Authenticate old new
@@ -184,24 +189,31 @@ FailsAt tells call old new = ⊥
 -- ---- module data
 
 -- the data of a transaction were cleaned up at its end, with this status
-pub record IsEndOf (note : Notes) (status : ℕ) (old : PlainDataList) (before : PlainLedger) (new : PlainDataList) (after : PlainLedger) : Type 0 where
+pub record IsEndOf (note : Notes) (status : ℕ) (old : PlainDataList) (before : PlainLedger)
+    (new : PlainDataList) (after : PlainLedger) : Type 0 where
   pub ledger : after ≡ ledger_after note status (reverse old.live) before
   pub list : new ≡ clean_list old.handle []
 
 -- nothing was set and nothing filed
-pub record IsUntouched (old : PlainDataList) (before : PlainLedger) (new : PlainDataList) (after : PlainLedger) : Type 0 where
+pub record IsUntouched (old : PlainDataList) (before : PlainLedger) (new : PlainDataList)
+    (after : PlainLedger) : Type 0 where
   pub ledger : after ≡ before
   pub list : new ≡ old
 
 -- what a call on an open transaction does to its data and the ledger
-abbrev pub SpendsAs : Notes → ℕ → AppCall → PlainDataList → PlainLedger → PlainDataList → PlainLedger → Type 0
-SpendsAs note modules (calls.End status) old before new after = IsEndOf note status old before new after
+abbrev pub SpendsAs : Notes → ℕ → AppCall → PlainDataList → PlainLedger → PlainDataList
+    → PlainLedger → Type 0
+SpendsAs note modules (calls.End status) old before new after =
+    IsEndOf note status old before new after
 SpendsAs note modules call old before new after = Grows note modules old before new after
 
 -- what a step does to the data of its number and the ledger
-abbrev pub SpendsAt : Notes → ℕ → Option PlainSlot → AppCall → PlainDataList → PlainLedger → PlainDataList → PlainLedger → Type 0
-SpendsAt note modules (Some (opened h)) call old before new after = SpendsAs note modules call old before new after
-SpendsAt note modules (Some (closed conv)) call old before new after = IsUntouched old before new after
+abbrev pub SpendsAt : Notes → ℕ → Option PlainSlot → AppCall → PlainDataList → PlainLedger
+    → PlainDataList → PlainLedger → Type 0
+SpendsAt note modules (Some (opened h)) call old before new after =
+    SpendsAs note modules call old before new after
+SpendsAt note modules (Some (closed conv)) call old before new after =
+    IsUntouched old before new after
 SpendsAt note modules None call old before new after = IsUntouched old before new after
 
 -- the end that a call on an open transaction of a number is

@@ -16,7 +16,8 @@ pub record Moved : Type 0 where
 -- each call moved on from where the one before it had left ledger and lists
 abbrev pub MoveOn : Notes → ℕ → PlainLedger → Lists → List Moved → Type 0
 MoveOn note limit ledger lists [] = Unit {0}
-MoveOn note limit ledger lists (m ∷ calls) = Moves note limit m.ended ledger lists m.ledger m.lists × MoveOn note limit m.ledger m.lists calls
+MoveOn note limit ledger lists (m ∷ calls) = Moves note limit m.ended ledger lists m.ledger m.lists
+    × MoveOn note limit m.ledger m.lists calls
 
 -- the births that were added to a ledger
 abbrev pub births_added : PlainLedger → PlainLedger → List Birth
@@ -25,7 +26,8 @@ births_added before after = drop (length before.births) after.births
 -- of each call the births that it added, in order, and then its end
 abbrev pub events_of : PlainLedger → List Moved → List Event
 events_of ledger [] = []
-events_of ledger (m ∷ calls) = (map birth (births_added ledger m.ledger) ++ m.ended) ++ events_of m.ledger calls
+events_of ledger (m ∷ calls) = (map birth (births_added ledger m.ledger) ++ m.ended)
+    ++ events_of m.ledger calls
 
 abbrev pub last_ledger : PlainLedger → List Moved → PlainLedger
 last_ledger ledger [] = ledger

@@ -33,9 +33,11 @@ module _ (note : Notes) (status : ℕ) where
   closed_one slots w = option_map (ended_at slots w) (first_open 1 slots)
 
 -- what an end of the lowest open transaction answers and leaves
-abbrev pub ClosesAs : Option ClosedOne → Option ℕ → List PlainSlot → PlainWorld → List PlainSlot → PlainWorld → Type 0
+abbrev pub ClosesAs : Option ClosedOne → Option ℕ → List PlainSlot → PlainWorld → List PlainSlot
+    → PlainWorld → Type 0
 ClosesAs None answer slots w next v = (answer ≡ None) × (next ≡ slots) × (v ≡ w)
-ClosesAs (Some c) answer slots w next v = (answer ≡ Some c.number) × (next ≡ c.slots) × (v ≡ c.world)
+ClosesAs (Some c) answer slots w next v = (answer ≡ Some c.number) × (next ≡ c.slots)
+    × (v ≡ c.world)
 
 -- the end that it was, if it was one
 abbrev pub end_of : ℕ → Option ℕ → List Event

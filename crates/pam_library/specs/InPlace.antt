@@ -31,25 +31,34 @@ IsReadyAt modules (closed conv) process = Unit {0}
 IsReadyAt modules (opened h) process = IsReady modules h.room.transaction process
 
 -- a call on the place of a number, in any world and in one that tells
-pub record GoesInPlace (players : List Player) (gives : (Code → ℕ → ℕ) → Type 0) (tells world_tells : Bool) (number : ℕ) (call : AppCall)
-    (old : PlainSlot) (before : PlainWorld) (result : Result Outcome NoMemory) (new : PlainSlot) (after : PlainWorld) : Type 0 where
+pub record GoesInPlace (players : List Player) (gives : (Code → ℕ → ℕ) → Type 0)
+    (tells world_tells : Bool) (number : ℕ) (call : AppCall)
+    (old : PlainSlot) (before : PlainWorld) (result : Result Outcome NoMemory) (new : PlainSlot)
+    (after : PlainWorld) : Type 0 where
   pub told : (number_of : Code → ℕ → ℕ) → gives number_of → IsTrue (tells && world_tells) →
-      IfOk result (λ o. SlotStepsAs (slot_step players number_of number old before call) (plain_outcome o) new after)
+      IfOk result (λ o. SlotStepsAs (slot_step players number_of number old before call)
+      (plain_outcome o) new after)
   pub alone : (number_of : Code → ℕ → ℕ) → stays_inside (Some old) call ≡ true →
-      IfOk result (λ o. SlotStepsAs (slot_step players number_of number old before call) (plain_outcome o) new after)
+      IfOk result (λ o. SlotStepsAs (slot_step players number_of number old before call)
+      (plain_outcome o) new after)
   pub answers : IfOk result (λ o. AnswersBy (refusal (Some old) call) call o.answer)
   pub filed_from : IfOk result (λ o. o.filed_from ≡ length before.process.ledger.filed)
   pub succeeds : takes_no_memory (Some old) call ≡ true → IsOk result
   pub fails : OnErr result (Fails tells call old new)
   pub placed : IsAtPlace (names_of players) number new
-  pub spends : SpendsAt (notes_of players) (length players) (Some old) call (data_in number (Some old)) before.process.ledger (data_in number (Some new)) after.process.ledger
+  pub spends : SpendsAt (notes_of players) (length players) (Some old) call
+      (data_in number (Some old)) before.process.ledger (data_in number (Some new))
+      after.process.ledger
   pub root : after.process.root ≡ before.process.root
   pub caller : after.process.caller ≡ before.process.caller
 
 -- A call that stays inside an open transaction which told all that it had to tell: it is exact in any world.
-pub record GoesInside (call : AppCall) (filed : ℕ) (old : PlainHandle) (result : Result Outcome NoMemory) (new : PlainHandle) : Type 0 where
-  pub steps : (players : List Player) (number_of : Code → ℕ → ℕ) (w : PlainWorld) → filed_in w ≡ filed →
-      IfOk result (λ o. SlotStepsAs (open_step players number_of old w call) (plain_outcome o) (opened new) w)
+pub record GoesInside (call : AppCall) (filed : ℕ) (old : PlainHandle)
+    (result : Result Outcome NoMemory) (new : PlainHandle) : Type 0 where
+  pub steps : (players : List Player) (number_of : Code → ℕ → ℕ) (w : PlainWorld)
+      → filed_in w ≡ filed →
+      IfOk result (λ o. SlotStepsAs (open_step players number_of old w call) (plain_outcome o)
+      (opened new) w)
   pub answers : IfOk result (λ o. CanAnswer call o.answer)
   pub filed_from : IfOk result (λ o. o.filed_from ≡ filed)
   pub succeeds : is_free call ≡ true → IsOk result
@@ -80,9 +89,12 @@ is_end call = false
 
 -- the outcome of a start that opened a transaction
 abbrev pub opened_outcome : ℕ → PlainHandle → PlainOutcome
-opened_outcome filed h = record (answers_only filed (answers.Code codes.Success)) { missing = missing_from h.names h.stacks }
+opened_outcome filed h =
+    record (answers_only filed (answers.Code codes.Success))
+    { missing = missing_from h.names h.stacks }
 
--- A transaction without data was opened in a place, or there was no memory to tell what is missing; then its place is closed
+-- A transaction without data was opened in a place, or there was no memory to tell what is missing; then its place is
+-- closed
 -- with its conversation. Nothing is filed.
 pub record OpensPlace (filed : ℕ) (h : PlainHandle) (o : Outcome) (slot : PlainSlot) : Type 0 where
   pub slot_is : slot ≡ opened h

@@ -6,7 +6,8 @@ use Rattle.pam_handle.specs.declared.wait.Wait.{Wait}
 use Rattle.pam_library.specs.declared.outcome.Answer.{Answer}
 use Rattle.pam_library.specs.declared.outcome.Outcome.{Outcome}
 
--- what was said and visited in this step, the number of receipts before it, the wait, the modules that are missing, and the answer
+-- what was said and visited in this step, the number of receipts before it, the wait, the modules that are missing,
+-- and the answer
 pub record PlainOutcome : Type 0 where
   pub said : List Message
   pub trail : List Visit
@@ -16,8 +17,22 @@ pub record PlainOutcome : Type 0 where
   pub answer : Answer
 
 abbrev pub plain_outcome : Outcome → PlainOutcome
-plain_outcome o = record { said = o.said; trail = o.trail.visits; filed_from = o.filed_from; wait = o.wait; missing = o.missing; answer = o.answer }
+plain_outcome o = record {
+  said = o.said;
+  trail = o.trail.visits;
+  filed_from = o.filed_from;
+  wait = o.wait;
+  missing = o.missing;
+  answer = o.answer;
+}
 
 -- an answer and nothing told
 abbrev pub answers_only : ℕ → Answer → PlainOutcome
-answers_only filed answer = record { said = []; trail = []; filed_from = filed; wait = None; missing = []; answer = answer }
+answers_only filed answer = record {
+  said = [];
+  trail = [];
+  filed_from = filed;
+  wait = None;
+  missing = [];
+  answer = answer;
+}

@@ -22,22 +22,26 @@ module _ (players : List Player) (number_of : Code → ℕ → ℕ) where
   -- all places after some steps; between two of them the world may change
   abbrev pub slots_after : List PlainSlot → List Met → List PlainSlot
   slots_after slots [] = slots
-  slots_after slots (m ∷ steps) = slots_after (stepped players number_of slots m.world m.step).slots steps
+  slots_after slots (m ∷ steps) =
+      slots_after (stepped players number_of slots m.world m.step).slots steps
 
   -- the outcomes of the steps on one number, among them
   abbrev pub outcomes_on : ℕ → List PlainSlot → List Met → List PlainOutcome
   outcomes_on number slots [] = []
   outcomes_on number slots (m ∷ steps) =
       let s = stepped players number_of slots m.world m.step in
-      if nat_eq m.step.number number then s.outcome ∷ outcomes_on number s.slots steps else outcomes_on number s.slots steps
+      if nat_eq m.step.number number then s.outcome ∷ outcomes_on number s.slots steps
+      else outcomes_on number s.slots steps
 
   -- one place alone, after some steps on it
   abbrev pub alone : ℕ → PlainSlot → List Met → PlainSlot
   alone number slot [] = slot
-  alone number slot (m ∷ steps) = alone number (slot_step players number_of number slot m.world m.step.call).slot steps
+  alone number slot (m ∷ steps) =
+      alone number (slot_step players number_of number slot m.world m.step.call).slot steps
 
   -- the outcomes of these steps
   abbrev pub outcomes_alone : ℕ → PlainSlot → List Met → List PlainOutcome
   outcomes_alone number slot [] = []
   outcomes_alone number slot (m ∷ steps) =
-      let s = slot_step players number_of number slot m.world m.step.call in s.outcome ∷ outcomes_alone number s.slot steps
+      let s = slot_step players number_of number slot m.world m.step.call in
+      s.outcome ∷ outcomes_alone number s.slot steps

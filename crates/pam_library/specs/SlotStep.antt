@@ -1,4 +1,5 @@
--- One call on one place (the calls of the Application Developers' Guide; that a call may be put off, the delay function and the
+-- One call on one place (the calls of the Application Developers' Guide; that a call may be put off, the delay
+-- function and the
 -- replies are this project's own).
 use Rattle.std.specs.Prelude.{◌≡◌, ℕ, Bool, false, if◌then◌else◌, List, [], ◌∷◌, ◌++◌, map, length, Option, Some, None, Result, Ok, Err}
 use Rattle.pam_base.specs.declared.code.Code.{Code}
@@ -36,7 +37,8 @@ pub record SlotStepped : Type 0 where
   pub outcome : PlainOutcome
 
 -- an outcome, a place and a world are those of a step
-pub record SlotStepsAs (s : SlotStepped) (outcome : PlainOutcome) (slot : PlainSlot) (world : PlainWorld) : Type 0 where
+pub record SlotStepsAs (s : SlotStepped) (outcome : PlainOutcome) (slot : PlainSlot)
+    (world : PlainWorld) : Type 0 where
   pub outcome_is : outcome ≡ s.outcome
   pub slot_is : slot ≡ s.slot
   pub world_is : world ≡ s.world
@@ -46,7 +48,11 @@ filed_in w = length w.process.ledger.filed
 
 -- only an answer; the world stays
 abbrev pub answered : PlainSlot → PlainWorld → Answer → SlotStepped
-answered slot w answer = record { slot = slot; world = w; outcome = answers_only (filed_in w) answer }
+answered slot w answer = record {
+  slot = slot;
+  world = w;
+  outcome = answers_only (filed_in w) answer;
+}
 
 abbrev pub succeeded : PlainSlot → PlainWorld → SlotStepped
 succeeded slot w = answered slot w (answers.Code codes.Success)
@@ -65,9 +71,17 @@ offered text conv = record conv { offers = conv.offers ++ offer_taken conv.waits
 
 -- ---- a start
 
-abbrev pub opened_by : List (List ℕ) → ConvState → ℕ → PlainWorld → Result PlainHandle LoadFault → SlotStepped
-opened_by names conv filed w (Ok h) = record { slot = opened h; world = w; outcome = record (answers_only filed (answers.Code codes.Success)) { missing = missing_from names h.stacks } }
-opened_by names conv filed w (Err fault) = record { slot = closed conv; world = w; outcome = answers_only filed (answers.Refused fault) }
+abbrev pub opened_by : List (List ℕ) → ConvState → ℕ → PlainWorld → Result PlainHandle LoadFault
+    → SlotStepped
+opened_by names conv filed w (Ok h) =
+    record {
+      slot = opened h;
+      world = w;
+      outcome = record (answers_only filed (answers.Code codes.Success))
+          { missing = missing_from names h.stacks };
+    }
+opened_by names conv filed w (Err fault) =
+    record { slot = closed conv; world = w; outcome = answers_only filed (answers.Refused fault) }
 
 -- ---- the stack calls
 
@@ -105,7 +119,8 @@ module _ (players : List Player) (number : Code → ℕ → ℕ) where
   stack_step func flags h w =
       if is_refused_for_flags func flags then answered (opened h) w (answers.Code codes.SystemErr)
       else unless_pending (other_pending h.pending func) (opened h) w
-      (let c = stack_call players number func flags h w in told_by (filed_in w) (answers.Code c.code) c)
+      (let c = stack_call players number func flags h w in
+      told_by (filed_in w) (answers.Code c.code) c)
 
   -- ---- the calls on an open transaction that told all that it had to tell
 
@@ -119,26 +134,34 @@ module _ (players : List Player) (number : Code → ℕ → ℕ) where
   open_step h w (calls.CloseSession flags) = stack_step funcs.CloseSession flags h w
   open_step h w (calls.ChAuthTok flags) = stack_step funcs.ChAuthTok flags h w
   open_step h w (calls.SetItem item value) =
-      if is_refused_item ApplicationSets item then answered (opened h) w (answers.Code codes.BadItem)
+      if is_refused_item ApplicationSets item
+      then answered (opened h) w (answers.Code codes.BadItem)
       else succeeded (opened (with_items (with_text h.room.transaction.items item value) h)) w
   open_step h w (calls.GetItem item) =
-      if is_refused_item ApplicationGets item then answered (opened h) w (answers.Code codes.BadItem)
+      if is_refused_item ApplicationGets item
+      then answered (opened h) w (answers.Code codes.BadItem)
       else answered (opened h) w (answers.Value (text_of h.room.transaction.items item))
   open_step h w (calls.PutEnv text) =
-      if is_refused_text text h.room.transaction.env then answered (opened h) w (answers.Code codes.BadItem)
+      if is_refused_text text h.room.transaction.env
+      then answered (opened h) w (answers.Code codes.BadItem)
       else succeeded (opened (with_environment (after_put text h.room.transaction.env) h)) w
-  open_step h w (calls.GetEnv name) = answered (opened h) w (answers.Value (value_of name h.room.transaction.env))
-  open_step h w calls.EnvList = answered (opened h) w (answers.List (map variable_text h.room.transaction.env))
+  open_step h w (calls.GetEnv name) =
+      answered (opened h) w (answers.Value (value_of name h.room.transaction.env))
+  open_step h w calls.EnvList =
+      answered (opened h) w (answers.List (map variable_text h.room.transaction.env))
   open_step h w (calls.FailDelay micros) = succeeded (opened (with_request micros h)) w
   open_step h w (calls.DelayFn on) = succeeded (opened (with_delay_function on h)) w
-  open_step h w (calls.Reply text) = answered (opened (with_conversation (offered text h.room.conv) h)) w answers.Nothing
+  open_step h w (calls.Reply text) =
+      answered (opened (with_conversation (offered text h.room.conv) h)) w answers.Nothing
 
   -- ---- the calls on a closed place
 
   abbrev pub closed_step : ℕ → ConvState → PlainWorld → AppCall → SlotStepped
   closed_step place conv w (calls.Start service user) =
-      let s = started place service user conv (names_of players) w in opened_by (names_of players) conv (filed_in w) s.world s.answer
-  closed_step place conv w (calls.Reply text) = answered (closed (offered text conv)) w answers.Nothing
+      let s = started place service user conv (names_of players) w in
+      opened_by (names_of players) conv (filed_in w) s.world s.answer
+  closed_step place conv w (calls.Reply text) =
+      answered (closed (offered text conv)) w answers.Nothing
   closed_step place conv w call = answered (closed conv) w answers.NotOpen
 
   -- a call on the place of this number; what an open transaction had told before counts as told

@@ -22,11 +22,14 @@ IsAtPlace names number (opened h) = IsPlaced names number h
 -- there are sixteen places
 pub record ArePlaced (names : List (List ℕ)) (slots : List PlainSlot) : Type 0 where
   pub sixteen : length slots ≡ 16
-  pub each : (number : ℕ) (slot : PlainSlot) → slot_at slots number ≡ Some slot → IsAtPlace names number slot
+  pub each : (number : ℕ) (slot : PlainSlot) → slot_at slots number ≡ Some slot
+      → IsAtPlace names number slot
 
--- the births without a receipt are exactly the data of the open transactions, each of its place's number, and every birth has one
+-- the births without a receipt are exactly the data of the open transactions, each of its place's number, and every
+-- birth has one
 -- of the modules as its owner
-pub record IsSound (names : List (List ℕ)) (modules : ℕ) (slots : List PlainSlot) (ledger : PlainLedger) : Type 0 where
+pub record IsSound (names : List (List ℕ)) (modules : ℕ) (slots : List PlainSlot)
+    (ledger : PlainLedger) : Type 0 where
   pub placed : ArePlaced names slots
   pub held : AreHeld modules handle_limit ledger (lists_of slots)
   pub owned : AllByRecursion (λ (b : Birth). b.owner < modules) ledger.births

@@ -18,19 +18,26 @@ pub record Stepped : Type 0 where
 
 -- the step of one place leaves every other place as it was
 abbrev pub stepped_in : List PlainSlot → ℕ → SlotStepped → Stepped
-stepped_in slots number s = record { slots = with_slot slots number s.slot; world = s.world; outcome = s.outcome }
+stepped_in slots number s = record {
+  slots = with_slot slots number s.slot;
+  world = s.world;
+  outcome = s.outcome;
+}
 
 module _ (players : List Player) (number_of : Code → ℕ → ℕ) where
   -- by the place of that number, if there is one
   abbrev pub stepped_at : List PlainSlot → PlainWorld → ℕ → AppCall → Option PlainSlot → Stepped
-  stepped_at slots w number call None = record { slots = slots; world = w; outcome = answers_only (filed_in w) answers.BadNumber }
-  stepped_at slots w number call (Some slot) = stepped_in slots number (slot_step players number_of number slot w call)
+  stepped_at slots w number call None =
+      record { slots = slots; world = w; outcome = answers_only (filed_in w) answers.BadNumber }
+  stepped_at slots w number call (Some slot) =
+      stepped_in slots number (slot_step players number_of number slot w call)
 
   unfoldable pub stepped : List PlainSlot → PlainWorld → Step → Stepped
   stepped slots w step = stepped_at slots w step.number step.call (slot_at slots step.number)
 
 -- an outcome, places and a world are those of a step
-pub record StepsAs (s : Stepped) (outcome : PlainOutcome) (slots : List PlainSlot) (world : PlainWorld) : Type 0 where
+pub record StepsAs (s : Stepped) (outcome : PlainOutcome) (slots : List PlainSlot)
+    (world : PlainWorld) : Type 0 where
   pub outcome_is : outcome ≡ s.outcome
   pub slots_is : slots ≡ s.slots
   pub world_is : world ≡ s.world

@@ -34,7 +34,8 @@ file_at path (f ∷ fs) = if bytes_eq f.path path then Some f.bytes else file_at
 -- the files with this one set whole
 abbrev pub file_put : List ℕ → List ℕ → List File → List File
 file_put path bytes [] = record { path = path; bytes = bytes } ∷ []
-file_put path bytes (f ∷ fs) = if bytes_eq f.path path then record { path = path; bytes = bytes } ∷ fs else f ∷ file_put path bytes fs
+file_put path bytes (f ∷ fs) = if bytes_eq f.path path
+    then record { path = path; bytes = bytes } ∷ fs else f ∷ file_put path bytes fs
 
 -- whether a path begins with this one and a slash
 abbrev pub is_below : List ℕ → List ℕ → Bool
@@ -47,9 +48,12 @@ is_folder path files = list_any (λ f. is_below path f.path) files
 -- what a read of a file may answer: a call that is to fail answers Failed and nothing else, and want of memory is
 -- free at every other
 abbrev pub ReadsFile : Result (List ℕ) VaultFault → List ℕ → ℕ → VaultState → Type 0
-ReadsFile (Ok bytes) path limit s = (is_failing s ≡ false) × (file_at path s.files ≡ Some bytes) × (length bytes ≤ limit)
-ReadsFile (Err read_faults.Absent) path limit s = (is_failing s ≡ false) × (file_at path s.files ≡ None)
-ReadsFile (Err read_faults.TooLong) path limit s = (is_failing s ≡ false) × IsSomeAnd (file_at path s.files) (λ bytes. limit < length bytes)
+ReadsFile (Ok bytes) path limit s = (is_failing s ≡ false) × (file_at path s.files ≡ Some bytes)
+    × (length bytes ≤ limit)
+ReadsFile (Err read_faults.Absent) path limit s = (is_failing s ≡ false)
+    × (file_at path s.files ≡ None)
+ReadsFile (Err read_faults.TooLong) path limit s = (is_failing s ≡ false)
+    × IsSomeAnd (file_at path s.files) (λ bytes. limit < length bytes)
 ReadsFile (Err read_faults.Failed) path limit s = is_failing s ≡ true
 ReadsFile (Err read_faults.NoMemory) path limit s = is_failing s ≡ false
 
@@ -60,7 +64,11 @@ TellsFolder (Err replace_faults.Failed) path s = is_failing s ≡ true
 TellsFolder (Err replace_faults.NoMemory) path s = is_failing s ≡ false
 
 -- what setting a file whole may answer, and what is told after it: where it is refused, the files are as before
-abbrev pub Replaces : {T : Type 0} → Result T ReplaceFault → List ℕ → List ℕ → VaultState → VaultState → Type 0
-Replaces (Ok done) path bytes old new = (is_failing old ≡ false) × (new ≡ counted (record old { files = file_put path bytes old.files }))
-Replaces (Err replace_faults.Failed) path bytes old new = (is_failing old ≡ true) × (new ≡ counted old)
-Replaces (Err replace_faults.NoMemory) path bytes old new = (is_failing old ≡ false) × (new ≡ counted old)
+abbrev pub Replaces : {T : Type 0} → Result T ReplaceFault → List ℕ → List ℕ → VaultState
+    → VaultState → Type 0
+Replaces (Ok done) path bytes old new = (is_failing old ≡ false)
+    × (new ≡ counted (record old { files = file_put path bytes old.files }))
+Replaces (Err replace_faults.Failed) path bytes old new = (is_failing old ≡ true)
+    × (new ≡ counted old)
+Replaces (Err replace_faults.NoMemory) path bytes old new = (is_failing old ≡ false)
+    × (new ≡ counted old)

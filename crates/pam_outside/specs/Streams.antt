@@ -30,7 +30,8 @@ pub record Writes (result : Result ℕ Failed) (piece : List ℕ) (old new : Sin
 
 -- a front of the text is written, with at most one call more than it has bytes; all of it where nothing failed,
 -- and then with at most as many calls as it has bytes
-pub record WritesWhole {T : Type 0} (result : Result T Failed) (text : List ℕ) (old new : SinkState) : Type 0 where
+pub record WritesWhole {T : Type 0} (result : Result T Failed) (text : List ℕ)
+    (old new : SinkState) : Type 0 where
   pub front : List ℕ
   pub back : List ℕ
   pub parts : text ≡ front ++ back

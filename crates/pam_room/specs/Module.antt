@@ -53,7 +53,13 @@ pub record Played : Type 0 where
 
 -- an answer that sets no data and leaves the files
 abbrev pub answered : Code → SeenRoom → Sight → Played
-answered code room sight = record { code = code; room = room; births = []; files = sight.files; calls = 0 }
+answered code room sight = record {
+  code = code;
+  room = room;
+  births = [];
+  files = sight.files;
+  calls = 0;
+}
 
 -- a module's calls, where all that it is lent tells
 abbrev pub Plays : Type 0
@@ -114,21 +120,28 @@ sight_of s = record {
 }
 
 abbrev pub played_in : Plays → PlainCall → Scene → Played
-played_in plays call s = plays call (seen_of s.room) (named_data s.room.transaction.datums.live) (sight_of s)
+played_in plays call s =
+    plays call (seen_of s.room) (named_data s.room.transaction.datums.live) (sight_of s)
 
 -- the births of data that are set one after another, with their ids, their transaction and their owner
 abbrev pub births_of : ℕ → ℕ → ℕ → List NamedData → List Birth
 births_of id handle owner [] = []
-births_of id handle owner (d ∷ ds) = birth_of id handle owner d.name d.payload ∷ births_of (id + 1) handle owner ds
+births_of id handle owner (d ∷ ds) = birth_of id handle owner d.name d.payload
+    ∷ births_of (id + 1) handle owner ds
 
 -- Some data were set in a list, one after another, by the module with this number.
-pub record HasSet (owner : ℕ) (ds : List NamedData) (old : PlainDataList) (before : PlainLedger) (new : PlainDataList) (after : PlainLedger) : Type 0 where
+pub record HasSet (owner : ℕ) (ds : List NamedData) (old : PlainDataList) (before : PlainLedger)
+    (new : PlainDataList) (after : PlainLedger) : Type 0 where
   pub list : new ≡ hold_all old (births_of (length before.births) old.handle owner ds)
-  pub ledger : after ≡ record before { births = before.births ++ births_of (length before.births) old.handle owner ds }
+  pub ledger : after ≡ record before {
+    births = before.births
+        ++ births_of (length before.births) old.handle owner ds;
+  }
 
 -- the births of what was played
 abbrev pub born_by : Played → Scene → List Birth
-born_by p s = births_of (length s.process.ledger.births) s.room.transaction.handle s.room.transaction.serving p.births
+born_by p s = births_of (length s.process.ledger.births) s.room.transaction.handle
+    s.room.transaction.serving p.births
 
 -- what was played is put into what was lent, and all else of it stays
 abbrev pub with_played : Played → Scene → Scene
@@ -146,7 +159,12 @@ with_played p s = record {
   };
   vault = record (after_calls p.calls s.vault) { files = p.files };
   clock = s.clock;
-  process = record s.process { ledger = record s.process.ledger { births = s.process.ledger.births ++ born_by p s } };
+  process = record s.process {
+    ledger = record s.process.ledger {
+      births = s.process.ledger.births
+          ++ born_by p s;
+    };
+  };
 }
 
 -- the same part by part: what is left is what was played
@@ -155,14 +173,16 @@ pub record LeavesAs (p : Played) (old new : Scene) : Type 0 where
   pub trail : new.room.transaction.trail ≡ old.room.transaction.trail
   pub handle : new.room.transaction.handle ≡ old.room.transaction.handle
   pub serving : new.room.transaction.serving ≡ old.room.transaction.serving
-  pub births : HasSet old.room.transaction.serving p.births old.room.transaction.datums old.process.ledger new.room.transaction.datums new.process.ledger
+  pub births : HasSet old.room.transaction.serving p.births old.room.transaction.datums
+      old.process.ledger new.room.transaction.datums new.process.ledger
   pub vault : new.vault ≡ record (after_calls p.calls old.vault) { files = p.files }
   pub clock : new.clock ≡ old.clock
   pub root : new.process.root ≡ old.process.root
   pub caller : new.process.caller ≡ old.process.caller
 
 -- A call answered this code and left this, as the module plays.
-pub record PlaysIn (plays : Plays) (call : PlainCall) (old : Scene) (code : Code) (new : Scene) : Type 0 where
+pub record PlaysIn (plays : Plays) (call : PlainCall) (old : Scene) (code : Code)
+    (new : Scene) : Type 0 where
   pub code_is : code ≡ (played_in plays call old).code
   pub scene_is : new ≡ with_played (played_in plays call old) old
 

@@ -36,5 +36,7 @@ module _ {X : Type 0} {V : X → Type 0} where
   plain_room conv room = room_of (plain_transaction room.transaction) (conv room.conv)
 
 module _ {X Y Z : Type 0} {U : X → Type 0} {V : Y → Type 0} {W : Z → Type 0} where
-  abbrev pub plain_world : (DynBox X Global U → VaultState) → (DynBox Y Global V → ClockState) → (DynBox Z Global W → NapState) → World X Y Z U V W → PlainWorld
-  plain_world vault clock nap world = world_of (vault world.vault) (clock world.clock) (nap world.nap) (plain_process world.process)
+  abbrev pub plain_world : (DynBox X Global U → VaultState) → (DynBox Y Global V → ClockState)
+      → (DynBox Z Global W → NapState) → World X Y Z U V W → PlainWorld
+  plain_world vault clock nap world =
+      world_of (vault world.vault) (clock world.clock) (nap world.nap) (plain_process world.process)

@@ -59,7 +59,11 @@ pub record Signs : Type 0 where
   pub put_off : Bool
 
 abbrev pub signs : ℕ → ℕ → Bool → Signs
-signs faults deferrals put_off = record { faults = faults; deferrals = deferrals; put_off = put_off }
+signs faults deferrals put_off = record {
+  faults = faults;
+  deferrals = deferrals;
+  put_off = put_off;
+}
 
 -- the conversation failed for good
 pub record Failed (old new : Signs) : Type 0 where
@@ -90,7 +94,8 @@ abbrev pub asked : Bool → SeenRoom → Asked
 asked refused room = record { refused = refused; room = room }
 
 abbrev pub with_reply : ItemName → List Reply → SeenRoom → SeenRoom
-with_reply item (reply ∷ replies) room = record room { items = with_text room.items item (Some reply.text) }
+with_reply item (reply ∷ replies) room =
+    record room { items = with_text room.items item (Some reply.text) }
 with_reply item [] room = room
 
 abbrev pub asked_by : ItemName → Result (List Reply) ConvFault → SeenRoom → Asked

@@ -15,13 +15,26 @@ pub record Answered : Type 0 where
 
 -- before a module serves: its number is at work, and nothing is put off
 abbrev pub at_work : ℕ → State → State
-at_work number s = record s { room = record s.room { transaction = record s.room.transaction { put_off = false; serving = number } } }
+at_work number s = record s {
+  room = record s.room {
+    transaction = record s.room.transaction {
+      put_off = false;
+      serving = number;
+    };
+  };
+}
 
 -- each datum that was replaced is cleaned up by its owner
 abbrev pub swept : Notes → State → State
 swept note s = record {
-  room = record s.room { transaction = record s.room.transaction { datums = swept_list s.room.transaction.datums } };
-  world = record s.world { process = record s.world.process { ledger = swept_ledger note s.room.transaction.datums s.world.process.ledger } };
+  room = record s.room {
+    transaction = record s.room.transaction
+        { datums = swept_list s.room.transaction.datums };
+  };
+  world = record s.world {
+    process = record s.world.process
+        { ledger = swept_ledger note s.room.transaction.datums s.world.process.ledger };
+  };
 }
 
 -- where a module's conversation put the transaction off, its answer doesn't count
@@ -32,7 +45,10 @@ answer_or_incomplete put_off code = if put_off then Incomplete else code
 abbrev pub played_by : List Player → Player → PlainCall → State → Answered
 played_by players player call s =
     let p = played_in player.plays call (scene_in s) in
-    record { answer = answer_or_incomplete p.room.put_off p.code; state = swept (notes_of players) (with_scene (with_played p (scene_in s)) s) }
+    record {
+      answer = answer_or_incomplete p.room.put_off p.code;
+      state = swept (notes_of players) (with_scene (with_played p (scene_in s)) s);
+    }
 
 -- a line whose module isn't there is answered MODULE_UNKNOWN, and changes nothing
 abbrev pub unknown : State → Answered
@@ -53,7 +69,11 @@ visited place path a = record a {
   state = record a.state {
     room = record a.state.room {
       transaction = record a.state.room.transaction {
-        trail = a.state.room.transaction.trail ++ record { place = place; path = path; answer = a.answer } ∷ [];
+        trail = a.state.room.transaction.trail ++ record {
+          place = place;
+          path = path;
+          answer = a.answer;
+        } ∷ [];
       };
     };
   };

@@ -62,7 +62,12 @@ abbrev pub room_of : PlainTransaction → ConvState → PlainRoom
 room_of transaction conv = record { transaction = transaction; conv = conv }
 
 abbrev pub world_of : VaultState → ClockState → NapState → PlainProcess → PlainWorld
-world_of vault clock nap process = record { vault = vault; clock = clock; nap = nap; process = process }
+world_of vault clock nap process = record {
+  vault = vault;
+  clock = clock;
+  nap = nap;
+  process = process;
+}
 
 abbrev pub state_of : PlainRoom → PlainWorld → State
 state_of room world = record { room = room; world = world }
@@ -75,7 +80,12 @@ pub record Scene : Type 0 where
   pub process : PlainProcess
 
 abbrev pub scene_of : PlainRoom → VaultState → ClockState → PlainProcess → Scene
-scene_of room vault clock process = record { room = room; vault = vault; clock = clock; process = process }
+scene_of room vault clock process = record {
+  room = room;
+  vault = vault;
+  clock = clock;
+  process = process;
+}
 
 abbrev pub scene_in : State → Scene
 scene_in s = scene_of s.room s.world.vault s.world.clock s.world.process

@@ -17,7 +17,8 @@ pub record Stays (old new : PlainTransaction) (before after : PlainProcess) : Ty
 
 -- Between two calls: the data are those of this transaction, none waits among the replaced, and each was set by
 -- one of so many modules and has no receipt.
-pub record IsReady (modules : ℕ) (transaction : PlainTransaction) (process : PlainProcess) : Type 0 where
+pub record IsReady (modules : ℕ) (transaction : PlainTransaction) (process : PlainProcess) : Type
+    0 where
   pub data_handle : transaction.datums.handle ≡ transaction.handle
   pub none_gone : transaction.datums.gone ≡ []
   pub awaiting : AwaitCleanup modules process.ledger transaction.datums.live

@@ -25,7 +25,8 @@ impl Model for Visits {
 
     ghost Value = { Trail };
 
-    ghost view = { λ v. record { visits = v.vec.items; spare = vec_capacity v.vec - vec_len v.vec } };
+    ghost view = { λ v.
+        record { visits = v.vec.items; spare = vec_capacity v.vec - vec_len v.vec } };
 }
 
 impl Visits {

@@ -33,13 +33,15 @@ is_user word = is_operand word && not (is_no_file word)
 
 -- ROOT
 abbrev pub run_request : List (String Global) → Option Request
-run_request (root ∷ []) = if is_operand (string_bytes root) then Some (runs (string_bytes root)) else None
+run_request (root ∷ []) = if is_operand (string_bytes root) then Some (runs (string_bytes root))
+    else None
 run_request operands = None
 
 -- ROOT SERVICE
 abbrev pub check_request : List (String Global) → Option Request
 check_request (root ∷ service ∷ []) =
-    if is_operand (string_bytes root) && is_service (string_bytes service) then Some (checks (string_bytes root) (string_bytes service)) else None
+    if is_operand (string_bytes root) && is_service (string_bytes service)
+        then Some (checks (string_bytes root) (string_bytes service)) else None
 check_request operands = None
 
 -- ROOT SERVICE [USER]
@@ -48,10 +50,12 @@ is_place root service = is_operand root && is_operand service && is_service_name
 
 abbrev pub login_request : List (String Global) → Option Request
 login_request (root ∷ service ∷ []) =
-    if is_place (string_bytes root) (string_bytes service) then Some (logs_in (string_bytes root) (string_bytes service) None) else None
+    if is_place (string_bytes root) (string_bytes service)
+        then Some (logs_in (string_bytes root) (string_bytes service) None) else None
 login_request (root ∷ service ∷ user ∷ []) =
     if is_operand (string_bytes user) then (if is_place (string_bytes root) (string_bytes service)
-    then Some (logs_in (string_bytes root) (string_bytes service) (Some (string_bytes user))) else None) else None
+    then Some (logs_in (string_bytes root) (string_bytes service) (Some (string_bytes user)))
+        else None) else None
 login_request operands = None
 
 -- a number in decimal digits without a leading zero, of at most 32 bits
@@ -64,17 +68,20 @@ number_operand word = if begins_with_zero word then None else number_of_word wor
 
 -- SEED LINES, from 1 to 4,096 lines
 abbrev pub draw_request : Option ℕ → Option ℕ → Option Request
-draw_request (Some seed) (Some lines) = if nat_le 1 lines && nat_le lines 4096 then Some (generates seed lines) else None
+draw_request (Some seed) (Some lines) = if nat_le 1 lines && nat_le lines 4096
+    then Some (generates seed lines) else None
 draw_request seed lines = None
 
 abbrev pub generate_request : List (String Global) → Option Request
-generate_request (seed ∷ lines ∷ []) = draw_request (number_operand (string_bytes seed)) (number_operand (string_bytes lines))
+generate_request (seed ∷ lines ∷ []) =
+    draw_request (number_operand (string_bytes seed)) (number_operand (string_bytes lines))
 generate_request operands = None
 
 -- ROOT USER
 abbrev pub tally_request : List (String Global) → Option Request
 tally_request (root ∷ user ∷ []) =
-    if is_operand (string_bytes root) && is_user (string_bytes user) then Some (tallies (string_bytes root) (string_bytes user)) else None
+    if is_operand (string_bytes root) && is_user (string_bytes user)
+        then Some (tallies (string_bytes root) (string_bytes user)) else None
 tally_request operands = None
 
 abbrev pub command_request : List ℕ → List (String Global) → Option Request
@@ -91,4 +98,5 @@ request_of [] = None
 request_of (command ∷ operands) = command_request (string_bytes command) operands
 
 abbrev pub usage : List ℕ
-usage = codes "usage: pamsess run ROOT | check ROOT SERVICE | login ROOT SERVICE [USER] | generate SEED LINES | tally ROOT USER\n"
+usage = codes "usage: pamsess run ROOT | check ROOT SERVICE | login ROOT SERVICE [USER]
+    | generate SEED LINES | tally ROOT USER\n"

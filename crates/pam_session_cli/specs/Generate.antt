@@ -21,7 +21,8 @@ abbrev pub IsGenerateStatus : ℕ → Type 0
 IsGenerateStatus n = (result : Result Drawn Stop) × (n ≡ generate_status result)
 
 -- the line of a generation is written, or a front of it, and the world is the one behind it
-pub record IsGenerated (status : ℕ) (g : Generation) (world : PlainWorld) (p q : SinkState) : Type 0 where
+pub record IsGenerated (status : ℕ) (g : Generation) (world : PlainWorld) (p q : SinkState) : Type
+    0 where
   pub result : Result Drawn Stop
   pub is : status ≡ generate_status result
   pub end : RunState
@@ -35,6 +36,8 @@ pub record IsNotGenerated (status : ℕ) (old new : PlainWorld) (p q : SinkState
   pub sink : q ≡ p
 
 -- a told generation over sixteen closed places
-abbrev pub GeneratesBy : Setting → ℕ → List PlainSlot → ℕ → ℕ → PlainWorld → PlainWorld → SinkState → SinkState → Type 0
+abbrev pub GeneratesBy : Setting → ℕ → List PlainSlot → ℕ → ℕ → PlainWorld → PlainWorld → SinkState
+    → SinkState → Type 0
 GeneratesBy setting status slots seed lines old new p q =
-    IsGenerated status (generation setting seed lines (state_of slots old)) new p q ⊎ IsNotGenerated status old new p q
+    IsGenerated status (generation setting seed lines (state_of slots old)) new p q
+    ⊎ IsNotGenerated status old new p q

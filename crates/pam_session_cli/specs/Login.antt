@@ -34,7 +34,8 @@ abbrev pub entry : List PlainSlot → List ℕ → PlainWorld → RunState
 entry slots root w = state_of slots (at_root root w)
 
 -- somebody was asked to log in: what is written of the definition's login, and the world behind it
-pub record IsLogin (setting : Setting) (status : ℕ) (service : List ℕ) (user : Option (List ℕ)) (start : RunState) (world : PlainWorld) (p q : SinkState) : Type 0 where
+pub record IsLogin (setting : Setting) (status : ℕ) (service : List ℕ) (user : Option (List ℕ))
+    (start : RunState) (world : PlainWorld) (p q : SinkState) : Type 0 where
   pub result : Result Verdict Stop
   pub is : status ≡ login_status result
   pub end : RunState
@@ -48,9 +49,11 @@ pub record IsNoLogin (status : ℕ) (old new : PlainWorld) (p q : SinkState) : T
   pub sink : q ≡ p
 
 -- a told login
-abbrev pub LogsInBy : Setting → ℕ → List PlainSlot → List ℕ → List ℕ → Option (List ℕ) → PlainWorld → PlainWorld → SinkState → SinkState → Type 0
+abbrev pub LogsInBy : Setting → ℕ → List PlainSlot → List ℕ → List ℕ → Option (List ℕ) → PlainWorld
+    → PlainWorld → SinkState → SinkState → Type 0
 LogsInBy setting status slots root service user old new p q =
-    IsLogin setting status service user (entry slots root old) new p q ⊎ IsNoLogin status old new p q
+    IsLogin setting status service user (entry slots root old) new p q
+    ⊎ IsNoLogin status old new p q
 
 -- where the sink alone tells: how often it was written, and what the verdict is written as
 pub record ShowsLogin (status : ℕ) (p q : SinkState) : Type 0 where

@@ -21,7 +21,8 @@ check_status (Err NoMemory) = 4
 check_status (Err WriteFault) = 6
 
 -- a told check, by its status
-pub record ChecksBy (status : ℕ) (c : Check) (old new : SinkState) (vault : VaultState) : Type 0 where
+pub record ChecksBy (status : ℕ) (c : Check) (old new : SinkState) (vault : VaultState) : Type
+    0 where
   pub result : Result Found Stop
   pub is : status ≡ check_status result
   pub checks : Checks result c old new vault

@@ -110,15 +110,20 @@ code_words code = name_of code ++ (codes " " ++ decimal (number_of code))
 
 -- a status in hexadecimal digits, with zeros before them up to eight
 abbrev pub status_words : ℕ → List ℕ
-status_words status = let numeral = digits 16 false (status % 2 ^ 32) in replicate (8 - length numeral) 48 ++ numeral
+status_words status = let numeral = digits 16 false (status % 2 ^ 32) in
+    replicate (8 - length numeral) 48 ++ numeral
 
 -- say STYLE TEXT
 abbrev pub message_text : ℕ → Style → List ℕ → List ℕ
-message_text handle style text = decimal handle ++ (codes " say " ++ (decimal (style_number style) ++ (codes " " ++ (quoted_text text ++ codes "\n"))))
+message_text handle style text = decimal handle
+    ++ (codes " say " ++ (decimal (style_number style)
+    ++ (codes " " ++ (quoted_text text ++ codes "\n"))))
 
 -- line PLACE MODULE NAME NUMBER
 abbrev pub visit_text : ℕ → Seen → List ℕ
-visit_text handle v = decimal handle ++ (codes " line " ++ (number_words v.place ++ (codes " " ++ (quoted_text v.name ++ (codes " " ++ (code_words v.answer ++ codes "\n"))))))
+visit_text handle v = decimal handle
+    ++ (codes " line " ++ (number_words v.place
+    ++ (codes " " ++ (quoted_text v.name ++ (codes " " ++ (code_words v.answer ++ codes "\n"))))))
 
 -- MODULE DATUM
 abbrev pub names_text : List ℕ → List ℕ → List ℕ
@@ -126,19 +131,26 @@ names_text owner datum = quoted_text owner ++ (codes " " ++ (quoted_text datum +
 
 -- clean ID STATUS NOTE MODULE DATUM
 abbrev pub cleanup_text : ℕ → Cleanup → List ℕ
-cleanup_text handle c = decimal handle ++ (codes " clean " ++ (number_words c.id ++ (codes " " ++ (status_words c.status ++ (codes " " ++ (number_words c.note ++ (codes " " ++ names_text c.owner c.datum)))))))
+cleanup_text handle c = decimal handle
+    ++ (codes " clean " ++ (number_words c.id
+    ++ (codes " " ++ (status_words c.status
+    ++ (codes " " ++ (number_words c.note ++ (codes " " ++ names_text c.owner c.datum)))))))
 
 -- wait NAME NUMBER ASKED WAIT
 abbrev pub wait_text : ℕ → Code → ℕ → ℕ → List ℕ
-wait_text handle code asked wait = decimal handle ++ (codes " wait " ++ (code_words code ++ (codes " " ++ (number_words asked ++ (codes " " ++ (number_words wait ++ codes "\n"))))))
+wait_text handle code asked wait = decimal handle
+    ++ (codes " wait " ++ (code_words code
+    ++ (codes " " ++ (number_words asked ++ (codes " " ++ (number_words wait ++ codes "\n"))))))
 
 -- note missing MODULE
 abbrev pub missing_text : ℕ → List ℕ → List ℕ
-missing_text handle name = decimal handle ++ (codes " note missing " ++ (quoted_text name ++ codes "\n"))
+missing_text handle name = decimal handle
+    ++ (codes " note missing " ++ (quoted_text name ++ codes "\n"))
 
 -- env N=V
 abbrev pub variable_text : ℕ → List ℕ → List ℕ
-variable_text handle variable = decimal handle ++ (codes " env " ++ (quoted_text variable ++ codes "\n"))
+variable_text handle variable = decimal handle
+    ++ (codes " env " ++ (quoted_text variable ++ codes "\n"))
 
 abbrev pub told_text : ℕ → Told → List ℕ
 told_text handle (told_message style text) = message_text handle style text
@@ -158,7 +170,10 @@ value_words None = codes "unset"
 
 -- refused FILE LINE NAME NUMBER
 abbrev pub refused_words : LoadFault → List ℕ
-refused_words fault = codes "refused " ++ (quoted_text fault.file ++ (codes " " ++ (number_words fault.line ++ (codes " " ++ (fault_name fault.kind ++ (codes " " ++ decimal (fault_number fault.kind)))))))
+refused_words fault = codes "refused "
+    ++ (quoted_text fault.file
+    ++ (codes " " ++ (number_words fault.line
+    ++ (codes " " ++ (fault_name fault.kind ++ (codes " " ++ decimal (fault_number fault.kind)))))))
 
 -- ABORT 26 pending NAME
 abbrev pub pending_words : Func → List ℕ
@@ -176,10 +191,12 @@ shown_words (shows_pending func) = pending_words func
 
 -- H COMMAND WORDS
 abbrev pub words_text : ℕ → List ℕ → List ℕ → List ℕ
-words_text handle command words = decimal handle ++ (codes " " ++ (command ++ (codes " " ++ (words ++ codes "\n"))))
+words_text handle command words = decimal handle
+    ++ (codes " " ++ (command ++ (codes " " ++ (words ++ codes "\n"))))
 
 abbrev pub result_text : ℕ → Result → List ℕ
-result_text handle (answered command shown) = words_text handle (command_word command) (shown_words shown)
+result_text handle (answered command shown) =
+    words_text handle (command_word command) (shown_words shown)
 result_text handle (closed_by_program code) = words_text handle (codes "closed") (code_words code)
 
 abbrev pub block_text : Block → List ℕ
@@ -189,7 +206,10 @@ abbrev pub blocks_text : List Block → List ℕ
 blocks_text blocks = flat_map block_text blocks
 
 abbrev pub script_text : ℕ → ScriptKind → List ℕ
-script_text line kind = codes "script " ++ (number_words line ++ (codes " " ++ (script_fault_name kind ++ (codes " " ++ (decimal (script_fault_number kind) ++ codes "\n")))))
+script_text line kind = codes "script "
+    ++ (number_words line
+    ++ (codes " " ++ (script_fault_name kind
+    ++ (codes " " ++ (decimal (script_fault_number kind) ++ codes "\n")))))
 
 abbrev pub last_text : Option Last → List ℕ
 last_text None = []
@@ -233,7 +253,8 @@ pub record IsVariable (text : List ℕ) : Type 0 where
 abbrev pub IsTold : Told → Type 0
 IsTold (told_message style text) = AreBytes text
 IsTold (told_visit v) = IsSeen v
-IsTold (told_cleanup c) = IsLong c.id × (c.status < 2 ^ 32) × IsLong c.note × AreBytes c.owner × AreBytes c.datum
+IsTold (told_cleanup c) = IsLong c.id × (c.status < 2 ^ 32) × IsLong c.note × AreBytes c.owner
+    × AreBytes c.datum
 IsTold (told_wait code asked wait) = IsLong asked × IsLong wait
 IsTold (told_missing name) = AreBytes name
 IsTold (told_variable variable) = IsVariable variable

@@ -21,7 +21,8 @@ line_made commands.AcctMgmt said = step said (calls.AcctMgmt (number_of said.sec
 line_made commands.OpenSession said = step said (calls.OpenSession (number_of said.second))
 line_made commands.CloseSession said = step said (calls.CloseSession (number_of said.second))
 line_made commands.ChAuthTok said = step said (calls.ChAuthTok (number_of said.second))
-line_made commands.SetItem said = step said (calls.SetItem (item_of said.second) (text_of said.third))
+line_made commands.SetItem said =
+    step said (calls.SetItem (item_of said.second) (text_of said.third))
 line_made commands.GetItem said = step said (calls.GetItem (item_of said.second))
 line_made commands.PutEnv said = step said (calls.PutEnv (bytes_of said.second))
 line_made commands.GetEnv said = step said (calls.GetEnv (bytes_of said.second))

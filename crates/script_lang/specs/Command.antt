@@ -49,7 +49,11 @@ row_of commands.Random = setting_row (codes "random") Random
 row_of commands.Caller = setting_row (codes "caller") Number
 
 abbrev pub all_commands : List Command
-all_commands = commands.Start ∷ commands.End ∷ commands.Authenticate ∷ commands.SetCred ∷ commands.AcctMgmt ∷ commands.OpenSession ∷ commands.CloseSession ∷ commands.ChAuthTok ∷ commands.SetItem ∷ commands.GetItem ∷ commands.PutEnv ∷ commands.GetEnv ∷ commands.EnvList ∷ commands.FailDelay ∷ commands.DelayFn ∷ commands.Reply ∷ commands.At ∷ commands.Random ∷ commands.Caller ∷ []
+all_commands = commands.Start ∷ commands.End ∷ commands.Authenticate ∷ commands.SetCred
+    ∷ commands.AcctMgmt ∷ commands.OpenSession ∷ commands.CloseSession ∷ commands.ChAuthTok
+    ∷ commands.SetItem ∷ commands.GetItem ∷ commands.PutEnv ∷ commands.GetEnv ∷ commands.EnvList
+    ∷ commands.FailDelay ∷ commands.DelayFn ∷ commands.Reply ∷ commands.At ∷ commands.Random
+    ∷ commands.Caller ∷ []
 
 -- the command that a word names
 abbrev pub command_of_word : List ℕ → Option Command

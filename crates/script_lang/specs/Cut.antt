@@ -13,7 +13,8 @@ first_word line = unwrap_or (slice_get (words_of line) 0) []
 -- the word behind so many others; at the place of a text all that follows, with the spaces between
 abbrev pub word_at : Place → ℕ → List (List ℕ) → Option (List ℕ)
 word_at place before words =
-    if is_text place && nat_lt before (length words) then Some (join_with_byte 32 (drop before words))
+    if is_text place && nat_lt before (length words)
+    then Some (join_with_byte 32 (drop before words))
     else slice_get words before
 
 -- at how many of the places a word has to stand, and at how many one may
@@ -26,7 +27,8 @@ most_of places = count_by (λ place. is_some (form_of place)) places
 -- whether there are as many words behind the command's as the places ask for; a text is as many words as it likes
 abbrev pub has_its_words : List Place → List (List ℕ) → Bool
 has_its_words places words =
-    nat_lt (wanted_of places) (length words) && (list_any is_text places || nat_le (length words) (most_of places + 1))
+    nat_lt (wanted_of places) (length words)
+    && (list_any is_text places || nat_le (length words) (most_of places + 1))
 
 -- what is left behind so many words, if more words follow
 abbrev pub IsBehind : Option (List ℕ) → ℕ → List (List ℕ) → Type 0

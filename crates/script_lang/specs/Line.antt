@@ -16,7 +16,8 @@ use Rattle.script_lang.specs.Call.{line_made}
 
 -- a line without one carriage return at its end
 abbrev pub without_return : List ℕ → List ℕ
-without_return line = if ends_with nat_eq line (codes "\r") then take (length line - 1) line else line
+without_return line = if ends_with nat_eq line (codes "\r") then take (length line - 1) line
+    else line
 
 -- an empty line and a comment ask for nothing
 abbrev pub is_blank : List ℕ → Bool
@@ -32,7 +33,8 @@ line_or_fault command (Err fault) = Err fault
 abbrev pub line_of_command : Option Command → List (List ℕ) → Result Line ScriptKind
 line_of_command None words = Err BadWord
 line_of_command (Some command) words =
-    if has_its_words (row_of command).places words then line_or_fault command (meanings_at (row_of command).places words)
+    if has_its_words (row_of command).places words
+    then line_or_fault command (meanings_at (row_of command).places words)
     else Err BadWord
 
 abbrev pub command_line : List ℕ → Result Line ScriptKind
@@ -40,7 +42,8 @@ command_line text = line_of_command (command_of_word (first_word text)) (words_o
 
 -- what a line asks for, or its first fault
 abbrev pub parsed_text : List ℕ → Result Line ScriptKind
-parsed_text text = if nat_lt 512 (length text) then Err LineTooLong else if is_blank text then Ok Blank else command_line text
+parsed_text text = if nat_lt 512 (length text) then Err LineTooLong else if is_blank text
+    then Ok Blank else command_line text
 
 abbrev pub parsed : List ℕ → Result Line ScriptKind
 parsed line = parsed_text (without_return line)

@@ -10,7 +10,9 @@ value_of_digits radix digits = fold (λ value digit. radix * value + digit_value
 -- the value of a word of 1 to `most` digits of a radix; no other word has one
 abbrev pub number_of_digits : ℕ → ℕ → List ℕ → Option ℕ
 number_of_digits radix most word =
-    if nat_lt 0 (length word) && nat_le (length word) most && list_all (λ digit. is_digit digit radix) word then Some (value_of_digits radix word) else None
+    if nat_lt 0 (length word) && nat_le (length word) most
+    && list_all (λ digit. is_digit digit radix) word then Some (value_of_digits radix word)
+    else None
 
 -- whether a word begins with 0x
 abbrev pub is_hexadecimal : List ℕ → Bool
@@ -25,7 +27,8 @@ at_most limit (Some number) = if nat_le number limit then Some number else None
 
 -- 1 to 10 decimal digits, or 0x and 1 to 8 hexadecimal digits
 abbrev pub any_number_of_word : List ℕ → Option ℕ
-any_number_of_word word = if is_hexadecimal word then number_of_digits 16 8 (drop 2 word) else number_of_digits 10 10 word
+any_number_of_word word = if is_hexadecimal word then number_of_digits 16 8 (drop 2 word)
+    else number_of_digits 10 10 word
 
 -- a number of 32 bits
 abbrev pub number_of_word : List ℕ → Option ℕ

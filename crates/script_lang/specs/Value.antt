@@ -43,7 +43,11 @@ meaning_of (values.Bytes b) = bytes b.now
 meaning_of (values.Switch on) = switch on
 
 abbrev pub meanings_of : Values → Meanings
-meanings_of v = record { first = meaning_of v.first; second = meaning_of v.second; third = meaning_of v.third }
+meanings_of v = record {
+  first = meaning_of v.first;
+  second = meaning_of v.second;
+  third = meaning_of v.third;
+}
 
 -- the same of an answer
 abbrev pub carried : Result Value ScriptKind → Result Meaning ScriptKind
@@ -55,7 +59,8 @@ carried_all (Ok values) = Ok (meanings_of values)
 carried_all (Err fault) = Err fault
 
 abbrev pub switch_of_word : List ℕ → Option Bool
-switch_of_word word = if bytes_eq word (codes "on") then Some true else if bytes_eq word (codes "off") then Some false else None
+switch_of_word word = if bytes_eq word (codes "on") then Some true
+    else if bytes_eq word (codes "off") then Some false else None
 
 -- what a word of a form stands for, if it is of the form
 abbrev pub meaning_in : Form → List ℕ → Option Meaning
@@ -82,15 +87,19 @@ abbrev pub meaning_at : Place → ℕ → List (List ℕ) → Result Meaning Scr
 meaning_at place before words = meaning_of_word (form_of place) (word_at place before words)
 
 -- all three, or the leftmost fault
-abbrev pub all_of : Result Meaning ScriptKind → Result Meaning ScriptKind → Result Meaning ScriptKind → Result Meanings ScriptKind
+abbrev pub all_of : Result Meaning ScriptKind → Result Meaning ScriptKind
+    → Result Meaning ScriptKind → Result Meanings ScriptKind
 all_of (Err fault) second third = Err fault
 all_of (Ok first) (Err fault) third = Err fault
 all_of (Ok first) (Ok second) (Err fault) = Err fault
-all_of (Ok first) (Ok second) (Ok third) = Ok (record { first = first; second = second; third = third })
+all_of (Ok first) (Ok second) (Ok third) =
+    Ok (record { first = first; second = second; third = third })
 
 -- what the words at a command's places stand for, or the fault of the leftmost word that isn't of its form
 abbrev pub meanings_at : List Place → List (List ℕ) → Result Meanings ScriptKind
-meanings_at places words = all_of (meaning_at (place_at places 0) 1 words) (meaning_at (place_at places 1) 2 words) (meaning_at (place_at places 2) 3 words)
+meanings_at places words =
+    all_of (meaning_at (place_at places 0) 1 words) (meaning_at (place_at places 1) 2 words)
+    (meaning_at (place_at places 2) 3 words)
 
 -- ---- the parts of a call that a word gives; where none is there, 0, off, nothing or SERVICE
 

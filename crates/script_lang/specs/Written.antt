@@ -36,7 +36,8 @@ arguments_of (calls.Reply text) = text ∷ []
 
 -- a step as a line, its words with single spaces between them
 abbrev pub text_of_step : Step → List ℕ
-text_of_step step = join_with_byte 32 (word_of_call step.call ∷ decimal step.number ∷ arguments_of step.call)
+text_of_step step = join_with_byte 32 (word_of_call step.call ∷ decimal step.number
+    ∷ arguments_of step.call)
 
 -- the same with a carriage return behind it, so that one that a text ends with is kept
 abbrev pub line_of : Step → List ℕ
@@ -71,4 +72,5 @@ is_sound (calls.Reply text) = true
 
 -- whether a step can be written: its numbers have 32 bits, its names are words, and its line isn't too long
 abbrev pub is_writable : Step → Bool
-is_writable step = is_number step.number && is_sound step.call && nat_le (length (text_of_step step)) 512
+is_writable step = is_number step.number && is_sound step.call
+    && nat_le (length (text_of_step step)) 512

@@ -10,11 +10,13 @@ held_limit = 513
 -- too many, or where more than `held_limit` bytes of it were taken. `n` is the number of lines before it.
 unfoldable pub last_looked : ℕ → List ℕ → Bool → List (List ℕ)
 last_looked n [] ended = []
-last_looked n (b ∷ bs) ended = if ended || nat_le 65536 n || nat_lt held_limit (length (b ∷ bs)) then (b ∷ bs) ∷ [] else []
+last_looked n (b ∷ bs) ended = if ended || nat_le 65536 n || nat_lt held_limit (length (b ∷ bs))
+    then (b ∷ bs) ∷ [] else []
 
 -- the lines among some bytes that are looked at, where n lines stand before them
 unfoldable pub looked : ℕ → List ℕ → Bool → List (List ℕ)
-looked n bytes ended = (cut bytes).lines ++ last_looked (n + length (cut bytes).lines) (cut bytes).rest ended
+looked n bytes ended = (cut bytes).lines
+    ++ last_looked (n + length (cut bytes).lines) (cut bytes).rest ended
 
 -- a line that is one too many, or too long, whatever it ends with
 abbrev pub IsOver : ℕ → List ℕ → Type 0

@@ -10,9 +10,11 @@ use Rattle.script_stream.specs.Looked.{held_limit, looked}
 abbrev pub LineStep : Type 0 → Type 0
 LineStep State = State → List ℕ → Result (State × List ℕ) ScriptKind
 
--- A line that has n lines before it. Line 65,537 is refused, and so is a line of more than `held_limit` bytes, whatever it
+-- A line that has n lines before it. Line 65,537 is refused, and so is a line of more than `held_limit` bytes,
+-- whatever it
 -- ends with; one of so many may end with a carriage return, so that is for the step to say.
-unfoldable pub step_at : {State : Type 0} → LineStep State → ℕ → State → List ℕ → Result (State × List ℕ) ScriptKind
+unfoldable pub step_at : {State : Type 0} → LineStep State → ℕ → State → List ℕ
+    → Result (State × List ℕ) ScriptKind
 step_at step n s line =
     if nat_le 65536 n then Err TooManyLines
     else if nat_lt held_limit (length line) then Err LineTooLong

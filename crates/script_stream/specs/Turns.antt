@@ -18,16 +18,19 @@ abbrev pub LineFails : Type 0 → Type 1
 LineFails State = State → List ℕ → State → Type 0
 
 -- memory was wanting
-abbrev pub IsBegun : {State : Type 0} → LineStep State → LineFails State → ℕ → List ℕ → State → State → Type 0
+abbrev pub IsBegun : {State : Type 0} → LineStep State → LineFails State → ℕ → List ℕ → State
+    → State → Type 0
 IsBegun step Fails = items.IsBegun (step_at step) Fails
 
 -- one line is served
-abbrev pub ServesTold : {State : Type 0} → LineStep State → LineFails State → Result (Option ScriptKind) Stop → ℕ → List ℕ → State → State → SinkState
+abbrev pub ServesTold : {State : Type 0} → LineStep State → LineFails State
+    → Result (Option ScriptKind) Stop → ℕ → List ℕ → State → State → SinkState
     → SinkState → Type 0
 ServesTold step Fails = items.ServesTold (step_at step) Fails
 
 -- the run has stopped
-abbrev pub StopsBy : {State : Type 0} → LineStep State → LineFails State → Stop → ℕ → State → State → List ℕ → List ℕ → List ℕ → Type 0
+abbrev pub StopsBy : {State : Type 0} → LineStep State → LineFails State → Stop → ℕ → State → State
+    → List ℕ → List ℕ → List ℕ → Type 0
 StopsBy step Fails = items.StopsBy looked (step_at step) Fails
 
 -- the last read
@@ -35,16 +38,19 @@ abbrev pub LastRead : {State : Type 0} → LineStep State → ℕ → State → 
 LastRead step = items.LastRead looked (step_at step)
 
 -- what was taken and written, by one turn or by many
-abbrev pub Turns : {State : Type 0} → LineStep State → LineFails State → Result (Option Ending) Stop → ℕ → ℕ → State → State → List ℕ → List ℕ
+abbrev pub Turns : {State : Type 0} → LineStep State → LineFails State → Result (Option Ending) Stop
+    → ℕ → ℕ → State → State → List ℕ → List ℕ
     → SourceState → SourceState → SinkState → SinkState → Type 0
 Turns step Fails = items.Turns looked (step_at step) Fails
 
 -- what a run tells of the whole input
-abbrev pub Reports : {State : Type 0} → LineStep State → LineFails State → Result Ending Stop → ℕ → State → State → List ℕ → List ℕ → List ℕ → List ℕ → Type 0
+abbrev pub Reports : {State : Type 0} → LineStep State → LineFails State → Result Ending Stop → ℕ
+    → State → State → List ℕ → List ℕ → List ℕ → List ℕ → Type 0
 Reports step Fails = whole.Reports looked (step_at step) Fails
 
 -- a run from the first byte on
-abbrev pub Runs : {State : Type 0} → LineStep State → LineFails State → Result Ending Stop → ℕ → State → State → SourceState → SourceState → SinkState
+abbrev pub Runs : {State : Type 0} → LineStep State → LineFails State → Result Ending Stop → ℕ
+    → State → State → SourceState → SourceState → SinkState
     → SinkState → Type 0
 Runs step Fails = whole.Runs looked (step_at step) Fails
 

@@ -20,7 +20,8 @@ with_front front (Ok more) = Ok (front ++ more)
 with_front front (Err f) = Err f
 
 -- unless memory ran out, these were added to a list, or there is this fault
-abbrev pub AddsTo : {T A F : Type 0} → Result T (Refuse F) → List A → List A → Result (List A) F → Type 0
+abbrev pub AddsTo : {T A F : Type 0} → Result T (Refuse F) → List A → List A → Result (List A) F
+    → Type 0
 AddsTo (Ok x) old new more = with_front old more ≡ Ok new
 AddsTo (Err (Named f)) old new more = more ≡ Err f
 AddsTo (Err NoMemory) old new more = Unit {0}

@@ -13,14 +13,16 @@ use Rattle.service_load.specs.Files.{Held, absent, faulty, holds}
 use Rattle.service_load.specs.Tree.{serves}
 
 -- an entry in front of those of the rules behind it, or the fault of the rule in this line
-abbrev pub with_entry : ℕ → Result Entry FaultKind → Result (List Entry) LexFault → Result (List Entry) LexFault
+abbrev pub with_entry : ℕ → Result Entry FaultKind → Result (List Entry) LexFault
+    → Result (List Entry) LexFault
 with_entry line (Ok entry) more = result_map (λ es. entry ∷ es) more
 with_entry line (Err kind) more = Err (record { line = line; kind = kind })
 
 -- what some rules say, or the fault of the first that has one
 abbrev pub checked_entries : Bool → List RawRule → Result (List Entry) LexFault
 checked_entries in_folder [] = Ok []
-checked_entries in_folder (r ∷ rs) = with_entry r.line (entry_of in_folder r) (checked_entries in_folder rs)
+checked_entries in_folder (r ∷ rs) =
+    with_entry r.line (entry_of in_folder r) (checked_entries in_folder rs)
 
 -- what the rules of a file say, if it is there, or its first fault
 abbrev pub entries_held : Bool → Held → Result (Option (List Entry)) LexFault

@@ -33,14 +33,17 @@ file_field (t ∷ ts) = Ok (named_file t.text)
 -- the module's path and its arguments (pam.conf(5))
 abbrev pub rule_of : Bool → List Action → List Token → Result Rule FaultKind
 rule_of silent control [] = Err MissingField
-rule_of silent control (t ∷ ts) = Ok (record { silent = silent; control = control; path = t.text; args = map (λ a. a.text) ts })
+rule_of silent control (t ∷ ts) =
+    Ok (record { silent = silent; control = control; path = t.text; args = map (λ a. a.text) ts })
 
 -- a control and what follows it (pam.conf(5))
-abbrev pub with_control : Bool → Result (List Action) ControlFault → List Token → Result Content FaultKind
+abbrev pub with_control : Bool → Result (List Action) ControlFault → List Token
+    → Result Content FaultKind
 with_control silent (Ok control) tokens = result_map Line (rule_of silent control tokens)
 with_control silent (Err fault) tokens = Err fault.kind
 
--- what follows the type: `include` or `substack` with a file, or a control with a module (pam.conf(5)); a field that is wanted and missing is a fault (this project's own)
+-- what follows the type: `include` or `substack` with a file, or a control with a module (pam.conf(5)); a field that
+-- is wanted and missing is a fault (this project's own)
 abbrev pub behind_type : Bool → List Token → Result Content FaultKind
 behind_type silent [] = Err MissingField
 behind_type silent (t ∷ ts) =
@@ -50,17 +53,22 @@ behind_type silent (t ∷ ts) =
 
 -- an entry in this line, for one type or for all (this project's own)
 abbrev pub entry_at : ℕ → Option RuleType → Result Content FaultKind → Result Entry FaultKind
-entry_at line rule_type content = result_map (λ c. record { line = line; rule_type = rule_type; content = c }) content
+entry_at line rule_type content =
+    result_map (λ c. record { line = line; rule_type = rule_type; content = c }) content
 
 -- a rule with this type field (pam.conf(5)); another first field is a fault (this project's own)
 abbrev pub with_type : ℕ → Option TypeField → List Token → Result Entry FaultKind
 with_type line None tokens = Err BadType
-with_type line (Some field) tokens = entry_at line (Some field.rule_type) (behind_type field.silent tokens)
+with_type line (Some field) tokens =
+    entry_at line (Some field.rule_type) (behind_type field.silent tokens)
 
--- what a rule of these tokens says; `@include`, Debian's addition, stands in files of the folder's form alone (this project's own)
+-- what a rule of these tokens says; `@include`, Debian's addition, stands in files of the folder's form alone (this
+-- project's own)
 abbrev pub entry_of_tokens : ℕ → Bool → List Token → Result Entry FaultKind
 entry_of_tokens line in_folder [] = Err MissingField
-entry_of_tokens line true (t ∷ ts) = if is_word (codes "@include") t then entry_at line None (result_map Include (file_field ts)) else with_type line (type_field_of t) ts
+entry_of_tokens line true (t ∷ ts) = if is_word (codes "@include") t
+    then entry_at line None (result_map Include (file_field ts))
+    else with_type line (type_field_of t) ts
 entry_of_tokens line false (t ∷ ts) = with_type line (type_field_of t) ts
 
 -- what a rule says, in a file of the folder's form (pam.d(5)) or in pam.conf behind its service (pam.conf(5))

@@ -1,4 +1,5 @@
--- Files of rules (pam.d(5), pam.conf(5)): what each holds. `texts` gives the text of each file that is there, by its name.
+-- Files of rules (pam.d(5), pam.conf(5)): what each holds. `texts` gives the text of each file that is there, by its
+-- name.
 use Rattle.std.specs.Prelude.{ℕ, Bool, true, false, List, [], ◌∷◌, ◌++◌, Option, Some, None, Result, Ok, Err, codes, if◌then◌else◌}
 use Rattle.std.specs.List.{flat_map, filter_map, list_all}
 use Rattle.std.specs.Str.{str_to_ascii_lowercase}
@@ -17,15 +18,20 @@ use Rattle.service_load.specs.RuleType.{is_word}
 abbrev pub plain_file : List ℕ → RuleFile
 plain_file name = record { name = name; service = None }
 
--- the file of a service (pam.d(5)): one in the folder where there is a folder, else pam.conf; a service is folded to lower case (this project's own)
+-- the file of a service (pam.d(5)): one in the folder where there is a folder, else pam.conf; a service is folded to
+-- lower case (this project's own)
 abbrev pub service_file : Bool → List ℕ → RuleFile
 service_file true service = plain_file (codes "/etc/pam.d/" ++ str_to_ascii_lowercase service)
-service_file false service = record { name = codes "/etc/pam.conf"; service = Some (str_to_ascii_lowercase service) }
+service_file false service = record {
+  name = codes "/etc/pam.conf";
+  service = Some (str_to_ascii_lowercase service);
+}
 
 -- a rule of pam.conf without its service, where it is one of this service (pam.conf(5))
 abbrev pub rule_without : List ℕ → ℕ → List Token → List RawRule
 rule_without service line [] = []
-rule_without service line (t ∷ ts) = if is_word service t then record { line = line; tokens = ts } ∷ [] else []
+rule_without service line (t ∷ ts) = if is_word service t
+    then record { line = line; tokens = ts } ∷ [] else []
 
 -- a rule where it is meant: in a file of the folder, or in pam.conf without its service where it is one of the service
 abbrev pub own_rule : Option (List ℕ) → RawRule → List RawRule

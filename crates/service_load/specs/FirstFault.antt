@@ -33,7 +33,8 @@ opening_fault file (by_rule name line) kind = fault_at name line kind
 opening_fault file opener kind = fault_at file 0 kind
 
 abbrev pub refused_opening : Counts → RuleFile → Opener → FaultKind → Result Counts Stop
-refused_opening counts file opener kind = Err (record { fault = opening_fault file.name opener kind; calls = counts.calls })
+refused_opening counts file opener kind =
+    Err (record { fault = opening_fault file.name opener kind; calls = counts.calls })
 
 -- an absent file: one that a rule includes, and `other` where the service isn't there either
 abbrev pub absent_file : Counts → Opener → Result Counts Stop
@@ -50,7 +51,11 @@ held_file counts file opener (holds rules) = Ok counts
 
 -- one more call of the vault, and one more opening
 abbrev pub asked : Counts → Counts
-asked counts = record { calls = next_count counts.calls; openings = counts.openings + 1; lines = counts.lines }
+asked counts = record {
+  calls = next_count counts.calls;
+  openings = counts.openings + 1;
+  lines = counts.lines;
+}
 
 abbrev pub checked_rule : Counts → List ℕ → ℕ → Result Entry FaultKind → Result Counts Stop
 checked_rule counts name line (Ok entry) = Ok counts
@@ -74,8 +79,10 @@ module _ (texts : List ℕ → Option (List ℕ)) (fails : List ℕ) where
   abbrev pub behind : Counts → Item → Result Counts Stop
   behind counts begin = Ok (record counts { lines = 0 })
   behind counts (opening file level opener) = opened counts file level opener
-  behind counts (checked file rule) = checked_rule counts file.name rule.line (entry_of (is_in_folder file) rule)
-  behind counts (made name line) = if nat_le 4096 counts.lines then stop counts name line TooManyLines else Ok (record counts { lines = counts.lines + 1 })
+  behind counts (checked file rule) =
+      checked_rule counts file.name rule.line (entry_of (is_in_folder file) rule)
+  behind counts (made name line) = if nat_le 4096 counts.lines
+      then stop counts name line TooManyLines else Ok (record counts { lines = counts.lines + 1 })
 
   -- the counts behind some items, or the first fault among them
   unfoldable pub look : Counts → List Item → Result Counts Stop

@@ -23,17 +23,26 @@ has_folder vault root = is_folder (path_of root folder_name) vault.files
 
 -- what a service comes to, once it is known whether there is a folder, by the calls of the vault so far
 abbrev pub loaded_from : Bool → VaultState → List ℕ → List ℕ → ℕ → Result Counts Stop
-loaded_from in_folder vault root service calls = look (texts_of root vault) vault.fails (record { calls = calls; openings = 0; lines = 0 }) (order (texts_of root vault) in_folder service)
+loaded_from in_folder vault root service calls =
+    look (texts_of root vault) vault.fails (record { calls = calls; openings = 0; lines = 0 })
+    (order (texts_of root vault) in_folder service)
 
--- what a service comes to: the folder is asked for, and then the look goes along the whole order; the counts behind it, or the first fault, with the calls of the vault up to it
+-- what a service comes to: the folder is asked for, and then the look goes along the whole order; the counts behind
+-- it, or the first fault, with the calls of the vault up to it
 abbrev pub loaded : VaultState → List ℕ → List ℕ → Result Counts Stop
 loaded vault root service =
-    if is_failing vault then Err (record { fault = fault_at folder_name 0 ReadFailed; calls = next_count vault.calls })
+    if is_failing vault then Err (record {
+      fault = fault_at folder_name 0 ReadFailed;
+      calls = next_count vault.calls;
+    })
     else loaded_from (has_folder vault root) vault root service (next_count vault.calls)
 
 -- the first fault, if there is one
 abbrev pub first_fault : VaultState → List ℕ → List ℕ → Option LoadFault
-first_fault vault root service = elim (loaded vault root service) [ Ok counts ↦ None | Err s ↦ Some s.fault ]
+first_fault vault root service = elim (loaded vault root service) [
+  | Ok counts ↦ None
+  | Err s ↦ Some s.fault
+]
 
 -- these are the stacks of the four types
 pub record AreTrees (trees : Trees) (stack : RuleType → Stack) : Type 0 where
@@ -50,22 +59,31 @@ pub record AreBounded (trees : Trees) : Type 0 where
   pub session : IsBounded (stack_of trees.session.vec.items)
 
 -- the four trees of a service that has no fault, with the calls of the vault that the look counted
-pub record LoadsTrees (trees : Trees) (looked : Result Counts Stop) (new : VaultState) (stack : RuleType → Stack) : Type 0 where
+pub record LoadsTrees (trees : Trees) (looked : Result Counts Stop) (new : VaultState)
+    (stack : RuleType → Stack) : Type 0 where
   pub counts : Counts
   pub no_fault : looked ≡ Ok counts
   pub calls : new.calls ≡ counts.calls
   pub trees_are : AreTrees trees stack
 
 -- the trees where there is no fault, else the first fault; want of memory is free
-abbrev pub LoadsBy : Result Trees (Refuse LoadFault) → Result Counts Stop → VaultState → (RuleType → Stack) → Type 0
+abbrev pub LoadsBy : Result Trees (Refuse LoadFault) → Result Counts Stop → VaultState
+    → (RuleType → Stack) → Type 0
 LoadsBy (Ok trees) looked new stack = LoadsTrees trees looked new stack
-LoadsBy (Err (Named fault)) looked new stack = looked ≡ Err (record { fault = fault; calls = new.calls })
+LoadsBy (Err (Named fault)) looked new stack =
+    looked ≡ Err (record { fault = fault; calls = new.calls })
 LoadsBy (Err NoMemory) looked new stack = Unit {0}
 
 -- once it is known whether there is a folder
-abbrev pub LoadsFrom : Result Trees (Refuse LoadFault) → Bool → VaultState → VaultState → List ℕ → List ℕ → Type 0
-LoadsFrom result in_folder old new root service = LoadsBy result (loaded_from in_folder old root service old.calls) new (tree (texts_of root old) in_folder service)
+abbrev pub LoadsFrom : Result Trees (Refuse LoadFault) → Bool → VaultState → VaultState → List ℕ
+    → List ℕ → Type 0
+LoadsFrom result in_folder old new root service =
+    LoadsBy result (loaded_from in_folder old root service old.calls) new
+    (tree (texts_of root old) in_folder service)
 
 -- the load of a service
-abbrev pub Loads : Result Trees (Refuse LoadFault) → VaultState → VaultState → List ℕ → List ℕ → Type 0
-Loads result old new root service = LoadsBy result (loaded old root service) new (tree (texts_of root old) (has_folder old root) service)
+abbrev pub Loads : Result Trees (Refuse LoadFault) → VaultState → VaultState → List ℕ → List ℕ
+    → Type 0
+Loads result old new root service =
+    LoadsBy result (loaded old root service) new
+    (tree (texts_of root old) (has_folder old root) service)

@@ -39,7 +39,11 @@ opener_of (openers.Rule name number) = by_rule name.now number
 
 -- the counts of a load over a vault that tells
 abbrev pub counts_of : Loader → VaultState → Counts
-counts_of loader vault = record { calls = vault.calls; openings = loader.openings; lines = loader.lines }
+counts_of loader vault = record {
+  calls = vault.calls;
+  openings = loader.openings;
+  lines = loader.lines;
+}
 
 -- unless memory ran out, a look ends with these counts, or at this fault
 abbrev pub Looks : {A : Type 0} → Result A (Refuse LoadFault) → Result Counts Stop → Counts → Type 0
@@ -69,20 +73,33 @@ CountsFaults (Err (Named f)) before now = KindCounts f.kind before now
 CountsFaults (Err NoMemory) before now = before ≤ now
 
 -- a line was added to a stack, or is one too many
-abbrev pub AddsLine : {A : Type 0} → Result A (Refuse LoadFault) → Loader → Loader → Stack → Stack → List ℕ → ℕ → Rule → Type 0
-AddsLine (Ok x) was is before after name number rule = (was.lines < 4096) × (is ≡ record was { lines = was.lines + 1 }) × (after ≡ joined before (line rule none))
-AddsLine (Err (Named f)) was is before after name number rule = (4096 ≤ was.lines) × (is ≡ was) × (f ≡ fault_at name number TooManyLines)
+abbrev pub AddsLine : {A : Type 0} → Result A (Refuse LoadFault) → Loader → Loader → Stack → Stack
+    → List ℕ → ℕ → Rule → Type 0
+AddsLine (Ok x) was is before after name number rule = (was.lines < 4096)
+    × (is ≡ record was { lines = was.lines + 1 }) × (after ≡ joined before (line rule none))
+AddsLine (Err (Named f)) was is before after name number rule = (4096 ≤ was.lines) × (is ≡ was)
+    × (f ≡ fault_at name number TooManyLines)
 AddsLine (Err NoMemory) was is before after name number rule = Unit {0}
 
 -- an entry was taken, which serves the type or doesn't: its line was added, or it gives the file that it brings in
-abbrev pub TakesContent : Bool → Content → Result (Option Inclusion) (Refuse LoadFault) → Loader → Loader → Stack → Stack → List ℕ → ℕ → Type 0
-TakesContent false content result was is before after name number = (result ≡ Ok None) × (is ≡ was) × (after ≡ before)
-TakesContent true (Line rule) result was is before after name number = AddsLine result was is before after name number rule × IfOk result (λ left. left ≡ None)
-TakesContent true (Include file) result was is before after name number = (result ≡ Ok (Some (record { line = number; file = plain_file file; as_substack = false }))) × (is ≡ was) × (after ≡ before)
-TakesContent true (Substack file) result was is before after name number = (result ≡ Ok (Some (record { line = number; file = plain_file file; as_substack = true }))) × (is ≡ was) × (after ≡ before)
+abbrev pub TakesContent : Bool → Content → Result (Option Inclusion) (Refuse LoadFault) → Loader
+    → Loader → Stack → Stack → List ℕ → ℕ → Type 0
+TakesContent false content result was is before after name number = (result ≡ Ok None) × (is ≡ was)
+    × (after ≡ before)
+TakesContent true (Line rule) result was is before after name number =
+    AddsLine result was is before after name number rule × IfOk result (λ left. left ≡ None)
+TakesContent true (Include file) result was is before after name number =
+    (result ≡ Ok (Some (record { line = number; file = plain_file file; as_substack = false })))
+    × (is ≡ was) × (after ≡ before)
+TakesContent true (Substack file) result was is before after name number =
+    (result ≡ Ok (Some (record { line = number; file = plain_file file; as_substack = true })))
+    × (is ≡ was) × (after ≡ before)
 
-abbrev pub TakesEntry : Result (Option Inclusion) (Refuse LoadFault) → Loader → Loader → Stack → Stack → RuleType → List ℕ → Entry → Type 0
-TakesEntry result was is before after type name entry = TakesContent (serves type entry.rule_type) entry.content result was is before after name entry.line
+abbrev pub TakesEntry : Result (Option Inclusion) (Refuse LoadFault) → Loader → Loader → Stack
+    → Stack → RuleType → List ℕ → Entry → Type 0
+TakesEntry result was is before after type name entry =
+    TakesContent (serves type entry.rule_type) entry.content result was is before after name
+    entry.line
 
 -- the nodes of a file as they are brought in: as a substack of them, or they themselves
 abbrev pub brought_in : Bool → Stack → Stack
@@ -102,14 +119,16 @@ module _ (texts : List ℕ → Option (List ℕ)) where
   entry_items_at level type name entry = entry_items (items_at (level + 1) type) type name entry
 
   abbrev pub entry_nodes_at : ℕ → RuleType → Entry → Stack
-  entry_nodes_at level type entry = entry_nodes (λ name. nodes_at (level + 1) type (plain_file name)) type entry
+  entry_nodes_at level type entry =
+      entry_nodes (λ name. nodes_at (level + 1) type (plain_file name)) type entry
 
   -- what the entries of a file at this level bring
   abbrev pub entries_items : ℕ → RuleType → List ℕ → List Entry → List Item
   entries_items level type name entries = items_of (items_at (level + 1) type) type name entries
 
   abbrev pub entries_nodes : ℕ → RuleType → List Entry → Stack
-  entries_nodes level type entries = nodes_of (λ name. nodes_at (level + 1) type (plain_file name)) type entries
+  entries_nodes level type entries =
+      nodes_of (λ name. nodes_at (level + 1) type (plain_file name)) type entries
 
   -- what is left of a file once it was opened at this level: what its entries bring; an absent one brings nothing
   abbrev pub left_items : ℕ → RuleType → RuleFile → Option (List Entry) → List Item
@@ -121,21 +140,28 @@ module _ (texts : List ℕ → Option (List ℕ)) where
   left_nodes level type (Some entries) = entries_nodes level type entries
 
   -- unless memory ran out, a file was opened, with the fault of that or with what it then brings
-  abbrev pub Opens : Result (Option (List Entry)) (Refuse LoadFault) → List ℕ → Counts → Counts → ℕ → RuleType → Opener → RuleFile → Type 0
+  abbrev pub Opens : Result (Option (List Entry)) (Refuse LoadFault) → List ℕ → Counts → Counts → ℕ
+      → RuleType → Opener → RuleFile → Type 0
   Opens (Ok entries) fails was is level type opener file =
-      (look texts fails was (items_at level type opener file) ≡ look texts fails is (left_items level type file entries))
+      (look texts fails was (items_at level type opener file)
+      ≡ look texts fails is (left_items level type file entries))
       × (nodes_at level type file ≡ left_nodes level type entries)
       × (is_absent (held texts file) ≡ is_none entries)
-  Opens (Err (Named f)) fails was is level type opener file = look texts fails was (items_at level type opener file) ≡ Err (record { fault = f; calls = is.calls })
+  Opens (Err (Named f)) fails was is level type opener file =
+      look texts fails was (items_at level type opener file)
+      ≡ Err (record { fault = f; calls = is.calls })
   Opens (Err NoMemory) fails was is level type opener file = Unit {0}
 
 -- over a vault that tells, a part of a load looked along these items, and added these nodes
-pub record Brings {A : Type 0} (result : Result A (Refuse LoadFault)) (texts : List ℕ → Option (List ℕ)) (old new : VaultState) (was is : Loader) (items : List Item) (before after added : Stack) : Type 0 where
+pub record Brings {A : Type 0} (result : Result A (Refuse LoadFault))
+    (texts : List ℕ → Option (List ℕ)) (old new : VaultState) (was is : Loader) (items : List Item)
+    (before after added : Stack) : Type 0 where
   pub looks : Looks result (look texts old.fails (counts_of was old) items) (counts_of is new)
   pub nodes : OnOk result (after ≡ joined before added)
   pub stays : OnlyCalls old new
 
--- in any world a file at this level adds lines that are counted and few, nested no deeper than what is left up to level 16
+-- in any world a file at this level adds lines that are counted and few, nested no deeper than what is left up to
+-- level 16
 pub record Grows (level : ℕ) (was is : Loader) (before after : Stack) : Type 0 where
   pub within : level ≤ 16
   pub lines : lines_in after + was.lines ≡ lines_in before + is.lines
@@ -143,8 +169,10 @@ pub record Grows (level : ℕ) (was is : Loader) (before after : Stack) : Type 0
   pub deep : (n : ℕ) → depth before ≤ n → 16 ≤ level + n → depth after ≤ n
 
 -- over a vault that tells, a tree was made along its items
-pub record Makes (result : Result Nodes (Refuse LoadFault)) (texts : List ℕ → Option (List ℕ)) (old new : VaultState) (was is : Loader) (own other : RuleFile) (type : RuleType) : Type 0 where
-  pub looks : Looks result (look texts old.fails (counts_of was old) (tree_items texts own other type)) (counts_of is new)
+pub record Makes (result : Result Nodes (Refuse LoadFault)) (texts : List ℕ → Option (List ℕ))
+    (old new : VaultState) (was is : Loader) (own other : RuleFile) (type : RuleType) : Type 0 where
+  pub looks : Looks result (look texts old.fails (counts_of was old)
+      (tree_items texts own other type)) (counts_of is new)
   pub made : IfOk result (λ made. stack_of made.vec.items ≡ tree_from texts own other type)
   pub stays : OnlyCalls old new
 

@@ -1,4 +1,5 @@
--- What a load meets, in the order in which it meets it (this project's own): a list, depth first, for the four types in turn.
+-- What a load meets, in the order in which it meets it (this project's own): a list, depth first, for the four types
+-- in turn.
 use Rattle.std.specs.Prelude.{ℕ, zero, suc, ◌+◌, ◌-◌, Bool, List, [], ◌∷◌, ◌++◌, map, Option, codes, ◌==◌, if◌then◌else◌}
 use Rattle.std.specs.List.{flat_map}
 use Rattle.conf_lex.specs.declared.token.RawRule.{RawRule}
@@ -12,14 +13,16 @@ use Rattle.service_load.specs.Files.{plain_file, service_file, held, rules_held,
 use Rattle.service_load.specs.RuleType.{all_types}
 use Rattle.service_load.specs.Tree.{serves, nodes}
 
--- why a file is opened: as the service's own, as `other` where the service is there or where it isn't (with the name of its file), or by a rule of the file with this name, in this line
+-- why a file is opened: as the service's own, as `other` where the service is there or where it isn't (with the name
+-- of its file), or by a rule of the file with this name, in this line
 pub data Opener : Type 0 where
   as_service : Opener
   as_other : Opener
   as_last : List ℕ → Opener
   by_rule : List ℕ → ℕ → Opener
 
--- a tree begins; a file is opened, at a level; a rule of it is checked; a line is made, for the rule of a file in a line
+-- a tree begins; a file is opened, at a level; a rule of it is checked; a line is made, for the rule of a file in a
+-- line
 pub data Item : Type 0 where
   begin : Item
   opening : RuleFile → ℕ → Opener → Item
@@ -40,22 +43,26 @@ content_items deeper name line (Substack file) = deeper (by_rule name line) (pla
 
 -- and where it serves the type
 abbrev pub entry_items : (Opener → RuleFile → List Item) → RuleType → List ℕ → Entry → List Item
-entry_items deeper type name entry = if serves type entry.rule_type then content_items deeper name entry.line entry.content else []
+entry_items deeper type name entry = if serves type entry.rule_type
+    then content_items deeper name entry.line entry.content else []
 
 -- what some entries bring, in order
 abbrev pub items_of : (Opener → RuleFile → List Item) → RuleType → List ℕ → List Entry → List Item
 items_of deeper type name entries = flat_map (entry_items deeper type name) entries
 
 -- all rules of a file are checked first; where one has a fault nothing follows
-abbrev pub file_items : (Opener → RuleFile → List Item) → RuleType → RuleFile → List RawRule → List Item
+abbrev pub file_items : (Opener → RuleFile → List Item) → RuleType → RuleFile → List RawRule
+    → List Item
 file_items deeper type file rules =
-    map (checked file) rules ++ (if all_fine (is_in_folder file) rules then items_of deeper type file.name (entries_of (is_in_folder file) rules) else [])
+    map (checked file) rules ++ (if all_fine (is_in_folder file) rules
+    then items_of deeper type file.name (entries_of (is_in_folder file) rules) else [])
 
 module _ (texts : List ℕ → Option (List ℕ)) where
   -- a file that is opened, and what it brings, where so many levels of files may open; at level 17 nothing follows
   unfoldable pub items : ℕ → RuleType → Opener → RuleFile → List Item
   items zero type opener file = opening file 17 opener ∷ []
-  items (suc levels) type opener file = opening file (16 - levels) opener ∷ file_items (items levels type) type file (rules_held (held texts file))
+  items (suc levels) type opener file = opening file (16 - levels) opener
+      ∷ file_items (items levels type) type file (rules_held (held texts file))
 
   -- how `other` is opened
   abbrev pub other_opener : RuleFile → Opener
@@ -64,7 +71,8 @@ module _ (texts : List ℕ → Option (List ℕ)) where
   -- one tree: the service's file, and where its nodes are none that of `other`
   abbrev pub tree_items : RuleFile → RuleFile → RuleType → List Item
   tree_items own other type =
-      begin ∷ (items 17 type as_service own ++ (if count (nodes texts 17 type own) == 0 then items 17 type (other_opener own) other else []))
+      begin ∷ (items 17 type as_service own ++ (if count (nodes texts 17 type own) == 0
+      then items 17 type (other_opener own) other else []))
 
   -- the four trees of a service's file and that of `other`, in turn
   abbrev pub trees_items : RuleFile → RuleFile → List Item
@@ -72,4 +80,5 @@ module _ (texts : List ℕ → Option (List ℕ)) where
 
   -- the whole order
   abbrev pub order : Bool → List ℕ → List Item
-  order is_folder service = trees_items (service_file is_folder service) (service_file is_folder (codes "other"))
+  order is_folder service =
+      trees_items (service_file is_folder service) (service_file is_folder (codes "other"))

@@ -34,7 +34,8 @@ type_word Session = codes "session"
 abbrev pub type_of_word : List ℕ → Option RuleType
 type_of_word word = find (λ type. str_eq_ignore_ascii_case word (type_word type)) all_types
 
--- the type field that a word is: a type, and before it a `-` where a module that is missing is passed over in silence (pam.conf(5))
+-- the type field that a word is: a type, and before it a `-` where a module that is missing is passed over in silence
+-- (pam.conf(5))
 abbrev pub type_field_of_word : List ℕ → Option TypeField
 type_field_of_word [] = None
 type_field_of_word (b ∷ bs) =

@@ -11,4 +11,9 @@ pub record Stacks : Type 0 where
   pub session : Stack
 
 abbrev pub stacks_of : (RuleType → Stack) → Stacks
-stacks_of stack = record { auth = stack Auth; account = stack Account; password = stack Password; session = stack Session }
+stacks_of stack = record {
+  auth = stack Auth;
+  account = stack Account;
+  password = stack Password;
+  session = stack Session;
+}

@@ -16,7 +16,7 @@ use crate::entry::{Content, Entries, Entry};
 use crate::inclusion::Inclusion;
 use crate::kept::Kept;
 use crate::load_fault::{LoadFault, refused};
-use crate::opener::Opener;
+use crate::opener::{Opener, opener_of_other, refused_opening};
 use crate::position::Position;
 use crate::rule_file::RuleFile;
 use crate::rule_type::RuleType;
@@ -294,31 +294,5 @@ impl Loader {
             password,
             session,
         })
-    }
-}
-
-// Why `other` is opened, by whether the service is there.
-fn opener_of_other<'a>(there: bool, own: &'a RuleFile) -> Opener<'a>
-    ensures { opener_of result ≡ (if there then as_other else as_last own.now.name) }
-{
-    if there {
-        Opener::Other
-    } else {
-        Opener::Last(own.name.bytes())
-    }
-}
-
-// The refusal to open a file: it stands at the rule that includes it, or at the file itself.
-fn refused_opening(
-    alloc: Global,
-    opener: Opener,
-    file: &RuleFile,
-    kind: FaultKind,
-) -> Refuse<LoadFault>
-    ensures { IsRefusal result (opening_fault file.now.name (opener_of opener.entry) kind) }
-{
-    match opener {
-        Opener::Rule(name, line) => refused(alloc, name, line, kind),
-        _ => refused(alloc, file.name.bytes(), 0, kind),
     }
 }

@@ -27,11 +27,15 @@ same_action action other = false
 
 -- whether two controls have the same action for each code
 unfoldable pub same_control : List Action → List Action → Bool
-same_control control other = list_all (λ code. same_action (action_at control code) (action_at other code)) all_codes
+same_control control other =
+    list_all (λ code. same_action (action_at control code) (action_at other code)) all_codes
 
 -- whether a keyword stands for a control (pam.conf(5))
 abbrev pub stands_for : List ℕ → List Action → Bool
-stands_for word control = elim (control_of_word word) [ Some table ↦ same_control control table | None ↦ false ]
+stands_for word control = elim (control_of_word word) [
+  | Some table ↦ same_control control table
+  | None ↦ false
+]
 
 -- the keyword that stands for a control, if one does
 abbrev pub keyword_of : List Action → Option (List ℕ)
@@ -51,4 +55,5 @@ entries_among control codes = map (entry_text control) (filter (has_entry contro
 
 -- a control: the keyword that stands for it, else its entries, in the order of the codes' numbers, in brackets
 unfoldable pub control_text : List Action → List ℕ
-control_text control = unwrap_or (keyword_of control) (91 ∷ (spaced (entries_among control all_codes) ++ 93 ∷ []))
+control_text control =
+    unwrap_or (keyword_of control) (91 ∷ (spaced (entries_among control all_codes) ++ 93 ∷ []))

@@ -17,7 +17,8 @@ type_field silent type = if silent then 45 ∷ type_word type else type_word typ
 
 -- the fields of a rule (pam.conf(5)): type, control, path and arguments
 abbrev pub rule_fields : RuleType → Rule → List (List ℕ)
-rule_fields type rule = type_field rule.silent type ∷ control_text rule.control ∷ token_text rule.path ∷ map token_text rule.args
+rule_fields type rule = type_field rule.silent type ∷ control_text rule.control
+    ∷ token_text rule.path ∷ map token_text rule.args
 
 unfoldable pub rule_line : RuleType → Rule → List ℕ
 rule_line type rule = spaced (rule_fields type rule)
@@ -37,34 +38,42 @@ subs_in (line rule rest) = subs_in rest
 subs_in (sub inner rest) = subs_in inner + 1 + subs_in rest
 
 module _ (service : List ℕ) (type : RuleType) where
-  -- the lines of a list of nodes, whose first substack has this number: a substack comes before those inside it, and these before the next node of its list
+  -- the lines of a list of nodes, whose first substack has this number: a substack comes before those inside it, and
+  -- these before the next node of its list
   unfoldable pub list_lines : ℕ → Stack → List (List ℕ)
   list_lines number none = []
   list_lines number (line rule rest) = rule_line type rule ∷ list_lines number rest
-  list_lines number (sub inner rest) = substack_line type (numbered service number) ∷ list_lines (number + 1 + subs_in inner) rest
+  list_lines number (sub inner rest) = substack_line type (numbered service number)
+      ∷ list_lines (number + 1 + subs_in inner) rest
 
   -- the file of a substack with this number: what its nodes are, those in it numbered from the next number on
   abbrev pub substack_file : ℕ → Stack → File
-  substack_file number inner = record { name = numbered service number; text = text_of (list_lines (number + 1) inner) }
+  substack_file number inner = record {
+    name = numbered service number;
+    text = text_of (list_lines (number + 1) inner);
+  }
 
   -- the files of its substacks, in the order of their numbers
   unfoldable pub substack_files : ℕ → Stack → List File
   substack_files number none = []
   substack_files number (line rule rest) = substack_files number rest
   substack_files number (sub inner rest) =
-      substack_file number inner ∷ (substack_files (number + 1) inner ++ substack_files (number + 1 + subs_in inner) rest)
+      substack_file number inner ∷ (substack_files (number + 1) inner
+      ++ substack_files (number + 1 + subs_in inner) rest)
 
 -- the lines of several stacks, one after another
 abbrev pub all_lines : (RuleType → Stack) → List ℕ → ℕ → List RuleType → List (List ℕ)
 all_lines stack service number [] = []
 all_lines stack service number (type ∷ types) =
-    list_lines service type number (stack type) ++ all_lines stack service (number + subs_in (stack type)) types
+    list_lines service type number (stack type)
+    ++ all_lines stack service (number + subs_in (stack type)) types
 
 -- the files of their substacks
 abbrev pub all_substack_files : (RuleType → Stack) → List ℕ → ℕ → List RuleType → List File
 all_substack_files stack service number [] = []
 all_substack_files stack service number (type ∷ types) =
-    substack_files service type number (stack type) ++ all_substack_files stack service (number + subs_in (stack type)) types
+    substack_files service type number (stack type)
+    ++ all_substack_files stack service (number + subs_in (stack type)) types
 
 -- the service's file: the lines of auth, account, password and session; their substacks are numbered from 1 on
 abbrev pub service_text : (RuleType → Stack) → List ℕ → List ℕ
@@ -72,7 +81,8 @@ service_text stack service = text_of (all_lines stack service 1 all_types)
 
 -- the four stacks of a service as files
 unfoldable pub printed : (RuleType → Stack) → List ℕ → List File
-printed stack service = record { name = service; text = service_text stack service } ∷ all_substack_files stack service 1 all_types
+printed stack service = record { name = service; text = service_text stack service }
+    ∷ all_substack_files stack service 1 all_types
 
 -- the four stacks of a load
 abbrev pub stacks_in : Trees → RuleType → Stack

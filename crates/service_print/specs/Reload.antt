@@ -21,14 +21,19 @@ use Rattle.service_print.specs.declared.file.File.{File}
 use Rattle.service_print.specs.Printed.{stacks_in}
 
 -- a service loads to these four stacks: its configuration has no fault, and they are what it comes to
-pub record LoadsTo (vault : VaultState) (root service : List ℕ) (stack : RuleType → Stack) : Type 0 where
+pub record LoadsTo (vault : VaultState) (root service : List ℕ) (stack : RuleType → Stack) : Type
+    0 where
   pub counts : Counts
   pub no_fault : loaded vault root service ≡ Ok counts
-  pub stacks : (type : RuleType) → tree (texts_of root vault) (has_folder vault root) service type ≡ stack type
+  pub stacks : (type : RuleType) → tree (texts_of root vault) (has_folder vault root) service type
+      ≡ stack type
 
 -- a file in the folder of the service files, under a root (pam.d(5))
 abbrev pub placed_file : List ℕ → File → VaultFile
-placed_file root file = record { path = path_of root (codes "/etc/pam.d/" ++ file.name); bytes = file.text }
+placed_file root file = record {
+  path = path_of root (codes "/etc/pam.d/" ++ file.name);
+  bytes = file.text;
+}
 
 -- a vault has just these files, all in that folder, and none of its calls is to fail
 pub record HoldsJust (vault : VaultState) (root : List ℕ) (files : List File) : Type 0 where
@@ -37,7 +42,8 @@ pub record HoldsJust (vault : VaultState) (root : List ℕ) (files : List File) 
 
 -- whether a file passes no limit of a text: 65,536 bytes, and 4,096 a line
 abbrev pub is_short : File → Bool
-is_short file = nat_le (length file.text) 65536 && list_all (λ line. nat_le (length line) 4096) (lines_of file.text)
+is_short file = nat_le (length file.text) 65536
+    && list_all (λ line. nat_le (length line) 4096) (lines_of file.text)
 
 -- a service's name in lower case
 pub record IsLowerName (service : List ℕ) : Type 0 where

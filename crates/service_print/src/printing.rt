@@ -5,7 +5,7 @@ ghost use Rattle.service_print.specs.Tokens.{text_of};
 use crate::file::{File, Files};
 use crate::substack::{add_nodes, empty_file, fill};
 use pam_base::NoMemory;
-use service_load::{RuleType, Trees};
+use service_load::{ALL_TYPES, RuleType, Trees};
 use std::alloc::Global;
 
 /// The four stacks of a service in one form (`pam.d(5)`): its file, with the lines of auth, account, password
@@ -22,31 +22,9 @@ pub fn print(alloc: Global, trees: &Trees, service: &[u8]) -> Result<Files, NoMe
     let mut text = Vec::new(alloc);
     let mut files = Vec::new(alloc);
     files.push(empty_file(alloc))?;
-    add_stack(alloc, service, RuleType::Auth, trees, &mut text, &mut files)?;
-    add_stack(
-        alloc,
-        service,
-        RuleType::Account,
-        trees,
-        &mut text,
-        &mut files,
-    )?;
-    add_stack(
-        alloc,
-        service,
-        RuleType::Password,
-        trees,
-        &mut text,
-        &mut files,
-    )?;
-    add_stack(
-        alloc,
-        service,
-        RuleType::Session,
-        trees,
-        &mut text,
-        &mut files,
-    )?;
+    for rule_type in &ALL_TYPES {
+        add_stack(alloc, service, *rule_type, trees, &mut text, &mut files)?;
+    }
     fill(0, Vec::from_slice(alloc, service)?, text, &mut files);
     Ok(Files::from_vec(files))
 }

@@ -33,15 +33,28 @@ pub record Check : Type 0 where
   pub calls : ℕ
 
 abbrev pub check_by : (RuleType → Stack) → List ℕ → Result Counts Stop → Check
-check_by stack service (Ok counts) = record { text = files_text (printed stack (str_to_ascii_lowercase service)); found = Configured; calls = counts.calls }
-check_by stack service (Err stop) = record { text = refused_text stop.fault; found = Refused; calls = stop.calls }
+check_by stack service (Ok counts) =
+    record {
+      text = files_text (printed stack (str_to_ascii_lowercase service));
+      found = Configured;
+      calls = counts.calls;
+    }
+check_by stack service (Err stop) = record {
+  text = refused_text stop.fault;
+  found = Refused;
+  calls = stop.calls;
+}
 
 -- the check of a service under a root
 abbrev pub check_of : VaultState → List ℕ → List ℕ → Check
-check_of vault root service = check_by (tree (texts_of root vault) (has_folder vault root) service) service (loaded vault root service)
+check_of vault root service =
+    check_by (tree (texts_of root vault) (has_folder vault root) service) service
+    (loaded vault root service)
 
--- A check found this, and its text is written, or a front of it. Without memory the vault may have been called less often.
-pub record Checks (result : Result Found Stopped) (c : Check) (old new : SinkState) (vault : VaultState) : Type 0 where
+-- A check found this, and its text is written, or a front of it. Without memory the vault may have been called less
+-- often.
+pub record Checks (result : Result Found Stopped) (c : Check) (old new : SinkState)
+    (vault : VaultState) : Type 0 where
   pub front : List ℕ
   pub back : List ℕ
   pub parts : c.text ≡ front ++ back

@@ -34,13 +34,16 @@ module _ (setting : Setting) where
   -- what is drawn from a seed is put in its place, and authenticated by
   abbrev pub attempted : ℕ → ℕ → RunState → Attempt
   attempted seed lines s =
-      let p = placed (drawn_files seed lines) s.world.vault in behind_files p.fault (state_of s.slots (with_vault p.vault (from_root s.world)))
+      let p = placed (drawn_files seed lines) s.world.vault in
+      behind_files p.fault (state_of s.slots (with_vault p.vault (from_root s.world)))
 
 -- generated LINES files K code NAME NUMBER visited COUNT
 abbrev pub generated_text : ℕ → Login → List ℕ
 generated_text lines login =
     codes "generated " ++ (decimal lines ++ (codes " files " ++ (decimal (count_of lines)
-    ++ (codes " code " ++ (name_of login.code ++ (codes " " ++ (decimal (number_of login.code) ++ (codes " visited " ++ (decimal login.visited ++ codes "\n")))))))))
+    ++ (codes " code " ++ (name_of login.code
+    ++ (codes " " ++ (decimal (number_of login.code)
+    ++ (codes " visited " ++ (decimal login.visited ++ codes "\n")))))))))
 
 -- what is written, and whether it is the line of a login
 abbrev pub text_of : ℕ → Result Login LoadFault → List ℕ
@@ -58,12 +61,15 @@ pub record Generation : Type 0 where
   pub state : RunState
 
 unfoldable pub generation : Setting → ℕ → ℕ → RunState → Generation
-generation setting seed lines s = let a = attempted setting seed lines s in record { text = text_of lines a.result; generated = found_by a.result; state = a.state }
+generation setting seed lines s = let a = attempted setting seed lines s in
+    record { text = text_of lines a.result; generated = found_by a.result; state = a.state }
 
 -- what is found of an attempt, where there was memory for it
 abbrev pub IsFound : Finding → ℕ → Result Login (Refuse LoadFault) → Type 0
-IsFound finding lines (Ok login) = (finding.generated ≡ Written) × (finding.text ≡ generated_text lines login)
-IsFound finding lines (Err (Named fault)) = (finding.generated ≡ Refused) × (finding.text ≡ refused_text fault)
+IsFound finding lines (Ok login) = (finding.generated ≡ Written)
+    × (finding.text ≡ generated_text lines login)
+IsFound finding lines (Err (Named fault)) = (finding.generated ≡ Refused)
+    × (finding.text ≡ refused_text fault)
 IsFound finding lines (Err refusals.NoMemory) = ⊥
 
 -- a finding and the state behind it are those of a generation
@@ -73,7 +79,8 @@ pub record Finds (finding : Finding) (g : Generation) (state : RunState) : Type 
   pub state_is : state ≡ g.state
 
 -- It came to this, and its line is written, or a front of it where a write failed. Without memory nothing is written.
-pub record Generates (result : Result Generated Stop) (g : Generation) (state : RunState) (old new : SinkState) : Type 0 where
+pub record Generates (result : Result Generated Stop) (g : Generation) (state : RunState)
+    (old new : SinkState) : Type 0 where
   pub front : List ℕ
   pub back : List ℕ
   pub parts : g.text ≡ front ++ back
@@ -88,7 +95,8 @@ pub record Generates (result : Result Generated Stop) (g : Generation) (state : 
 
 -- of the transaction 1, with SUCCESS, or, where memory was wanting, with BUF_ERR
 abbrev pub IsEndWithoutMemory : ℕ → ℕ → Type 0
-IsEndWithoutMemory number status = (number ≡ 1) × ((status ≡ number_of Success) ⊎ (status ≡ number_of BufErr))
+IsEndWithoutMemory number status = (number ≡ 1)
+    × ((status ≡ number_of Success) ⊎ (status ≡ number_of BufErr))
 
 abbrev pub IsEndOfFinding : Result Finding faults.NoMemory → ℕ → ℕ → Type 0
 IsEndOfFinding (Ok finding) = IsEndWith (number_of Success)

@@ -58,7 +58,8 @@ module _ (setting : Setting) where
   ended status s = state_in (called s (calls.End status))
 
   abbrev pub authenticated : RunState → Attempt
-  authenticated s = let t = called s authenticate_call in record { result = Ok (login_of t.outcome); state = ended (number_of Success) (state_in t) }
+  authenticated s = let t = called s authenticate_call in
+      record { result = Ok (login_of t.outcome); state = ended (number_of Success) (state_in t) }
 
   -- by what the start answers: where it is refused, nothing more is called
   abbrev pub behind_start : Option LoadFault → RunState → Attempt
@@ -66,12 +67,14 @@ module _ (setting : Setting) where
   behind_start None s = authenticated s
 
   abbrev pub logged_in : RunState → Attempt
-  logged_in s = let t = called s start_call in behind_start (refusal_in t.outcome.answer) (state_in t)
+  logged_in s = let t = called s start_call in
+      behind_start (refusal_in t.outcome.answer) (state_in t)
 
 -- a start came to this; without memory nothing is said
 abbrev pub Starts : {T : Type 0} → Result T (Refuse LoadFault) → Stepped → RunState → Type 0
 Starts (Ok done) t state = (refusal_in t.outcome.answer ≡ None) × (state ≡ state_in t)
-Starts (Err (Named fault)) t state = (refusal_in t.outcome.answer ≡ Some fault) × (state ≡ state_in t)
+Starts (Err (Named fault)) t state = (refusal_in t.outcome.answer ≡ Some fault)
+    × (state ≡ state_in t)
 Starts (Err NoMemory) t state = Unit {0}
 
 -- an authentication came to this
@@ -84,7 +87,8 @@ Tries (Ok login) setting s state =
     let t = called setting s start_call in
     let u = called setting (state_in t) authenticate_call in
     (refusal_in t.outcome.answer ≡ None) × (login ≡ login_of u.outcome) × (state ≡ state_in u)
-Tries (Err (Named fault)) setting s state = let t = called setting s start_call in (refusal_in t.outcome.answer ≡ Some fault) × (state ≡ state_in t)
+Tries (Err (Named fault)) setting s state = let t = called setting s start_call in
+    (refusal_in t.outcome.answer ≡ Some fault) × (state ≡ state_in t)
 Tries (Err NoMemory) setting s state = Unit {0}
 
 -- an attempt came to this

@@ -17,7 +17,8 @@ fault_of file = record { file = path_of_service file.name; line = 0; kind = Read
 
 -- the vault behind one that was put in its place
 abbrev pub with_file : DrawnFile → VaultState → VaultState
-with_file file v = counted (record v { files = file_put (path_of_service file.name) file.text v.files })
+with_file file v = counted
+    (record v { files = file_put (path_of_service file.name) file.text v.files })
 
 -- the vault behind the calls, and the fault of the first of them that is to fail; none comes behind it
 pub record Placed : Type 0 where
@@ -26,7 +27,9 @@ pub record Placed : Type 0 where
 
 abbrev pub placed : List DrawnFile → VaultState → Placed
 placed [] v = record { vault = v; fault = None }
-placed (file ∷ files) v = if is_failing v then record { vault = counted v; fault = Some (fault_of file) } else placed files (with_file file v)
+placed (file ∷ files) v = if is_failing v
+    then record { vault = counted v; fault = Some (fault_of file) }
+    else placed files (with_file file v)
 
 -- a world with another vault
 abbrev pub with_vault : VaultState → PlainWorld → PlainWorld

@@ -70,7 +70,8 @@ pub fn generate<K: Sink>(
         && ⟦<World as WorldTold>⟧.tells world.old) →
         IsTrue (K.sink_tells out.old) →
         Generates result
-        (generation (setting_of (⟦<Gear as GearTold>⟧.players (gear_in library.old)) delay) seed lines
+        (generation (setting_of (⟦<Gear as GearTold>⟧.players (gear_in library.old)) delay)
+        seed lines
         (state_of (⟦<Library as LibraryTold>⟧.slots library.old)
         (⟦<World as WorldTold>⟧.plain world.old)))
         (state_of (⟦<Library as LibraryTold>⟧.slots library.new)
@@ -130,7 +131,8 @@ fn find(
         IsTrue (⟦<Library as LibraryTold>⟧.tells library.old
         && ⟦<World as WorldTold>⟧.tells world.old) →
         IfOk result (λ finding. Finds finding
-        (generation (setting_of (⟦<Gear as GearTold>⟧.players (gear_in library.old)) delay) seed lines
+        (generation (setting_of (⟦<Gear as GearTold>⟧.players (gear_in library.old)) delay)
+        seed lines
         (state_of (⟦<Library as LibraryTold>⟧.slots library.old)
         (⟦<World as WorldTold>⟧.plain world.old)))
         (state_of (⟦<Library as LibraryTold>⟧.slots library.new)
@@ -169,7 +171,8 @@ fn attempt(
         IsTrue (⟦<Library as LibraryTold>⟧.tells library.old
         && ⟦<World as WorldTold>⟧.tells world.old) →
         ComesTo result
-        (attempted (setting_of (⟦<Gear as GearTold>⟧.players (gear_in library.old)) delay) seed lines
+        (attempted (setting_of (⟦<Gear as GearTold>⟧.players (gear_in library.old)) delay)
+        seed lines
         (state_of (⟦<Library as LibraryTold>⟧.slots library.old)
         (⟦<World as WorldTold>⟧.plain world.old)))
         (state_of (⟦<Library as LibraryTold>⟧.slots library.new)

@@ -21,7 +21,8 @@ pub(crate) fn place_in_world(
         Places result (placed files.now (vault_holds (in_box world.old.vault)))
         (vault_holds (in_box world.new.vault)) }
     ensures rest { ⟦<World as WorldTold>⟧.plain world.new
-        ≡ with_vault (vault_holds (in_box world.new.vault)) (⟦<World as WorldTold>⟧.plain world.old) }
+        ≡ with_vault (vault_holds (in_box world.new.vault))
+        (⟦<World as WorldTold>⟧.plain world.old) }
     ensures process { world.new.process ≡ world.old.process }
 {
     place_files(alloc, files, &mut *world.vault)

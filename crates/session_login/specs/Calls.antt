@@ -1,4 +1,5 @@
--- The calls of a login (pam_authenticate(3), pam_acct_mgmt(3), pam_chauthtok(3), pam_setcred(3), pam_open_session(3); that a
+-- The calls of a login (pam_authenticate(3), pam_acct_mgmt(3), pam_chauthtok(3), pam_setcred(3), pam_open_session(3);
+-- that a
 -- session is closed as soon as it was opened is this project's own).
 use Rattle.std.specs.Prelude.{ℕ, Bool, true, false, List, [], ◌∷◌}
 use Rattle.pam_base.specs.declared.code.Code.{Code}
@@ -32,7 +33,12 @@ accepts Any code = true
 
 -- the table: PAM_CHANGE_EXPIRED_AUTHTOK is 0x20, PAM_ESTABLISH_CRED 2, PAM_DELETE_CRED 4
 abbrev row : Func → ℕ → When → Accepted → LoginCall
-row func flags when accepted = record { func = func; flags = flags; when = when; accepted = accepted }
+row func flags when accepted = record {
+  func = func;
+  flags = flags;
+  when = when;
+  accepted = accepted;
+}
 
 abbrev pub login_calls : List LoginCall
 login_calls =

@@ -18,15 +18,18 @@ IsDenial code = code ≡ Success → ⊥
 
 -- one by the login itself: with SUCCESS, or with a code that denies it
 abbrev pub IsOwnEnd : ℕ → ℕ → Type 0
-IsOwnEnd number status = IsEndWith Success number status ⊎ ((code : Code) × IsDenial code × IsEndWith code number status)
+IsOwnEnd number status = IsEndWith Success number status
+    ⊎ ((code : Code) × IsDenial code × IsEndWith code number status)
 
--- With which code the transaction is ended. A refused start opens none; where the world doesn't tell so, it is closed with SUCCESS.
+-- With which code the transaction is ended. A refused start opens none; where the world doesn't tell so, it is closed
+-- with SUCCESS.
 -- Where the login stopped it is ended for that, unless it was already.
 abbrev pub IsEndOfLogin : Result Verdict Stop → ℕ → ℕ → Type 0
 IsEndOfLogin (Ok Passed) number status = IsEndWith Success number status
 IsEndOfLogin (Ok (Denied code)) number status = IsEndWith code number status
 IsEndOfLogin (Ok Refused) number status = IsEndWith Success number status
-IsEndOfLogin (Err stop) number status = IsEndWith (stop_status stop) number status ⊎ IsOwnEnd number status
+IsEndOfLogin (Err stop) number status = IsEndWith (stop_status stop) number status
+    ⊎ IsOwnEnd number status
 
 abbrev pub IsNoEnd : ℕ → ℕ → Type 0
 IsNoEnd number status = ⊥

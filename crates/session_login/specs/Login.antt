@@ -32,7 +32,9 @@ abbrev pub made_by : AppCall → Stepped → Made
 made_by call t = record { call = call; answer = t.outcome.answer; state = state_of t.slots t.world }
 
 abbrev pub make : Setting → AppCall → RunState → Made
-make setting call s = made_by call (stepped setting.players setting.delay s.slots s.world (record { number = 1; call = call }))
+make setting call s =
+    made_by call (stepped setting.players setting.delay s.slots s.world
+    (record { number = 1; call = call }))
 
 -- its result line; a start that the configuration refused has the line of that
 abbrev pub answer_line : AppCall → Answer → List ℕ
@@ -64,12 +66,14 @@ judged false m others = record { made = m ∷ []; denied = Some (code_in m.answe
 -- by whether a call is made
 abbrev pub turn : Setting → Bool → LoginCall → Code → RunState → (Code → RunState → Course) → Course
 turn setting false c last s others = others last s
-turn setting true c last s others = let m = make setting (call_of c) s in judged (accepts c.accepted (code_in m.answer)) m others
+turn setting true c last s others = let m = make setting (call_of c) s in
+    judged (accepts c.accepted (code_in m.answer)) m others
 
 -- each call by the code of the one before it
 unfoldable pub course : Setting → List LoginCall → Code → RunState → Course
 course setting [] last s = record { made = []; denied = None }
-course setting (c ∷ calls) last s = turn setting (is_due c.when last) c last s (course setting calls)
+course setting (c ∷ calls) last s =
+    turn setting (is_due c.when last) c last s (course setting calls)
 
 -- ---- the whole login
 
@@ -91,7 +95,10 @@ abbrev pub end_call : Code → AppCall
 end_call code = End (number_of code)
 
 abbrev pub settling : Setting → Option Code → RunState → Login
-settling setting denied s = record { made = make setting (end_call (end_code denied)) s ∷ []; verdict = verdict_by denied }
+settling setting denied s = record {
+  made = make setting (end_call (end_code denied)) s ∷ [];
+  verdict = verdict_by denied;
+}
 
 -- some calls come before a login's
 abbrev pub behind_calls : List Made → Login → Login
@@ -109,7 +116,8 @@ login_behind setting start true = record { made = start ∷ []; verdict = Refuse
 login_behind setting start false = behind_calls (start ∷ []) (logging_in setting start.state)
 
 abbrev pub login_of : Setting → List ℕ → Option (List ℕ) → RunState → Login
-login_of setting service user s = let start = make setting (Start service user) s in login_behind setting start (is_refused start.answer)
+login_of setting service user s = let start = make setting (Start service user) s in
+    login_behind setting start (is_refused start.answer)
 
 -- ---- what is written
 

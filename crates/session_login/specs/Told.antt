@@ -38,13 +38,18 @@ StopsIn setting NoMemory s m t = (t ≡ m.state) ⊎ ((t ≡ s) ⊎ FindsNoMemor
 
 -- ---- some calls
 
--- The lines of all these calls are written; or it stopped in one, whose line isn't whole, and nothing is written behind it.
-abbrev pub GoesTo : {T : Type 0} → Setting → Result T Stop → RunState → RunState → List Made → List Made → List ℕ → Type 0
-GoesTo setting (Ok done) s t whole others part = (others ≡ []) × (part ≡ []) × (t ≡ state_behind s whole)
+-- The lines of all these calls are written; or it stopped in one, whose line isn't whole, and nothing is written
+-- behind it.
+abbrev pub GoesTo : {T : Type 0} → Setting → Result T Stop → RunState → RunState → List Made
+    → List Made → List ℕ → Type 0
+GoesTo setting (Ok done) s t whole others part = (others ≡ []) × (part ≡ [])
+    × (t ≡ state_behind s whole)
 GoesTo setting (Err stop) s t whole [] part = ⊥
-GoesTo setting (Err stop) s t whole (m ∷ made) part = CutBy stop part (made_line m) × StopsIn setting stop (state_behind s whole) m t
+GoesTo setting (Err stop) s t whole (m ∷ made) part = CutBy stop part (made_line m)
+    × StopsIn setting stop (state_behind s whole) m t
 
-pub record Goes {T : Type 0} (setting : Setting) (made : List Made) (result : Result T Stop) (s t : RunState) (old new : SinkState) : Type 0 where
+pub record Goes {T : Type 0} (setting : Setting) (made : List Made) (result : Result T Stop)
+    (s t : RunState) (old new : SinkState) : Type 0 where
   pub whole : List Made
   pub others : List Made
   pub among : made ≡ whole ++ others
@@ -53,27 +58,35 @@ pub record Goes {T : Type 0} (setting : Setting) (made : List Made) (result : Re
   pub to : GoesTo setting result s t whole others part
 
 -- one call, with its answer
-pub record Makes (setting : Setting) (m : Made) (result : Result Answer Stop) (s t : RunState) (old new : SinkState) : Type 0 where
+pub record Makes (setting : Setting) (m : Made) (result : Result Answer Stop) (s t : RunState)
+    (old new : SinkState) : Type 0 where
   pub answers : IfOk result (λ (answer : Answer). answer ≡ m.answer)
   pub goes : Goes setting (m ∷ []) result s t old new
 
 -- the calls between start and end, and the code of the one that denied
-pub record GoesThrough (setting : Setting) (c : Course) (result : Result (Option Code) Stop) (s t : RunState) (old new : SinkState) : Type 0 where
+pub record GoesThrough (setting : Setting) (c : Course) (result : Result (Option Code) Stop)
+    (s t : RunState) (old new : SinkState) : Type 0 where
   pub denies : IfOk result (λ (denied : Option Code). denied ≡ c.denied)
   pub goes : Goes setting c.made result s t old new
 
 -- ---- the whole login
 
--- The lines of all its calls are written, and the last line; or it stopped in that one, where there is one; or in a call. Where it
+-- The lines of all its calls are written, and the last line; or it stopped in that one, where there is one; or in a
+-- call. Where it
 -- stops something may be done to the state at last.
-abbrev pub ComesTo : Setting → (Stop → RunState → RunState) → Login → Result Verdict Stop → RunState → RunState → List Made → List Made → List ℕ → Type 0
-ComesTo setting behind l (Ok verdict) s t whole others part = (others ≡ []) × (part ≡ last_line verdict) × (verdict ≡ l.verdict) × (t ≡ state_behind s whole)
+abbrev pub ComesTo : Setting → (Stop → RunState → RunState) → Login → Result Verdict Stop → RunState
+    → RunState → List Made → List Made → List ℕ → Type 0
+ComesTo setting behind l (Ok verdict) s t whole others part = (others ≡ [])
+    × (part ≡ last_line verdict) × (verdict ≡ l.verdict) × (t ≡ state_behind s whole)
 ComesTo setting behind l (Err stop) s t whole [] part =
-    (code : Code) × (l.verdict ≡ Denied code) × CutBy stop part (denied_line code) × (t ≡ behind stop (state_behind s whole))
+    (code : Code) × (l.verdict ≡ Denied code) × CutBy stop part (denied_line code)
+    × (t ≡ behind stop (state_behind s whole))
 ComesTo setting behind l (Err stop) s t whole (m ∷ made) part =
-    (d : RunState) × CutBy stop part (made_line m) × StopsIn setting stop (state_behind s whole) m d × (t ≡ behind stop d)
+    (d : RunState) × CutBy stop part (made_line m) × StopsIn setting stop (state_behind s whole) m d
+    × (t ≡ behind stop d)
 
-pub record Comes (setting : Setting) (behind : Stop → RunState → RunState) (l : Login) (result : Result Verdict Stop) (s t : RunState) (old new : SinkState) : Type 0 where
+pub record Comes (setting : Setting) (behind : Stop → RunState → RunState) (l : Login)
+    (result : Result Verdict Stop) (s t : RunState) (old new : SinkState) : Type 0 where
   pub whole : List Made
   pub others : List Made
   pub among : l.made ≡ whole ++ others
@@ -89,7 +102,8 @@ abbrev pub CutsDenial : Code → Result Verdict Stop → List ℕ → Type 0
 CutsDenial code (Ok verdict) part = part ≡ denied_line code
 CutsDenial code (Err stop) part = CutBy stop part (denied_line code)
 
-pub record WritesDenial (code : Code) (result : Result Verdict Stop) (old new : SinkState) : Type 0 where
+pub record WritesDenial (code : Code) (result : Result Verdict Stop) (old new : SinkState) : Type
+    0 where
   pub part : List ℕ
   pub written : new.written ≡ old.written ++ part
   pub to : CutsDenial code result part
@@ -99,13 +113,15 @@ abbrev pub ended_for : Setting → Stop → RunState → RunState
 ended_for setting stop s = (make setting (end_call (stop_status stop)) s).state
 
 -- A login with its verdict, and its text is written whole; or where it stopped, and a front of the text is.
-abbrev pub LogsIn : Setting → Login → Result Verdict Stop → RunState → RunState → SinkState → SinkState → Type 0
+abbrev pub LogsIn : Setting → Login → Result Verdict Stop → RunState → RunState → SinkState
+    → SinkState → Type 0
 LogsIn setting l result s t old new = Comes setting (ended_for setting) l result s t old new
 
 -- ---- what is written, whatever is told
 
 -- some bytes were written, with at most one call of the sink more than they are; without that one where all went well
-pub record Shows {T : Type 0} (Says : T → List ℕ → Type 0) (result : Result T Stop) (p q : SinkState) : Type 0 where
+pub record Shows {T : Type 0} (Says : T → List ℕ → Type 0) (result : Result T Stop)
+    (p q : SinkState) : Type 0 where
   pub text : List ℕ
   pub written : q.written ≡ p.written ++ text
   pub calls : q.calls ≤ p.calls + length text + 1

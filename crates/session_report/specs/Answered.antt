@@ -7,7 +7,8 @@ use Rattle.report_lines.specs.Line.{code_words, number_words, pending_words, ref
 
 -- a line for each variable, and H envlist COUNT
 abbrev pub environment_text : ℕ → List ℕ → List (List ℕ) → List ℕ
-environment_text handle command variables = flat_map (variable_text handle) variables ++ words_text handle command (number_words (length variables))
+environment_text handle command variables = flat_map (variable_text handle) variables
+    ++ words_text handle command (number_words (length variables))
 
 -- the lines of an answer
 abbrev pub answer_text : ℕ → List ℕ → Answer → List ℕ

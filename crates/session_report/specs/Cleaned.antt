@@ -9,12 +9,20 @@ use Rattle.report_lines.specs.Line as lines
 
 -- the line of a receipt, with the name of its datum's owner and the datum's own
 abbrev pub cleanup_text : ℕ → Receipt → List ℕ → List ℕ → List ℕ
-cleanup_text handle receipt owner datum = lines.cleanup_text handle (record { id = receipt.id; status = receipt.status; note = receipt.note; owner = owner; datum = datum })
+cleanup_text handle receipt owner datum =
+    lines.cleanup_text handle (record {
+      id = receipt.id;
+      status = receipt.status;
+      note = receipt.note;
+      owner = owner;
+      datum = datum;
+    })
 
 module _ (handle : ℕ) (names : List (List ℕ)) where
   -- the line of a receipt and its datum's birth, whose owner has its name at its number, from 0
   abbrev pub receipt_text : Receipt → Option Birth → List ℕ
-  receipt_text receipt (Some birth) = cleanup_text handle receipt (unwrap_or (slice_get names birth.owner) []) birth.name
+  receipt_text receipt (Some birth) =
+      cleanup_text handle receipt (unwrap_or (slice_get names birth.owner) []) birth.name
   receipt_text receipt None = []
 
   -- births are numbered by their places, from 0
@@ -23,7 +31,8 @@ module _ (handle : ℕ) (names : List (List ℕ)) where
 
   -- a line for each receipt of the ledger behind the first so many
   abbrev pub cleanups_text : PlainLedger → ℕ → List ℕ
-  cleanups_text ledger filed_from = flat_map (filed_text ledger.births) (drop filed_from ledger.filed)
+  cleanups_text ledger filed_from =
+      flat_map (filed_text ledger.births) (drop filed_from ledger.filed)
 
 -- each datum was set by one of so many modules
 abbrev pub AreOwned : ℕ → List Birth → Type 0

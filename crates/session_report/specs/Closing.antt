@@ -7,4 +7,5 @@ use Rattle.report_lines.specs.Line.{code_words, words_text}
 
 -- its receipts, those of the ledger behind the first so many, and H closed NAME NUMBER
 abbrev pub closing_text : List (List ℕ) → ℕ → Code → PlainLedger → ℕ → List ℕ
-closing_text names handle status ledger filed_from = cleanups_text handle names ledger filed_from ++ words_text handle (codes "closed") (code_words status)
+closing_text names handle status ledger filed_from = cleanups_text handle names ledger filed_from
+    ++ words_text handle (codes "closed") (code_words status)

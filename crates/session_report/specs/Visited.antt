@@ -8,7 +8,8 @@ use Rattle.stack_walk.specs.Retell.{seen_at}
 
 -- the line of a visit
 abbrev pub visit_text : ℕ → Visit → List ℕ
-visit_text handle visit = lines.visit_text handle (seen_at visit.place (name_of_module visit.path) visit.answer)
+visit_text handle visit =
+    lines.visit_text handle (seen_at visit.place (name_of_module visit.path) visit.answer)
 
 -- a line for each visit
 abbrev pub visits_text : ℕ → List Visit → List ℕ

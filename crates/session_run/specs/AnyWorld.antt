@@ -9,7 +9,8 @@ use Rattle.pam_library.specs.Slots.{PlainSlot, handle_limit, lists_of}
 use Rattle.session_run.specs.Ends.{EndsAre}
 
 -- Calls of a library were made, one after another: each moved on by the births that it added and the end that it was.
-pub record Proceeds (note : Notes) (before : PlainLedger) (lists : Lists) (after : PlainLedger) (next : Lists) : Type 0 where
+pub record Proceeds (note : Notes) (before : PlainLedger) (lists : Lists) (after : PlainLedger)
+    (next : Lists) : Type 0 where
   pub calls : List Moved
   pub moves : MoveOn note handle_limit before lists calls
   pub ledger : last_ledger before calls ≡ after
@@ -20,10 +21,13 @@ abbrev pub AllEndsAre : (ℕ → ℕ → Type 0) → List Moved → Type 0
 AllEndsAre Is [] = Unit {0}
 AllEndsAre Is (m ∷ calls) = EndsAre Is m.ended × AllEndsAre Is calls
 
-pub record ProceedsBy (Is : ℕ → ℕ → Type 0) (note : Notes) (before : PlainLedger) (lists : Lists) (after : PlainLedger) (next : Lists) : Type 0 where
+pub record ProceedsBy (Is : ℕ → ℕ → Type 0) (note : Notes) (before : PlainLedger) (lists : Lists)
+    (after : PlainLedger) (next : Lists) : Type 0 where
   pub went : Proceeds note before lists after next
   pub ends_are : AllEndsAre Is went.calls
 
 -- the same of a library with these modules, from its places and the ledger to those afterwards
-abbrev pub ProceedsFor : (ℕ → ℕ → Type 0) → List Player → PlainLedger → List PlainSlot → PlainLedger → List PlainSlot → Type 0
-ProceedsFor Is players before slots after next = ProceedsBy Is (notes_of players) before (lists_of slots) after (lists_of next)
+abbrev pub ProceedsFor : (ℕ → ℕ → Type 0) → List Player → PlainLedger → List PlainSlot → PlainLedger
+    → List PlainSlot → Type 0
+ProceedsFor Is players before slots after next =
+    ProceedsBy Is (notes_of players) before (lists_of slots) after (lists_of next)

@@ -22,13 +22,16 @@ module _ (players : List Player) (status : Code) where
   world_behind h w = world_after_end (notes_of players) (number_of status) h w
 
   abbrev pub text_of_end : ℕ → PlainWorld → PlainWorld → List ℕ
-  text_of_end number before after = closing_text (names_of players) number status after.process.ledger (length before.process.ledger.filed)
+  text_of_end number before after =
+      closing_text (names_of players) number status after.process.ledger
+      (length before.process.ledger.filed)
 
   -- Each open transaction, in the order of their places, behind some that are closed. An ended transaction leaves its
   -- conversation in its place.
   unfoldable pub closings_behind : List PlainSlot → List PlainSlot → PlainWorld → List Closing
   closings_behind front [] w = []
-  closings_behind front (closed conv ∷ slots) w = closings_behind (front ++ closed conv ∷ []) slots w
+  closings_behind front (closed conv ∷ slots) w =
+      closings_behind (front ++ closed conv ∷ []) slots w
   closings_behind front (opened h ∷ slots) w = record {
     text = text_of_end (length front + 1) w (world_behind h w);
     state = state_of (front ++ closed h.room.conv ∷ slots) (world_behind h w);
@@ -51,8 +54,11 @@ last_state s [] = s
 last_state s (c ∷ cs) = last_state c.state cs
 
 -- one transaction was ended, the one with the lowest number
-pub record EndsNext (players : List Player) (status : Code) (number : ℕ) (s t : RunState) : Type 0 where
-  pub first : closings players status s ≡ record { text = text_of_end players status number s.world t.world; state = t } ∷ closings players status t
+pub record EndsNext (players : List Player) (status : Code) (number : ℕ) (s t : RunState) : Type
+    0 where
+  pub first : closings players status s
+      ≡ record { text = text_of_end players status number s.world t.world; state = t }
+      ∷ closings players status t
   pub fewer : open_count t.slots < open_count s.slots
   pub receipts : length s.world.process.ledger.filed ≤ length t.world.process.ledger.filed
 

@@ -49,13 +49,15 @@ HasStatus code number status = status ≡ number_of code
 
 -- a status with which a run ends what is open behind its lines
 abbrev pub IsClosingStatus : ℕ → Type 0
-IsClosingStatus status = ((ending : Ending) × (status ≡ number_of (ending_status ending))) ⊎ ((stop : Stop) × (status ≡ number_of (stop_status stop)))
+IsClosingStatus status = ((ending : Ending) × (status ≡ number_of (ending_status ending)))
+    ⊎ ((stop : Stop) × (status ≡ number_of (stop_status stop)))
 
 -- ---- all ends
 
 -- an end of a run of a script: where its text is told, one of its lines asks for it, or it was made behind them
 abbrev pub IsEndOfRun : Bool → List ℕ → ℕ → ℕ → Type 0
-IsEndOfRun tells text number status = IsTrue tells → IsClosingStatus status ⊎ HasEnd text number status
+IsEndOfRun tells text number status = IsTrue tells → IsClosingStatus status
+    ⊎ HasEnd text number status
 
 -- each end among some events is one of these
 abbrev pub EndsAre : (ℕ → ℕ → Type 0) → List Event → Type 0

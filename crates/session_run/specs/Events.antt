@@ -1,4 +1,5 @@
--- The births and ends of a run (pam_set_data(3), pam_end(3); that a run's lines and closings are their fold is this project's own).
+-- The births and ends of a run (pam_set_data(3), pam_end(3); that a run's lines and closings are their fold is this
+-- project's own).
 use Rattle.std.specs.Prelude.{◌≡◌, ◌⊎◌, ℕ, ◌+◌, List, [], ◌∷◌, ◌++◌, length, take, drop, Option, Some, None, Result, Ok, Err}
 use Rattle.pam_base.specs.Code.{number_of}
 use Rattle.pam_base.specs.Lines.{lines_of}
@@ -39,17 +40,23 @@ end_by slots (Err kind) = []
 
 -- a line that was applied: the end that it is, and ledger and data behind it
 abbrev pub moved_by : RunState → List ℕ → RunState → Moved
-moved_by s line t = record { ended = end_by s.slots (parsed line); ledger = t.world.process.ledger; lists = lists_of t.slots }
+moved_by s line t = record {
+  ended = end_by s.slots (parsed line);
+  ledger = t.world.process.ledger;
+  lists = lists_of t.slots;
+}
 
 module _ (setting : Setting) where
-  abbrev pub calls_behind : RunState → List ℕ → Result (RunState × List ℕ) ScriptKind → (RunState → List Moved) → List Moved
+  abbrev pub calls_behind : RunState → List ℕ → Result (RunState × List ℕ) ScriptKind
+      → (RunState → List Moved) → List Moved
   calls_behind s line (Ok applied) next = moved_by s line applied.0 ∷ next applied.0
   calls_behind s line (Err kind) next = []
 
   -- lines that have n lines before them, up to the first that is refused
   unfoldable pub line_calls : ℕ → RunState → List (List ℕ) → List Moved
   line_calls n s [] = []
-  line_calls n s (line ∷ rest) = calls_behind s line (step_at (line_step setting) n s line) (λ t. line_calls (n + 1) t rest)
+  line_calls n s (line ∷ rest) =
+      calls_behind s line (step_at (line_step setting) n s line) (λ t. line_calls (n + 1) t rest)
 
   -- their events: of each line the births that it adds, in order, and then the end that it is
   abbrev pub line_events : RunState → List (List ℕ) → List Event
@@ -61,14 +68,16 @@ module _ (setting : Setting) where
 abbrev pub closing_events : ℕ → ℕ → List PlainSlot → List Event
 closing_events number status [] = []
 closing_events number status (closed conv ∷ slots) = closing_events (number + 1) status slots
-closing_events number status (opened h ∷ slots) = ends number status ∷ closing_events (number + 1) status slots
+closing_events number status (opened h ∷ slots) =
+    ends number status ∷ closing_events (number + 1) status slots
 
 -- ---- the run
 
 -- the first lines of a script, so many, and then what is open behind them is ended
 abbrev pub run_events : Setting → Code → RunState → List ℕ → ℕ → RunState → List Event
 run_events setting status start script lines last =
-    line_events setting start (take lines (lines_of script)) ++ closing_events 1 (number_of status) last.slots
+    line_events setting start (take lines (lines_of script))
+    ++ closing_events 1 (number_of status) last.slots
 
 -- whatever ledger and data stood for, they stand for it and then these events
 abbrev pub StandOn : Notes → List Event → RunState → RunState → Type 0
@@ -78,16 +87,20 @@ StandOn note added s t = (events : List Event)
 
 -- ---- while it goes on
 
--- Some lines lead from one state to another: each was applied, and moved ledger and data on by its births and its end. This is their text.
+-- Some lines lead from one state to another: each was applied, and moved ledger and data on by its births and its
+-- end. This is their text.
 abbrev pub LeadOn : Setting → ℕ → RunState → List (List ℕ) → ℕ → RunState → List ℕ → Type 0
 LeadOn setting n s [] m t text = (m ≡ n) × (t ≡ s) × (text ≡ [])
 LeadOn setting n s (line ∷ rest) m t text =
-    (u : RunState) × (first : List ℕ) × (others : List ℕ) × (text ≡ first ++ others) × (step_at (line_step setting) n s line ≡ Ok (u, first))
-    × Moves (notes_of setting.players) handle_limit (end_by s.slots (parsed line)) s.world.process.ledger (lists_of s.slots) u.world.process.ledger (lists_of u.slots)
+    (u : RunState) × (first : List ℕ) × (others : List ℕ) × (text ≡ first ++ others)
+    × (step_at (line_step setting) n s line ≡ Ok (u, first))
+    × Moves (notes_of setting.players) handle_limit (end_by s.slots (parsed line))
+    s.world.process.ledger (lists_of s.slots) u.world.process.ledger (lists_of u.slots)
     × LeadOn setting (n + 1) u rest m t others
 
 -- the first lines of a text were served, and their text is written; which lines stand behind them
-pub record Served (setting : Setting) (n m : ℕ) (s t : RunState) (input : List ℕ) (others : List (List ℕ)) (p q : SinkState) : Type 0 where
+pub record Served (setting : Setting) (n m : ℕ) (s t : RunState) (input : List ℕ)
+    (others : List (List ℕ)) (p q : SinkState) : Type 0 where
   pub served : List (List ℕ)
   pub among : lines_of input ≡ served ++ others
   pub number : m ≡ n + length served
@@ -100,9 +113,11 @@ abbrev pub IsAskedBy : List (List ℕ) → ℕ → ℕ → Type 0
 IsAskedBy [] number status = ⊥
 IsAskedBy (line ∷ rest) number status = AsksEnd line number status
 
--- A run stopped: the first lines of a text were served, and at most the next one was begun. What was done to data behind them is a birth,
+-- A run stopped: the first lines of a text were served, and at most the next one was begun. What was done to data
+-- behind them is a birth,
 -- or the end that this line asks for.
-pub record Broken (setting : Setting) (n : ℕ) (s t : RunState) (input : List ℕ) (p q : SinkState) : Type 0 where
+pub record Broken (setting : Setting) (n : ℕ) (s t : RunState) (input : List ℕ)
+    (p q : SinkState) : Type 0 where
   pub lines : ℕ
   pub middle : RunState
   pub sink : SinkState
@@ -110,47 +125,65 @@ pub record Broken (setting : Setting) (n : ℕ) (s t : RunState) (input : List �
   pub served : Served setting n lines s middle input others p sink
   pub part : List ℕ
   pub written : q.written ≡ sink.written ++ part
-  pub later : ProceedsBy (IsAskedBy others) (notes_of setting.players) middle.world.process.ledger (lists_of middle.slots) t.world.process.ledger (lists_of t.slots)
+  pub later : ProceedsBy (IsAskedBy others) (notes_of setting.players) middle.world.process.ledger
+      (lists_of middle.slots) t.world.process.ledger (lists_of t.slots)
 
 -- one line that was applied, for one who doesn't know the places before it
-abbrev pub MovesBy : Notes → List PlainSlot → List ℕ → PlainLedger → PlainLedger → List PlainSlot → Type 0
-MovesBy note slots line before after next = Moves note handle_limit (end_by slots (parsed line)) before (lists_of slots) after (lists_of next)
+abbrev pub MovesBy : Notes → List PlainSlot → List ℕ → PlainLedger → PlainLedger → List PlainSlot
+    → Type 0
+MovesBy note slots line before after next =
+    Moves note handle_limit (end_by slots (parsed line)) before (lists_of slots) after
+    (lists_of next)
 
 -- what one turn served, by its result
-abbrev pub ServesTurn : Setting → Result (Option Ending) Stop → ℕ → ℕ → RunState → RunState → List ℕ → List ℕ → SinkState → SinkState → Type 0
-ServesTurn setting (Ok None) n m s t input rest p q = Served setting n m s t input (lines_of rest) p q
-ServesTurn setting (Ok (Some ending)) n m s t input rest p q = (others : List (List ℕ)) × Served setting n m s t input others p q
+abbrev pub ServesTurn : Setting → Result (Option Ending) Stop → ℕ → ℕ → RunState → RunState → List ℕ
+    → List ℕ → SinkState → SinkState → Type 0
+ServesTurn setting (Ok None) n m s t input rest p q =
+    Served setting n m s t input (lines_of rest) p q
+ServesTurn setting (Ok (Some ending)) n m s t input rest p q = (others : List (List ℕ))
+    × Served setting n m s t input others p q
 ServesTurn setting (Err stop) n m s t input rest p q = Broken setting n s t input p q
 
 -- what many served from the first line on
-abbrev pub ServesAll : Setting → Result Ending Stop → ℕ → RunState → RunState → List ℕ → SinkState → SinkState → Type 0
-ServesAll setting (Ok ending) m s t input p q = (others : List (List ℕ)) × Served setting 0 m s t input others p q
+abbrev pub ServesAll : Setting → Result Ending Stop → ℕ → RunState → RunState → List ℕ → SinkState
+    → SinkState → Type 0
+ServesAll setting (Ok ending) m s t input p q = (others : List (List ℕ))
+    × Served setting 0 m s t input others p q
 ServesAll setting (Err stop) m s t input p q = Broken setting 0 s t input p q
 
 -- ---- a run that stops
 
 -- The end of a transaction that the next line asks for, or one with this status.
 abbrev pub IsLaterEnd : Code → List (List ℕ) → ℕ → ℕ → Type 0
-IsLaterEnd status others number ended = IsAskedBy others number ended ⊎ HasStatus status number ended
+IsLaterEnd status others number ended = IsAskedBy others number ended
+    ⊎ HasStatus status number ended
 
--- Among its lines: the whole text of so many lines stands in what was written. Ledger and data stand for their events, and then for others,
+-- Among its lines: the whole text of so many lines stands in what was written. Ledger and data stand for their
+-- events, and then for others,
 -- whose ends the next line asked for or have this status.
-pub record StandsCut (setting : Setting) (status : Code) (start end : RunState) (input text : List ℕ) : Type 0 where
+pub record StandsCut (setting : Setting) (status : Code) (start end : RunState)
+    (input text : List ℕ) : Type 0 where
   pub lines : ℕ
   pub middle : RunState
   pub whole : List ℕ
   pub part : List ℕ
-  pub run : run_lines (line_step setting) 0 start (take lines (lines_of input)) ≡ come_to whole middle lines None
+  pub run : run_lines (line_step setting) 0 start (take lines (lines_of input))
+      ≡ come_to whole middle lines None
   pub parts : text ≡ whole ++ part
   pub later : List Event
   pub ends_are : EndsAre (IsLaterEnd status (drop lines (lines_of input))) later
-  pub stand : StandOn (notes_of setting.players) (line_events setting start (take lines (lines_of input)) ++ later) start end
+  pub stand : StandOn (notes_of setting.players)
+      (line_events setting start (take lines (lines_of input)) ++ later) start end
 
--- Behind them: ledger and data stand for the events of the lines, and then for others, whose ends have one of these two statuses.
-pub record StandsBehind (setting : Setting) (status stopped : Code) (lines : ℕ) (start end : RunState) (input : List ℕ) : Type 0 where
+-- Behind them: ledger and data stand for the events of the lines, and then for others, whose ends have one of these
+-- two statuses.
+pub record StandsBehind (setting : Setting) (status stopped : Code) (lines : ℕ)
+    (start end : RunState) (input : List ℕ) : Type 0 where
   pub later : List Event
-  pub ends_are : EndsAre (λ (number : ℕ) (ended : ℕ). HasStatus status number ended ⊎ HasStatus stopped number ended) later
-  pub stand : StandOn (notes_of setting.players) (line_events setting start (take lines (lines_of input)) ++ later) start end
+  pub ends_are : EndsAre (λ (number : ℕ) (ended : ℕ). HasStatus status number ended
+      ⊎ HasStatus stopped number ended) later
+  pub stand : StandOn (notes_of setting.players)
+      (line_events setting start (take lines (lines_of input)) ++ later) start end
 
 -- The births and receipts of a ledger are those of these events, in order.
 pub record AreDue (note : Notes) (events : List Event) (ledger : PlainLedger) : Type 0 where

@@ -1,4 +1,5 @@
--- A transaction goes as it would alone (this project's own): a script in which each step on another number is a blank line, and
+-- A transaction goes as it would alone (this project's own): a script in which each step on another number is a blank
+-- line, and
 -- what the steps on a number come to in a run.
 use Rattle.std.specs.Prelude.{◌≡◌, ℕ, zero, suc, ◌+◌, Bool, true, false, not, nat_eq, if◌then◌else◌, List, [], ◌∷◌, ◌++◌, map, length, take, drop, codes, slice_get, unwrap_or, Option, Some, None, Result, Ok, Err}
 use Rattle.std.specs.List.{flat_map, range_with_len}
@@ -73,17 +74,21 @@ pub record Came : Type 0 where
   pub ledger : PlainLedger
 
 -- behind a line: what it came to, and what the lines behind it do; nothing follows a refused line
-abbrev pub came_behind : {A : Type 0} → Result (RunState × List ℕ) ScriptKind → (List ℕ → List A) → (RunState → List A) → List A
+abbrev pub came_behind : {A : Type 0} → Result (RunState × List ℕ) ScriptKind → (List ℕ → List A)
+    → (RunState → List A) → List A
 came_behind (Ok x) here next = here x.1 ++ next x.0
 came_behind (Err kind) here next = []
 
-abbrev pub FilesStay : Result (RunState × List ℕ) ScriptKind → Bool → RunState → (RunState → Type 0) → Type 0
-FilesStay (Ok x) another s Next = (another ≡ true → x.0.world.vault.files ≡ s.world.vault.files) × Next x.0
+abbrev pub FilesStay : Result (RunState × List ℕ) ScriptKind → Bool → RunState → (RunState → Type 0)
+    → Type 0
+FilesStay (Ok x) another s Next = (another ≡ true → x.0.world.vault.files ≡ s.world.vault.files)
+    × Next x.0
 FilesStay (Err kind) another s Next = Unit {0}
 
 module _ (setting : Setting) where
   abbrev pub came_to : RunState → Step → Came
-  came_to s step = let t = stepped setting.players setting.delay s.slots s.world step in record { step = step; outcome = t.outcome; ledger = t.world.process.ledger }
+  came_to s step = let t = stepped setting.players setting.delay s.slots s.world step in
+      record { step = step; outcome = t.outcome; ledger = t.world.process.ledger }
 
   module _ (number : ℕ) where
     abbrev pub came_by : RunState → Option Step → List Came
@@ -93,17 +98,21 @@ module _ (setting : Setting) where
     -- the steps on the number, in order, among lines that have n lines before them
     abbrev pub came_among : ℕ → RunState → List (List ℕ) → List Came
     came_among n s [] = []
-    came_among n s (l ∷ ls) = came_behind (step_at (line_step setting) n s l) (λ text. came_by s (step_in (parsed l))) (λ t. came_among (n + 1) t ls)
+    came_among n s (l ∷ ls) = came_behind (step_at (line_step setting) n s l) (λ text.
+        came_by s (step_in (parsed l))) (λ t. came_among (n + 1) t ls)
 
     -- what the run writes for them
     abbrev pub texts_among : ℕ → RunState → List (List ℕ) → List (List ℕ)
     texts_among n s [] = []
-    texts_among n s (l ∷ ls) = came_behind (step_at (line_step setting) n s l) (λ text. if is_on number (step_in (parsed l)) then text ∷ [] else []) (λ t. texts_among (n + 1) t ls)
+    texts_among n s (l ∷ ls) = came_behind (step_at (line_step setting) n s l) (λ text.
+        if is_on number (step_in (parsed l)) then text ∷ [] else []) (λ t. texts_among (n + 1) t ls)
 
     -- no step on another number changes a file
     abbrev pub LeaveFiles : ℕ → RunState → List (List ℕ) → Type 0
     LeaveFiles n s [] = Unit {0}
-    LeaveFiles n s (l ∷ ls) = FilesStay (step_at (line_step setting) n s l) (is_on_another number (step_in (parsed l))) s (λ t. LeaveFiles (n + 1) t ls)
+    LeaveFiles n s (l ∷ ls) =
+        FilesStay (step_at (line_step setting) n s l) (is_on_another number (step_in (parsed l))) s
+        (λ t. LeaveFiles (n + 1) t ls)
 
 -- a run may begin here: places and ledger belong together, and no call of the vault is to fail
 pub record IsQuietStart (s : RunState) : Type 0 where
@@ -115,8 +124,11 @@ pub record IsQuietStart (s : RunState) : Type 0 where
 module _ (id_words : ℕ → List ℕ) (handle : ℕ) (names : List (List ℕ)) where
   abbrev pub receipt_text_with : Receipt → Option Birth → List ℕ
   receipt_text_with receipt (Some birth) =
-      decimal handle ++ (codes " clean " ++ (id_words receipt.id ++ (codes " " ++ (status_words receipt.status ++ (codes " " ++ (number_words receipt.note ++ (codes " "
-      ++ (quoted_text (unwrap_or (slice_get names birth.owner) []) ++ (codes " " ++ (quoted_text birth.name ++ codes "\n"))))))))))
+      decimal handle ++ (codes " clean " ++ (id_words receipt.id
+      ++ (codes " " ++ (status_words receipt.status
+      ++ (codes " " ++ (number_words receipt.note ++ (codes " "
+      ++ (quoted_text (unwrap_or (slice_get names birth.owner) [])
+      ++ (codes " " ++ (quoted_text birth.name ++ codes "\n"))))))))))
   receipt_text_with receipt None = []
 
   abbrev pub filed_text_with : List Birth → Filed → List ℕ
@@ -126,7 +138,8 @@ abbrev pub step_text_with : (ℕ → List ℕ) → List (List ℕ) → Came → 
 step_text_with id_words names c =
     messages_text c.step.number c.outcome.said
     ++ (visits_text c.step.number c.outcome.trail
-    ++ (flat_map (filed_text_with id_words c.step.number names c.ledger.births) (drop c.outcome.filed_from c.ledger.filed)
+    ++ (flat_map (filed_text_with id_words c.step.number names c.ledger.births)
+    (drop c.outcome.filed_from c.ledger.filed)
     ++ (waited_text c.step.number c.outcome.wait
     ++ (all_missing_text c.step.number c.outcome.missing
     ++ answer_text c.step.number (word_of_call c.step.call) c.outcome.answer))))
@@ -158,21 +171,24 @@ module _ (players : List Player) (status : Code) where
   closed_text_with id_words number w (Some (closed conv)) = []
   closed_text_with id_words number w (Some (opened h)) =
       let after = (world_behind players status h w).process.ledger in
-      flat_map (filed_text_with id_words number (names_of players) after.births) (drop (length w.process.ledger.filed) after.filed)
+      flat_map (filed_text_with id_words number (names_of players) after.births)
+      (drop (length w.process.ledger.filed) after.filed)
       ++ words_text number (codes "closed") (code_words status)
 
   -- of a number, when all lower ones are closed
   abbrev pub closing_text_with : (ℕ → List ℕ) → RunState → ℕ → List ℕ
   closing_text_with id_words s zero = []
   closing_text_with id_words s (suc i) =
-      closed_text_with id_words (suc i) (world_after_places (take i s.slots) s.world) (slice_get s.slots i)
+      closed_text_with id_words (suc i) (world_after_places (take i s.slots) s.world)
+      (slice_get s.slots i)
 
   abbrev pub closing_without_ids : RunState → ℕ → List ℕ
   closing_without_ids s number = closing_text_with (λ (id : ℕ). []) s number
 
   -- of all places, from the first
   abbrev pub all_closing_texts : RunState → List ℕ
-  all_closing_texts s = flat_map (closing_text_with number_words s) (range_with_len 1 (length s.slots))
+  all_closing_texts s =
+      flat_map (closing_text_with number_words s) (range_with_len 1 (length s.slots))
 
 -- ---- a transaction goes as it would alone
 
@@ -180,20 +196,41 @@ module _ (players : List Player) (status : Code) where
 abbrev pub state_behind : Setting → ℕ → RunState → List (List ℕ) → RunState
 state_behind setting n s script = (run_lines (line_step setting) n s script).last
 
--- A run and that of the script of one number alone, from the same start: the number's steps tell and answer the same, and its
--- births and receipts are the same, in their order and but for ids and marks, behind the lines and when all is ended behind
--- them. Its lines of the report are the same but for ids, also those with which the program closes it. Both runs end at the
+-- A run and that of the script of one number alone, from the same start: the number's steps tell and answer the same,
+-- and its
+-- births and receipts are the same, in their order and but for ids and marks, behind the lines and when all is ended
+-- behind
+-- them. Its lines of the report are the same but for ids, also those with which the program closes it. Both runs end
+-- at the
 -- same line, for the same fault if there is one.
-pub record GoesAsAlone (setting : Setting) (number n : ℕ) (s : RunState) (script : List (List ℕ)) : Type 0 where
-  pub outcomes : map (λ (c : Came). told_in c.outcome) (came_among setting number n s script) ≡ map (λ (c : Came). told_in c.outcome) (came_among setting number n s (alone number script))
-  pub births : births_on number (state_behind setting n s script).world.process.ledger.births ≡ births_on number (state_behind setting n s (alone number script)).world.process.ledger.births
-  pub receipts : receipts_on number (state_behind setting n s script).world.process.ledger ≡ receipts_on number (state_behind setting n s (alone number script)).world.process.ledger
-  pub ended_births : (status : Code) → births_on number (all_closed setting.players status (state_behind setting n s script)).world.process.ledger.births
-      ≡ births_on number (all_closed setting.players status (state_behind setting n s (alone number script))).world.process.ledger.births
-  pub ended_receipts : (status : Code) → receipts_on number (all_closed setting.players status (state_behind setting n s script)).world.process.ledger
-      ≡ receipts_on number (all_closed setting.players status (state_behind setting n s (alone number script))).world.process.ledger
-  pub report : map (text_without_ids (names_of setting.players)) (came_among setting number n s script) ≡ map (text_without_ids (names_of setting.players)) (came_among setting number n s (alone number script))
-  pub closing : (status : Code) → closing_without_ids setting.players status (state_behind setting n s script) number
-      ≡ closing_without_ids setting.players status (state_behind setting n s (alone number script)) number
-  pub lines : (run_lines (line_step setting) n s script).items ≡ (run_lines (line_step setting) n s (alone number script)).items
-  pub refused : (run_lines (line_step setting) n s script).refused ≡ (run_lines (line_step setting) n s (alone number script)).refused
+pub record GoesAsAlone (setting : Setting) (number n : ℕ) (s : RunState)
+    (script : List (List ℕ)) : Type 0 where
+  pub outcomes : map (λ (c : Came). told_in c.outcome) (came_among setting number n s script)
+      ≡ map (λ (c : Came). told_in c.outcome) (came_among setting number n s (alone number script))
+  pub births : births_on number (state_behind setting n s script).world.process.ledger.births
+      ≡ births_on number (state_behind setting n s
+      (alone number script)).world.process.ledger.births
+  pub receipts : receipts_on number (state_behind setting n s script).world.process.ledger
+      ≡ receipts_on number (state_behind setting n s (alone number script)).world.process.ledger
+  pub ended_births : (status : Code)
+      → births_on number (all_closed setting.players status
+      (state_behind setting n s script)).world.process.ledger.births
+      ≡ births_on number (all_closed setting.players status
+      (state_behind setting n s (alone number script))).world.process.ledger.births
+  pub ended_receipts : (status : Code)
+      → receipts_on number (all_closed setting.players status
+      (state_behind setting n s script)).world.process.ledger
+      ≡ receipts_on number (all_closed setting.players status
+      (state_behind setting n s (alone number script))).world.process.ledger
+  pub report : map (text_without_ids (names_of setting.players))
+      (came_among setting number n s script)
+      ≡ map (text_without_ids (names_of setting.players))
+      (came_among setting number n s (alone number script))
+  pub closing : (status : Code)
+      → closing_without_ids setting.players status (state_behind setting n s script) number
+      ≡ closing_without_ids setting.players status (state_behind setting n s (alone number script))
+      number
+  pub lines : (run_lines (line_step setting) n s script).items
+      ≡ (run_lines (line_step setting) n s (alone number script)).items
+  pub refused : (run_lines (line_step setting) n s script).refused
+      ≡ (run_lines (line_step setting) n s (alone number script)).refused

@@ -1,4 +1,5 @@
--- What the bytes of a script alone say of a run of it, whatever its lines do; and what was written (this project's own).
+-- What the bytes of a script alone say of a run of it, whatever its lines do; and what was written (this project's
+-- own).
 use Rattle.std.specs.Prelude.{◌≡◌, ℕ, ◌+◌, ◌≤◌, Bool, true, false, List, [], ◌++◌, length, Option, Some, None, Result, Ok, Err, OnOk}
 use Rattle.pam_base.specs.declared.fault.ScriptKind.{ScriptKind}
 use Rattle.pam_outside.specs.Streams.{SourceState, SinkState}
@@ -35,13 +36,16 @@ nowhere = record { written = []; calls = 0 }
 abbrev pub ReadsLine : Result (Option ScriptKind) Stop → ℕ → List ℕ → Type 0
 ReadsLine result n line = ServesTold line_read Whatever result n line tt tt nowhere nowhere
 
-abbrev pub ReadsTurn : Result (Option Ending) Stop → ℕ → ℕ → List ℕ → List ℕ → SourceState → SourceState → Type 0
-ReadsTurn result n m before held x y = Turns line_read Whatever result n m tt tt before held x y nowhere nowhere
+abbrev pub ReadsTurn : Result (Option Ending) Stop → ℕ → ℕ → List ℕ → List ℕ → SourceState
+    → SourceState → Type 0
+ReadsTurn result n m before held x y =
+    Turns line_read Whatever result n m tt tt before held x y nowhere nowhere
 
 abbrev pub ReadsAll : Result Ending Stop → ℕ → SourceState → SourceState → Type 0
 ReadsAll result m x y = Runs line_read Whatever result m tt tt x y nowhere nowhere
 
--- how a run ends, by the bytes: at the end of a script of which no line is refused; at the first line that is; or behind lines that aren't
+-- how a run ends, by the bytes: at the end of a script of which no line is refused; at the first line that is; or
+-- behind lines that aren't
 abbrev pub EndsAtBytes : Result Ending Stop → List ℕ → List ℕ → List ℕ → Type 0
 EndsAtBytes (Ok Done) script taken left = (refused_in script true ≡ None) × (left ≡ [])
 EndsAtBytes (Ok (Refused kind)) script taken left = refused_in script true ≡ Some kind

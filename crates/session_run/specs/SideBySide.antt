@@ -25,21 +25,24 @@ step_of s (Err kind) = []
 
 module _ (setting : Setting) where
   -- of a line that was applied, and of those behind it
-  abbrev pub steps_behind : RunState → List ℕ → Result (RunState × List ℕ) ScriptKind → (RunState → List Met) → List Met
+  abbrev pub steps_behind : RunState → List ℕ → Result (RunState × List ℕ) ScriptKind
+      → (RunState → List Met) → List Met
   steps_behind s line (Ok applied) next = step_of s (parsed line) ++ next applied.0
   steps_behind s line (Err kind) next = []
 
   -- the steps of some lines that have n lines before them, up to the first that is refused
   unfoldable pub steps_in : ℕ → RunState → List (List ℕ) → List Met
   steps_in n s [] = []
-  steps_in n s (line ∷ rest) = steps_behind s line (step_at (line_step setting) n s line) (λ t. steps_in (n + 1) t rest)
+  steps_in n s (line ∷ rest) = steps_behind s line (step_at (line_step setting) n s line) (λ t.
+      steps_in (n + 1) t rest)
 
   -- what is reported of some steps, one after another: of each its outcome, with the receipts that it filed
   abbrev pub report_of_steps : List PlainSlot → List Met → List ℕ
   report_of_steps slots [] = []
   report_of_steps slots (m ∷ steps) =
       let t = stepped setting.players setting.delay slots m.world m.step in
-      step_text (names_of setting.players) m.step t.outcome t.world.process.ledger ++ report_of_steps t.slots steps
+      step_text (names_of setting.players) m.step t.outcome t.world.process.ledger
+      ++ report_of_steps t.slots steps
 
   -- the steps of the lines among some bytes
   abbrev pub steps_of : RunState → List ℕ → Bool → List Met
@@ -47,10 +50,17 @@ module _ (setting : Setting) where
 
   -- What is reported of the lines among some bytes is what is told of their steps.
   abbrev pub TellsSteps : RunState → List ℕ → Bool → Type 0
-  TellsSteps s bytes ended = (run_of (line_step setting) 0 s bytes ended).text ≡ report_of_steps s.slots (steps_of s bytes ended)
+  TellsSteps s bytes ended = (run_of (line_step setting) 0 s bytes ended).text
+      ≡ report_of_steps s.slots (steps_of s bytes ended)
 
-  -- The place of a number after the lines among some bytes, and the outcomes of the steps on it, are what these steps come to alone,
+  -- The place of a number after the lines among some bytes, and the outcomes of the steps on it, are what these steps
+  -- come to alone,
   -- from that place on, each in the world as it stood before it.
-  pub record ComesAlone (s : RunState) (bytes : List ℕ) (ended : Bool) (number : ℕ) (slot : PlainSlot) : Type 0 where
-    pub slot_is : slot_at (run_of (line_step setting) 0 s bytes ended).last.slots number ≡ Some (alone setting.players setting.delay number slot (own_steps number (steps_of s bytes ended)))
-    pub outcomes_are : outcomes_on setting.players setting.delay number s.slots (steps_of s bytes ended) ≡ outcomes_alone setting.players setting.delay number slot (own_steps number (steps_of s bytes ended))
+  pub record ComesAlone (s : RunState) (bytes : List ℕ) (ended : Bool) (number : ℕ)
+      (slot : PlainSlot) : Type 0 where
+    pub slot_is : slot_at (run_of (line_step setting) 0 s bytes ended).last.slots number
+        ≡ Some (alone setting.players setting.delay number slot
+        (own_steps number (steps_of s bytes ended)))
+    pub outcomes_are : outcomes_on setting.players setting.delay number s.slots
+        (steps_of s bytes ended) ≡ outcomes_alone setting.players setting.delay number slot
+        (own_steps number (steps_of s bytes ended))

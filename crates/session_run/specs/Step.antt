@@ -29,17 +29,23 @@ with_caller caller w = record w { process = record w.process { caller = caller }
 module _ (setting : Setting) where
   -- a call, and its lines of the report
   abbrev pub called : Step → Stepped → RunState × List ℕ
-  called step t = (state_of t.slots t.world, step_text (names_of setting.players) step t.outcome t.world.process.ledger)
+  called step t = (
+    state_of t.slots t.world,
+    step_text (names_of setting.players) step t.outcome
+        t.world.process.ledger,
+  )
 
   -- the state after a line, and what is written for it: nothing but for a call
   abbrev pub applied : RunState → Line → RunState × List ℕ
   applied s lines.Blank = (s, [])
-  applied s (lines.Step step) = called step (stepped setting.players setting.delay s.slots s.world step)
+  applied s (lines.Step step) =
+      called step (stepped setting.players setting.delay s.slots s.world step)
   applied s (lines.At moment) = (state_of s.slots (at_moment moment s.world), [])
   applied s (lines.Random word) = (state_of s.slots (with_word word s.world), [])
   applied s (lines.Caller caller) = (state_of s.slots (with_caller caller s.world), [])
 
-  abbrev pub applied_or_refused : RunState → Result Line ScriptKind → Result (RunState × List ℕ) ScriptKind
+  abbrev pub applied_or_refused : RunState → Result Line ScriptKind
+      → Result (RunState × List ℕ) ScriptKind
   applied_or_refused s (Ok line) = Ok (applied s line)
   applied_or_refused s (Err kind) = Err kind
 
@@ -52,9 +58,12 @@ pub record Fails (setting : Setting) (s : RunState) (line : List ℕ) (t : RunSt
   pub step : Step
   pub asked : parsed line ≡ Ok (lines.Step step)
   pub place : FailsAt true step.call (slot_at s.slots step.number) (slot_at t.slots step.number)
-  pub others : (number : ℕ) → (number ≡ step.number → ⊥) → slot_at t.slots number ≡ slot_at s.slots number
-  pub spends : SpendsAt (notes_of setting.players) (length setting.players) (slot_at s.slots step.number) step.call
-      (lists_of s.slots step.number) s.world.process.ledger (lists_of t.slots step.number) t.world.process.ledger
+  pub others : (number : ℕ) → (number ≡ step.number → ⊥)
+      → slot_at t.slots number ≡ slot_at s.slots number
+  pub spends : SpendsAt (notes_of setting.players) (length setting.players)
+      (slot_at s.slots step.number) step.call
+      (lists_of s.slots step.number) s.world.process.ledger (lists_of t.slots step.number)
+      t.world.process.ledger
   pub root : t.world.process.root ≡ s.world.process.root
   pub caller : t.world.process.caller ≡ s.world.process.caller
   pub world : leaves_world (slot_at s.slots step.number) step.call ≡ true → t.world ≡ s.world

@@ -32,16 +32,22 @@ module _ (players : List Player) where
 
   -- the lines of the transactions, and the last line
   abbrev pub last_words : Ending → ℕ → RunState → List ℕ
-  last_words ending n s = closings_text (closings players (ending_status ending) s) ++ last_line ending n
+  last_words ending n s = closings_text (closings players (ending_status ending) s)
+      ++ last_line ending n
 
-  -- What was ended and written behind the lines. All transactions were, and the last line is written, whole or not; or up
+  -- What was ended and written behind the lines. All transactions were, and the last line is written, whole or not;
+  -- or up
   -- to one that was ended and whose lines aren't whole.
-  abbrev pub EndsTo : Ending → ℕ → Result (Unit {0}) Stop → RunState → RunState → List Closing → List Closing → List ℕ → Type 0
-  EndsTo ending n (Ok done) s t whole others part = (others ≡ []) × (part ≡ last_line ending n) × (t ≡ last_state s whole)
-  EndsTo ending n (Err stop) s t whole [] part = CutBy stop part (last_line ending n) × (t ≡ last_state s whole) × NoneIsOpen t.slots
+  abbrev pub EndsTo : Ending → ℕ → Result (Unit {0}) Stop → RunState → RunState → List Closing
+      → List Closing → List ℕ → Type 0
+  EndsTo ending n (Ok done) s t whole others part = (others ≡ []) × (part ≡ last_line ending n)
+      × (t ≡ last_state s whole)
+  EndsTo ending n (Err stop) s t whole [] part = CutBy stop part (last_line ending n)
+      × (t ≡ last_state s whole) × NoneIsOpen t.slots
   EndsTo ending n (Err stop) s t whole (c ∷ cs) part = CutBy stop part c.text × (t ≡ c.state)
 
-  pub record EndsWith (ending : Ending) (n : ℕ) (result : Result (Unit {0}) Stop) (s t : RunState) (old new : SinkState) : Type 0 where
+  pub record EndsWith (ending : Ending) (n : ℕ) (result : Result (Unit {0}) Stop) (s t : RunState)
+      (old new : SinkState) : Type 0 where
     pub whole : List Closing
     pub others : List Closing
     pub among : closings players (ending_status ending) s ≡ whole ++ others
@@ -53,11 +59,14 @@ module _ (players : List Player) where
   -- A run that stops behind its lines: in the last line, with all transactions ended; or in the lines of one, behind
   -- which the others are ended and not reported.
   abbrev pub StopsIn : Stop → Ending → ℕ → RunState → RunState → List Closing → List ℕ → Type 0
-  StopsIn stop ending n s t [] part = CutBy stop part (last_line ending n) × (t ≡ all_closed players (ending_status ending) s)
-  StopsIn stop ending n s t (c ∷ cs) part = CutBy stop part c.text × (t ≡ all_closed players (stop_status stop) c.state)
+  StopsIn stop ending n s t [] part = CutBy stop part (last_line ending n)
+      × (t ≡ all_closed players (ending_status ending) s)
+  StopsIn stop ending n s t (c ∷ cs) part = CutBy stop part c.text
+      × (t ≡ all_closed players (stop_status stop) c.state)
 
   -- the lines of the transactions in front of that are whole
-  pub record StopsClosing (stop : Stop) (ending : Ending) (n : ℕ) (s t : RunState) (text : List ℕ) : Type 0 where
+  pub record StopsClosing (stop : Stop) (ending : Ending) (n : ℕ) (s t : RunState)
+      (text : List ℕ) : Type 0 where
     pub whole : List Closing
     pub others : List Closing
     pub among : closings players (ending_status ending) s ≡ whole ++ others
@@ -68,43 +77,55 @@ module _ (players : List Player) where
 -- ---- the whole run
 
 module _ (setting : Setting) where
-  -- It ends: the lines are reported, the closings and the last line, and all transactions are ended. Whatever births and ends ledger
+  -- It ends: the lines are reported, the closings and the last line, and all transactions are ended. Whatever births
+  -- and ends ledger
   -- and data stood for, they stand for these and then those of the lines and closings.
-  pub record EndsAs (ending : Ending) (start end : RunState) (input taken left text : List ℕ) : Type 0 where
+  pub record EndsAs (ending : Ending) (start end : RunState) (input taken left text : List ℕ) : Type
+      0 where
     pub lines : ℕ
     pub last : RunState
     pub body : List ℕ
-    pub comes : Reports (line_step setting) (Fails setting) (Ok ending) lines start last input taken left body
+    pub comes : Reports (line_step setting) (Fails setting) (Ok ending) lines start last input taken
+        left body
     pub whole : text ≡ body ++ last_words setting.players ending lines last
     pub closed : end ≡ all_closed setting.players (ending_status ending) last
-    pub stands : StandOn (notes_of setting.players) (run_events setting (ending_status ending) start input lines last) start end
+    pub stands : StandOn (notes_of setting.players)
+        (run_events setting (ending_status ending) start input lines last) start end
 
   -- it stops among its lines, and all transactions are ended; nothing is written behind that
-  pub record StopsAmongLines (stop : Stop) (start end : RunState) (input taken left text : List ℕ) : Type 0 where
+  pub record StopsAmongLines (stop : Stop) (start end : RunState)
+      (input taken left text : List ℕ) : Type 0 where
     pub last : RunState
     pub stops : StopsBy (line_step setting) (Fails setting) stop 0 start last taken left text
     pub closed : end ≡ all_closed setting.players (stop_status stop) last
     pub stands : StandsCut setting (stop_status stop) start end input text
 
   -- it stops behind them
-  pub record StopsBehindLines (stop : Stop) (start end : RunState) (input taken left text : List ℕ) : Type 0 where
+  pub record StopsBehindLines (stop : Stop) (start end : RunState)
+      (input taken left text : List ℕ) : Type 0 where
     pub ending : Ending
     pub lines : ℕ
     pub last : RunState
     pub body : List ℕ
-    pub comes : Reports (line_step setting) (Fails setting) (Ok ending) lines start last input taken left body
+    pub comes : Reports (line_step setting) (Fails setting) (Ok ending) lines start last input taken
+        left body
     pub words : List ℕ
     pub written : text ≡ body ++ words
     pub stops : StopsClosing setting.players stop ending lines last end words
-    pub stands : StandsBehind setting (ending_status ending) (stop_status stop) lines start end input
+    pub stands : StandsBehind setting (ending_status ending) (stop_status stop) lines start end
+        input
 
-  abbrev pub EndsOrStops : Result Ending Stop → RunState → RunState → List ℕ → List ℕ → List ℕ → List ℕ → Type 0
-  EndsOrStops (Ok ending) start end input taken left text = EndsAs ending start end input taken left text
+  abbrev pub EndsOrStops : Result Ending Stop → RunState → RunState → List ℕ → List ℕ → List ℕ
+      → List ℕ → Type 0
+  EndsOrStops (Ok ending) start end input taken left text =
+      EndsAs ending start end input taken left text
   EndsOrStops (Err stop) start end input taken left text =
-      StopsAmongLines stop start end input taken left text ⊎ StopsBehindLines stop start end input taken left text
+      StopsAmongLines stop start end input taken left text
+      ⊎ StopsBehindLines stop start end input taken left text
 
   -- what was taken and written, and how often it was read and written
-  pub record RunsScript (result : Result Ending Stop) (start end : RunState) (x y : SourceState) (p q : SinkState) : Type 0 where
+  pub record RunsScript (result : Result Ending Stop) (start end : RunState) (x y : SourceState)
+      (p q : SinkState) : Type 0 where
     pub taken : List ℕ
     pub text : List ℕ
     pub source : x.left ≡ taken ++ y.left
@@ -115,7 +136,9 @@ module _ (setting : Setting) where
     pub ends : y.reads_at_end ≤ x.reads_at_end + 1
     pub writes : q.calls ≤ p.calls + length text + 1
 
--- Where no line of the script is refused and neither source nor sink failed, it was run to its end, or there was no memory.
+-- Where no line of the script is refused and neither source nor sink failed, it was run to its end, or there was no
+-- memory.
 abbrev pub Completes : Setting → Result Ending Stop → RunState → List ℕ → Type 0 → Type 0 → Type 0
 Completes setting result start input read_failed write_failed =
-    (run_of (line_step setting) 0 start input true).refused ≡ None → (read_failed → ⊥) → (write_failed → ⊥) → (result ≡ Ok Done) ⊎ (result ≡ Err NoMemory)
+    (run_of (line_step setting) 0 start input true).refused ≡ None → (read_failed → ⊥)
+    → (write_failed → ⊥) → (result ≡ Ok Done) ⊎ (result ≡ Err NoMemory)

@@ -15,7 +15,7 @@ ghost use Rattle.session_run.specs.State.{setting_of, state_of};
 ghost use Rattle.session_run.specs.Step.{line_step, Fails};
 
 use crate::meaning::Meaning;
-use crate::reading::reading_is_turns;
+use crate::reading;
 use crate::serve::answer_line;
 use fail_delay::{DelayFn, DelayTold};
 use item_stream::{Ending, Found, Reader, Stop};
@@ -90,7 +90,7 @@ pub(crate) fn serve_lines<S: Source, K: Sink>(
     item_stream::laws::first_turn::<Lines<Meaning>>();
     item_stream::laws::turns_go_on::<Lines<Meaning>>();
     item_stream::laws::turns_are_a_run::<Lines<Meaning>>();
-    reading_is_turns();
+    reading::reading_is_turns();
     let mut reader = match Reader::new(alloc) {
         Ok(reader) => reader,
         Err(NoMemory) => return Err(Stop::NoMemory),
@@ -178,7 +178,7 @@ fn take_turn<S: Source, K: Sink>(
     item_stream::laws::nothing_found_is_a_turn::<Lines<Meaning>>();
     item_stream::laws::found_item_is_a_turn::<Lines<Meaning>>();
     script_stream::laws::whole_input_is_looked_at();
-    reading_is_turns();
+    reading::reading_is_turns();
     let before = *lines;
     match reader.find::<Lines<Meaning>, S>(source, before) {
         Err(Failed) => Ok(Some(Ending::ReadFault)),

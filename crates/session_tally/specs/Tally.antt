@@ -1,4 +1,5 @@
--- The failures of a user, listed (pam_faillock(8); the file's form is that of mod_tally, what is written is this project's own).
+-- The failures of a user, listed (pam_faillock(8); the file's form is that of mod_tally, what is written is this
+-- project's own).
 use Rattle.std.specs.Prelude.{◌≡◌, ℕ, ◌+◌, ◌≤◌, nat_lt, if◌then◌else◌, List, [], ◌++◌, length, codes, decimal, Option, Some, None, Result, IfOk, OnOk}
 use Rattle.std.specs.List.{flat_map}
 use Rattle.pam_outside.specs.Files.{VaultState, file_at, is_failing}
@@ -18,7 +19,11 @@ pub record PlainTally : Type 0 where
 
 -- each failure as the file has it, and how many they are
 abbrev pub listed : List Failure → PlainTally
-listed failures = record { tallied = Listed; text = flat_map failure_line failures ++ (codes "failures " ++ (decimal (length failures) ++ codes "\n")) }
+listed failures = record {
+  tallied = Listed;
+  text = flat_map failure_line failures
+      ++ (codes "failures " ++ (decimal (length failures) ++ codes "\n"));
+}
 
 abbrev pub damaged : PlainTally
 damaged = record { tallied = Damaged; text = codes "tally damaged\n" }
@@ -41,7 +46,8 @@ tally_path root user = path_of root (codes "/var/run/faillock/" ++ user)
 
 -- the tally of a user under a root: unread where the call of the vault is to fail
 unfoldable pub tally_of : VaultState → List ℕ → List ℕ → PlainTally
-tally_of vault root user = if is_failing vault then unread else by_file (file_at (tally_path root user) vault.files)
+tally_of vault root user = if is_failing vault then unread
+    else by_file (file_at (tally_path root user) vault.files)
 
 -- what was found is that
 pub record IsTally (finding : Finding) (t : PlainTally) : Type 0 where
@@ -49,7 +55,8 @@ pub record IsTally (finding : Finding) (t : PlainTally) : Type 0 where
   pub text : finding.text ≡ t.text
 
 -- It was found so, and its text is written, or a front of it.
-pub record Lists (result : Result Tallied Stop) (t : PlainTally) (old new : SinkState) : Type 0 where
+pub record Lists (result : Result Tallied Stop) (t : PlainTally) (old new : SinkState) : Type
+    0 where
   pub front : List ℕ
   pub back : List ℕ
   pub parts : t.text ≡ front ++ back

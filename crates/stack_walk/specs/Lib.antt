@@ -4,3 +4,4 @@ pub mod Route
 pub mod Pass
 pub mod PathLaw
 pub mod Retell
+pub mod Seen

@@ -34,7 +34,8 @@ is_ignore code = false
 
 -- a present IGNORE is passed over where the deciding answer is another
 abbrev pub good_by : Code → Impression → Code → Code → Opinion
-good_by deciding impression status answer = if is_ignore answer && not (is_ignore deciding) then opinion_of impression status else good impression status answer
+good_by deciding impression status answer = if is_ignore answer && not (is_ignore deciding)
+    then opinion_of impression status else good impression status answer
 
 -- a bad answer decides where no bad one did; an IGNORE counts as PERM_DENIED
 abbrev pub bad : Impression → Code → Code → Opinion
@@ -45,7 +46,8 @@ bad impression status answer = opinion_of Negative answer
 -- a jump decides nothing in a pass that keeps, and is as ok in the others
 abbrev pub jumped : PassKind → Impression → Code → Code → Opinion
 jumped kinds.Keep impression status answer = opinion_of impression status
-jumped kind impression status answer = if is_ignore answer then opinion_of impression status else good impression status answer
+jumped kind impression status answer = if is_ignore answer then opinion_of impression status
+    else good impression status answer
 
 -- the opinion after an action, at the present answer and the deciding one
 abbrev pub acted : PassKind → Action → Code → Code → Opinion → Opinion → Opinion

@@ -1,4 +1,5 @@
--- A pass over a stack (the Module Writers' Guide on setcred; putting off is this project's own): which answer decides, what is
+-- A pass over a stack (the Module Writers' Guide on setcred; putting off is this project's own): which answer
+-- decides, what is
 -- visited, and how a pass that was put off goes on.
 use Rattle.std.specs.Prelude.{◌≡◌, ℕ, Bool, true, false, if◌then◌else◌, nat_eq, List, [], ◌∷◌, ◌++◌, Some, None, unwrap_or}
 use Rattle.pam_base.specs.declared.code.Code.{Code}
@@ -20,7 +21,8 @@ abbrev pub Answering : Type 0 → Type 0
 Answering State = Rule → ℕ → State → Answered State
 
 -- an answer and a state are those of a line that was asked
-pub record AnswersAs {State : Type 0} (a : Answered State) (answer : Code) (state : State) : Type 0 where
+pub record AnswersAs {State : Type 0} (a : Answered State) (answer : Code) (state : State) : Type
+    0 where
   pub answer_is : answer ≡ a.answer
   pub state_is : state ≡ a.state
 
@@ -55,7 +57,8 @@ abbrev pub decides : PassKind → KeptAnswers → ℕ → Code → Code
 decides kinds.Follow kept place answer = unwrap_or (kept place) answer
 decides kind kept place answer = answer
 
--- within a pass: the answers given in its earlier calls that are left, its visits so far in order, and what lines can change
+-- within a pass: the answers given in its earlier calls that are left, its visits so far in order, and what lines can
+-- change
 pub record PassState (State : Type 0) : Type 0 where
   pub past : List Code
   pub visits : List Visit
@@ -65,17 +68,21 @@ abbrev pub pass_state : {State : Type 0} → List Code → List Visit → State 
 pass_state past visits state = record { past = past; visits = visits; state = state }
 
 -- a line that was asked; one that puts the pass off is no visit
-abbrev pub served_now : {State : Type 0} → PassKind → KeptAnswers → ℕ → List Visit → Answered State → Served (PassState State)
+abbrev pub served_now : {State : Type 0} → PassKind → KeptAnswers → ℕ → List Visit → Answered State
+    → Served (PassState State)
 served_now kind kept at visits a = record {
   answer = a.answer;
   deciding = decides kind kept at a.answer;
   stopped = is_incomplete a.answer;
-  state = pass_state [] (if is_incomplete a.answer then visits else visits ++ visit at a.answer ∷ []) a.state;
+  state = pass_state [] (if is_incomplete a.answer then visits
+      else visits ++ visit at a.answer ∷ []) a.state;
 }
 
 -- the next answer is the first of those given already, if one is left, and nothing else changes; else the line is asked
-abbrev pub served_past : {State : Type 0} → PassKind → KeptAnswers → Answering State → Rule → ℕ → List Code → List Visit → State → Served (PassState State)
-served_past kind kept answering rule at [] visits state = served_now kind kept at visits (answering rule at state)
+abbrev pub served_past : {State : Type 0} → PassKind → KeptAnswers → Answering State → Rule → ℕ
+    → List Code → List Visit → State → Served (PassState State)
+served_past kind kept answering rule at [] visits state =
+    served_now kind kept at visits (answering rule at state)
 served_past kind kept answering rule at (p ∷ past) visits state = record {
   answer = p;
   deciding = decides kind kept at p;
@@ -83,9 +90,13 @@ served_past kind kept answering rule at (p ∷ past) visits state = record {
   state = pass_state past (visits ++ visit at p ∷ []) state;
 }
 
-abbrev pub serving : {State : Type 0} → PassKind → KeptAnswers → Answering State → Serving (PassState State)
-serving kind kept answering rule at s = served_past kind kept answering rule at s.past s.visits s.state
+abbrev pub serving : {State : Type 0} → PassKind → KeptAnswers → Answering State
+    → Serving (PassState State)
+serving kind kept answering rule at s =
+    served_past kind kept answering rule at s.past s.visits s.state
 
 -- the pass over a whole stack, after answers given in its earlier calls
-abbrev pub pass_after : {State : Type 0} → PassKind → KeptAnswers → Answering State → Stack → List Code → State → Walked (PassState State)
-pass_after kind kept answering stack past state = pass kind (serving kind kept answering) stack (pass_state past [] state)
+abbrev pub pass_after : {State : Type 0} → PassKind → KeptAnswers → Answering State → Stack
+    → List Code → State → Walked (PassState State)
+pass_after kind kept answering stack past state =
+    pass kind (serving kind kept answering) stack (pass_state past [] state)

@@ -38,7 +38,8 @@ is_of v rule place = nat_eq v.place place && bytes_eq v.name (name_of_module rul
 -- a line answers what the next visit tells, where that is of this line; else nothing goes on
 abbrev pub answer_told : Rule → ℕ → List Seen → Answered Telling
 answer_told rule place [] = strays []
-answer_told rule place (v ∷ vs) = if is_of v rule place then record { answer = v.answer; state = telling vs } else strays (v ∷ vs)
+answer_told rule place (v ∷ vs) = if is_of v rule place
+    then record { answer = v.answer; state = telling vs } else strays (v ∷ vs)
 
 -- lines answer so
 abbrev pub replaying : Answering Telling
@@ -47,27 +48,41 @@ replaying rule place t = answer_told rule place t.left
 -- each line that is asked adds its visit to a trail, and nothing else is added
 abbrev pub Trails : {State : Type 0} → (State → List Seen) → Answering State → Type 0
 Trails {State} trail answering = (rule : Rule) (place : ℕ) (s : State) →
-    trail (answering rule place s).state ≡ trail s ++ seen_at place (name_of_module rule.path) (answering rule place s).answer ∷ []
+    trail (answering rule place s).state ≡ trail s
+    ++ seen_at place (name_of_module rule.path) (answering rule place s).answer ∷ []
 
 -- the same pass over told visits, with these left
-abbrev pub told_again : {State : Type 0} → Walked (PassState State) → List Seen → Walked (PassState Telling)
-told_again w left = record { opinion = w.opinion; state = pass_state w.state.past w.state.visits (telling left); stopped = w.stopped }
+abbrev pub told_again : {State : Type 0} → Walked (PassState State) → List Seen
+    → Walked (PassState Telling)
+told_again w left = record {
+  opinion = w.opinion;
+  state = pass_state w.state.past w.state.visits (telling left);
+  stopped = w.stopped;
+}
 
 -- A pass that tells its visits in a trail: by these visits it is the same again, and takes no more of them.
-pub record Retold {State : Type 0} (trail : State → List Seen) (before : List Seen) (w : Walked (PassState State)) (again : List Seen → Walked (PassState Telling)) : Type 0 where
+pub record Retold {State : Type 0} (trail : State → List Seen) (before : List Seen)
+    (w : Walked (PassState State)) (again : List Seen → Walked (PassState Telling)) : Type 0 where
   pub news : List Seen
   pub adds : trail w.state.state ≡ before ++ news
   pub same : (more : List Seen) → again (news ++ more) ≡ told_again w more
 
 abbrev pub Retells : Type 0 → Type 0
-Retells State = (trail : State → List Seen) (kind : PassKind) (kept : KeptAnswers) (answering : Answering State) → Trails trail answering →
-    (stack : Stack) (past : List Code) (s : State) → Retold trail (trail s) (pass_after kind kept answering stack past s) (λ left. pass_after kind kept replaying stack past (telling left))
+Retells State = (trail : State → List Seen) (kind : PassKind) (kept : KeptAnswers)
+    (answering : Answering State) → Trails trail answering →
+    (stack : Stack) (past : List Code) (s : State)
+    → Retold trail (trail s) (pass_after kind kept answering stack past s) (λ left.
+    pass_after kind kept replaying stack past (telling left))
 
--- What a pass that was put off was given leads a later one, by nothing told, to a line that it asks. What is kept by then doesn't
+-- What a pass that was put off was given leads a later one, by nothing told, to a line that it asks. What is kept by
+-- then doesn't
 -- matter where it doesn't decide.
 abbrev pub ResumesAsking : Type 0 → Type 0
-ResumesAsking State = (kind : PassKind) (kept later : KeptAnswers) (answering : Answering State) (stack : Stack) (past : List Code) (s : State) →
-    ((place : ℕ) (answer : Code) → decides kind later place answer ≡ decides kind kept place answer) →
+ResumesAsking State =
+    (kind : PassKind) (kept later : KeptAnswers) (answering : Answering State) (stack : Stack)
+    (past : List Code) (s : State) →
+    ((place : ℕ) (answer : Code) → decides kind later place answer ≡ decides kind kept place answer)
+    →
     let w = pass_after kind kept answering stack past s in
     w.stopped ≡ true →
     let again = pass_after kind later replaying stack (answers_of w.state.visits) (telling []) in

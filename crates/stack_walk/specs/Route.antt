@@ -60,15 +60,20 @@ met_at at (Some answer) negative on = behind (at ∷ []) (on answer)
 -- whether the opinion is negative is followed, and each line acts by its kept answer. A place without one is the last.
 abbrev pub route_from : KeptAnswers → ℕ → Stack → ℕ → Bool → Bool → Met
 route_from kept skip none at entry now = met now
-route_from kept (suc skip) (line rule rest) at entry now = route_from kept skip rest (at + 1) entry now
-route_from kept (suc skip) (sub inner rest) at entry now = route_from kept skip rest (at + lines_in inner) entry now
+route_from kept (suc skip) (line rule rest) at entry now =
+    route_from kept skip rest (at + 1) entry now
+route_from kept (suc skip) (sub inner rest) at entry now =
+    route_from kept skip rest (at + lines_in inner) entry now
 route_from kept zero (line rule rest) at entry now = met_at at (kept at) now (λ answer.
     let action = action_at rule.control answer in
     let last = negative_behind action (count rest) entry now in
-    onto (next_by action (count rest) now) (λ n. route_from kept n rest (at + 1) entry last) (met last))
+    onto (next_by action (count rest) now) (λ n. route_from kept n rest (at + 1) entry last)
+    (met last))
 route_from kept zero (sub inner rest) at entry now =
     let inside = route_from kept zero inner at now now in
-    if inside.lacks then inside else behind inside.places (route_from kept zero rest (at + lines_in inner) entry inside.negative)
+    if inside.lacks then inside
+    else behind inside.places (route_from kept zero rest (at + lines_in inner) entry
+    inside.negative)
 
 -- the places that a whole stack's pass meets, in order
 abbrev pub route : Stack → KeptAnswers → List ℕ
@@ -76,4 +81,5 @@ route stack kept = (route_from kept 0 stack 1 false false).places
 
 -- the places with a kept answer are exactly those that are met
 abbrev pub Complete : Stack → KeptAnswers → Type 0
-Complete stack kept = (place : ℕ) → is_some (kept place) ≡ list_any (nat_eq place) (route stack kept)
+Complete stack kept = (place : ℕ) → is_some (kept place)
+    ≡ list_any (nat_eq place) (route stack kept)

@@ -70,20 +70,25 @@ onward stop rest here = here
 -- The walk over a stack whose first line has the place `at`, with so many nodes at its front passed over.
 -- A substack is walked with the present opinion as its entry; what ends it ends only itself, but where a line puts
 -- off, all is put off.
-abbrev pub walk : {State : Type 0} → PassKind → Serving State → ℕ → Stack → ℕ → Opinion → Opinion → State → Walked State
+abbrev pub walk : {State : Type 0} → PassKind → Serving State → ℕ → Stack → ℕ → Opinion → Opinion
+    → State → Walked State
 walk kind serve skip none at entry opinion state = walked opinion state
-walk kind serve (suc skip) (line rule rest) at entry opinion state = walk kind serve skip rest (at + 1) entry opinion state
-walk kind serve (suc skip) (sub inner rest) at entry opinion state = walk kind serve skip rest (at + lines_in inner) entry opinion state
+walk kind serve (suc skip) (line rule rest) at entry opinion state =
+    walk kind serve skip rest (at + 1) entry opinion state
+walk kind serve (suc skip) (sub inner rest) at entry opinion state =
+    walk kind serve skip rest (at + lines_in inner) entry opinion state
 walk kind serve zero (line rule rest) at entry opinion state =
     let served = serve rule at state in
     let action = action_at rule.control served.deciding in
     let new = acted kind action served.answer served.deciding entry opinion in
     let last = settled action (count rest) new in
     if served.stopped then halted opinion served.state
-    else onward (next_of action (count rest) new) (λ n. walk kind serve n rest (at + 1) entry last served.state) (walked last served.state)
+    else onward (next_of action (count rest) new) (λ n.
+    walk kind serve n rest (at + 1) entry last served.state) (walked last served.state)
 walk kind serve zero (sub inner rest) at entry opinion state =
     let inside = walk kind serve zero inner at opinion opinion state in
-    if inside.stopped then inside else walk kind serve zero rest (at + lines_in inner) entry inside.opinion inside.state
+    if inside.stopped then inside
+    else walk kind serve zero rest (at + lines_in inner) entry inside.opinion inside.state
 
 -- the walk of a whole stack, from place 1
 abbrev pub pass : {State : Type 0} → PassKind → Serving State → Stack → State → Walked State
@@ -99,7 +104,8 @@ pub record EndsAs {State : Type 0} (w : Walked State) (code : Code) (state : Sta
   pub state_is : state ≡ w.state
 
 -- answers, and a state, are those of a line
-pub record ServedAs {State : Type 0} (served : Served State) (answer deciding : Code) (stopped : Bool) (state : State) : Type 0 where
+pub record ServedAs {State : Type 0} (served : Served State) (answer deciding : Code)
+    (stopped : Bool) (state : State) : Type 0 where
   pub answer_is : answer ≡ served.answer
   pub deciding_is : deciding ≡ served.deciding
   pub stopped_is : stopped ≡ served.stopped

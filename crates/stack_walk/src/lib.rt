@@ -7,7 +7,9 @@ mod impression;
 pub mod laws;
 mod opinion;
 mod pass_kind;
+mod seen;
 
 pub use impression::Impression;
 pub use opinion::Opinion;
 pub use pass_kind::PassKind;
+pub use seen::Seen;

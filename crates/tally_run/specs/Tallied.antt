@@ -11,11 +11,13 @@ use Rattle.mod_tally.specs.Recorded.{Follow, IsWith, Served, deeds_of, played, s
 
 -- no call of the module changes the file with this path
 abbrev pub LeavesFile : List ℕ → Plays → Type 0
-LeavesFile path plays = (call : PlainCall) (room : SeenRoom) (held : List NamedData) (sight : Sight) → file_at path (plays call room held sight).files ≡ file_at path sight.files
+LeavesFile path plays = (call : PlainCall) (room : SeenRoom) (held : List NamedData) (sight : Sight)
+    → file_at path (plays call room held sight).files ≡ file_at path sight.files
 
 -- of these modules pam_faillock alone writes the file
 abbrev pub FaillockAloneWrites : List ℕ → List Player → Type 0
-FaillockAloneWrites path players = (n : ℕ) (p : Player) → slice_get players n ≡ Some p → (p.plays ≡ faillock_plays) ⊎ LeavesFile path p.plays
+FaillockAloneWrites path players = (n : ℕ) (p : Player) → slice_get players n ≡ Some p
+    → (p.plays ≡ faillock_plays) ⊎ LeavesFile path p.plays
 
 -- ---- a visited line, and what it did to the file
 
@@ -53,14 +55,19 @@ calls_in (passed_by t ∷ ts) = calls_in ts
 
 -- ---- a run
 
--- These visits lead the file from its state in some files to that in others: each visited line is one of pam_faillock, and its call finds the file as
--- the one before left it, or its module leaves the file. Where one `fail_interval` is used, what stands in the file is what stood at the start
+-- These visits lead the file from its state in some files to that in others: each visited line is one of
+-- pam_faillock, and its call finds the file as
+-- the one before left it, or its module leaves the file. Where one `fail_interval` is used, what stands in the file
+-- is what stood at the start
 -- while nothing was written, and else those that count of the failures that were recorded since they were last cleared.
-pub record Tallies (path : List ℕ) (players : List Player) (before : List File) (visits : List TimedVisit) (after : List File) : Type 0 where
+pub record Tallies (path : List ℕ) (players : List Player) (before : List File)
+    (visits : List TimedVisit) (after : List File) : Type 0 where
   pub lines : List TalliedVisit
   pub lines_are : map visit_in lines ≡ visits
   pub each : AllByRecursion (IsTallied path players) lines
   pub follow : Follow path (file_at path before) (calls_in lines) (file_at path after)
-  pub stands : (interval : ℕ) (failures : List Failure) → AllByRecursion (IsWith interval) (deeds_of (calls_in lines))
+  pub stands : (interval : ℕ) (failures : List Failure)
+      → AllByRecursion (IsWith interval) (deeds_of (calls_in lines))
       → standing_in (file_at path before) ≡ Some failures
-      → standing_in (file_at path after) ≡ Some (stands_by interval (deeds_of (calls_in lines)) failures)
+      → standing_in (file_at path after)
+      ≡ Some (stands_by interval (deeds_of (calls_in lines)) failures)

@@ -1,0 +1,6 @@
+-- A visit that is told, as the passes speak of it.
+use Rattle.stack_walk.specs.declared.seen.Seen.{Seen}
+use Rattle.stack_walk.specs.Retell as retell
+
+abbrev pub seen_of : Seen → retell.Seen
+seen_of v = retell.seen_at v.place v.name v.answer
