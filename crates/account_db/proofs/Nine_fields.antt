@@ -10,9 +10,8 @@ use Rattle.std.proofs.lemmas.List.Sums.{fold-append}
 use Rattle.pam_base.specs.Bytes.{has_byte}
 use Rattle.pam_base.specs.Number.{number_of_word, value_of_digits}
 use Rattle.account_db.specs.declared.shadow.Shadow.{Shadow}
-use Rattle.account_db.specs.Parts.{field}
 use Rattle.account_db.specs.Replace.{renewed}
-use Rattle.account_db.specs.Shadow.{is_days, shadow_in}
+use Rattle.account_db.specs.Shadow.{is_days}
 
 -- ---- a number in decimal digits
 
