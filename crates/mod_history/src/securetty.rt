@@ -100,7 +100,8 @@ fn check_terminal(
     }
     let mut accounts = Accounts::new();
     accounts.read_passwds(alloc, vault, process.root.bytes())?;
-    let entry = match accounts.account(user_of(transaction)) {
+    let account = accounts.account(alloc, user_of(transaction))?;
+    let entry = match account {
         Account::Unreadable => return Ok(Code::ServiceErr),
         Account::Missing => return Ok(Code::UserUnknown),
         Account::Found(entry) => entry,

@@ -101,7 +101,8 @@ fn check_wheel(
     let mut accounts = Accounts::new();
     accounts.read_passwds(alloc, vault, process.root.bytes())?;
     let user = user_of(transaction);
-    match code_by_passwds(alloc, call, caller, user, accounts.passwds())? {
+    let decided = code_by_passwds(alloc, call, caller, user, accounts.passwds())?;
+    match decided {
         Some(code) => Ok(code),
         None => {
             accounts.read_groups(alloc, vault, process.root.bytes())?;

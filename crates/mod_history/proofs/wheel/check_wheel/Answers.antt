@@ -8,16 +8,16 @@ returns-then-not-branch-clause-told g c = λ talks tells clock.
 pub returns-in-Some-clause-told : goal.returns-in-Some-clause-told
 returns-in-Some-clause-told g c = λ talks tells clock.
     let steps = c.act_steps.ensures in
-    let decided = rw (c.user_of.ensures, c.passwds.ensures) at c.in-Some.ensures in
+    let decided = rw (c.in-Some.is, c.user_of-user.ensures, c.passwds.ensures) at c.in_ok-decided.ensures in
     steps.knowing _ _ _ _ _ _ clock _ _ _ _ c.in_ok-has_user.ensures.speaks (rw c.if-not-branch.false at (c.in_ok-has_user.ensures.told talks))
     (steps.passwds _ _ _ clock _ _ _ _ _ _ (rw (c.bytes.ensures, c.new-accounts.ensures) at (c.in_ok-read_passwds.ensures.told tells))
     (rw (← decided) (steps.answers _ _ _)))
 
-pub returns-clause-told : goal.returns-clause-told
-returns-clause-told g c = λ talks tells clock.
+pub returns-in_ok-code-in-None-clause-told : goal.returns-in_ok-code-in-None-clause-told
+returns-in_ok-code-in-None-clause-told g c = λ talks tells clock.
     let steps = c.act_steps.ensures in
-    let open_ = rw (c.user_of.ensures, c.passwds.ensures) at c.in-None.ensures in
+    let open_ = rw (c.in-None.is, c.user_of-user.ensures, c.passwds.ensures) at c.in_ok-decided.ensures in
     steps.knowing _ _ _ _ _ _ clock _ _ _ _ c.in_ok-has_user.ensures.speaks (rw c.if-not-branch.false at (c.in_ok-has_user.ensures.told talks))
     (steps.passwds _ _ _ clock _ _ _ _ _ _ (rw (c.bytes.ensures, c.new-accounts.ensures) at (c.in_ok-read_passwds.ensures.told tells))
     (rw (← open_) (steps.groups _ _ _ clock _ _ _ _ _ _ (rw c.bytes-in-None.ensures at (c.in_ok-read_groups-in-None.ensures.told (c.in_ok-read_passwds.ensures.tells ∙ tells)))
-    (rw (c.code_by_groups.ensures, c.passwds-in-None.ensures, c.groups.ensures, c.in_ok-read_groups-in-None.ensures.passwds) (steps.answers _ _ _)))))
+    (rw (c.in_ok-code-in-None.ensures, c.passwds-in-None.ensures, c.groups.ensures, c.in_ok-read_groups-in-None.ensures.passwds) (steps.answers _ _ _)))))
