@@ -1,11 +1,10 @@
 -- The conditions of pam_succeed_if(8): three words each, a field, a test, and a value to test for.
-use Rattle.std.specs.Prelude.{ℕ, Bool, true, false, not, ◌==◌, ◌&&◌, ◌||◌, nat_lt, nat_le, if◌then◌else◌, decimal, List, [], ◌∷◌, length, Option, Some, None, option_map, codes}
+use Rattle.std.specs.Prelude.{ℕ, Bool, true, false, not, ◌==◌, ◌&&◌, ◌||◌, nat_lt, nat_le, if◌then◌else◌, decimal, List, length, Option, Some, None, option_map, codes}
 use Rattle.std.specs.Char.{is_ascii_digit}
 use Rattle.std.specs.List.{list_all, list_any}
 use Rattle.std.specs.Str.{bytes_eq}
 use Rattle.pam_base.specs.Number.{value_of_digits}
 use Rattle.pam_base.specs.Parts.{parts_of}
-use Rattle.mod_lists.specs.declared.condition.AccountField.{AccountField}
 use Rattle.mod_lists.specs.declared.condition.AccountField.TheVariants.{Uid, Gid, Shell, Home}
 use Rattle.mod_lists.specs.declared.condition.ItemField.TheVariants as items
 use Rattle.mod_lists.specs.declared.condition.Field.{Field}
@@ -17,7 +16,7 @@ use Rattle.mod_lists.specs.declared.condition.Test.TheVariants as lent_test
 use Rattle.mod_lists.specs.declared.condition.Condition.{Condition}
 use Rattle.mod_lists.specs.declared.condition.Condition.TheVariants as lent
 use Rattle.mod_lists.specs.declared.truth.Truth.{Truth}
-use Rattle.mod_lists.specs.declared.truth.Truth.TheVariants.{Holds, Fails, NoUser, Faulty}
+use Rattle.mod_lists.specs.declared.truth.Truth.TheVariants.{Holds, Fails, Faulty}
 
 -- ---- fields
 

@@ -1,5 +1,5 @@
 -- pam_succeed_if(8): whether all conditions on the user's account, and on items of the transaction, are met.
-use Rattle.std.specs.Prelude.{ℕ, Bool, true, false, not, if◌then◌else◌, List, [], ◌∷◌, filter, Option, Some, None, unwrap_or, codes}
+use Rattle.std.specs.Prelude.{ℕ, Bool, true, false, not, List, [], ◌∷◌, filter, Option, Some, None, unwrap_or, codes}
 use Rattle.std.specs.List.{list_any}
 use Rattle.std.specs.Str.{bytes_eq}
 use Rattle.pam_base.specs.declared.code.Code.{Code}
