@@ -6,7 +6,7 @@
  *
  * So many times it starts a transaction on SERVICE, a file of FOLDER, for the user joe, authenticates so many times, and ends it. The
  * service has so many lines of auth, each of MODULE: pam_permit, or pam_debug with an argument. A visited line of pam_debug is told to the
- * conversation, which prints it; pam_permit says nothing, and each of its lines is printed behind the pass. Each step's lines are one write.
+ * conversation, which prints it; pam_permit says nothing, and each of its lines is printed after the pass. Each step's lines are one write.
  *
  * libpam opens the modules that a service names at each start, and closes them at each end. Both are held open here, out of the folder
  * MODULES, so that they aren't loaded anew each time. It also sends the kernel's audit a record of each call that names the lines that

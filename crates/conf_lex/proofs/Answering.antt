@@ -26,7 +26,7 @@ lines_of-last (p ∷ ps) e =
 abbrev line : ℕ → List Piece → JoinedLine
 line n ps = record { first = n; pieces = ps }
 
--- the lines behind one that ends with a newline
+-- the lines after one that ends with a newline
 abbrev behind : ℕ → List Piece → List ℕ → List JoinedLine
 behind n ps more = numbered (n + newlines (spelling ps) + 1) (lines_of_pieces (pieces_of more))
 

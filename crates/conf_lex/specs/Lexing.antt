@@ -25,7 +25,7 @@ abbrev pub nul_line : ℕ → List ℕ → Option ℕ
 nul_line n [] = None
 nul_line n (b ∷ bs) = if b == 0 then Some n else nul_line (n + newlines (b ∷ [])) bs
 
--- some of the text was left behind, but no NUL byte: the first is in the same line, and as much stands behind it
+-- some of the text was left behind, but no NUL byte: the first is in the same line, and as much stands after it
 pub record Moves (before after : List ℕ) (old_line new_line : ℕ) : Type 0 where
   pub nul : nul_line new_line after ≡ nul_line old_line before
   pub behind : length after + length (before_nul before) ≡ length before + length (before_nul after)

@@ -25,14 +25,14 @@ abbrev pub unit_at : List ℕ → Option BracketUnit
 unit_at [] = None
 unit_at (b ∷ bs) = unit_without_join (join_at (b ∷ bs)) b bs
 
--- the units behind the first n bytes, which an earlier unit has (own)
+-- the units after the first n bytes, which an earlier unit has (own)
 unfoldable pub units_behind : ℕ → List ℕ → List BracketUnit
 units_behind n [] = []
 units_behind zero (b ∷ bs) =
     elim (unit_at (b ∷ bs)) [ Some u ↦ u ∷ units_behind (length (unit_bytes u) - 1) bs | None ↦ [] ]
 units_behind (suc n) (b ∷ bs) = units_behind n bs
 
--- the bracket of these units, closed or open by what stands behind them (own)
+-- the bracket of these units, closed or open by what follows them (own)
 abbrev pub bracket_of : List BracketUnit → List ℕ → Piece
 bracket_of us text = if begins_with 93 (drop (length (units_bytes us)) text) then bracket us
     else open_bracket us
@@ -52,7 +52,7 @@ unfoldable pub first_piece : List ℕ → Piece
 first_piece [] = newline
 first_piece (b ∷ bs) = piece_without_join (join_at (b ∷ bs)) b bs
 
--- the pieces behind the first n bytes, which an earlier piece has (own)
+-- the pieces after the first n bytes, which an earlier piece has (own)
 unfoldable pub pieces_behind : ℕ → List ℕ → List Piece
 pieces_behind n [] = []
 pieces_behind zero (b ∷ bs) = first_piece (b ∷ bs)

@@ -39,7 +39,7 @@ pub struct Line {
     pub opened: bool,
 }
 
-/// The fault of a joined line of so many bytes that begins in this physical line.
+/// The fault of a joined line of n bytes that begins in this physical line.
 fn line_fault(first: u32, length: usize, opened: bool) -> Option<LexFault>
     ensures { result ≡ fault_at first length opened }
 {
@@ -74,7 +74,7 @@ impl Line {
 }
 
 impl<'a> Lexer<'a> {
-    /// Leaves the first n bytes behind, which have so many newlines.
+    /// Leaves the first n bytes behind, which have this many newlines.
     fn skip(&mut self, n: usize, lines: u32)
         requires within { n ≤ length (before_nul self.old.rest.now) }
         requires lines { lines ≡ newlines (take n (before_nul self.old.rest.now)) }

@@ -26,7 +26,7 @@ const MAX_TEXT: usize = 65536;
 /// refused for that, also then.
 ///
 /// Each byte is looked at a fixed number of times, so time is linear: a run of plain bytes is scanned and then
-/// copied, a join is looked for ahead. Behind a line with a fault only a NUL byte is looked for.
+/// copied, a join is looked for ahead. After a line with a fault only a NUL byte is looked for.
 pub fn rules(alloc: Global, text: &[u8]) -> Result<RawRules, Refuse<LexFault>>
     ensures read { IfOk result (λ rules. HasNoFault text.now × Spells text.now rules) }
     ensures tokens { IfOk result (λ rules. All (λ rule. 0 < length rule.tokens) rules) }

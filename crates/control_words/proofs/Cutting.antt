@@ -41,7 +41,7 @@ from_first-end test text = record { places = position_or_len test text; inside =
 
 -- ---- the first entry
 
--- what stands behind an action
+-- what follows an action
 behind_equals : (bs : List ℕ) → IsEnd bs (from_first is_white (behind_space bs))
 behind_equals bs = end-end bs (behind_space bs) _ (from_first-end is_other bs) (from_first-end is_white (behind_space bs))
 
@@ -54,7 +54,7 @@ module _ (name : List ℕ) where
   with_name-end [] = all-end []
   with_name-end (b ∷ bs) = with_name-by b bs (eqb b 61) refl
 
--- a test that the first byte fails looks on behind it
+-- a test that the first byte fails looks on after it
 pub from_first-later : (test : ℕ → Bool) (b : ℕ) (bs : List ℕ) → test b ≡ false → from_first test (b ∷ bs) ≡ from_first test bs
 from_first-later test b bs e =
     let n : 1 + position_or_len test bs ≡ suc (position_or_len test bs) = omega arith in
@@ -150,7 +150,7 @@ pub starts-behind_space : (text : List ℕ) → starts (behind_space text) ≡ t
 starts-behind_space [] = refl
 starts-behind_space (b ∷ bs) = starts-by b bs (is_white b) refl (starts-behind_space bs)
 
--- the first entry of a text that starts with none, and those behind it
+-- the first entry of a text that starts with none, and those after it
 pub entries-first : (text : List ℕ) → 0 < length text → starts text ≡ true
     → entries_in text ≡ (first_entry text).entry ∷ entries_in (behind_space (first_entry text).rest)
 entries-first [] some other = absurd (omega (arith, some))

@@ -23,7 +23,7 @@ pub last_part-none : (path : List ℕ) → IsFirstPlace None 47 path → last_pa
 last_part-none [] e = refl
 last_part-none (b ∷ bs) e = rw e refl
 
--- the part behind a slash, as a slice to the end
+-- the part after a slash, as a slice to the end
 pub last_part-rest : (path : List ℕ) (n : ℕ) → IsFirstPlace (Some n) 47 path → last_part path ≡ last_part (take (length path - (n + 1)) (drop (n + 1) path))
 last_part-rest path n at =
     let all : take (length path - (n + 1)) (drop (n + 1) path) ≡ drop (n + 1) path = take_all (length path - (n + 1)) (drop (n + 1) path) (omega (arith, length-drop (n + 1) path)) in

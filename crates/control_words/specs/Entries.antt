@@ -21,7 +21,7 @@ pub record Entry : Type 0 where
   pub name : List ℕ
   pub action : List ℕ
 
--- the entry at the front of a text, and what stands behind it (this project's own)
+-- the entry at the front of a text, and what follows it (this project's own)
 pub record FirstEntry : Type 0 where
   pub entry : Entry
   pub rest : List ℕ
@@ -38,7 +38,7 @@ with_action name text =
       rest = from_first is_white text;
     }
 
--- behind its name an entry has `=` and its action (pam.conf(5)), with white space on both sides of `=` (this
+-- after its name an entry has `=` and its action (pam.conf(5)), with white space on both sides of `=` (this
 -- project's own)
 abbrev pub with_name : List ℕ → List ℕ → FirstEntry
 with_name name [] = record { entry = record { name = name; action = [] }; rest = [] }
@@ -50,7 +50,7 @@ abbrev pub first_entry : List ℕ → FirstEntry
 first_entry text = with_name (before_first ends_name text)
     (behind_space (from_first ends_name text))
 
--- the entries behind the first so many bytes of a text, which were passed; white space stands between
+-- the entries after the first n bytes of a text, which were passed; white space stands between
 -- entries (pam.conf(5))
 unfoldable pub entries_behind : ℕ → List ℕ → List Entry
 entries_behind passed [] = []

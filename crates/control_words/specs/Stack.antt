@@ -9,7 +9,7 @@ pub data Stack : Type 0 where
   line : Rule → Stack → Stack
   sub : Stack → Stack → Stack
 
--- one list behind another
+-- one list after another
 abbrev pub joined : Stack → Stack → Stack
 joined none more = more
 joined (line rule rest) more = line rule (joined rest more)

@@ -12,7 +12,7 @@ pub enum Action {
     Ok,
     Done,
     Reset,
-    /// Passes over so many nodes of the list, from 1 to 255.
+    /// Passes over n nodes of the list, from 1 to 255.
     Jump(u8),
 }
 

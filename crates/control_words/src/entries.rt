@@ -5,7 +5,7 @@ ghost use Rattle.control_words.specs.Entries.{behind_space, ends_name, first_ent
 
 use pam_base::is_white;
 
-/// An entry `name=action` as it is written, and what stands behind it. Where it has no `=`, its action is
+/// An entry `name=action` as it is written, and what follows it. Where it has no `=`, its action is
 /// empty.
 #[derive(Clone, Copy)]
 pub(crate) struct Entry<'a> {

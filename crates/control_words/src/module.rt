@@ -20,7 +20,7 @@ fn last_part(path: &[u8]) -> &[u8]
     part
 }
 
-// What stands behind the first slash.
+// What follows the first slash.
 fn after_slash(path: &[u8]) -> Option<&[u8]>
     ensures shorter { IfSome result (λ rest. length rest.now < length path.now) }
     ensures same_end { IfSome result (λ rest. last_part path.now ≡ last_part rest.now) }

@@ -12,7 +12,7 @@ use Rattle.conv_port.specs.Conv.{ConvState, answer_to, state_after, offer_taken}
 abbrev ready : List Offer → ConvState
 ready offers = record { offers = offers; waits = false; handed = [] }
 
--- the same, behind one exchange
+-- the same, after one exchange
 abbrev behind : List Message → ConvState → ConvState
 behind messages s = record s { handed = messages ∷ [] }
 
@@ -39,7 +39,7 @@ replies_in_order = refl
 mark_stays_behind : state_after (ready (Answer (codes "joe") ∷ Answer (codes "x") ∷ Later ∷ [])) two_prompts ≡ behind two_prompts (ready (Later ∷ []))
 mark_stays_behind = refl
 
--- a mark behind too few replies ends the exchange, and nothing is taken
+-- a mark after too few replies ends the exchange, and nothing is taken
 too_few : answer_to (ready (Answer (codes "joe") ∷ Later ∷ Answer (codes "x") ∷ [])) two_prompts ≡ Err Gone
 too_few = refl
 
@@ -79,7 +79,7 @@ never_a_mark = refl
 
 -- ---- a terminal
 
--- a line, and what is behind its newline
+-- a line, and what follows its newline
 a_line : typed_line (codes "joe\nx\n") ≡ codes "joe"
 a_line = refl
 

@@ -6,7 +6,7 @@ use Rattle.std.proofs.lemmas.List.{take-append-drop, append-nil}
 use Rattle.pam_base.specs.Bytes.{has_byte}
 use Rattle.conv_port.specs.Terminal.{is_newline, IsLine, TypesLine}
 
--- the line among the first n bytes, and what is behind it
+-- the line among the first n bytes, and what follows it
 abbrev line : ℕ → List ℕ → List ℕ
 line n bytes = before_first is_newline (take n bytes)
 
@@ -23,7 +23,7 @@ before-cons b xs e = rw e (let one : 1 + position_or_len is_newline xs ≡ suc (
 after-cons : (b : ℕ) (xs : List ℕ) → is_newline b ≡ false → after_first is_newline (b ∷ xs) ≡ after_first is_newline xs
 after-cons b xs e = rw e (let one : 1 + position_or_len is_newline xs + 1 ≡ suc (position_or_len is_newline xs + 1) = omega arith in ap (λ n. drop n (b ∷ xs)) one)
 
--- a text is the line at the front of some bytes, and others are behind it
+-- a text is the line at the front of some bytes, and others are after it
 record IsCut (n : ℕ) (bytes text left : List ℕ) : Type 0 where
   line_is : line n bytes ≡ text
   behind_is : behind n bytes ≡ left
@@ -42,7 +42,7 @@ ended (suc n) (b ∷ text) more plain lt =
     let both = neither (eqb b 10) (has_byte 10 text) plain in
     one_more n b (text ++ 10 ∷ more) text more both.0 (ended n text more both.1 (omega (arith, lt)))
 
--- after so many bytes
+-- after n bytes
 full : (text more : List ℕ) → has_byte 10 text ≡ false → IsCut (length text) (text ++ more) text more
 full [] more plain = record { line_is = refl; behind_is = refl }
 full (b ∷ text) more plain =

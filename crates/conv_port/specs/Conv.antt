@@ -87,7 +87,7 @@ offer_of text = if bytes_eq text (codes "\\later") then Later else Answer text
 abbrev pub offer_taken : Bool → List ℕ → Offer
 offer_taken waits text = if waits then Answer text else offer_of text
 
--- an offer goes behind the others, or there was no memory, and then nothing changed
+-- an offer goes after the others, or there was no memory, and then nothing changed
 pub record TakesOffer {E : Type 0} (result : Result (Unit {0}) E) (text : List ℕ)
     (old new : ConvState) : Type 0 where
   pub ok : OnOk result (new ≡ record old { offers = old.offers ++ offer_taken old.waits text ∷ [] })

@@ -48,7 +48,7 @@ shown m = if is_prompt m.style then m.text else m.text ++ 10 ∷ []
 abbrev pub all_shown : List Message → List ℕ
 all_shown messages = flat_map shown messages
 
--- the replies to an exchange are those at the front of what was typed, and what is behind them is left
+-- the replies to an exchange are those at the front of what was typed, and what follows them is left
 pub record IsTyped (messages : List Message) (replies : List Reply) (bytes left : List ℕ) : Type
     0 where
   pub replies_are : replies ≡ typed_replies messages bytes

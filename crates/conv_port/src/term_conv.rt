@@ -53,7 +53,7 @@ impl<R: Read + Drop, W: Write + Drop> Conv for TermConv<R, W> {
 
     ghost conv_deferrals = { λ t. 0 };
 
-    /// Shows each text, behind one that is no prompt a newline, and reads the reply to each prompt before the next
+    /// Shows each text, after one that is no prompt a newline, and reads the reply to each prompt before the next
     /// text: what stands before the next newline; after 512 bytes without one these bytes, and what follows them
     /// is left for the next prompt; at the end of input what was read. It reads byte by byte, and no further.
     /// An error of the reader or the writer, or the end of input before any byte of a reply, is Gone, which leaves

@@ -56,7 +56,7 @@ ledger_with ledger id status note = record {
   } ∷ [];
 }
 
--- a datum that was set and has no receipt, and whose owner is one of so many modules
+-- a datum that was set and has no receipt, and whose owner is one of n modules
 pub record AwaitsCleanup (modules : ℕ) (ledger : PlainLedger) (d : PlainDatum) : Type 0 where
   pub outstanding : IsOutstanding ledger d.id
   pub owner : d.owner < modules

@@ -34,7 +34,7 @@ AreSwept note limit (r ∷ rs) (f ∷ fs) = IsSwept note limit r f × AreSwept n
 AreSwept note limit [] (f ∷ fs) = ⊥
 AreSwept note limit (r ∷ rs) [] = ⊥
 
--- a birth of this transaction, by one of so many modules
+-- a birth of this transaction, by one of n modules
 pub record IsOf (modules handle : ℕ) (b : Birth) : Type 0 where
   pub handle_is : b.handle ≡ handle
   pub owner_is : b.owner < modules

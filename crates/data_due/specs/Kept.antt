@@ -8,7 +8,7 @@ use Rattle.data_cleanup.specs.Ledger.{PlainLedger}
 use Rattle.data_cleanup.specs.declared.datum.Birth.{Birth}
 use Rattle.data_due.specs.Stands.{EachOnce, Lists, clean_list}
 
--- a datum that was set in this transaction, by one of so many modules
+-- a datum that was set in this transaction, by one of n modules
 pub record IsOfHandle (modules handle : ℕ) (births : List Birth) (d : PlainDatum) : Type 0 where
   pub below : d.id < length births
   pub owner : d.owner < modules

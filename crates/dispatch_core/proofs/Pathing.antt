@@ -4,7 +4,7 @@ use Rattle.control_words.specs.Stack.{Stack}
 use Rattle.handler_chain.specs.FlatLines.{rule_at}
 use Rattle.dispatch_core.specs.Paths.{HasPaths, path_in}
 
--- the first so many paths are copied
+-- the first n paths are copied
 pub record Copied (stack : Stack) (paths : List (List ℕ)) (n : ℕ) : Type 0 where
   pub so_many : length paths ≡ n
   pub each : (i : ℕ) → i < n → path_in paths i ≡ (rule_at stack i).path

@@ -1,4 +1,4 @@
--- One turn: the answer of a line, and where the walk is behind it.
+-- One turn: the answer of a line, and where the walk is after it.
 use Rattle.std.proofs.Common.{◌≡◌, ◌+◌, ◌<◌, Option, Some, None, is_none, List, [], ◌∷◌, ◌++◌, refl, subst}
 use Rattle.pam_base.specs.declared.code.Code.{Code}
 use Rattle.control_words.specs.Stack.{Stack, lines_in}

@@ -49,7 +49,7 @@ jumped_far stack a i n next new opinion s which is denied end stands =
       next_is = end ∙ at_line-stands 0 (λ s. i + 1 + lines_in s.rest) stack i s _ stands ∙ both.1;
     })
 
--- a list that ends behind a line
+-- a list that ends after a line
 by_end : (b : Bool) (i : ℕ) (rest : Stack) → b ≡ true → i + 1 + lines_in rest ≡ i + 1 + lines_in_first (passed (if b then stop else after 0) (count rest)) rest
 by_end true i rest is = ap (λ n. i + 1 + n) (sym (all_nodes rest))
 by_end false i rest is = absurd (true≢false (sym is))
@@ -131,7 +131,7 @@ module _ {State : Type 0} (kind : PassKind) (serve : Serving State) where
       goes stack old.at l (entry_at old.entries) old.opinion s at.stands (sym here.stopped_is ∙ is)
       ∙ sym (rw (on.leads.next_is, on.leads.opinion_is, entries_are, here.state_is) refl)
 
-  -- behind the last line
+  -- after the last line
   pub ended_at_last : (stack : Stack) (w : Walker) (s : State) (all : Walked State) → lines_in stack ≤ w.at → walk_on kind serve stack w s ≡ all
       → walked w.opinion s ≡ all
   ended_at_last stack w s all behind is =

@@ -68,7 +68,7 @@ module _ {State : Type 0} (kind : PassKind) (serve : Serving State) where
   abbrev behind : Walked State → List FlatLine → ℕ → Entries → Walked State
   behind w more at f = if w.stopped then w else run kind serve more 0 at f w.opinion w.state
 
-  -- A run ends as a walk over so many lines does, with entry states that hold for the lists that go on.
+  -- A run ends as a walk over n lines does, with entry states that hold for the lists that go on.
   record Lands (start w : Walked State) (lines level opens at : ℕ) (o : Opinion) (f : Entries) (more : List FlatLine) : Type 0 where
     entries : Entries
     kept : w.stopped ≡ false → (k : ℕ) → k ≤ level → entered level (pending lines opens) w.opinion entries k ≡ entered level opens o f k
@@ -93,7 +93,7 @@ module _ {State : Type 0} (kind : PassKind) (serve : Serving State) where
   lands_if true start w lines level opens at o f more s lands = record { entries = f; kept = λ on. absurd (true≢false on); goes = refl }
   lands_if false start w lines level opens at o f more s lands = lands
 
-  -- a substack, and what is behind it
+  -- a substack, and what follows it
   lands_sub : (b : Bool) (start inside w : Walked State) (lines lines' level opens at at' : ℕ) (o entry : Opinion) (f : Entries) (first more : List FlatLine)
       → inside.stopped ≡ b → entered level opens o f level ≡ entry
       → Lands start inside lines (level + 1) (opens + 1) at o f first

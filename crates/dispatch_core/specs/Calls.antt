@@ -1,6 +1,5 @@
 -- The passes of the six calls that run a stack, whatever its lines answer by: which stacks they go over, what they
--- keep and
--- follow, how they are put off and go on (the Module Writers' Guide; putting off is this project's own).
+-- keep and follow, how they are put off and go on (the Module Writers' Guide; putting off is this project's own).
 use Rattle.std.specs.Prelude.{Bool, true, false, List, [], Option, Some, None}
 use Rattle.pam_base.specs.declared.code.Code.{Code}
 use Rattle.pam_base.specs.declared.code.Code.TheVariants as codes
@@ -21,7 +20,7 @@ abbrev pub answers_held : Option KeptAnswers → KeptAnswers
 answers_held None place = None
 answers_held (Some kept) place = kept place
 
--- what is kept behind a pass: its own answers, what was kept before, nothing
+-- what is kept after a pass: its own answers, what was kept before, nothing
 abbrev pub kept_behind : PassKind → List Visit → Option KeptAnswers → Option KeptAnswers
 kept_behind kinds.Keep visits kept = Some (kept_in visits)
 kept_behind kinds.Follow visits kept = kept
@@ -33,8 +32,7 @@ following None = kinds.Loose
 following (Some kept) = kinds.Follow
 
 -- what a transaction holds between its calls: what the last authentication and the last opening of a session kept,
--- and the
--- call that is pending
+-- and the call that is pending
 pub record Held : Type 0 where
   pub authenticated : Option KeptAnswers
   pub opened : Option KeptAnswers
@@ -50,7 +48,7 @@ held authenticated opened pending = record {
 abbrev pub nothing_held : Held
 nothing_held = held None None None
 
--- a pass's code, what is kept behind it, the answers that it was given where it was put off, and the state after it
+-- a pass's code, what is kept after it, the answers that it was given where it was put off, and the state after it
 pub record Passed (State : Type 0) : Type 0 where
   pub code : Code
   pub kept : Option KeptAnswers
@@ -66,9 +64,9 @@ passed_by kind kept w = record {
   state = w.state.state;
 }
 
--- what is held behind a pass of a call: what an authentication and an opening of a session keep, and those that
--- follow them leave, and
--- the call, where it was put off; `first` is what the first pass of a change of token kept, where this is its second
+-- what is held after a pass of a call: what an authentication and an opening of a session keep, and those that follow
+-- them leave, and the call, where it was put off; `first` is what the first pass of a change of token kept, where
+-- this is its second
 abbrev pub held_behind : {State : Type 0} → Func → Option KeptAnswers → Passed State → Held → Held
 held_behind Authenticate first p h =
     held p.kept h.opened (pending_behind Authenticate first p.paused)
@@ -99,8 +97,7 @@ module _ {State : Type 0} (asking : Asking State) (stacks : Stacks) where
       passed_by kind kept (pass_after kind (answers_held kept) (asking func second) stack past s)
 
   -- the first pass of a call, after the answers that it was given in its earlier calls: over which stack, of which
-  -- kind, and by
-  -- which kept answers
+  -- kind, and by which kept answers
   abbrev pub first_pass : Func → List Code → Held → State → Passed State
   first_pass Authenticate past h s =
       passes Authenticate false kinds.Keep h.authenticated stacks.auth past s

@@ -9,7 +9,7 @@ Entries = ℕ → Opinion
 abbrev pub entry_at : List Opinion → Entries
 entry_at opinions level = get_or opinions level opening
 
--- before a line of this level, of so many lists the first, those are entered with the present opinion
+-- before a line of this level, of n lists the first, those are entered with the present opinion
 abbrev pub entered : ℕ → ℕ → Opinion → Entries → Entries
 entered level opens opinion entries k = if nat_le k level && nat_lt level (k + opens) then opinion
     else entries k

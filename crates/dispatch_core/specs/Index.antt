@@ -17,7 +17,7 @@ abbrev pub passed : Next → ℕ → ℕ
 passed (after n) left = n
 passed stop left = left
 
--- with so many lines at the front passed over
+-- with n lines at the front passed over
 abbrev pub run : {State : Type 0} → PassKind → Serving State → List FlatLine → ℕ → ℕ → Entries
     → Opinion → State → Walked State
 run kind serve [] skip at entries opinion state = walked opinion state
@@ -49,7 +49,7 @@ walk_on kind serve stack walker state =
 abbrev pub Stands : Stack → ℕ → FlatLine → Type 0
 Stands stack i line = drop i (flat_lines 0 0 stack) ≡ line ∷ drop (i + 1) (flat_lines 0 0 stack)
 
--- where a list goes on behind its line of index i, of which `rest` is left
+-- where a list goes on after its line of index i, of which `rest` is left
 pub record LeadsTo (action : Action) (rest : Stack) (new : Opinion) (i : ℕ) (opinion : Opinion)
     (next : ℕ) : Type 0 where
   pub opinion_is : opinion ≡ settled action (count rest) new

@@ -42,7 +42,7 @@ abbrev pub IsAhead : Option Code → Walker → Walker → Type 0
 IsAhead None old new = Unit {0}
 IsAhead (Some answer) old new = old.at < new.at
 
--- what is left of a pass behind a turn
+-- what is left of a pass after a turn
 abbrev pub turned : {State : Type 0} → PassKind → Serving State → Stack → Option Code → Opinion
     → Walker → State → Walked State
 turned kind serve stack None opinion walker state = halted opinion state
@@ -82,7 +82,7 @@ pub record PassesAs {State : Type 0} (kind : PassKind) (w : Walked (PassState St
   pub paused_is : paused ≡ paused_after w
   pub state_is : state ≡ w.state.state
 
--- what is kept behind a pass: the answers of its visits, what was kept before, nothing
+-- what is kept after a pass: the answers of its visits, what was kept before, nothing
 abbrev pub KeepsAfter : PassKind → List Visit → Answers → Answers → Type 0
 KeepsAfter kinds.Keep visits old new = KeepsAll new visits
 KeepsAfter kinds.Follow visits old new = new ≡ old
@@ -93,7 +93,7 @@ abbrev pub kept_failed : PassKind → Answers → Answers
 kept_failed kinds.Keep old = None
 kept_failed kind old = old
 
--- what is kept behind a pass that has answered or not, where `keeps` are its own answers
+-- what is kept after a pass that has answered or not, where `keeps` are its own answers
 abbrev pub kept_behind : PassKind → Bool → Answers → Answers → Answers
 kept_behind kinds.Keep answered keeps old = if answered then keeps else None
 kept_behind kinds.Follow answered keeps old = old

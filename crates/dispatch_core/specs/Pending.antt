@@ -6,8 +6,7 @@ use Rattle.pam_base.specs.declared.call.Func.TheVariants.{Authenticate, SetCred,
 use Rattle.stack_walk.specs.Route.{KeptAnswers}
 
 -- a stack call that was put off: its function, the answers that were given in the pass that was put off, and where
--- that is the
--- second pass of a change of token, the answers that the first one kept
+-- that is the second pass of a change of token, the answers that the first one kept
 pub record Pending : Type 0 where
   pub func : Func
   pub past : List Code
@@ -42,7 +41,7 @@ abbrev pub is_other_pending : Option Pending → Func → Bool
 is_other_pending None func = false
 is_other_pending (Some p) func = not (same_func p.func func)
 
--- what is pending behind a pass: the call, where the pass was put off
+-- what is pending after a pass: the call, where the pass was put off
 abbrev pub pending_behind : Func → Option KeptAnswers → Option (List Code) → Option Pending
 pending_behind func first None = None
 pending_behind func first (Some past) = Some (record { func = func; past = past; first = first })

@@ -32,7 +32,7 @@ impl EntryStates {
         }
     }
 
-    /// The innermost so many lists round a line of this level are entered with an opinion.
+    /// The innermost n lists round a line of this level are entered with an opinion.
     pub fn enter(&mut self, level: usize, opens: usize, opinion: Opinion)
         requires deep { level ≤ 16 }
         requires opens { opens ≤ level }

@@ -29,7 +29,7 @@ impl Model for Given {
 }
 
 impl Given {
-    /// Goes on where a pass was put off, or begins anew, with room for the answers of so many lines. Behind it no pass
+    /// Goes on where a pass was put off, or begins anew, with room for the answers of n lines. After it no pass
     /// is put off, also without memory.
     pub fn resume(alloc: Global, paused: &mut Paused, lines: usize) -> Result<Self, NoMemory>
         ensures past { IfOk result (λ given. given.past ≡ past_of paused.old) }

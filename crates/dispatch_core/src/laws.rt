@@ -3,7 +3,7 @@ ghost use Rattle.data_cleanup.specs.Cleanup.{Notes};
 ghost use Rattle.pam_room.specs.State.{PlainTransaction, PlainProcess};
 ghost use Rattle.dispatch_core.specs.AnyWorld.{GoesSoundly};
 
-/// A law, for those who call it in a proof: two passes one behind the other do together what a pass
+/// A law, for those who call it in a proof: two passes one after the other do together what a pass
 /// may do in any world.
 pub fn soundness_is_transitive()
     ensures { (note : Notes) (modules : ℕ) (x y z : PlainTransaction) (a b c : PlainProcess) →

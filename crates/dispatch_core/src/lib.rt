@@ -1,7 +1,7 @@
 //! One pass over a stack that was laid flat, by the indices of its lines: each line's module serves the call, and the
 //! walker goes on where the line's list goes on. Whatever the modules do, the pass is the walk over the nested stack.
 //!
-//! Begin at pass.rt; turn.rt is one line, and walker.rt with onward.rt decides where the pass goes on behind it.
+//! Begin at pass.rt; turn.rt is one line, and walker.rt with onward.rt decides where the pass goes on after it.
 #![tactic(auto)]
 
 mod entry_states;

@@ -165,7 +165,7 @@ fn walk_all(
     }
 }
 
-// What stays kept behind a pass that has answered, or for which there was no memory.
+// What stays kept after a pass that has answered, or for which there was no memory.
 fn keep_answers(kind: PassKind, kept: &mut Kept, keeps: Kept, answered: bool)
     ensures { kept.new ≡ kept_behind kind answered keeps kept.old }
 {
@@ -179,9 +179,9 @@ fn keep_answers(kind: PassKind, kept: &mut Kept, keeps: Kept, answered: bool)
 
 /// One pass over a stack (`pam.conf(5)`): the module of each line that it comes to serves the call,
 /// and the visit is added to the trail. It acts by the answers that are kept, where it follows, and
-/// goes on behind those of the call that it was put off in. Its code is INCOMPLETE where a line
-/// puts it off; then the answers that it was given are paused, and behind no other code are any.
-/// Behind a pass that keeps, its answers are kept; behind a loose one none are.
+/// goes on after those of the call that it was put off in. Its code is INCOMPLETE where a line
+/// puts it off; then the answers that it was given are paused, and after no other code are any.
+/// After a pass that keeps, its answers are kept; after a loose one none are.
 ///
 /// It takes all memory of its own before the first module serves. After want of memory a pass that keeps has nothing
 /// kept, any other leaves what was kept, nothing is paused, and no datum waits for its cleanup.

@@ -43,7 +43,7 @@ impl Paused {
         }
     }
 
-    // The answers to go on after; behind it no pass is put off.
+    // The answers to go on after; after it no pass is put off.
     pub(crate) fn take(&mut self, alloc: Global) -> Vec<Code>
         ensures answers { result.items ≡ past_of self.old }
         ensures none { self.new ≡ None }

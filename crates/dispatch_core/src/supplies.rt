@@ -20,7 +20,7 @@ pub struct Supplies {
 
 impl Supplies {
     /// Takes all memory of a pass but that of the answers that it keeps; in the room it makes spare room for visits.
-    /// Behind it no pass is put off, also without memory.
+    /// After it no pass is put off, also without memory.
     pub fn take(
         alloc: Global,
         chain: &Chain,

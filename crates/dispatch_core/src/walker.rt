@@ -33,7 +33,7 @@ impl Walker {
         }
     }
 
-    /// Acts on the next line, which has answered, and goes on to where its list goes on behind it.
+    /// Acts on the next line, which has answered, and goes on to where its list goes on after it.
     pub fn go_on(&mut self, chain: &mut Chain, kind: PassKind, answer: Code, deciding: Code)
         requires { self.old.at < lines_in chain.old.nodes }
         ensures goes { (line : FlatLine) → Stands chain.old.nodes self.old.at line →

@@ -4,11 +4,11 @@ use Rattle.std.specs.Prelude.{ℕ, zero, suc, ◌+◌, ◌*◌, ◌^◌, ◌/◌
 abbrev pub next_state : ℕ → ℕ
 next_state x = (1103515245 * x + 12345) % 2 ^ 32
 
--- where the generator stands after so many draws
+-- where the generator stands after n draws
 abbrev pub state_after : ℕ → ℕ → ℕ
 state_after seed zero = seed
 state_after seed (suc n) = next_state (state_after seed n)
 
--- the draw that has so many before it
+-- the draw that has n before it
 abbrev pub draw : ℕ → ℕ → ℕ
 draw seed n = state_after seed (n + 1) / 65536

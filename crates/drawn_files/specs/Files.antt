@@ -5,7 +5,7 @@ use Rattle.std.specs.Fmt.{decimal}
 use Rattle.drawn_files.specs.Line.{drawn_lines}
 use Rattle.drawn_files.specs.declared.files.DrawnFile.{DrawnFile}
 
--- how many files hold so many lines, 32 each
+-- how many files hold n lines, 32 each
 abbrev pub count_of : ℕ → ℕ
 count_of lines = (lines + 31) / 32
 
@@ -19,7 +19,7 @@ substack_line k = codes "auth substack " ++ (name_of k ++ codes "\n")
 abbrev pub is_odd : ℕ → Bool
 is_odd k = nat_eq (k % 2) 1
 
--- the lines of a file; behind those of an odd one the file after it is a substack, where there is one
+-- the lines of a file; after those of an odd one the file after it is a substack, where there is one
 abbrev pub text_of : ℕ → ℕ → ℕ → List ℕ
 text_of seed lines k =
     drawn_lines seed (32 * (k - 1)) (min (32 * k) lines - 32 * (k - 1))
@@ -35,7 +35,7 @@ service count = record {
   text = flat_map substack_line (filter is_odd (range_with_len 1 count));
 }
 
--- all files in their order, and the service behind them
+-- all files in their order, and the service after them
 abbrev pub drawn_files : ℕ → ℕ → List DrawnFile
 drawn_files seed lines = map (drawn_file seed lines) (range_with_len 1 (count_of lines))
     ++ service (count_of lines) ∷ []

@@ -24,11 +24,11 @@ line_text success default answer =
     ++ (success ++ (codes " new_authtok_reqd=ok default="
     ++ (default ++ (codes "] pam_debug.so auth=" ++ (answer ++ codes "\n")))))
 
--- the line that has so many before it, by three draws
+-- the line that has n before it, by three draws
 abbrev pub drawn_line : ℕ → ℕ → List ℕ
 drawn_line seed n = line_text (picked success_words (draw seed (3 * n)))
     (picked default_words (draw seed (3 * n + 1))) (picked answer_words (draw seed (3 * n + 2)))
 
--- count lines, of which the first has so many before it
+-- count lines, of which the first has n before it
 abbrev pub drawn_lines : ℕ → ℕ → ℕ → List ℕ
 drawn_lines seed before count = flat_map (drawn_line seed) (range_with_len before count)

@@ -20,7 +20,7 @@ pub struct DrawnFile {
     pub text: Text,
 }
 
-/// How many files hold so many lines.
+/// How many files hold n lines.
 pub fn file_count(lines: u32) -> u32
     requires { lines ≤ MAX_DRAWN }
     ensures { result ≡ count_of lines }
@@ -28,7 +28,7 @@ pub fn file_count(lines: u32) -> u32
     lines.div_ceil(LINES_OF_FILE)
 }
 
-/// The files of so many lines that a seed draws, in order, and behind them the service `gen`.
+/// The files of n lines that a seed draws, in order, and after them the service `gen`.
 pub fn draw_files(alloc: Global, seed: u32, lines: u32) -> Result<Vec<DrawnFile>, NoMemory>
     requires { lines ≤ MAX_DRAWN }
     ensures { IfOk result (λ files. files.items ≡ drawn_files seed lines) }

@@ -47,7 +47,7 @@ variable_text variable = variable.name ++ 61 ∷ variable.value
 abbrev pub name_in : List ℕ → List ℕ
 name_in text = before_first (λ byte. byte == 61) text
 
--- the value in a text: what stands behind its first `=`
+-- the value in a text: what follows its first `=`
 abbrev pub value_in : List ℕ → List ℕ
 value_in text = after_first (λ byte. byte == 61) text
 

@@ -45,7 +45,7 @@ impl EnvList {
 
     /// `pam_putenv(3)`: `NAME=VALUE` sets a variable, `NAME=` sets it to the empty text, and `NAME` alone
     /// deletes it. The name is what stands before the first `=`. A new name goes last, a name that is set keeps
-    /// its place, and where one is deleted those behind it close up, in time that grows with their number.
+    /// its place, and where one is deleted those after it close up, in time that grows with their number.
     /// BadItem exactly where the name is empty or an unset one is deleted. A deletion takes no memory. After a
     /// refusal and without memory all is as it was.
     pub fn put(&mut self, text: &[u8]) -> Result<(), Refuse<BadItem>>

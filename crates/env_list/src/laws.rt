@@ -30,7 +30,7 @@ pub fn setting_keeps_the_place()
         with_value name value variables ≡ variables ++ record { name = name; value = value } ∷ [] }
 {}
 
-/// A name that was deleted is unset, and every other name has the value that it had. The variables behind it
+/// A name that was deleted is unset, and every other name has the value that it had. The variables after it
 /// close up, in their order.
 pub fn deleting_closes_up()
     ensures same { (name : List ℕ) (variables : List Variable) →

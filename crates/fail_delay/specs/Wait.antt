@@ -4,8 +4,7 @@ use Rattle.pam_base.specs.declared.code.Code.{Code}
 use Rattle.pam_base.specs.Code.{number_of}
 
 -- an application's delay function, where it is on, is always asked, and the number that it gives is the wait; where
--- it is
--- off, the asked delay is waited after every code but SUCCESS, and nothing where no delay is asked for
+-- it is off, the asked delay is waited after every code but SUCCESS, and nothing where no delay is asked for
 abbrev pub wait_of : Bool → (Code → ℕ → ℕ) → Code → ℕ → Option ℕ
 wait_of true number code asked = Some (number code asked)
 wait_of false number code asked = if number_of code == 0 || asked == 0 then None else Some asked

@@ -6,7 +6,7 @@ use Rattle.pam_base.specs.declared.code.Code.{Code}
 abbrev pub Answers : Type 0
 Answers = Option (List (Option Code))
 
--- the cells of so many lines before any answer is kept
+-- the cells of n lines before any answer is kept
 abbrev pub empty_cells : ℕ → List (Option Code)
 empty_cells lines = replicate lines None
 

@@ -36,7 +36,7 @@ impl Kept {
         self.cells.is_some()
     }
 
-    /// Makes room for the answers of so many lines, and holds none of them yet. Earlier answers are forgotten, and
+    /// Makes room for the answers of n lines, and holds none of them yet. Earlier answers are forgotten, and
     /// without memory nothing is held.
     pub fn open(&mut self, alloc: Global, lines: usize) -> Result<(), NoMemory>
         ensures ok { OnOk result (self.new ≡ Some (empty_cells lines)) }

@@ -21,7 +21,7 @@ pub peeled_sub : (nodes : List Node) (i : ℕ) (node : Node) (inner : Nodes) →
 peeled_sub nodes i node inner within is which =
     peeled nodes i node within is ∙ ap (λ (n : Node). node_on n (stack_of (drop (i + 1) nodes))) which ∙ node_on-Sub inner (stack_of (drop (i + 1) nodes))
 
--- a list and what stands behind its first node, of so many lines
+-- a list and what follows its first node, of n lines
 pub record IsNext (here behind : Stack) (width : ℕ) : Type 0 where
   pub lines : lines_in here ≡ width + lines_in behind
   pub marks : (first : ℕ) → positions_behind first here ≡ (first + width) ∷ positions_behind (first + width) behind

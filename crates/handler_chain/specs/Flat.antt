@@ -34,7 +34,7 @@ pub record IsFlat (stack : Stack) (names : List (List ℕ)) (lines : List ChainL
   pub few : lines_in stack ≤ 4096
   pub shallow : depth stack ≤ 16
 
--- the positions behind each node of a list whose first line has the index `first`
+-- the positions after each node of a list whose first line has the index `first`
 abbrev pub positions_behind : ℕ → Stack → List ℕ
 positions_behind first none = []
 positions_behind first (line rule rest) = (first + 1) ∷ positions_behind (first + 1) rest

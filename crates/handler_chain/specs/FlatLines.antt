@@ -5,7 +5,7 @@ use Rattle.control_words.specs.declared.nodes.Rule.{Rule}
 use Rattle.control_words.specs.Module.{name_of_module}
 use Rattle.control_words.specs.Stack.{Stack, none, line, sub, count, lines_in}
 
--- a line: how many substacks are round it, of how many it is the first line, and what stands behind it in its list
+-- a line: how many substacks are round it, of how many it is the first line, and what follows it in its list
 pub record FlatLine : Type 0 where
   pub rule : Rule
   pub level : ℕ
@@ -15,12 +15,12 @@ pub record FlatLine : Type 0 where
 abbrev pub flat_line : Rule → ℕ → ℕ → Stack → FlatLine
 flat_line rule level opens rest = record { rule = rule; level = level; opens = opens; rest = rest }
 
--- how many substacks are still to be opened behind one of so many lines: an empty one has no first line
+-- how many substacks are still to be opened after one of n lines: an empty one has no first line
 abbrev pub pending : ℕ → ℕ → ℕ
 pending zero opens = opens
 pending (suc lines) opens = 0
 
--- the lines of a list at a level, before whose first line so many substacks were opened since the last line
+-- the lines of a list at a level, before whose first line n substacks were opened since the last line
 abbrev pub flat_lines : ℕ → ℕ → Stack → List FlatLine
 flat_lines level opens none = []
 flat_lines level opens (line rule rest) = flat_line rule level opens rest ∷ flat_lines level 0 rest
@@ -68,11 +68,11 @@ module_of names rule = number_of_name (name_of_module rule.path) 0 names
 abbrev pub module_at : Stack → List (List ℕ) → ℕ → Option ℕ
 module_at stack names i = at_line None (λ l. module_of names l.rule) stack i
 
--- the index of the position behind the last node of the list in which the line stands
+-- the index of the position after the last node of the list in which the line stands
 abbrev pub end_at : Stack → ℕ → ℕ
 end_at stack i = at_line 0 (λ l. i + 1 + lines_in l.rest) stack i
 
--- the index of the position behind the n nodes that follow the line in its list, where there are so many
+-- the index of the position after the n nodes that follow the line in its list, where there are n
 abbrev pub target_at : Stack → ℕ → ℕ → Option ℕ
 target_at stack i n = at_line None (λ l. if nat_le n (count l.rest)
     then Some (i + 1 + lines_in_first n l.rest) else None) stack i

@@ -61,7 +61,7 @@ fn add_positions(positions: &mut Vec<usize>, nodes: &Nodes, first: usize) -> Res
     Ok(())
 }
 
-/// Adds the lines of a list at a level, before whose first line so many substacks were opened since the last line.
+/// Adds the lines of a list at a level, before whose first line n substacks were opened since the last line.
 pub fn add_list(
     alloc: Global,
     nodes: &Nodes,

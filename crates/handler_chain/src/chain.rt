@@ -125,7 +125,7 @@ impl Chain {
         opens
     }
 
-    /// The index of the position behind the last node of the list in which the line stands: how many lines are
+    /// The index of the position after the last node of the list in which the line stands: how many lines are
     /// written before it.
     pub fn end(&mut self, i: usize) -> usize
         requires { i < lines_in self.old.nodes }
@@ -138,7 +138,7 @@ impl Chain {
         end
     }
 
-    /// The index of the position behind the n nodes that follow the line in its list. None where fewer follow it.
+    /// The index of the position after the n nodes that follow the line in its list. None where fewer follow it.
     pub fn target(&mut self, i: usize, n: u8) -> Option<usize>
         requires { i < lines_in self.old.nodes }
         ensures value { result ≡ target_at self.old.nodes i n }

@@ -10,8 +10,8 @@ pub struct ChainLine {
     pub level: u32,
     // Of how many substacks it is the first line.
     pub opens: u32,
-    // How many nodes stand behind it in its list.
+    // How many nodes stand after it in its list.
     pub left: usize,
-    // Where the positions have the one behind it, and from there on those behind the nodes that follow it.
+    // Where the positions have the one after it, and from there on those after the nodes that follow it.
     pub behind: usize,
 }

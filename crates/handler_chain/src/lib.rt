@@ -1,4 +1,4 @@
-//! A stack laid flat: its lines in written order, each with where the walk goes on behind it
+//! A stack laid flat: its lines in written order, each with where the walk goes on after it
 //! (`pam.conf(5)`: jumps, substacks, and the end of a list). Contracts see the nested list that it was made from.
 #![tactic(auto)]
 

@@ -71,7 +71,7 @@ module _ {State Kind : Type 0} (looked : Looks) (step : ItemStep State Kind) (Fa
     calls_ok = tt;
   }
 
-  -- ---- bytes were met and served, and behind them come others
+  -- ---- bytes were met and served, and after them come others
 
   module _ (n m : ℕ) (c d : State) (met held text got : List ℕ) (a : GoesOn looked step n m c d met held text) where
     further : (more : List ℕ) (ended : Bool) → looked n ((met ++ got) ++ more) ended ≡ a.served ++ looked m ((held ++ got) ++ more) ended

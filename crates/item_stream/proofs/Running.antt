@@ -8,7 +8,7 @@ module _ {State Kind : Type 0} (step : ItemStep State Kind) where
   unfolding run_items
   items-one n c d item text s = rw s (rw (append-nil text) refl)
 
-  -- ---- items that are served, and others behind them
+  -- ---- items that are served, and others after them
 
   pub comes : (r : Run State Kind) (d : State) (m : ℕ) (o : Option Kind) → r.last ≡ d → r.items ≡ m → r.refused ≡ o → r ≡ come_to r.text d m o
   comes r d m o last items refused = rw (← last, ← items, ← refused) refl

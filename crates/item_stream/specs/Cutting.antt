@@ -8,7 +8,7 @@ pub record Cuts (looked : Looks) : Type 0 where
   pub rest : (n : ℕ) (held : List ℕ) → looked n held false ≡ [] → 0 < length held
       → looked n held true ≡ held ∷ []
 
--- What is refused in every state is so; and what is refused among some bytes is refused, whatever stands behind them,
+-- What is refused in every state is so; and what is refused among some bytes is refused, whatever stands after them,
 -- and with the same text before it.
 pub record Keeps {State Kind : Type 0} (looked : Looks) (refuses : Refuses)
     (step : ItemStep State Kind) : Type 0 where

@@ -4,7 +4,7 @@ use Rattle.item_stream.specs.declared.stepping.Front.{Front}
 use Rattle.item_stream.specs.declared.stepping.Front.TheVariants.{Wait, Item, Last}
 use Rattle.item_stream.specs.Run.{Looks, Refuses}
 
--- an item of so many bytes stands in front, whatever follows, and the others behind it are looked at from there
+-- an item of n bytes stands in front, whatever follows, and the others after it are looked at from there
 pub record IsItem (looked : Looks) (n item_size size : ℕ) (held : List ℕ) : Type 0 where
   pub within : item_size ≤ size
   pub whole : size ≤ length held

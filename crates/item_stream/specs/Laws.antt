@@ -43,7 +43,7 @@ module _ {State Kind : Type 0} (step : ItemStep State Kind)
   UnbegunIsServed = (n : ℕ) (item : List ℕ) (c : State) (p : SinkState)
       → ServesTold step Fails (Err NoMemory) n item c c p p
 
-  -- there was none behind that
+  -- there was none after that
   abbrev pub BegunIsServed : Type 0
   BegunIsServed = (n : ℕ) (item : List ℕ) (c d : State) (p : SinkState) →
       IsBegun step Fails n item c d → ServesTold step Fails (Err NoMemory) n item c d p p
@@ -63,7 +63,7 @@ module _ {State Kind : Type 0} (looked : Looks) (step : ItemStep State Kind)
 
   -- ---- turns
 
-  -- turns, and others behind them
+  -- turns, and others after them
   abbrev pub TurnsGoOn : Type 0
   TurnsGoOn = (result : Result (Option (Ending Kind)) Stop) (n m k : ℕ) (c d e : State)
       (held rest : List ℕ) (x y z : SourceState) (p q s : SinkState) →

@@ -1,15 +1,15 @@
 -- A run: the steps of items, one after the other, whatever an item is and does (this project's own).
 use Rattle.std.specs.Prelude.{ℕ, ◌+◌, Bool, List, [], ◌∷◌, ◌++◌, Option, Some, None, Result, Ok, Err}
 
--- which items are looked at of some bytes that stand behind so many items; and whether the input ends behind them
+-- which items are looked at of some bytes that stand after n items; and whether the input ends after them
 abbrev pub Looks : Type 0
 Looks = ℕ → List ℕ → Bool → List (List ℕ)
 
--- which items that stand behind so many are refused in every state
+-- which items that stand after n are refused in every state
 abbrev pub Refuses : Type 1
 Refuses = ℕ → List ℕ → Type 0
 
--- what an item that stands behind so many does to a state: the state after it and the text that is written for it, or
+-- what an item that stands after n does to a state: the state after it and the text that is written for it, or
 -- why it is refused
 abbrev pub ItemStep : Type 0 → Type 0 → Type 0
 ItemStep State Kind = ℕ → State → List ℕ → Result (State × List ℕ) Kind
@@ -50,7 +50,7 @@ unfoldable pub run_items : {State Kind : Type 0} → ItemStep State Kind → ℕ
 run_items step n s [] = come_to [] s n None
 run_items step n s (l ∷ ls) = after n s (step n s l) (λ t. run_items step (n + 1) t ls)
 
--- what bytes come to that stand behind n items; `ended` says that the input ends behind them
+-- what bytes come to that stand after n items; `ended` says that the input ends after them
 unfoldable pub run_of : {State Kind : Type 0} → Looks → ItemStep State Kind → ℕ → State → List ℕ
     → Bool → Run State Kind
 run_of looked step n s bytes ended = run_items step n s (looked n bytes ended)

@@ -7,7 +7,7 @@ use Rattle.item_stream.specs.declared.reader.Found.TheVariants.{Item, Rest, End}
 use Rattle.item_stream.specs.Front.{IsItem}
 use Rattle.item_stream.specs.Run.{Looks, Refuses}
 
--- so many bytes are held behind the others
+-- n bytes are held after the others
 abbrev pub Adds : ℕ → List ℕ → List ℕ → Type 0
 Adds n before held = (got : List ℕ) × (length got ≡ n) × (held ≡ before ++ got)
 

@@ -58,7 +58,7 @@ pub record ServesTold {State Kind : Type 0} (step : ItemStep State Kind)
 
 -- ---- many items
 
--- Lines among the bytes met were served. Behind them, and whatever follows, the run goes on with what is held.
+-- Lines among the bytes met were served. After them, and whatever follows, the run goes on with what is held.
 pub record GoesOn {State Kind : Type 0} (looked : Looks) (step : ItemStep State Kind) (n m : ℕ)
     (c d : State) (met held text : List ℕ) : Type 0 where
   pub served : List (List ℕ)
@@ -72,7 +72,7 @@ refusal_of Done = None
 refusal_of ReadFault = None
 refusal_of (Refused kind) = Some kind
 
--- whether the input ends behind the bytes met
+-- whether the input ends after the bytes met
 abbrev pub IsEndedBy : {Kind : Type 0} → Ending Kind → Bool → Type 0
 IsEndedBy Done ended = ended ≡ true
 IsEndedBy ReadFault ended = ended ≡ false
@@ -123,7 +123,7 @@ Tells looked step Fails (Ok (Some ending)) n m c d met held left text =
 Tells looked step Fails (Err stop) n m c d met held left text =
     StopsBy looked step Fails stop n c d met left text
 
--- the last read, by what was got behind other bytes: it took at most a buffer, and nothing that was there before it
+-- the last read, by what was got after other bytes: it took at most a buffer, and nothing that was there before it
 -- was refused
 pub record LastRead {State Kind : Type 0} (looked : Looks) (step : ItemStep State Kind) (n : ℕ)
     (c : State) (before got : List ℕ) : Type 0 where
@@ -133,7 +133,7 @@ pub record LastRead {State Kind : Type 0} (looked : Looks) (step : ItemStep Stat
   pub room : length late ≤ 512
   pub accepted : (run_of looked step n c (before ++ early) false).refused ≡ None
 
--- What was taken and written, by one turn or by many: n items stand before them and m behind them, the state is c
+-- What was taken and written, by one turn or by many: n items stand before them and m after them, the state is c
 -- before and d after them.
 pub record Turns {State Kind : Type 0} (looked : Looks) (step : ItemStep State Kind)
     (Fails : State → List ℕ → State → Type 0) (result : Result (Option (Ending Kind)) Stop)
@@ -154,7 +154,7 @@ pub record Turns {State Kind : Type 0} (looked : Looks) (step : ItemStep State K
 
 -- ---- the result of a turn
 
--- behind an item that was found with its end the run goes on
+-- after an item that was found with its end the run goes on
 abbrev pub after_item : {Kind : Type 0} → Result (Option Kind) Stop
     → Result (Option (Ending Kind)) Stop
 after_item (Ok None) = Ok None
@@ -173,7 +173,7 @@ abbrev pub items_after : {Kind : Type 0} → Result (Option Kind) Stop → ℕ �
 items_after (Ok None) n = n + 1
 items_after result n = n
 
--- what is held behind an item that takes so many bytes: what ends it is dropped with it
+-- what is held after an item that takes n bytes: what ends it is dropped with it
 abbrev pub held_after : {Kind : Type 0} → Result (Option Kind) Stop → ℕ → List ℕ → List ℕ
 held_after (Ok None) size held = drop size held
 held_after result size held = held

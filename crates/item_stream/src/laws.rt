@@ -13,7 +13,7 @@ pub fn first_turn<R: Stepping>()
 {}
 
 /// What serves one item: it writes nothing, its text is written, whole or up to a write that failed, it is refused, or
-/// there is no memory, to begin it or behind that.
+/// there is no memory, to begin it or after that.
 pub fn item_is_served<R: Stepping>()
     ensures silent { (setting : R.Setting) → SilentIsServed (R.step setting) (R.fails setting) }
     ensures written { (setting : R.Setting) → WrittenIsServed (R.step setting) (R.fails setting) }
@@ -42,7 +42,7 @@ pub fn found_item_is_a_turn<R: Stepping>()
     R::keeps();
 }
 
-/// Turns, and others behind them, are turns.
+/// Turns, and others after them, are turns.
 pub fn turns_go_on<R: Stepping>()
     ensures { (setting : R.Setting) → TurnsGoOn R.looked (R.step setting) (R.fails setting) }
 {}

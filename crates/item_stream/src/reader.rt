@@ -32,7 +32,7 @@ impl Model for Reader {
 /// What stands at the front of what is held.
 #[derive(Clone, Copy)]
 pub enum Found {
-    /// An item, of so many bytes, and before what follows it so many.
+    /// An item: how many bytes it has, and how many stand before what follows it.
     Item { length: usize, size: usize },
     /// The last item that is looked at: all that is held.
     Rest,

@@ -30,19 +30,19 @@ pub trait Stepping {
     /// What an item changes.
     ghost State: { Type 0 };
 
-    /// The items that are looked at of bytes that stand behind so many items; whether the input ends behind them.
+    /// The items that are looked at of bytes that stand after n items; whether the input ends after them.
     ghost looked: { ℕ → List ℕ → Bool → List (List ℕ) };
 
-    /// The state after an item that stands behind so many, and the text that is written for it; or why it is refused.
+    /// The state after an item that stands after n, and the text that is written for it; or why it is refused.
     ghost step: { Setting → ℕ → State → List ℕ → Result (State × List ℕ) Kind };
 
-    /// The items behind so many that are refused in every state.
+    /// The items after n that are refused in every state.
     ghost refuses: { ℕ → List ℕ → Type 0 };
 
     /// The states that an item may leave whose call found no memory.
     ghost fails: { Setting → State → List ℕ → State → Type 0 };
 
-    /// What stands at the front of bytes behind so many items. It waits for at most 581 bytes.
+    /// What stands at the front of bytes after n items. It waits for at most 581 bytes.
     fn front(before: u32, held: &[u8]) -> Front
         ensures { IsFront looked refuses result before held.now };
 

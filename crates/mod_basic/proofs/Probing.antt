@@ -57,7 +57,7 @@ module _ (Tells : Type 0) (owner : ℕ) (args : List (List ℕ)) (start : SeenRo
       let all : probing true next m.births ≡ probed_all args (probing false start []) = rw (d.0, births, ← d.1) at m.goes t in
       rw (← all, e, f) (record { refused_is = refl; room_is = refl; births_are = m.set })
 
--- the first of some arguments, and those behind it
+-- the first of some arguments, and those after it
 pub first_of : (whole : List (List ℕ)) (arg : List ℕ) → 1 ≤ length whole → arg ≡ get_or whole 0 arg → whole ≡ arg ∷ take (length whole - 1) (drop 1 whole)
 first_of [] arg some is = absurd (omega (arith, some))
 first_of (x ∷ xs) arg some is = let all : take (length (x ∷ xs) - 1) xs ≡ xs = take_all _ xs (omega arith) in rw (← is, all) refl

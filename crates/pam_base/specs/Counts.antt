@@ -10,7 +10,7 @@ next_count n = min (n + 1) (2 ^ 64 - 1)
 abbrev pub Rose : ℕ → ℕ → Type 0
 Rose before now = next_count before ≤ now
 
--- whether the call after so many is among those that are to fail, which are numbered from 1;
+-- whether the call after n is among those that are to fail, which are numbered from 1;
 -- where the count stands still, no further call is
 abbrev pub fails_next : ℕ → List ℕ → Bool
 fails_next calls fails = nat_lt calls (2 ^ 64 - 1) && list_any (λ n. nat_eq n (calls + 1)) fails

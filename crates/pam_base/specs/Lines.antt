@@ -3,7 +3,7 @@ use Rattle.std.specs.Prelude.{◌≡◌, ℕ, Bool, true, false, List, [], ◌�
 use Rattle.std.proofs.Common.{refl, eqb}
 use Rattle.pam_base.specs.Bytes.{has_byte}
 
--- the lines that end with a newline, and what stands behind the last of them
+-- the lines that end with a newline, and what follows the last of them
 pub record Cut : Type 0 where
   pub lines : List (List ℕ)
   pub rest : List ℕ
@@ -18,7 +18,7 @@ cut [] = record { lines = []; rest = [] }
 cut (b ∷ bs) = if b == 10 then record { lines = [] ∷ (cut bs).lines; rest = (cut bs).rest }
     else onto b (cut bs).lines (cut bs).rest
 
--- what stands behind the last newline is a line where it isn't empty
+-- what follows the last newline is a line where it isn't empty
 abbrev pub last_line : List ℕ → List (List ℕ)
 last_line [] = []
 last_line (b ∷ bs) = (b ∷ bs) ∷ []

@@ -1,4 +1,4 @@
--- What an authentication comes to, of its pass and of the wait behind it.
+-- What an authentication comes to, of its pass and of the wait after it.
 use Rattle.std.proofs.Common.{◌≡◌, ℕ, List, [], Option, Some, None, Result, Ok, Err, IfOk, OnErr, Bool, true, false, ◌&&◌, IsTrue, refl, sym, ◌∙◌, ap, subst}
 use Rattle.std.specs.Prelude.{IfNone}
 use Rattle.fail_delay.specs.Delay.{asked_delay}
@@ -50,7 +50,7 @@ passed_on number p h code kept paused room world e =
     ∙ ap (λ (o : Option (List Code)). authenticated number o p.code (record h { room = room; authenticated = p.kept; pending = pending_behind Authenticate None o }) world) e.paused_is
     ∙ ap (λ (s : State). authenticated number p.paused p.code (record h { room = s.room; authenticated = p.kept; pending = pending_behind Authenticate None p.paused }) s.world) e.state_is
 
--- behind a pass that has ended
+-- after a pass that has ended
 waited_behind : (number : Code → ℕ → ℕ) (code : Code) (h : PlainHandle) (w last : PlainWorld) (longest : ℕ) (waited : Option Wait)
     → longest ≡ h.room.transaction.delay
     → (waited ≡ waited_by code (asked_delay longest w.clock.word) (wait_of h.delay_on number code (asked_delay longest w.clock.word)) h.waited)
@@ -63,7 +63,7 @@ waited_behind number code h w last longest waited l e = record {
   world_is = e.1 ∙ ap (λ (n : ℕ). rested_by (wait_of h.delay_on number code (asked_delay n w.clock.word)) w) l;
 }
 
--- behind a pass, put off or not
+-- after a pass, put off or not
 authenticated_is : (number : Code → ℕ → ℕ) (paused : Option (List Code)) (code : Code) (h : PlainHandle) (kept : Option KeptAnswers) (room : PlainRoom) (world last : PlainWorld) (longest : ℕ) (waited : Option Wait)
     → longest ≡ room.transaction.delay
     → WaitsBehind number (code_at_end paused (Ok code)) longest h.delay_on h.waited world waited last
@@ -105,7 +105,7 @@ waited_at_end (Ok code) None room h mid new n w = subst (λ (x : PlainHandle). x
 waited_at_end (Ok code) (Some past) room h mid new n w = subst (λ (x : PlainHandle). x.pending ≡ None → Waits code h x) (sym n) (λ e. absurd (some_none _ e))
 waited_at_end (Err none) paused room h mid new n w = tt
 
--- without memory nothing is rested behind a pass that left the nap as it was
+-- without memory nothing is rested after a pass that left the nap as it was
 pub not_rested : {A : Type 0} (result : Result Code NoMemory) (paused : Option (List Code)) (code : Option Code) (x y z : A)
     → code ≡ code_at_end paused result → y ≡ x → IfNone code (z ≡ y) → OnErr result (z ≡ x)
 not_rested (Ok value) paused code x y z is same rest = tt

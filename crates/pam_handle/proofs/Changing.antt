@@ -43,7 +43,7 @@ pub goes_on_anew : (players : List Player) (flags : ℕ) (past : List Code) (fir
 goes_on_anew players flags past None h w e = refl
 goes_on_anew players flags past (Some first) h w e = absurd (false_true (sym e))
 
--- behind a first pass that gave SUCCESS
+-- after a first pass that gave SUCCESS
 behind_success : (players : List Player) (flags : ℕ) (h : PlainHandle) (p : Passed) (code : Code) (kept : Option KeptAnswers) (paused : Option (List Code)) (room : PlainRoom) (world : PlainWorld)
     → PassesTo p code kept paused (state_of room world) → code ≡ Success → paused ≡ None
     → behind_check players flags p.code p.paused p.kept (record h { room = p.state.room; pending = pending_behind ChAuthTok None p.paused }) p.state.world
@@ -65,7 +65,7 @@ checked players flags past h w stack before code kept paused room world r s e su
     (subst (λ (x : PlainRoom). PassesTo (passed players ChAuthTok (bit_or flags prelim_check) Keep None stack past (state_of x w)) code kept paused (state_of room world)) (sym r) e))
     success over
 
--- behind a first pass that gave another code there is no second one
+-- after a first pass that gave another code there is no second one
 behind_other : (players : List Player) (flags : ℕ) (code : Code) (paused : Option (List Code)) (kept : Option KeptAnswers) (h : PlainHandle) (w : PlainWorld)
     → (code ≡ Success → ⊥)
     → behind_check players flags code paused kept h w ≡ changed paused code h w
@@ -97,7 +97,7 @@ checked_alone players flags past h w stack before code kept paused room world fi
 success_incomplete : (code : Code) → code ≡ Success → code ≡ Incomplete → ⊥
 success_incomplete code s i = (cc)
 
--- behind SUCCESS no answers are paused
+-- after SUCCESS no answers are paused
 pub success_over : (paused : Option (List Code)) (code : Code) → code ≡ Success → (IsTrue (is_some paused) → code ≡ Incomplete) → paused ≡ None
 success_over None code s i = refl
 success_over (Some past) code s i = absurd (success_incomplete code s (i refl))
@@ -112,7 +112,7 @@ both_tell a b c d e f t = rw (e, f) t
 abbrev pub room_with : ItemTexts → PlainRoom → PlainRoom
 room_with items r = record r { transaction = record r.transaction { items = items } }
 
--- behind its last pass: the tokens are cleared and the request is forgotten, unless it was put off
+-- after its last pass: the tokens are cleared and the request is forgotten, unless it was put off
 abbrev pub room_behind : Option (List Code) → PlainRoom → PlainRoom
 room_behind paused r = request_behind paused (room_with (items_behind paused r.transaction.items) r)
 

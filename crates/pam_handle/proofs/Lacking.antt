@@ -32,7 +32,7 @@ flat_length level opens (sub inner rest) =
     ∙ ap (λ (n : ℕ). n + length (flat_lines level (pending (lines_in inner) opens) rest)) (flat_length (level + 1) (opens + 1) inner)
     ∙ ap (λ (n : ℕ). lines_in inner + n) (flat_length level (pending (lines_in inner) opens) rest)
 
--- the line of an index, and what stands behind it
+-- the line of an index, and what follows it
 lines_from : (names : List (List ℕ)) (i : ℕ) (ls : List FlatLine) → i < length ls
     → (missing_lines names (drop i ls) ≡ missing_of names (of_first no_rule (λ (l : FlatLine). l.rule) (drop i ls)) ++ missing_lines names (drop (suc i) ls))
     × (of_first None (λ (l : FlatLine). module_of names l.rule) (drop i ls) ≡ module_of names (of_first no_rule (λ (l : FlatLine). l.rule) (drop i ls)))

@@ -49,7 +49,7 @@ pub record LeavesOthers (func : Func) (old new : PlainHandle) : Type 0 where
   pub opened : LeavesOpened func old.opened new.opened
   pub waited : LeavesWait func old new
 
--- ---- what stands behind a code
+-- ---- what follows a code
 
 abbrev pub AreUnset : ItemTexts → Type 0
 AreUnset items = (items.auth_tok ≡ None) × (items.old_auth_tok ≡ None)
@@ -60,7 +60,7 @@ ClearsTokens Authenticate items = AreUnset items
 ClearsTokens ChAuthTok items = AreUnset items
 ClearsTokens func items = Unit {0}
 
--- A call that has ended leaves nothing pending, and no request for a delay. Behind INCOMPLETE alone it may be pending
+-- A call that has ended leaves nothing pending, and no request for a delay. After INCOMPLETE alone it may be pending
 -- itself;
 -- then no request for a delay is forgotten, and nothing was waited.
 abbrev pub LeavesPending : Func → Code → PlainHandle → PlainHandle → Option Pending → Type 0
@@ -70,9 +70,8 @@ LeavesPending func code old new (Some p) =
     (p.func ≡ func) × (code ≡ codes.Incomplete)
     × (old.room.transaction.delay ≤ new.room.transaction.delay) × (new.waited ≡ old.waited)
 
--- Of what was waited behind the code of an authentication, only which delay it asked for and what the application's
--- delay function
--- made of it isn't known; where that is off, the delay that was asked for was waited.
+-- Of what was waited after the code of an authentication, only which delay it asked for and what the application's
+-- delay function made of it isn't known; where that is off, the delay that was asked for was waited.
 pub record WaitsFor (code : Code) (delay_on : Bool) (old new : Option Wait) : Type 0 where
   pub asked : ℕ
   pub wait : Option ℕ
@@ -84,7 +83,7 @@ pub record WaitsFor (code : Code) (delay_on : Bool) (old new : Option Wait) : Ty
 abbrev pub Waits : Code → PlainHandle → PlainHandle → Type 0
 Waits code old new = WaitsFor code old.delay_on old.waited new.waited
 
--- behind a call that has ended with a code, or that hasn't
+-- after a call that has ended with a code, or that hasn't
 abbrev pub WaitsOnlyAtEnd : Option Code → Bool → Option Wait → Option Wait → Type 0
 WaitsOnlyAtEnd None delay_on old new = new ≡ old
 WaitsOnlyAtEnd (Some code) delay_on old new = WaitsFor code delay_on old new

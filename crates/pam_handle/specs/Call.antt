@@ -1,6 +1,5 @@
 -- What a call of the application comes to, and what of a transaction's calls is common to several (pam_fail_delay(3);
--- that a
--- call may be put off, and what others answer meanwhile, is this project's own).
+-- that a call may be put off, and what others answer meanwhile, is this project's own).
 use Rattle.std.specs.Prelude.{◌≡◌, ℕ, Bool, Option, Some, None, List, Result, if◌then◌else◌, ◌==◌}
 use Rattle.std.specs.Result.{result_ok}
 use Rattle.pam_base.specs.declared.code.Code.{Code}
@@ -51,8 +50,7 @@ request_forgotten h = in_room (without_request h.room) h
 -- ---- calls that were put off
 
 -- The call of a function: where another is pending it is aborted and nothing changes; where it is pending itself it
--- goes on
--- after what it was given; else it begins.
+-- goes on after what it was given; else it begins.
 abbrev pub begun_or_going_on : Option Pending → Func → Called → Called → (Pending → Called) → Called
 begun_or_going_on None func aborted begins goes_on = begins
 begun_or_going_on (Some p) func aborted begins goes_on = if same_func p.func func then goes_on p
@@ -100,7 +98,7 @@ waits_after number code h w =
     let asked = asked_delay h.room.transaction.delay w.clock.word in
     waits code asked (wait_of h.delay_on number code asked) h w
 
--- what was to be told of a wait and what the world is behind a call that has ended with a code, or that hasn't
+-- what was to be told of a wait and what the world is after a call that has ended with a code, or that hasn't
 abbrev pub WaitsBehind : (Code → ℕ → ℕ) → Option Code → ℕ → Bool → Option Wait → PlainWorld
     → Option Wait → PlainWorld → Type 0
 WaitsBehind number None longest on before w after last = (after ≡ before) × (last ≡ w)

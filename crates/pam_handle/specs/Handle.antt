@@ -7,10 +7,8 @@ use Rattle.pam_room.specs.State.{PlainRoom}
 use Rattle.pam_handle.specs.declared.wait.Wait.{Wait}
 
 -- The room, the stacks, the names of the modules that it was started with, the answers that the last authentication
--- and the
--- last opening of a session kept, whether the application's delay function is on, the call that was put off, if one
--- was, and
--- what was waited and not yet told.
+-- and the last opening of a session kept, whether the application's delay function is on, the call that was put off,
+-- if one was, and what was waited and not yet told.
 pub record PlainHandle : Type 0 where
   pub room : PlainRoom
   pub stacks : Stacks

@@ -1,6 +1,5 @@
 -- The calls that run no stack: items, environment, delays, conversations and what is missing (pam_set_item(3),
--- pam_putenv(3),
--- pam_fail_delay(3); that missing modules are told is this project's own).
+-- pam_putenv(3), pam_fail_delay(3); that missing modules are told is this project's own).
 use Rattle.std.specs.Prelude.{ℕ, Bool, ◌||◌, if◌then◌else◌, None, is_some, List, [], ◌∷◌, ◌++◌, max}
 use Rattle.item_store.specs.Items.{ItemTexts}
 use Rattle.env_list.specs.Environment.{Variable}

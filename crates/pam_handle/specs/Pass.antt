@@ -18,7 +18,7 @@ use Rattle.pam_room.specs.Module.{Player}
 abbrev pub kept_answers : Answers → Option KeptAnswers
 kept_answers cells = if is_some cells then Some (by_place cells) else None
 
--- a pass's code, what is kept behind it, the answers that it was given where it was put off, and the room and world
+-- a pass's code, what is kept after it, the answers that it was given where it was put off, and the room and world
 -- after it
 abbrev pub Passed : Type 0
 Passed = calls.Passed State
@@ -30,7 +30,7 @@ passed players func flags kind kept stack past s =
     passed_by kind kept (pass_after kind (answers_held kept) (answers_by players func flags) stack
     past s)
 
--- a code, what is kept and what is paused behind a pass, and a state are those of a pass
+-- a code, what is kept and what is paused after a pass, and a state are those of a pass
 pub record PassesTo (p : Passed) (code : Code) (kept : Option KeptAnswers)
     (paused : Option (List Code)) (state : State) : Type 0 where
   pub code_is : code ≡ p.code

@@ -1,7 +1,6 @@
 -- The six calls that run a stack: pam_authenticate(3), pam_setcred(3), pam_acct_mgmt(3), pam_open_session(3),
 -- pam_close_session(3), pam_chauthtok(3). Which answers the second of two calls follows is the Module Writers'
--- Guide's; that a
--- call may be put off and goes on is this project's own.
+-- Guide's; that a call may be put off and goes on is this project's own.
 use Rattle.std.specs.Prelude.{ℕ, Bool, true, false, ◌||◌, ◌==◌, if◌then◌else◌, bit_or, Option, Some, None, List, []}
 use Rattle.pam_base.specs.declared.code.Code.{Code}
 use Rattle.pam_base.specs.declared.code.Code.TheVariants as codes
@@ -44,7 +43,7 @@ flags_seen func second flags = flags
 abbrev pub held_in : PlainHandle → Held
 held_in h = held h.authenticated h.opened h.pending
 
--- a transaction behind a pass of a call
+-- a transaction after a pass of a call
 abbrev pub behind_pass : Func → Option KeptAnswers → Passed → PlainHandle → PlainHandle
 behind_pass func first p h =
     let k = held_behind func first p (held_in h) in
@@ -55,14 +54,14 @@ behind_pass func first p h =
       pending = k.pending;
     }
 
--- behind the only pass of a call
+-- after the only pass of a call
 abbrev pub ended : Func → Passed → PlainHandle → Called
 ended func p h = called p.code (record h {
   room = request_behind p.paused p.state.room;
   pending = pending_behind func None p.paused;
 }) p.state.world
 
--- behind the pass of an authentication: the tokens are cleared, the wait follows, and then the request is forgotten,
+-- after the pass of an authentication: the tokens are cleared, the wait follows, and then the request is forgotten,
 -- unless it was put off
 abbrev pub authenticated : (Code → ℕ → ℕ) → Option (List Code) → Code → PlainHandle → PlainWorld
     → Called
@@ -71,7 +70,7 @@ authenticated number None code h w =
     let waited = waits_after number code (tokens_cleared h) w in
     called code (request_forgotten waited.handle) waited.world
 
--- behind the last pass of a change of token: the tokens are cleared and the request is forgotten, unless it was put off
+-- after the last pass of a change of token: the tokens are cleared and the request is forgotten, unless it was put off
 abbrev pub changed : Option (List Code) → Code → PlainHandle → PlainWorld → Called
 changed (Some past) code h w = called code h w
 changed None code h w = called code (request_forgotten (tokens_cleared h)) w

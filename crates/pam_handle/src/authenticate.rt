@@ -24,7 +24,7 @@ use std::alloc::Global;
 
 impl Handle {
     /// Authenticates the user (`pam_authenticate(3)`): a pass over the auth stack, whose answers
-    /// are kept for `setcred`. The tokens are cleared before it and behind it, and then the wait
+    /// are kept for `setcred`. The tokens are cleared before it and after it, and then the wait
     /// follows (`pam_fail_delay(3)`): the delay function is always asked where it is on; where it
     /// is off, the longest request, lengthened or shortened by a random word, is waited after every
     /// code but SUCCESS.

@@ -30,7 +30,7 @@ use std::alloc::Global;
 impl Handle {
     /// Changes the user's token (`pam_chauthtok(3)`): a pass over the password stack with
     /// PAM_PRELIM_CHECK, and only where that gives SUCCESS one with PAM_UPDATE_AUTHTOK, which goes
-    /// by the answers of the first. The tokens are cleared before the first and behind the last.
+    /// by the answers of the first. The tokens are cleared before the first and after the last.
     /// Flags that hold one of these two are answered SYSTEM_ERR, and nothing changes.
     ///
     /// Without memory what authentications and openings kept stays, and the tokens are cleared.

@@ -12,7 +12,7 @@ use pam_base::Code;
 use pam_outside::{random_word, rest};
 use pam_room::{World, WorldTold};
 
-// Waits behind the code of an authentication (`pam_fail_delay(3)`), by the longest request in microseconds and by the
+// Waits after the code of an authentication (`pam_fail_delay(3)`), by the longest request in microseconds and by the
 // delay function, where it is on. A wait takes the place of what was to be told of an earlier one.
 fn wait(
     gear: &Gear,
@@ -43,7 +43,7 @@ fn wait(
     }
 }
 
-/// Waits behind an authentication that has ended with this code, and not behind one that hasn't.
+/// Waits after an authentication that has ended with this code, and not after one that hasn't.
 pub(crate) fn wait_behind(
     gear: &Gear,
     world: &mut World,

@@ -20,7 +20,7 @@ use stack_walk::PassKind;
 use std::alloc::Global;
 
 /// One pass of a stack call over one of a transaction's stacks, with the answers that are kept for
-/// it, and where it was put off, behind those that it was given.
+/// it, and where it was put off, after those that it was given.
 pub(crate) fn pass(
     alloc: Global,
     gear: &Gear,

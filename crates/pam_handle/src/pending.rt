@@ -37,7 +37,7 @@ impl Handle {
         }
     }
 
-    // Behind a pass: the call is pending where it was put off, else the request for a delay is forgotten.
+    // After a pass: the call is pending where it was put off, else the request for a delay is forgotten.
     pub(crate) fn settle(&mut self, func: Func, paused: Paused, first: Kept)
         requires { (plain_handle ⟦<Room as RoomTold>⟧.plain self.old).pending ≡ None }
         ensures tells { ⟦<Room as RoomTold>⟧.tells (room_in self.new)
@@ -82,7 +82,7 @@ pub(crate) fn clear_unless_pending(items: &mut Items, pending: &Option<PutOff>)
     }
 }
 
-/// Clears the tokens behind a call that has ended, and not behind one that was put off.
+/// Clears the tokens after a call that has ended, and not after one that was put off.
 pub(crate) fn clear_unless_put_off(items: &mut Items, paused: &Paused)
     ensures { items.new ≡ items_behind paused.now items.old }
 {

@@ -193,7 +193,7 @@ left_over : (xs ys : List Filed) → drop (length xs) (xs ++ ys) ≡ ys
 left_over [] ys = refl
 left_over (x ∷ xs) ys = left_over xs ys
 
--- what a call filed, behind what was filed before, of births of its number
+-- what a call filed, after what was filed before, of births of its number
 pub cleaned_then : (n : ℕ) (before after : PlainLedger) (added : List Birth) (more : List Filed) → after.births ≡ before.births ++ added
     → after.filed ≡ before.filed ++ more →
     AllByRecursion (IsOfBirth before.births) before.filed → AllByRecursion (IsOwnFiled n after.births) more →

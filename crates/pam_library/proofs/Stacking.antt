@@ -201,7 +201,7 @@ module _ (players : List Player) (gives : (Code → ℕ → ℕ) → Type 0) (te
         caller = refl;
       }
 
-  -- a call that was run, with the transaction behind it, and the one that told what it had to tell
+  -- a call that was run, with the transaction after it, and the one that told what it had to tell
   pub stack_ran : (o : Outcome) (code : Code) (next after : PlainHandle) (v : PlainWorld)
       → h ≡ all_told h → h.names ≡ names_of players
       → ◌≡◌ {A = Option Answer} (stack_refusal h.pending func flags) None

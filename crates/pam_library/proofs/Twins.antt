@@ -218,7 +218,7 @@ module _ (n number : ℕ) where
 
   -- ---- a line is served
 
-  -- two answers are the same, and the states behind them twins
+  -- two answers are the same, and the states after them twins
   pub record AnswerTwins (first second : PlainWorld) (x y : Answered) : Type 0 where
     pub answer : x.answer ≡ y.answer
     pub state : Twins first second x.state y.state

@@ -1,6 +1,5 @@
 -- What a transaction comes to doesn't hang on the others (this project's own): what two states of a run have in
--- common for one
--- number, so that each call on it comes to the same in both.
+-- common for one number, so that each call on it comes to the same in both.
 use Rattle.std.specs.Prelude.{◌≡◌, ℕ, false, nat_eq, if◌then◌else◌, List, [], ◌∷◌, map, drop, Option, Some, None, slice_get}
 use Rattle.std.specs.List.{AllByRecursion, flat_map}
 use Rattle.std.specs.Option.{option_map}
@@ -91,7 +90,7 @@ cleaned_by (Some b) receipt = record {
 abbrev pub cleaned_as : List Birth → Filed → List Cleaned
 cleaned_as births f = cleaned_by (slice_get births f.receipt.id) f.receipt
 
--- the receipts behind the first so many, in their order and but for ids and marks
+-- the receipts after the first n, in their order and but for ids and marks
 abbrev pub cleaned_behind : ℕ → PlainLedger → List Cleaned
 cleaned_behind filed_from ledger =
     flat_map (cleaned_as ledger.births) (drop filed_from ledger.filed)

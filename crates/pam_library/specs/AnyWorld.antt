@@ -169,8 +169,7 @@ pub record ReplyFails (tells : Bool) (old new : PlainSlot) : Type 0 where
   pub told : IsTrue tells → new ≡ told_slot old
 
 -- A step found no memory. A start leaves its place closed with its conversation; any other call that isn't a stack
--- call or a
--- reply leaves all as it was.
+-- call or a reply leaves all as it was.
 abbrev pub Fails : Bool → AppCall → PlainSlot → PlainSlot → Type 0
 Fails tells (calls.Authenticate flags) old new = StackFails funcs.Authenticate old new
 Fails tells (calls.SetCred flags) old new = StackFails funcs.SetCred old new

@@ -94,8 +94,7 @@ opened_outcome filed h =
     { missing = missing_from h.names h.stacks }
 
 -- A transaction without data was opened in a place, or there was no memory to tell what is missing; then its place is
--- closed
--- with its conversation. Nothing is filed.
+-- closed with its conversation. Nothing is filed.
 pub record OpensPlace (filed : ℕ) (h : PlainHandle) (o : Outcome) (slot : PlainSlot) : Type 0 where
   pub slot_is : slot ≡ opened h
   pub outcome_is : plain_outcome o ≡ opened_outcome filed h

@@ -50,8 +50,8 @@ abbrev pub answer_of : Played → Code
 answer_of p = answer_or_incomplete p.room.put_off p.code
 
 -- The module of a visited line saw these files at the moment of the step, and played what the line answered, and what
--- follows holds of the files
--- that it left. Where no module is there, the answer was MODULE_UNKNOWN, and it holds of the same files.
+-- follows holds of the files that it left. Where no module is there, the answer was MODULE_UNKNOWN, and it holds of
+-- the same files.
 abbrev pub VisitLeads : Option Player → TimedVisit → List File → (List File → Type 0) → Type 0
 VisitLeads None t before next = (t.visit.answer ≡ ModuleUnknown) × next before
 VisitLeads (Some p) t before next =

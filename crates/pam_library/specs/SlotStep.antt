@@ -1,6 +1,5 @@
 -- One call on one place (the calls of the Application Developers' Guide; that a call may be put off, the delay
--- function and the
--- replies are this project's own).
+-- function and the replies are this project's own).
 use Rattle.std.specs.Prelude.{◌≡◌, ℕ, Bool, false, if◌then◌else◌, List, [], ◌∷◌, ◌++◌, map, length, Option, Some, None, Result, Ok, Err}
 use Rattle.pam_base.specs.declared.code.Code.{Code}
 use Rattle.pam_base.specs.declared.code.Code.TheVariants as codes

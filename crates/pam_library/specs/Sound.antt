@@ -26,8 +26,7 @@ pub record ArePlaced (names : List (List ℕ)) (slots : List PlainSlot) : Type 0
       → IsAtPlace names number slot
 
 -- the births without a receipt are exactly the data of the open transactions, each of its place's number, and every
--- birth has one
--- of the modules as its owner
+-- birth has one of the modules as its owner
 pub record IsSound (names : List (List ℕ)) (modules : ℕ) (slots : List PlainSlot)
     (ledger : PlainLedger) : Type 0 where
   pub placed : ArePlaced names slots

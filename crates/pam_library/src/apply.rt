@@ -31,7 +31,7 @@ impl Library {
     /// First the number and the place are tested, in this order: a number that isn't 1 to 16 is a
     /// bad one; a start finds the place open already; any other call but a reply finds it not open.
     /// Then a change of token with the flags of its passes is SYSTEM_ERR, and a stack call is
-    /// pending behind another one that was put off. All these change nothing and take no memory;
+    /// pending after another one that was put off. All these change nothing and take no memory;
     /// nor do an end, a request for a delay, and turning the delay function on or off.
     ///
     /// A start names a service, and is refused exactly as the configuration is; a reply has at most

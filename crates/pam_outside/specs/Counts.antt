@@ -7,6 +7,6 @@ abbrev pub RisesIf : Bool → ℕ → ℕ → Type 0
 RisesIf true before now = Rose before now
 RisesIf false before now = now ≡ before
 
--- a count of reads at the end, after one read more with so many bytes left
+-- a count of reads at the end, after one read more with n bytes left
 abbrev pub next_at_end : ℕ → ℕ → ℕ
 next_at_end count left = if left == 0 then next_count count else count

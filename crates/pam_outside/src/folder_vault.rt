@@ -115,7 +115,7 @@ impl<R: Files + Drop> Vault for FolderVault<R> {
         result
     }
 
-    /// Writes a file beside, under the same name with `.pamsess-new` behind it, and renames it to the path. It has
+    /// Writes a file beside, under the same name with `.pamsess-new` after it, and renames it to the path. It has
     /// the permissions of the file that it replaces, and where there is none its owner alone may read it. It makes
     /// no folders.
     fn replace(&mut self, alloc: Global, path: &[u8], bytes: &[u8]) -> Result<(), ReplaceFault>

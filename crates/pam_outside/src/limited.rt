@@ -12,7 +12,7 @@ use std::io::Read;
 /// How many bytes are read at once.
 pub const CHUNK: usize = 4096;
 
-/// All that a reader has left, where it is at most so many bytes, read by way of a piece of memory.
+/// All that a reader has left, where it is at most n bytes, read by way of a piece of memory.
 /// TooLong comes only where it is more, Failed only where the reader gave an error, and Absent
 /// never.
 pub fn read_to_limit<F: Read + Drop>(
@@ -41,7 +41,7 @@ pub fn read_to_limit<F: Read + Drop>(
     Err(VaultFault::TooLong)
 }
 
-// Reads once, and adds what it read to the bytes, at most so many in all.
+// Reads once, and adds what it read to the bytes, at most n in all.
 fn read_more<F: Read + Drop>(
     source: &mut ReaderSource<F>,
     piece: &mut [u8; CHUNK],

@@ -34,7 +34,7 @@ impl Model for MemSink {
 }
 
 impl MemSink {
-    /// An empty sink with room for so many bytes, which it takes here and not later. `fails` has the numbers,
+    /// An empty sink with room for n bytes, which it takes here and not later. `fails` has the numbers,
     /// from 1, of the writes that are to fail.
     pub fn new(alloc: Global, room: usize, fails: Numbers) -> Result<MemSink, NoMemory>
         ensures { IfOk result

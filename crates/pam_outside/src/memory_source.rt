@@ -53,7 +53,7 @@ impl MemSource {
     }
 }
 
-// A count of reads at the end, after one more with so many bytes left.
+// A count of reads at the end, after one more with n bytes left.
 fn next_at_end(count: u64, left: usize) -> u64
     ensures { result ≡ next_at_end count left }
 {

@@ -9,7 +9,7 @@ pub trait Nap: Drop {
     /// How often it waited, and the sum of the waits in microseconds, where it tells.
     ghost nap_holds: { Self → NapState };
 
-    /// Waits so many microseconds. It can't fail, and takes no memory.
+    /// Waits n microseconds. It can't fail, and takes no memory.
     fn rest(&mut self, micros: u32)
         ensures tells { nap_tells self.new ≡ nap_tells self.old }
         ensures told { IsTrue (nap_tells self.old) →

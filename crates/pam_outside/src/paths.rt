@@ -4,7 +4,7 @@ ghost use Rattle.pam_outside.specs.Paths.{path_of, root_before};
 use pam_base::{NoMemory, Text};
 use std::alloc::Global;
 
-/// One text behind another.
+/// One text after another.
 pub(crate) fn joined(alloc: Global, front: &[u8], back: &[u8]) -> Result<Text, NoMemory>
     ensures { IfOk result (λ text. text ≡ front.now ++ back.now) }
 {

@@ -6,7 +6,7 @@ use crate::sink::Sink;
 use pam_base::Failed;
 
 /// Writes all of the text, in as many calls as it takes, each for at least one byte. Failed comes only where the
-/// count of faults rose, leaves a front of the text written, and no write goes on behind it: where all is written
+/// count of faults rose, leaves a front of the text written, and no write goes on after it: where all is written
 /// the count is as before. An empty text makes no call.
 pub fn write_all<K: Sink>(sink: &mut K, text: &[u8]) -> Result<(), Failed>
     ensures tells { K.sink_tells sink.new ≡ K.sink_tells sink.old }

@@ -1,4 +1,4 @@
--- A module that served as it plays, and the sweep behind it, are the line's service.
+-- A module that served as it plays, and the sweep after it, are the line's service.
 use Rattle.std.proofs.Common.{◌≡◌, ℕ, zero, suc, ◌<◌, List, [], ◌∷◌, ◌++◌, Some, length, map, get_or, slice_get, refl, sym, ap, arith}
 use Rattle.pam_base.specs.declared.code.Code.{Code}
 use Rattle.data_cleanup.specs.DataList.{PlainDataList}

@@ -100,7 +100,7 @@ seen_of r = record {
 abbrev pub named_data : List PlainDatum → List NamedData
 named_data ds = map (λ (d : PlainDatum). record { name = d.name; payload = d.payload }) ds
 
--- a vault after so many calls more
+-- a vault after n calls more
 abbrev pub after_calls : ℕ → VaultState → VaultState
 after_calls zero vault = vault
 after_calls (suc n) vault = after_calls n (counted vault)

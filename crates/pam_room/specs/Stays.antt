@@ -16,7 +16,7 @@ pub record Stays (old new : PlainTransaction) (before after : PlainProcess) : Ty
   pub caller : after.caller ≡ before.caller
 
 -- Between two calls: the data are those of this transaction, none waits among the replaced, and each was set by
--- one of so many modules and has no receipt.
+-- one of n modules and has no receipt.
 pub record IsReady (modules : ℕ) (transaction : PlainTransaction) (process : PlainProcess) : Type
     0 where
   pub data_handle : transaction.datums.handle ≡ transaction.handle

@@ -14,7 +14,7 @@ pub fn nothing_is_set()
         HasSet owner [] list ledger list ledger }
 {}
 
-/// Some data that were set, and others behind them.
+/// Some data that were set, and others after them.
 pub fn setting_goes_on()
     ensures { (owner : ℕ) (first next : List NamedData) (x y z : PlainDataList)
         (a b c : PlainLedger) →

@@ -34,7 +34,7 @@ pub struct StackLine {
 /// answer is INCOMPLETE, whatever the module made of it.
 ///
 /// With spare room in the trail it takes no memory of its own. Without memory of the module's nothing is visited,
-/// but what was replaced is cleaned up too.
+/// but what was replaced is cleaned up too, and the module's number is still the one at work.
 pub fn serve_line(
     alloc: Global,
     mods: &[Box<dyn Module>],
@@ -70,6 +70,8 @@ pub fn serve_line(
         ++ record { place = line.place; path = line.path; answer = code } ∷ []) }
     ensures not_visited { OnErr result (room.new.transaction.trail.visits
         ≡ room.old.transaction.trail.visits) }
+    ensures at_work { OnErr result (line.module_number
+        ≡ Some room.new.transaction.serving) }
     ensures spare { room.old.transaction.trail.spare ≤ room.new.transaction.trail.spare + 1 }
     ensures stays { Stays (plain_transaction room.old.transaction)
         (plain_transaction room.new.transaction) (plain_process world.old.process)
@@ -117,6 +119,7 @@ fn serve_by(
         (state_of (⟦<Room as RoomTold>⟧.plain room.old) (⟦<World as WorldTold>⟧.plain world.old)))
         code (state_of (⟦<Room as RoomTold>⟧.plain room.new)
         (⟦<World as WorldTold>⟧.plain world.new))) }
+    ensures serving { room.new.transaction.serving ≡ number }
     ensures trail { room.new.transaction.trail.visits ≡ room.old.transaction.trail.visits }
     ensures spare { room.old.transaction.trail.spare ≤ room.new.transaction.trail.spare }
     ensures stays { Stays (plain_transaction room.old.transaction)

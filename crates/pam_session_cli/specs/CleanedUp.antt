@@ -16,11 +16,9 @@ use Rattle.pam_session_cli.specs.Generate.{generate_status}
 use Rattle.pam_session_cli.specs.Login.{login_status}
 
 -- Each datum that was set was cleaned up exactly once: the receipts are those that births and ends of transactions
--- make due, in their
--- order, each with its status, and every birth has one. The ledger is in order: each receipt has its owner's note,
--- and a datum that was
--- replaced by one of its transaction and name has the status that says so. Each end, by its number and its status, is
--- one of these.
+-- make due, in their order, each with its status, and every birth has one. The ledger is in order: each receipt has
+-- its owner's note, and a datum that was replaced by one of its transaction and name has the status that says so.
+-- Each end, by its number and its status, is one of these.
 pub record IsCleanedUp (Is : ℕ → ℕ → Type 0) (note : Notes) (ledger : PlainLedger) : Type 0 where
   pub events : List Event
   pub ends_are : EndsAre Is events
@@ -41,10 +39,8 @@ EndsGenerate status number ended = (result : Result Generated Stop)
     × (status ≡ generate_status result) × IsEndOfGenerate result number ended
 
 -- Which ends there may be, by what the program was asked for and the status that it comes to. In a run whose script
--- is told, each
--- transaction was ended with the status that one of the script's lines asks for, for that number, or with one of
--- those with which a
--- run ends what is open; the commands that open no transaction end none.
+-- is told, each transaction was ended with the status that one of the script's lines asks for, for that number, or
+-- with one of those with which a run ends what is open; the commands that open no transaction end none.
 abbrev pub MayEnd : Option Request → Bool → List ℕ → ℕ → ℕ → ℕ → Type 0
 MayEnd (Some (runs root)) tells script status number ended = IsEndOfRun tells script number ended
 MayEnd (Some (logs_in root service user)) tells script status number ended =

@@ -41,7 +41,7 @@ run_request operands = None
 abbrev pub check_request : List (String Global) → Option Request
 check_request (root ∷ service ∷ []) =
     if is_operand (string_bytes root) && is_service (string_bytes service)
-        then Some (checks (string_bytes root) (string_bytes service)) else None
+    then Some (checks (string_bytes root) (string_bytes service)) else None
 check_request operands = None
 
 -- ROOT SERVICE [USER]
@@ -51,11 +51,11 @@ is_place root service = is_operand root && is_operand service && is_service_name
 abbrev pub login_request : List (String Global) → Option Request
 login_request (root ∷ service ∷ []) =
     if is_place (string_bytes root) (string_bytes service)
-        then Some (logs_in (string_bytes root) (string_bytes service) None) else None
+    then Some (logs_in (string_bytes root) (string_bytes service) None) else None
 login_request (root ∷ service ∷ user ∷ []) =
     if is_operand (string_bytes user) then (if is_place (string_bytes root) (string_bytes service)
     then Some (logs_in (string_bytes root) (string_bytes service) (Some (string_bytes user)))
-        else None) else None
+    else None) else None
 login_request operands = None
 
 -- a number in decimal digits without a leading zero, of at most 32 bits
@@ -81,7 +81,7 @@ generate_request operands = None
 abbrev pub tally_request : List (String Global) → Option Request
 tally_request (root ∷ user ∷ []) =
     if is_operand (string_bytes root) && is_user (string_bytes user)
-        then Some (tallies (string_bytes root) (string_bytes user)) else None
+    then Some (tallies (string_bytes root) (string_bytes user)) else None
 tally_request operands = None
 
 abbrev pub command_request : List ℕ → List (String Global) → Option Request
@@ -98,5 +98,4 @@ request_of [] = None
 request_of (command ∷ operands) = command_request (string_bytes command) operands
 
 abbrev pub usage : List ℕ
-usage = codes "usage: pamsess run ROOT | check ROOT SERVICE | login ROOT SERVICE [USER]
-    | generate SEED LINES | tally ROOT USER\n"
+usage = codes "usage: pamsess run ROOT | check ROOT SERVICE | login ROOT SERVICE [USER] | generate SEED LINES | tally ROOT USER\n"

@@ -51,8 +51,7 @@ events_in setting ending start script r =
     run_events setting (ending_status ending) start script r.items r.last
 
 -- The report of this run is written whole, and the world is the one behind it. The receipts of data are those that
--- the births and ends
--- of the run make due.
+-- the births and ends of the run make due.
 pub record IsReported (setting : Setting) (ending : Ending) (start : RunState) (script : List ℕ)
     (r : Run RunState) (world : PlainWorld) (p q : SinkState) : Type 0 where
   pub written : q.written ≡ p.written ++ report_of setting ending r
@@ -68,8 +67,7 @@ pub record IsDone (setting : Setting) (start : RunState) (world : PlainWorld) (x
   pub read_out : y.left ≡ []
 
 -- Status 7: a line of the whole script is refused, for this. Of the bytes taken, all but at most the last 512 (those
--- of the last
--- read) hold no line that is refused.
+-- of the last read) hold no line that is refused.
 pub record IsRefused (setting : Setting) (start : RunState) (world : PlainWorld) (x y : SourceState)
     (p q : SinkState) : Type 0 where
   pub kind : ScriptKind
@@ -107,8 +105,8 @@ pub record IsNotBegun (old new : PlainWorld) (x y : SourceState) (p q : SinkStat
   pub sink : q ≡ p
 
 -- The lines among some bytes, number by number: the place of each behind them and the outcomes of its steps are those
--- of its own steps
--- alone, each in the world before it; and what is reported of the lines is what is told of these steps.
+-- of its own steps alone, each in the world before it; and what is reported of the lines is what is told of these
+-- steps.
 pub record StandsSideBySide (setting : Setting) (start : RunState) (bytes : List ℕ)
     (ended : Bool) : Type 0 where
   pub alone : (number : ℕ) (slot : PlainSlot) → slot_at start.slots number ≡ Some slot
@@ -116,8 +114,7 @@ pub record StandsSideBySide (setting : Setting) (start : RunState) (bytes : List
   pub steps : TellsSteps setting start bytes ended
 
 -- a run was begun: what was taken and written, how often it was read and written, and the world behind it; before it
--- there was no
--- birth and no end; and whatever lines it comes to stand side by side
+-- there was no birth and no end; and whatever lines it comes to stand side by side
 pub record IsBegun (setting : Setting) (status : ℕ) (start : RunState) (world : PlainWorld)
     (x y : SourceState) (p q : SinkState) : Type 0 where
   pub result : Result Ending Stop

@@ -44,22 +44,22 @@ pub join-words_of : (line : List ℕ) → join_with_byte 32 (words_of line) ≡ 
 unfolding words_of
 join-words_of line = join_with_byte-slice_split 32 line
 
--- the first word of a line with a space, and the words of what stands behind it
+-- the first word of a line with a space, and the words of what follows it
 pub words_of-first : (line : List ℕ) (n : ℕ) → IsFirstPlace (Some n) 32 line → words_of line ≡ take n line ∷ words_of (drop (n + 1) line)
 words_of-first line n at = ap words_of at.2 ∙ words_of-word (take n line) (drop (n + 1) line) at.1
 
--- what stands behind the first word
+-- what follows the first word
 pub behind_first : (line : List ℕ) (n : ℕ) → IsFirstPlace (Some n) 32 line
     → words_of (take (length line - (n + 1)) (drop (n + 1) line)) ≡ drop 1 (words_of line)
 behind_first line n at =
     let whole : take (length line - (n + 1)) (drop (n + 1) line) ≡ drop (n + 1) line = take_all (length line - (n + 1)) (drop (n + 1) line) (omega (arith, length-drop (n + 1) line)) in
     rw (whole, words_of-first line n at) refl
 
--- nothing stands behind the only word
+-- nothing stands after the only word
 pub behind_alone : (line : List ℕ) → IsFirstPlace None 32 line → length (words_of line) ≤ 1
 behind_alone line none = rw (words_of-alone line none) (omega arith)
 
--- the words behind one more word
+-- the words after one more word
 pub behind_next : (words left more : List (List ℕ)) (k : ℕ) → left ≡ drop k words → more ≡ drop 1 left → more ≡ drop (k + 1) words
 behind_next words left more k is next = rw (next, is, drop-drop 1 k words) refl
 
@@ -67,7 +67,7 @@ behind_next words left more k is next = rw (next, is, drop-drop 1 k words) refl
 pub none_behind : (words left : List (List ℕ)) (k n : ℕ) → left ≡ drop k words → length left ≤ 1 → k < n → length words ≤ n
 none_behind words left k n is last lt = omega (arith, last, ap length is, length-drop k words)
 
--- whether something is left behind so many words
+-- whether something is left after n words
 pub is_behind : (rest : Option (List ℕ)) (line : List ℕ) (n : ℕ) → IsBehind rest n (words_of line) → is_some rest ≡ nat_lt n (length (words_of line))
 is_behind None line n is = sym (le-ltb n (length (words_of line)) is)
 is_behind (Some rest) line n is =
@@ -105,7 +105,7 @@ module _ (place : Place) (before : ℕ) (line rest : List ℕ) (is : words_of re
   pub word_at-other : is_text place ≡ false → ◌≡◌ {A = Option (List ℕ)} (Some (first_word rest)) (word_at place before (words_of line))
   word_at-other e = rw e (first_of (words_of rest) (has_word rest) ∙ ap (λ (words : List (List ℕ)). slice_get words 0) is ∙ get-drop (words_of line) before)
 
--- whether a line has its words, by what stands behind the wanted ones and behind the most
+-- whether a line has its words, by what follows the wanted ones and after the most
 module _ (places : List Place) (line : List ℕ) (wanted : ℕ) (least : Option (List ℕ)) (is_wanted : wanted ≡ wanted_of places) (behind : IsBehind least wanted (words_of line)) where
   enough : is_some least ≡ nat_lt (wanted_of places) (length (words_of line))
   enough = is_behind least line wanted behind ∙ ap (λ (n : ℕ). nat_lt n (length (words_of line))) is_wanted

@@ -1,4 +1,4 @@
--- The words of a line at the places behind its command (this project's own: single spaces separate words).
+-- The words of a line at the places after its command (this project's own: single spaces separate words).
 use Rattle.std.specs.Prelude.{◌≡◌, ℕ, ◌+◌, ◌≤◌, Bool, List, [], length, drop, slice_get, Option, Some, None, nat_le, nat_lt, ◌&&◌, ◌||◌, if◌then◌else◌}
 use Rattle.std.specs.List.{join_with_byte, count_by, list_any}
 use Rattle.std.specs.Option.{is_some, unwrap_or}
@@ -10,7 +10,7 @@ use Rattle.script_lang.specs.Place.{form_of, is_wanted, is_text}
 abbrev pub first_word : List ℕ → List ℕ
 first_word line = unwrap_or (slice_get (words_of line) 0) []
 
--- the word behind so many others; at the place of a text all that follows, with the spaces between
+-- the word after n others; at the place of a text all that follows, with the spaces between
 abbrev pub word_at : Place → ℕ → List (List ℕ) → Option (List ℕ)
 word_at place before words =
     if is_text place && nat_lt before (length words)
@@ -24,13 +24,13 @@ wanted_of places = count_by is_wanted places
 abbrev pub most_of : List Place → ℕ
 most_of places = count_by (λ place. is_some (form_of place)) places
 
--- whether there are as many words behind the command's as the places ask for; a text is as many words as it likes
+-- whether there are as many words after the command's as the places ask for; a text is as many words as it likes
 abbrev pub has_its_words : List Place → List (List ℕ) → Bool
 has_its_words places words =
     nat_lt (wanted_of places) (length words)
     && (list_any is_text places || nat_le (length words) (most_of places + 1))
 
--- what is left behind so many words, if more words follow
+-- what is left after n words, if more words follow
 abbrev pub IsBehind : Option (List ℕ) → ℕ → List (List ℕ) → Type 0
 IsBehind (Some rest) count words = words_of rest ≡ drop count words
 IsBehind None count words = length words ≤ count

@@ -13,7 +13,7 @@ abbrev pub switch_word : Bool → List ℕ
 switch_word true = codes "on"
 switch_word false = codes "off"
 
--- the words behind the command's and the number
+-- the words after the command's and the number
 abbrev pub arguments_of : AppCall → List (List ℕ)
 arguments_of (calls.Start service None) = service ∷ []
 arguments_of (calls.Start service (Some user)) = service ∷ user ∷ []
@@ -39,7 +39,7 @@ abbrev pub text_of_step : Step → List ℕ
 text_of_step step = join_with_byte 32 (word_of_call step.call ∷ decimal step.number
     ∷ arguments_of step.call)
 
--- the same with a carriage return behind it, so that one that a text ends with is kept
+-- the same with a carriage return after it, so that one that a text ends with is kept
 abbrev pub line_of : Step → List ℕ
 line_of step = text_of_step step ++ codes "\r"
 

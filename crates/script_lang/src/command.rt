@@ -52,7 +52,7 @@ const ALL_COMMANDS: [Command; 19] = [
     Command::Caller,
 ];
 
-/// A row of the table of commands: the command's word and what may stand behind it.
+/// A row of the table of commands: the command's word and what may stand after it.
 #[derive(Clone, Copy)]
 pub(crate) struct Row {
     pub(crate) word: &'static str,

@@ -17,7 +17,7 @@ pub(crate) fn first_word(line: &[u8]) -> &[u8]
     }
 }
 
-/// The word at a place, where so many words stand before it in the line. None exactly where the line has no more
+/// The word at a place, where n words stand before it in the line. None exactly where the line has no more
 /// words.
 pub(crate) fn word_at(place: Place, before: usize, line: &[u8]) -> Option<&[u8]>
     ensures { option_map (λ word. word.now) result ≡ word_at place before (words_of line.now) }
@@ -30,7 +30,7 @@ pub(crate) fn word_at(place: Place, before: usize, line: &[u8]) -> Option<&[u8]>
     }
 }
 
-/// Whether the line has as many words behind its command as these places ask for.
+/// Whether the line has as many words after its command as these places ask for.
 pub(crate) fn has_its_words(places: [Place; 3], line: &[u8]) -> bool
     ensures { result ≡ has_its_words places (words_of line.now) }
 {
@@ -38,7 +38,7 @@ pub(crate) fn has_its_words(places: [Place; 3], line: &[u8]) -> bool
         && (has_text(places) || behind_words(most(places) + 1, line).is_none())
 }
 
-// What stands behind so many words and the space after each. None exactly where the line has no more words.
+// What follows n words and the space after each. None exactly where the line has no more words.
 fn behind_words(count: usize, line: &[u8]) -> Option<&[u8]>
     ensures { IsBehind (option_map (λ rest. rest.now) result) count (words_of line.now) }
 {

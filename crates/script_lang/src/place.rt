@@ -24,7 +24,7 @@ pub(crate) enum Form {
     Text,
 }
 
-/// A place behind the word of a command.
+/// A place after the word of a command.
 #[derive(Clone, Copy, Debug, PartialEq, Eq)]
 pub(crate) enum Place {
     Wanted(Form),

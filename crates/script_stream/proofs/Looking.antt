@@ -40,7 +40,7 @@ pub looked-none : (n : ℕ) (ended : Bool) → looked n [] ended ≡ []
 unfolding looked last_looked cut
 looked-none n ended = refl
 
--- ---- the lines of a front and what stands behind it
+-- ---- the lines of a front and what follows it
 
 glued : Cut → Cut → Cut
 glued p q = record { lines = p.lines ++ q.lines; rest = q.rest }

@@ -6,7 +6,7 @@ use Rattle.pam_base.specs.Lines.{cut}
 abbrev pub held_limit : ℕ
 held_limit = 513
 
--- What stands behind the last newline is looked at where the input has ended; before that only where it is one line
+-- What follows the last newline is looked at where the input has ended; before that only where it is one line
 -- too many, or where more than `held_limit` bytes of it were taken. `n` is the number of lines before it.
 unfoldable pub last_looked : ℕ → List ℕ → Bool → List (List ℕ)
 last_looked n [] ended = []

@@ -11,8 +11,7 @@ abbrev pub LineStep : Type 0 → Type 0
 LineStep State = State → List ℕ → Result (State × List ℕ) ScriptKind
 
 -- A line that has n lines before it. Line 65,537 is refused, and so is a line of more than `held_limit` bytes,
--- whatever it
--- ends with; one of so many may end with a carriage return, so that is for the step to say.
+-- whatever it ends with; one of just so many may end with a carriage return, so that is for the step to say.
 unfoldable pub step_at : {State : Type 0} → LineStep State → ℕ → State → List ℕ
     → Result (State × List ℕ) ScriptKind
 step_at step n s line =
@@ -28,6 +27,6 @@ Run State = items.Run State ScriptKind
 abbrev pub run_lines : {State : Type 0} → LineStep State → ℕ → State → List (List ℕ) → Run State
 run_lines step n s lines = items.run_items (step_at step) n s lines
 
--- what bytes come to that stand behind n lines; `ended` says that the input ends behind them
+-- what bytes come to that stand after n lines; `ended` says that the input ends after them
 abbrev pub run_of : {State : Type 0} → LineStep State → ℕ → State → List ℕ → Bool → Run State
 run_of step n s bytes ended = items.run_of looked (step_at step) n s bytes ended

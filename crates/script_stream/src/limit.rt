@@ -6,7 +6,7 @@ pub const MAX_LINES: u32 = 65536;
 /// The most bytes of a line that are held without its newline: 512 of the line, and a carriage return.
 const HELD_LIMIT: usize = 513;
 
-/// How many bytes of a line may be held without its newline, where so many lines stand before it: [`HELD_LIMIT`], and
+/// How many bytes of a line may be held without its newline, where n lines stand before it: [`HELD_LIMIT`], and
 /// none of line 65,537.
 pub fn limit_of(lines: u32) -> usize
     ensures { IsLimit result lines }

@@ -22,7 +22,7 @@ use Rattle.service_load.specs.Loading.{texts_of, counts_of, Looks, OnlyCalls, Ad
 use Rattle.service_load.specs.Order.{Item, Opener, by_rule, made, content_items}
 use Rattle.service_load.specs.Tree.{content_nodes}
 
--- ---- stacks behind one another
+-- ---- stacks after one another
 
 pub joined-none : (s : Stack) → joined s none ≡ s
 joined-none none = refl
@@ -108,7 +108,7 @@ module _ (texts : List ℕ → Option (List ℕ)) (fails : List ℕ) where
   on-same (Ok c) f g same = same c
   on-same (Err s) f g same = refl
 
-  -- along some items and those behind them
+  -- along some items and those after them
   pub look-append : (counts : Counts) (xs ys : List Item)
       → look texts fails counts (xs ++ ys) ≡ going_on (look texts fails counts xs) (λ c. look texts fails c ys)
   unfolding look

@@ -19,7 +19,7 @@ node_on-Sub inner rest =
     let row = row_in (Sub inner) in
     ap (λ (s : Stack). sub s rest) (row_stack-items row.0 row.1 ∙ ap stack_of (items_hidden-the_row-Node-0 inner.vec))
 
--- some nodes behind others
+-- some nodes after others
 joined-node_on : (node : Node) (rest more : Stack) → joined (node_on node rest) more ≡ node_on node (joined rest more)
 joined-node_on (Line rule) rest more = refl
 joined-node_on (Sub' shape all) rest more = refl

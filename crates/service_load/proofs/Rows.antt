@@ -40,11 +40,11 @@ start = record { calls = 1; openings = 0; lines = 0 }
 alone : List ℕ → Texts
 alone text = with_service (codes "t") text empty
 
--- the load of t is refused, after so many calls of the vault
+-- the load of t is refused, after n calls of the vault
 IsRefused : Texts → List ℕ → List ℕ → ℕ → ℕ → FaultKind → Type 0
 IsRefused texts fails file calls number kind = look texts fails start (order texts true (codes "t")) ≡ Err (record { fault = fault_at file number kind; calls = calls })
 
--- the load of t isn't refused, and has asked for so many openings
+-- the load of t isn't refused, and has asked for n openings
 IsLoaded : Texts → ℕ → Type 0
 IsLoaded texts openings = look texts [] start (order texts true (codes "t")) ≡ Ok (record { calls = openings + 1; openings = openings; lines = 0 })
 

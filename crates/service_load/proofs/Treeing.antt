@@ -169,7 +169,7 @@ stops_whole (refusals.Named f) root first new own other start along rest is one 
     ap (look (texts_of root first) first.fails start) (sym e) ∙ look_stops (texts_of root first) first.fails start (record { fault = f; calls = new.calls }) along rest a.looks
 stops_whole refusals.NoMemory root first new own other start along rest is one e a = tt
 
--- all that is looked along, by what comes up to a tree and what comes behind it
+-- all that is looked along, by what comes up to a tree and what comes after it
 module _ (root : List ℕ) (first : VaultState) (own other : RuleFile) where
   abbrev pub of_type : RuleType → List Item
   of_type = tree_items (texts_of root first) own other
@@ -183,7 +183,7 @@ module _ (root : List ℕ) (first : VaultState) (own other : RuleFile) where
   pub from_fourth : (((of_type Auth ++ of_type Account) ++ of_type Password) ++ of_type Session) ++ [] ≡ trees_items (texts_of root first) own other
   from_fourth = append_assoc ((of_type Auth ++ of_type Account) ++ of_type Password) (of_type Session) [] ∙ from_third
 
--- four trees, one behind another, are those of the whole load
+-- four trees, one after another, are those of the whole load
 pub loads_four : (root : List ℕ) (first v w x new : VaultState) (own other : RuleFile) (start : Counts) (k l m is : Loader) (auth account password session : Nodes)
     → Along (Ok auth) root first v start (of_type root first own other Auth) k (tree_from (texts_of root first) own other Auth)
     → Along (Ok account) root first w start (of_type root first own other Auth ++ of_type root first own other Account) l (tree_from (texts_of root first) own other Account)

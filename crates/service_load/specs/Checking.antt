@@ -12,7 +12,7 @@ use Rattle.service_load.specs.Entry.{entry_of}
 use Rattle.service_load.specs.Files.{Held, absent, faulty, holds}
 use Rattle.service_load.specs.Tree.{serves}
 
--- an entry in front of those of the rules behind it, or the fault of the rule in this line
+-- an entry in front of those of the rules after it, or the fault of the rule in this line
 abbrev pub with_entry : ℕ → Result Entry FaultKind → Result (List Entry) LexFault
     → Result (List Entry) LexFault
 with_entry line (Ok entry) more = result_map (λ es. entry ∷ es) more

@@ -71,6 +71,6 @@ entry_of_tokens line true (t ∷ ts) = if is_word (codes "@include") t
     else with_type line (type_field_of t) ts
 entry_of_tokens line false (t ∷ ts) = with_type line (type_field_of t) ts
 
--- what a rule says, in a file of the folder's form (pam.d(5)) or in pam.conf behind its service (pam.conf(5))
+-- what a rule says, in a file of the folder's form (pam.d(5)) or in pam.conf after its service (pam.conf(5))
 unfoldable pub entry_of : Bool → RawRule → Result Entry FaultKind
 entry_of in_folder rule = entry_of_tokens rule.line in_folder rule.tokens

@@ -75,7 +75,7 @@ module _ (texts : List ℕ → Option (List ℕ)) (fails : List ℕ) where
       else if fails_next counts.calls fails then stop (asked counts) file.name 0 ReadFailed
       else held_file (asked counts) file opener (held texts file)
 
-  -- the counts behind an item, or its fault
+  -- the counts after an item, or its fault
   abbrev pub behind : Counts → Item → Result Counts Stop
   behind counts begin = Ok (record counts { lines = 0 })
   behind counts (opening file level opener) = opened counts file level opener
@@ -84,7 +84,7 @@ module _ (texts : List ℕ → Option (List ℕ)) (fails : List ℕ) where
   behind counts (made name line) = if nat_le 4096 counts.lines
       then stop counts name line TooManyLines else Ok (record counts { lines = counts.lines + 1 })
 
-  -- the counts behind some items, or the first fault among them
+  -- the counts after some items, or the first fault among them
   unfoldable pub look : Counts → List Item → Result Counts Stop
   look counts [] = Ok counts
   look counts (i ∷ is) = going_on (behind counts i) (λ c. look c is)

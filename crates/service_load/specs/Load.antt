@@ -27,7 +27,7 @@ loaded_from in_folder vault root service calls =
     look (texts_of root vault) vault.fails (record { calls = calls; openings = 0; lines = 0 })
     (order (texts_of root vault) in_folder service)
 
--- what a service comes to: the folder is asked for, and then the look goes along the whole order; the counts behind
+-- what a service comes to: the folder is asked for, and then the look goes along the whole order; the counts after
 -- it, or the first fault, with the calls of the vault up to it
 abbrev pub loaded : VaultState → List ℕ → List ℕ → Result Counts Stop
 loaded vault root service =

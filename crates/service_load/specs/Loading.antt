@@ -66,11 +66,11 @@ abbrev pub IfCalled : {A F : Type 0} → Result A (Refuse F) → Type 0 → Type
 IfCalled (Err NoMemory) fact = Unit {0}
 IfCalled result fact = fact
 
--- it stays with Ok too; where memory ran out it has at most risen
+-- it stays with Ok too, and where memory ran out: no fault is hidden behind that
 abbrev pub CountsFaults : {A : Type 0} → Result A (Refuse LoadFault) → ℕ → ℕ → Type 0
 CountsFaults (Ok x) before now = now ≡ before
 CountsFaults (Err (Named f)) before now = KindCounts f.kind before now
-CountsFaults (Err NoMemory) before now = before ≤ now
+CountsFaults (Err NoMemory) before now = now ≡ before
 
 -- a line was added to a stack, or is one too many
 abbrev pub AddsLine : {A : Type 0} → Result A (Refuse LoadFault) → Loader → Loader → Stack → Stack

@@ -58,7 +58,7 @@ file_items deeper type file rules =
     then items_of deeper type file.name (entries_of (is_in_folder file) rules) else [])
 
 module _ (texts : List ℕ → Option (List ℕ)) where
-  -- a file that is opened, and what it brings, where so many levels of files may open; at level 17 nothing follows
+  -- a file that is opened, and what it brings, where n levels of files may open; at level 17 nothing follows
   unfoldable pub items : ℕ → RuleType → Opener → RuleFile → List Item
   items zero type opener file = opening file 17 opener ∷ []
   items (suc levels) type opener file = opening file (16 - levels) opener

@@ -36,7 +36,7 @@ abbrev pub tree_of : Stack → Stack → Stack
 tree_of own other = if count own == 0 then other else own
 
 module _ (texts : List ℕ → Option (List ℕ)) where
-  -- the nodes of a file for a type (pam.conf(5)), where so many levels of files may open: none above the last
+  -- the nodes of a file for a type (pam.conf(5)), where n levels of files may open: none above the last
   unfoldable pub nodes : ℕ → RuleType → RuleFile → Stack
   nodes zero type file = none
   nodes (suc levels) type file =

@@ -37,7 +37,7 @@ pub(crate) struct Entry {
 pub(crate) type Entries = Sequence<Entry>;
 
 impl Entry {
-    /// What the tokens of a rule in this line say, in a file of the folder or, behind its service, in
+    /// What the tokens of a rule in this line say, in a file of the folder or, after its service, in
     /// `pam.conf(5)`; or what is wrong with the first field that isn't as it should be.
     pub(crate) fn of(
         alloc: Global,

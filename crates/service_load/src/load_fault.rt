@@ -1,3 +1,4 @@
+ghost use Rattle.std.specs.Prelude.{◌≡◌};
 ghost use Rattle.service_load.specs.FirstFault.{fault_at};
 ghost use Rattle.service_load.specs.Answers.{IsRefusal};
 
@@ -12,6 +13,19 @@ pub struct LoadFault {
     /// The number of a physical line, from 1; 0 where the file as a whole is meant.
     pub line: u32,
     pub kind: FaultKind,
+}
+
+impl LoadFault {
+    /// A file couldn't be read.
+    pub(crate) fn unread(file: Text) -> LoadFault
+        ensures { result ≡ fault_at file 0 FaultKind.ReadFailed }
+    {
+        LoadFault {
+            file,
+            line: 0,
+            kind: FaultKind::ReadFailed,
+        }
+    }
 }
 
 /// The refusal for this fault; without memory for its file's name, want of memory.

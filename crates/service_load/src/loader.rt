@@ -22,7 +22,7 @@ use crate::rule_file::RuleFile;
 use crate::rule_type::RuleType;
 use crate::trees::Trees;
 use control_words::{Node, Nodes, Rule};
-use pam_base::{FaultKind, Refuse};
+use pam_base::{FaultKind, Refuse, Text};
 use pam_outside::{Vault, VaultFault, path_of, read_file};
 use std::alloc::Global;
 
@@ -74,6 +74,8 @@ impl Loader {
         self.openings += 1;
         let name = file.name.bytes();
         let path = path_of(alloc, root, name)?;
+        // Copied before the call, so that want of memory hides no fault of the vault.
+        let unread = Text::from_bytes(alloc, name)?;
         match read_file(vault, alloc, path.bytes(), MAX_FILE) {
             Ok(text) => match self.kept.entries_in(alloc, file, rule_type, text) {
                 Ok(entries) => Ok(entries),
@@ -83,7 +85,7 @@ impl Loader {
             Err(VaultFault::NoMemory) => Err(Refuse::NoMemory),
             Err(VaultFault::Absent) => Ok(None),
             Err(VaultFault::TooLong) => Err(refused(alloc, name, 0, FaultKind::FileTooLong)),
-            Err(VaultFault::Failed) => Err(refused(alloc, name, 0, FaultKind::ReadFailed)),
+            Err(VaultFault::Failed) => Err(Refuse::Named(LoadFault::unread(unread))),
         }
     }
 

@@ -4,12 +4,12 @@ ghost use Rattle.service_load.specs.Load.{AreBounded, Loads, LoadsFrom};
 ghost use Rattle.service_load.specs.Loading.{CountsFaults, OnlyCalls};
 
 use crate::kept::Kept;
-use crate::load_fault::{LoadFault, refused};
+use crate::load_fault::LoadFault;
 use crate::loader::Loader;
 use crate::names::FOLDER;
 use crate::rule_file::RuleFile;
 use crate::trees::Trees;
-use pam_base::{FaultKind, Refuse};
+use pam_base::{Refuse, Text};
 use pam_outside::{ReplaceFault, Vault, is_folder, path_of};
 use std::alloc::Global;
 
@@ -30,7 +30,7 @@ use std::alloc::Global;
 /// A load asks the vault once for the folder and once for each file that it opens. It takes memory for the
 /// texts that it reads with their rules, each different text once and until its end, for the rules of the files
 /// that are open, at most 17, and for the stacks. Without memory nothing is given; of what the vault tells only
-/// its number of calls has changed, as with every answer.
+/// its number of calls has changed, as with every answer, and no fault of the vault is hidden behind it.
 pub fn load(
     alloc: Global,
     vault: &mut dyn Vault,
@@ -46,10 +46,11 @@ pub fn load(
     ensures faults { CountsFaults result (vault_faults vault.old) (vault_faults vault.new) }
 {
     let folder = path_of(alloc, root, FOLDER)?;
+    let unread = Text::from_bytes(alloc, FOLDER)?;
     match is_folder(vault, alloc, folder.bytes()) {
         Ok(found) => load_from(alloc, vault, root, found, service),
         Err(ReplaceFault::NoMemory) => Err(Refuse::NoMemory),
-        Err(ReplaceFault::Failed) => Err(refused(alloc, FOLDER, 0, FaultKind::ReadFailed)),
+        Err(ReplaceFault::Failed) => Err(Refuse::Named(LoadFault::unread(unread))),
     }
 }
 

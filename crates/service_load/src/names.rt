@@ -12,7 +12,7 @@ pub(crate) const IN_FOLDER: &[u8; 11] = b"/etc/pam.d/";
 /// The file that is read where there is no such folder (`pam.conf(5)`).
 pub(crate) const PAM_CONF: &[u8; 13] = b"/etc/pam.conf";
 
-/// One text behind another.
+/// One text after another.
 pub(crate) fn joined(alloc: Global, front: &[u8], back: &[u8]) -> Result<Text, NoMemory>
     ensures { IfOk result (λ text. text ≡ front.now ++ back.now) }
 {

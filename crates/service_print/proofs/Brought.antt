@@ -287,7 +287,7 @@ by_count reading texts fails own other type before start middle after begins own
 by_count reading texts fails own other type before start middle after begins own_brings false is looked =
     subst (λ (c : Counts). Tree before c (nodes texts 17 type own)) (nothing_met texts fails middle after looked) (own_tree before start middle (nodes texts 17 type own) begins own_brings is)
 
--- the stack of a type, and the openings behind it
+-- the stack of a type, and the openings after it
 pub tree_brings : Reading → (texts : List ℕ → Option (List ℕ)) (fails : List ℕ) (own other : _) (type : RuleType) (before after : Counts)
     → look texts fails before (tree_items texts own other type) ≡ Ok after
     → Tree before after (tree_of (nodes texts 17 type own) (nodes texts 17 type other))

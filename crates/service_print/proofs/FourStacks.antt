@@ -1,6 +1,7 @@
 -- The four stacks, printed one after another.
-use Rattle.std.proofs.Common.{◌≡◌, ℕ, ◌+◌, List, [], ◌∷◌, ◌++◌, length, refl, sym, ap, ◌∙◌, append_assoc, append-nil, arith, length-append}
+use Rattle.std.proofs.Common.{◌≡◌, ℕ, ◌+◌, List, [], ◌∷◌, ◌++◌, length, refl, sym, ap, ◌∙◌, append_assoc, append-nil, arith, length-append, ◌<◌, ◌≤◌, drop, drop_of_length-le, get_or, subst}
 use Rattle.std.proofs.Math.ListN.{set}
+use Rattle.std.proofs.lemmas.List.{drop_more}
 use Rattle.control_words.specs.Stack.{Stack}
 use Rattle.service_load.specs.declared.rule_type.RuleType.{RuleType}
 use Rattle.service_load.specs.RuleType.{all_types}
@@ -46,6 +47,16 @@ printing_step stack service type types text new files more was added filed =
           ∙ was.filed;
     }
 
+-- the next of the types
+pub printing_next : (stack : RuleType → Stack) (service : List ℕ) (i : ℕ) (d : RuleType) (text new : List ℕ) (files more : List File)
+    → i < length all_types → IsPrinting stack service (drop i all_types) text files
+    → new ≡ text ++ text_of (list_lines service (get_or all_types i d) (length files) (stack (get_or all_types i d)))
+    → more ≡ files ++ substack_files service (get_or all_types i d) (length files) (stack (get_or all_types i d))
+    → IsPrinting stack service (drop (i + 1) all_types) new more
+printing_next stack service i d text new files more within was added filed =
+    let here = subst (λ (types : List RuleType). IsPrinting stack service types text files) (drop_more all_types i d within) was in
+    printing_step stack service (get_or all_types i d) (drop (i + 1) all_types) text new files more here added filed
+
 pub printing_end : (stack : RuleType → Stack) (service text name : List ℕ) (files : List File) → IsPrinting stack service [] text files
     → name ≡ service → set files 0 (record { name = name; text = text }) ≡ printed stack service
 unfolding printed
@@ -53,3 +64,11 @@ printing_end stack service text name files was named =
     let texts = sym (append-nil text) ∙ was.texts in
     let filed = sym (append-nil files) ∙ was.filed in
     rw (filed, texts, named) refl
+
+-- all types are printed
+pub printing_done : (stack : RuleType → Stack) (service : List ℕ) (i : ℕ) (text name : List ℕ) (files : List File) → length all_types ≤ i
+    → IsPrinting stack service (drop i all_types) text files → name ≡ service
+    → set files 0 (record { name = name; text = text }) ≡ printed stack service
+printing_done stack service i text name files past was named =
+    printing_end stack service text name files
+    (subst (λ (types : List RuleType). IsPrinting stack service types text files) (drop_of_length-le all_types past) was) named

@@ -116,7 +116,7 @@ brackets : written (rule required (codes "[m") ([] ∷ codes "a]b" ∷ codes "a]
 unfolding control rule one file of_auth two_stacks written printed list_lines substack_files numbered substack_line rule_line token_text ended same_control entries_among control_text digits entries_in entries_behind
 brackets = refl
 
--- a backslash at the end of the last token has a space behind it, at the end of another none but the one between
+-- a backslash at the end of the last token has a space after it, at the end of another none but the one between
 last_backslash : written (rule required (codes "m\\") (codes "a\\" ∷ codes "b\\" ∷ [])) (codes "auth required m\\ a\\ b\\ \n")
 unfolding control rule one file of_auth two_stacks written printed list_lines substack_files numbered substack_line rule_line token_text ended same_control entries_among control_text digits entries_in entries_behind
 last_backslash = refl

@@ -113,7 +113,7 @@ units_of-text : (text : List ℕ) → units_text (units_of text) ≡ text
 units_of-text [] = refl
 units_of-text (b ∷ bs) = rw (unit_of-text b, units_of-text bs) refl
 
--- what stands behind a byte in brackets doesn't begin with a newline
+-- what follows a byte in brackets doesn't begin with a newline
 no_newline_next : (text rest : List ℕ) → list_all is_inner text ≡ true → begins_with 10 (units_bytes (units_of text) ++ 93 ∷ rest) ≡ false
 no_newline_next [] rest is = refl
 no_newline_next (b ∷ bs) rest is =
@@ -219,7 +219,7 @@ piece_of-stands token rest = piece_stands token.bracketed token.text rest
 
 -- ---- lines
 
--- the pieces of tokens behind others
+-- the pieces of tokens after others
 abbrev pub behind_pieces : List Token → List Piece
 behind_pieces [] = []
 behind_pieces (token ∷ tokens) = white 32 ∷ piece_of token ∷ behind_pieces tokens

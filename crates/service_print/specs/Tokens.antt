@@ -3,7 +3,7 @@ use Rattle.std.specs.Prelude.{ℕ, ◌-◌, Bool, true, List, [], ◌∷◌, ◌
 use Rattle.std.specs.List.{flat_map, list_any}
 use Rattle.pam_base.specs.White.{is_white}
 
--- a field behind another, after one space
+-- a field after another, after one space
 abbrev pub behind_space : List ℕ → List ℕ
 behind_space field = 32 ∷ field
 
@@ -36,7 +36,7 @@ token_text text = if wants_brackets text then in_brackets text else text
 abbrev pub ends_in : ℕ → List ℕ → Bool
 ends_in byte line = slice_index line (length line - 1) == byte
 
--- the end of a line; a backslash at its end has a space behind it, lest it join the next line (pam.conf(5))
+-- the end of a line; a backslash at its end has a space after it, lest it join the next line (pam.conf(5))
 abbrev pub line_end : List ℕ → List ℕ
 line_end line = if ends_in 92 line then codes " \n" else codes "\n"
 

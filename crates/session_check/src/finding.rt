@@ -85,7 +85,7 @@ fn find(
     }
 }
 
-// The files of a configuration, each behind its name. The service is named in lower case.
+// The files of a configuration, each after its name. The service is named in lower case.
 fn configuration(alloc: Global, trees: &Trees, service: &[u8]) -> Result<Vec<u8>, NoMemory>
     ensures { IfOk result (λ text. text.items
         ≡ files_text (printed (stacks_in trees.now) (str_to_ascii_lowercase service.now))) }

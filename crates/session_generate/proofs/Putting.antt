@@ -17,7 +17,7 @@ module _ (file : DrawnFile) (files : List DrawnFile) (v t : VaultState) where
   on_by true none is = absurd cc
   on_by false none is = ap (placed files) (sym is)
 
-  -- behind a file that was put in its place
+  -- after a file that was put in its place
   pub goes_on : (placed (file ∷ []) v).fault ≡ None → t ≡ (placed (file ∷ []) v).vault → placed (file ∷ files) v ≡ placed files t
   goes_on none is = on_by (is_failing v) none is
 
@@ -26,7 +26,7 @@ module _ (file : DrawnFile) (files : List DrawnFile) (v t : VaultState) where
   stop_by fault true is = refl
   stop_by fault false is = absurd cc
 
-  -- nothing more is called behind one that was not
+  -- nothing more is called after one that was not
   pub stops : (fault : LoadFault) → (placed (file ∷ []) v).fault ≡ Some fault → placed (file ∷ files) v ≡ placed (file ∷ []) v
   stops fault is = stop_by fault (is_failing v) is
 

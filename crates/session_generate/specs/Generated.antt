@@ -54,7 +54,7 @@ abbrev pub found_by : Result Login LoadFault → Generated
 found_by (Ok login) = Written
 found_by (Err fault) = Refused
 
--- what `generate` writes and answers, and the state behind it
+-- what `generate` writes and answers, and the state after it
 pub record Generation : Type 0 where
   pub text : List ℕ
   pub generated : Generated
@@ -72,7 +72,7 @@ IsFound finding lines (Err (Named fault)) = (finding.generated ≡ Refused)
     × (finding.text ≡ refused_text fault)
 IsFound finding lines (Err refusals.NoMemory) = ⊥
 
--- a finding and the state behind it are those of a generation
+-- a finding and the state after it are those of a generation
 pub record Finds (finding : Finding) (g : Generation) (state : RunState) : Type 0 where
   pub generated : finding.generated ≡ g.generated
   pub text : finding.text ≡ g.text

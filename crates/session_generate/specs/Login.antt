@@ -43,7 +43,7 @@ abbrev pub refusal_in : Answer → Option LoadFault
 refusal_in (answers.Refused fault) = Some fault
 refusal_in answer = None
 
--- ---- what came of it: the code and how many lines were visited, or why the start was refused; and the state behind it
+-- ---- what came of it: the code and how many lines were visited, or why the start was refused; and the state after it
 
 pub record Attempt : Type 0 where
   pub result : Result Login LoadFault

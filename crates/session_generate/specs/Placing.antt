@@ -15,12 +15,12 @@ path_of_service name = codes "/etc/pam.d/" ++ name
 abbrev pub fault_of : DrawnFile → LoadFault
 fault_of file = record { file = path_of_service file.name; line = 0; kind = ReadFailed }
 
--- the vault behind one that was put in its place
+-- the vault after one that was put in its place
 abbrev pub with_file : DrawnFile → VaultState → VaultState
 with_file file v = counted
     (record v { files = file_put (path_of_service file.name) file.text v.files })
 
--- the vault behind the calls, and the fault of the first of them that is to fail; none comes behind it
+-- the vault after the calls, and the fault of the first of them that is to fail; none comes after it
 pub record Placed : Type 0 where
   pub vault : VaultState
   pub fault : Option LoadFault

@@ -43,10 +43,10 @@ struct Finding {
     text: Text,
 }
 
-/// Puts the service files of so many lines that a seed draws in their places under the root `/`, authenticates joe by
+/// Puts the service files of n lines that a seed draws in their places under the root `/`, authenticates joe by
 /// the service `gen` in a transaction of the number 1, and writes one line: `generated LINES files K code NAME NUMBER visited
 /// COUNT`, COUNT the lines that the authentication visited. Where the vault fails at a file, that file is refused, and no
-/// other comes behind it; the service is refused as its configuration is. Then the line of the fault is written.
+/// other comes after it; the service is refused as its configuration is. Then the line of the fault is written.
 ///
 /// The caller of the process is nobody. The line is made whole before it is written. The transaction is ended before that,
 /// with SUCCESS, or with BUF_ERR where memory was wanting, so none is open afterwards, whatever is answered.

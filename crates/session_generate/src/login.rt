@@ -76,7 +76,7 @@ fn end_status(login: &Result<Login, Refuse<LoadFault>>) -> Code
     }
 }
 
-// Starts and authenticates. The transaction may be open behind it.
+// Starts and authenticates. The transaction may be open after it.
 fn attempt(
     alloc: Global,
     library: &mut Library,

@@ -81,7 +81,7 @@ module _ (setting : Setting) where
     end_made : Went setting ((settling setting denied s).made) s t p q
     end_made = all_went setting ((settling setting denied s).made) answer s t p q g
 
-    -- nothing is written behind it
+    -- nothing is written after it
     pub settles_passed : denied ≡ None → Comes setting as_it_is (settling setting denied s) (Ok Passed) s t p q
     settles_passed none = record {
       whole = (settling setting denied s).made;

@@ -65,7 +65,7 @@ module _ (setting : Setting) where
         goes = goes_all setting (m ∷ []) (Some (code_in answer)) s t p q (all_went setting (m ∷ []) answer s t p q g);
       })
 
-      -- it goes on behind the first
+      -- it goes on after the first
       pub runs_on : accepts c.accepted (code_in answer) ≡ true → (result : Result (Option Code) Stop) (u : RunState) (r : SinkState)
           → GoesThrough setting (course setting calls (code_in answer) t) result t u q r → GoesThrough setting (course setting (c ∷ calls) last s) result s u p r
       runs_on ok result u r more =

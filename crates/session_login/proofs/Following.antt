@@ -1,4 +1,4 @@
--- Calls one behind the other: their lines, and how far they came.
+-- Calls one after the other: their lines, and how far they came.
 use Rattle.std.proofs.Common.{◌≡◌, ℕ, List, [], ◌∷◌, ◌++◌, Result, Ok, Err, refl, sym, ap, ◌∙◌, append_assoc, append-nil}
 use Rattle.pam_outside.specs.Streams.{SinkState}
 use Rattle.item_stream.specs.declared.ending.Stop.{Stop}

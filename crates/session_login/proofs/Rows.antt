@@ -72,7 +72,7 @@ renewed : login_by too_old
 unfolding too_old course stepped digits look items answer_to answer_at pieces_behind first_piece entry_of nodes path_of
 renewed = refl
 
--- an account that has expired, and what may go wrong behind the session
+-- an account that has expired, and what may go wrong after the session
 expired : Func → Code
 expired funcs.AcctMgmt = Code.AcctExpired
 expired func = Code.Success

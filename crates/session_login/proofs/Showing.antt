@@ -39,7 +39,7 @@ module _ {T U : Type 0} (Says : T → List ℕ → Type 0) (Tells : U → List �
   pub shows_stop : (stop : Stop) (p q : SinkState) → Shows {T = T} Says (Err stop) p q → Shows {T = U} Tells (Err stop) p q
   shows_stop stop p q s = record { text = s.text; written = s.written; calls = s.calls; calls_ok = tt; says = tt }
 
-  -- ---- one behind the other
+  -- ---- one after the other
 
   pub shows_then : (t : T) (result : Result U Stop) (p q r : SinkState) → Shows {T = T} Says (Ok t) p q → Shows {T = U} Tells result q r
       → ((u : U) (front text : List ℕ) → Tells u text → Tells u (front ++ text)) → Shows {T = U} Tells result p r

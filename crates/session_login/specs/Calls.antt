@@ -1,6 +1,5 @@
 -- The calls of a login (pam_authenticate(3), pam_acct_mgmt(3), pam_chauthtok(3), pam_setcred(3), pam_open_session(3);
--- that a
--- session is closed as soon as it was opened is this project's own).
+-- that a session is closed as soon as it was opened is this project's own).
 use Rattle.std.specs.Prelude.{ℕ, Bool, true, false, List, [], ◌∷◌}
 use Rattle.pam_base.specs.declared.code.Code.{Code}
 use Rattle.pam_base.specs.declared.code.Code.TheVariants as codes
@@ -22,7 +21,7 @@ is_due Always last = true
 is_due TokenIsTooOld codes.NewAuthtokReqd = true
 is_due TokenIsTooOld last = false
 
--- whether the login goes on behind a call with this code
+-- whether the login goes on after a call with this code
 abbrev pub accepts : Accepted → Code → Bool
 accepts Success codes.Success = true
 accepts Success code = false

@@ -22,7 +22,7 @@ use Rattle.session_login.specs.Calls.{accepts, call_of, code_in, is_due, login_c
 
 -- ---- one call
 
--- a call that was made on the first transaction: what it answered, and the state behind it
+-- a call that was made on the first transaction: what it answered, and the state after it
 pub record Made : Type 0 where
   pub call : AppCall
   pub answer : Answer
@@ -58,7 +58,7 @@ pub record Course : Type 0 where
 abbrev pub then_course : Made → Course → Course
 then_course m c = record { made = m ∷ c.made; denied = c.denied }
 
--- by whether the login goes on behind a call
+-- by whether the login goes on after a call
 abbrev pub judged : Bool → Made → (Code → RunState → Course) → Course
 judged true m others = then_course m (others (code_in m.answer) m.state)
 judged false m others = record { made = m ∷ []; denied = Some (code_in m.answer) }
@@ -110,7 +110,7 @@ settled setting s c = behind_calls c.made (settling setting c.denied (state_behi
 abbrev pub logging_in : Setting → RunState → Login
 logging_in setting s = settled setting s (course setting login_calls Success s)
 
--- behind a start that was refused nothing more is done
+-- after a start that was refused nothing more is done
 abbrev pub login_behind : Setting → Made → Bool → Login
 login_behind setting start true = record { made = start ∷ []; verdict = Refused }
 login_behind setting start false = behind_calls (start ∷ []) (logging_in setting start.state)

@@ -39,7 +39,7 @@ StopsIn setting NoMemory s m t = (t ≡ m.state) ⊎ ((t ≡ s) ⊎ FindsNoMemor
 -- ---- some calls
 
 -- The lines of all these calls are written; or it stopped in one, whose line isn't whole, and nothing is written
--- behind it.
+-- after it.
 abbrev pub GoesTo : {T : Type 0} → Setting → Result T Stop → RunState → RunState → List Made
     → List Made → List ℕ → Type 0
 GoesTo setting (Ok done) s t whole others part = (others ≡ []) × (part ≡ [])
@@ -72,8 +72,7 @@ pub record GoesThrough (setting : Setting) (c : Course) (result : Result (Option
 -- ---- the whole login
 
 -- The lines of all its calls are written, and the last line; or it stopped in that one, where there is one; or in a
--- call. Where it
--- stops something may be done to the state at last.
+-- call. Where it stops something may be done to the state at last.
 abbrev pub ComesTo : Setting → (Stop → RunState → RunState) → Login → Result Verdict Stop → RunState
     → RunState → List Made → List Made → List ℕ → Type 0
 ComesTo setting behind l (Ok verdict) s t whole others part = (others ≡ [])
@@ -135,7 +134,7 @@ SaysAnswer call answer text = text ≡ answer_line call answer
 abbrev pub SaysAnything : {T : Type 0} → T → List ℕ → Type 0
 SaysAnything t text = Unit {0}
 
--- a login that is denied says so last; it isn't refused behind its start
+-- a login that is denied says so last; it isn't refused after its start
 abbrev pub SaysEnd : Verdict → List ℕ → Type 0
 SaysEnd Passed text = Unit {0}
 SaysEnd (Denied code) text = (front : List ℕ) × (text ≡ front ++ denied_line code)

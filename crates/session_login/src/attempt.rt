@@ -51,7 +51,7 @@ pub enum Verdict {
 /// The login is denied where a call but the last three answers another code than SUCCESS, or
 /// `pam_acct_mgmt(3)` another than SUCCESS and NEW_AUTHTOK_REQD: the transaction is ended with that
 /// code, and `denied NAME NUMBER` is written last. Where the configuration refuses the start its line
-/// is written, `refused FILE LINE NAME NUMBER`, and nothing is done behind it.
+/// is written, `refused FILE LINE NAME NUMBER`, and nothing is done after it.
 ///
 /// Where memory is wanting the transaction is ended with BUF_ERR, and where a write fails with
 /// SYSTEM_ERR, unless it was already; nothing more is written. So no transaction is open afterwards,
@@ -197,7 +197,7 @@ fn start_of(alloc: Global, service: &[u8], user: Option<&[u8]>) -> Result<AppCal
     Ok(AppCall::Start { service, user })
 }
 
-// What comes behind the start.
+// What comes after the start.
 fn log_in<K: Sink>(
     alloc: Global,
     library: &mut Library,

@@ -24,7 +24,7 @@ impl When {
     }
 }
 
-/// With which codes a login goes on behind a call.
+/// With which codes a login goes on after a call.
 #[derive(Clone, Copy, Debug, PartialEq, Eq)]
 pub(crate) enum Accepted {
     Success,

@@ -29,11 +29,11 @@ module _ (handle : ℕ) (names : List (List ℕ)) where
   abbrev pub filed_text : List Birth → Filed → List ℕ
   filed_text births filed = receipt_text filed.receipt (slice_get births filed.receipt.id)
 
-  -- a line for each receipt of the ledger behind the first so many
+  -- a line for each receipt of the ledger after the first n
   abbrev pub cleanups_text : PlainLedger → ℕ → List ℕ
   cleanups_text ledger filed_from =
       flat_map (filed_text ledger.births) (drop filed_from ledger.filed)
 
--- each datum was set by one of so many modules
+-- each datum was set by one of n modules
 abbrev pub AreOwned : ℕ → List Birth → Type 0
 AreOwned modules births = AllByRecursion (λ (birth : Birth). birth.owner < modules) births

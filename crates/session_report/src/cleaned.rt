@@ -9,7 +9,7 @@ use pam_handle::{Gear, GearTold};
 use pam_library::Library;
 use report_lines::write_cleaned;
 
-/// Adds a line for each receipt of the ledger behind the first so many, in order. Each birth's owner is one of the
+/// Adds a line for each receipt of the ledger after the first n, in order. Each birth's owner is one of the
 /// library's modules.
 pub(crate) fn write_cleanups(
     text: &mut String,

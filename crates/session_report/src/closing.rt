@@ -12,8 +12,8 @@ use pam_library::Library;
 use report_lines::write_code_result;
 use std::alloc::Global;
 
-/// The lines of a transaction that the program ended with this status, each with its newline: the cleanups behind the
-/// first so many, and `H closed NAME NUMBER`. The ledger is that after the end.
+/// The lines of a transaction that the program ended with this status, each with its newline: the cleanups after the
+/// first n, and `H closed NAME NUMBER`. The ledger is that after the end.
 pub fn closing_report(
     alloc: Global,
     library: &Library,

@@ -29,7 +29,7 @@ pub all_left : (found : Result Found Failed) (n : ℕ) (before held : List ℕ) 
 all_left found n before held x y f =
     ap (λ (l : List ℕ). before ++ l) f.source ∙ sym (append_assoc before f.got y.left) ∙ ap (λ (h : List ℕ). h ++ y.left) (sym f.held_is)
 
--- all lines of a text are looked at where the input ends behind it
+-- all lines of a text are looked at where the input ends after it
 abbrev pub AllLooked : Type 0
 AllLooked = (n : ℕ) (bytes : List ℕ) → looked n bytes true ≡ lines_of bytes
 
@@ -109,7 +109,7 @@ asks_before a b p number status h = record {
   asks = h.asks;
 }
 
--- ---- behind the lines
+-- ---- after the lines
 
 pub by_ending : (tells : Bool) (text : List ℕ) (ending : Ending) (code : Code) → code ≡ ending_status ending → (number status : ℕ)
     → HasStatus code number status → IsEndOfRun tells text number status

@@ -55,7 +55,7 @@ module _ (setting : Setting) where
   one_text s (Ok (lines.Caller caller)) x e = ap (λ (y : RunState × List ℕ). y.1) (one e)
   one_text s (Err kind) x e = absurd cc
 
-  -- ---- some steps, and others behind them
+  -- ---- some steps, and others after them
 
   slots-append : (xs ys : List Met) (slots : List PlainSlot)
       → slots_after setting.players setting.delay slots (xs ++ ys) ≡ slots_after setting.players setting.delay (slots_after setting.players setting.delay slots xs) ys

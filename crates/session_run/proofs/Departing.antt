@@ -1,4 +1,4 @@
--- Transactions that are ended behind the lines, in two runs that are alike for a number.
+-- Transactions that are ended after the lines, in two runs that are alike for a number.
 use Rattle.std.proofs.Common.{◌≡◌, ℕ, zero, suc, ◌+◌, ◌≤◌, Bool, true, false, nat_eq, List, [], ◌∷◌, ◌++◌, length, Option, Some, None, slice_get, slice_set, refl, sym, ap, ◌∙◌, subst, arith, append_assoc, append-nil}
 use Rattle.std.proofs.lemmas.Bool.Decides.{nat_tests}
 use Rattle.pam_base.specs.declared.call.AppCall.TheVariants.{End}
@@ -41,7 +41,7 @@ module _ (setting : Setting) (status : Code) where
   abbrev end_at : ℕ → RunState → RunState
   end_at number s = let t : Stepped = stepped setting.players setting.delay s.slots s.world (end_step number) in state_of t.slots t.world
 
-  -- so many places are, one after another, behind the first i
+  -- n places are, one after another, after the first i
   unfoldable pub ends_from : ℕ → ℕ → RunState → RunState
   ends_from i zero s = s
   ends_from i (suc k) s = ends_from (suc i) k (end_at (suc i) s)

@@ -1,4 +1,4 @@
--- How the lines of a script and the closings behind them change files.
+-- How the lines of a script and the closings after them change files.
 use Rattle.std.proofs.Common.{◌≡◌, ℕ, ◌+◌, Bool, true, false, cond, List, [], ◌∷◌, ◌++◌, length, Result, Ok, Err, nat_le, nat_lt, refl}
 use Rattle.pam_base.specs.declared.code.Code.{Code}
 use Rattle.pam_base.specs.declared.call.Step.{Step}
@@ -31,7 +31,7 @@ module _ (setting : Setting)
   abbrev pub Leads : RunState → List Met → List File → Type 0
   Leads s met last = VisitsLead setting.players s.world.vault.files (visits_of_steps setting s.slots met) last
 
-  -- a line that isn't refused, and what leads on from the state behind it
+  -- a line that isn't refused, and what leads on from the state after it
   abbrev pub LineLeads : RunState → Result Line ScriptKind → Result (RunState × List ℕ) ScriptKind → Type 0
   LineLeads s read (Ok x) = (met : List Met) (last : List File) → Leads x.0 met last → Leads s (step_of s read ++ met) last
   LineLeads s read (Err kind) = Unit {0}
@@ -66,7 +66,7 @@ module _ (setting : Setting)
   script_leads [] n s = refl
   script_leads (l ∷ ls) n s = behind n s l ls (step_at (line_step setting) n s l) (line_leads n s l) (λ t. script_leads ls (n + 1) t)
 
--- ---- the closings behind them
+-- ---- the closings after them
 
 module _ (players : List Player) (status : Code) where
   closings_leave : (slots front : List PlainSlot) (w : PlainWorld) (s : RunState) → s.world.vault.files ≡ w.vault.files

@@ -98,7 +98,7 @@ module _ (setting : Setting) where
       pub lines : r.items ≡ q.items
       pub refused : r.refused ≡ q.refused
 
-    -- ---- one line, and what is behind it
+    -- ---- one line, and what follows it
 
     abbrev line_came : Bool → RunState → Result Line ScriptKind → (RunState → List Came) → List Came
     line_came many s p next = came_behind (counted many (applied_or_refused setting s p)) (λ text. came_by setting number s (step_in p)) next

@@ -166,7 +166,7 @@ module _ (setting : Setting) (status : Code) where
   after_one [] x w = refl
   after_one (y ∷ front) x w = after_one front x (world_left setting.players status y w)
 
-  -- a place, and those behind it
+  -- a place, and those after it
   abbrev place_text : ℕ → PlainWorld → PlainSlot → List ℕ
   place_text number w x = closed_text_with setting.players status number_words number w (Some x)
 

@@ -67,7 +67,7 @@ end_with_a_high_bit : HasEnd (codes "at 5\nend 3 0x80000007\nx") 3 2147483655
 unfolding lines_of cut words_of
 end_with_a_high_bit = record { line = codes "end 3 0x80000007"; before = codes "at 5" ∷ []; behind = codes "x" ∷ []; among = refl; asks = refl }
 
--- behind the lines a transaction is ended with ABORT where one was refused
+-- after the lines a transaction is ended with ABORT where one was refused
 end_behind_a_refused_line : IsEndOfRun true (codes "x") 3 26
 end_behind_a_refused_line = λ told. inl (inl (Refused BadWord, refl))
 

@@ -1,4 +1,4 @@
--- A whole run: its lines, and what is ended and written behind them.
+-- A whole run: its lines, and what is ended and written after them.
 use Rattle.std.proofs.Common.{◌≡◌, ℕ, ◌+◌, ◌≤◌, inl, inr, List, [], ◌∷◌, ◌++◌, length, Ok, Err, refl, sym, ap, ◌∙◌, append_assoc, append-nil, length-append, arith}
 use Rattle.pam_base.specs.declared.fault.Failed.{Failed}
 use Rattle.pam_outside.specs.Streams.{SourceState, SinkState, WritesWhole}
@@ -17,7 +17,7 @@ use Rattle.session_run.specs.Whole.{ending_status, stop_status, last_line, last_
 use Rattle.session_run.proofs.Lowest.{none_left}
 
 module _ (players : List Player) (ending : Ending) (n : ℕ) where
-  -- ---- what is ended and written behind the lines
+  -- ---- what is ended and written after the lines
 
   -- the closings stopped
   cut_short : (stop : Stop) (s t : RunState) (whole others : List Closing) (part : List ℕ)
@@ -79,7 +79,7 @@ module _ (players : List Player) (ending : Ending) (n : ℕ) where
     calls = rw c.to.1 at c.calls;
   }
 
-  -- ---- the state behind a stop
+  -- ---- the state after a stop
 
   ended_all : (s : RunState) (whole : List Closing) → closings players (ending_status ending) s ≡ whole ++ []
       → last_state s whole ≡ all_closed players (ending_status ending) s

@@ -12,7 +12,7 @@ use Rattle.pam_library.specs.Slots.{PlainSlot, closed, opened}
 use Rattle.session_report.specs.Closing.{closing_text}
 use Rattle.session_run.specs.State.{RunState, state_of}
 
--- a transaction that was ended: its lines, and the state behind it
+-- a transaction that was ended: its lines, and the state after it
 pub record Closing : Type 0 where
   pub text : List ℕ
   pub state : RunState
@@ -26,7 +26,7 @@ module _ (players : List Player) (status : Code) where
       closing_text (names_of players) number status after.process.ledger
       (length before.process.ledger.filed)
 
-  -- Each open transaction, in the order of their places, behind some that are closed. An ended transaction leaves its
+  -- Each open transaction, in the order of their places, after some that are closed. An ended transaction leaves its
   -- conversation in its place.
   unfoldable pub closings_behind : List PlainSlot → List PlainSlot → PlainWorld → List Closing
   closings_behind front [] w = []
@@ -62,6 +62,6 @@ pub record EndsNext (players : List Player) (status : Code) (number : ℕ) (s t 
   pub fewer : open_count t.slots < open_count s.slots
   pub receipts : length s.world.process.ledger.filed ≤ length t.world.process.ledger.filed
 
--- the state behind all of them
+-- the state after all of them
 abbrev pub all_closed : List Player → Code → RunState → RunState
 all_closed players status s = last_state s (closings players status s)

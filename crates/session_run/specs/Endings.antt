@@ -1,4 +1,4 @@
--- With which status open transactions are ended behind the lines of a script (this project's own).
+-- With which status open transactions are ended after the lines of a script (this project's own).
 use Rattle.pam_base.specs.declared.code.Code.{Code}
 use Rattle.pam_base.specs.declared.code.Code.TheVariants.{Success, SystemErr, BufErr, Abort}
 use Rattle.script_stream.specs.Turns.{Ending}

@@ -22,7 +22,7 @@ IsEndStep step number status = step ≡ record { number = number; call = End sta
 abbrev pub AsksEnd : List ℕ → ℕ → ℕ → Type 0
 AsksEnd line number status = parsed line ≡ Ok (Step (record { number = number; call = End status }))
 
--- so does this line, behind so many others, and it isn't one too many
+-- so does this line, after n others, and it isn't one too many
 abbrev pub AsksEndAt : ℕ → List ℕ → ℕ → ℕ → Type 0
 AsksEndAt lines line number status = (lines < 65536) × AsksEnd line number status
 
@@ -38,23 +38,23 @@ pub record HasEnd (text : List ℕ) (number status : ℕ) : Type 0 where
 abbrev pub IsEndIn : Bool → List ℕ → ℕ → ℕ → Type 0
 IsEndIn tells text number status = IsTrue tells → HasEnd text number status
 
--- behind some lines of a text, which are whole, another one begins
+-- after some lines of a text, which are whole, another one begins
 abbrev pub LeadsTo : List ℕ → List ℕ → Type 0
 LeadsTo text rest = (served : List (List ℕ)) × (lines_of text ≡ served ++ lines_of rest)
 
--- ---- behind the lines
+-- ---- after the lines
 
 abbrev pub HasStatus : Code → ℕ → ℕ → Type 0
 HasStatus code number status = status ≡ number_of code
 
--- a status with which a run ends what is open behind its lines
+-- a status with which a run ends what is open after its lines
 abbrev pub IsClosingStatus : ℕ → Type 0
 IsClosingStatus status = ((ending : Ending) × (status ≡ number_of (ending_status ending)))
     ⊎ ((stop : Stop) × (status ≡ number_of (stop_status stop)))
 
 -- ---- all ends
 
--- an end of a run of a script: where its text is told, one of its lines asks for it, or it was made behind them
+-- an end of a run of a script: where its text is told, one of its lines asks for it, or it was made after them
 abbrev pub IsEndOfRun : Bool → List ℕ → ℕ → ℕ → Type 0
 IsEndOfRun tells text number status = IsTrue tells → IsClosingStatus status
     ⊎ HasEnd text number status

@@ -38,7 +38,7 @@ end_by slots (Ok (lines.Random word)) = []
 end_by slots (Ok (lines.Caller caller)) = []
 end_by slots (Err kind) = []
 
--- a line that was applied: the end that it is, and ledger and data behind it
+-- a line that was applied: the end that it is, and ledger and data after it
 abbrev pub moved_by : RunState → List ℕ → RunState → Moved
 moved_by s line t = record {
   ended = end_by s.slots (parsed line);
@@ -73,7 +73,7 @@ closing_events number status (opened h ∷ slots) =
 
 -- ---- the run
 
--- the first lines of a script, so many, and then what is open behind them is ended
+-- the first lines of a script, n, and then what is open after them is ended
 abbrev pub run_events : Setting → Code → RunState → List ℕ → ℕ → RunState → List Event
 run_events setting status start script lines last =
     line_events setting start (take lines (lines_of script))
@@ -98,7 +98,7 @@ LeadOn setting n s (line ∷ rest) m t text =
     s.world.process.ledger (lists_of s.slots) u.world.process.ledger (lists_of u.slots)
     × LeadOn setting (n + 1) u rest m t others
 
--- the first lines of a text were served, and their text is written; which lines stand behind them
+-- the first lines of a text were served, and their text is written; which lines stand after them
 pub record Served (setting : Setting) (n m : ℕ) (s t : RunState) (input : List ℕ)
     (others : List (List ℕ)) (p q : SinkState) : Type 0 where
   pub served : List (List ℕ)
@@ -114,8 +114,7 @@ IsAskedBy [] number status = ⊥
 IsAskedBy (line ∷ rest) number status = AsksEnd line number status
 
 -- A run stopped: the first lines of a text were served, and at most the next one was begun. What was done to data
--- behind them is a birth,
--- or the end that this line asks for.
+-- after them is a birth, or the end that this line asks for.
 pub record Broken (setting : Setting) (n : ℕ) (s t : RunState) (input : List ℕ)
     (p q : SinkState) : Type 0 where
   pub lines : ℕ
@@ -158,9 +157,8 @@ abbrev pub IsLaterEnd : Code → List (List ℕ) → ℕ → ℕ → Type 0
 IsLaterEnd status others number ended = IsAskedBy others number ended
     ⊎ HasStatus status number ended
 
--- Among its lines: the whole text of so many lines stands in what was written. Ledger and data stand for their
--- events, and then for others,
--- whose ends the next line asked for or have this status.
+-- Among its lines: the whole text of n lines stands in what was written. Ledger and data stand for their events, and
+-- then for others, whose ends the next line asked for or have this status.
 pub record StandsCut (setting : Setting) (status : Code) (start end : RunState)
     (input text : List ℕ) : Type 0 where
   pub lines : ℕ
@@ -175,7 +173,7 @@ pub record StandsCut (setting : Setting) (status : Code) (start end : RunState)
   pub stand : StandOn (notes_of setting.players)
       (line_events setting start (take lines (lines_of input)) ++ later) start end
 
--- Behind them: ledger and data stand for the events of the lines, and then for others, whose ends have one of these
+-- After them: ledger and data stand for the events of the lines, and then for others, whose ends have one of these
 -- two statuses.
 pub record StandsBehind (setting : Setting) (status stopped : Code) (lines : ℕ)
     (start end : RunState) (input : List ℕ) : Type 0 where

@@ -1,6 +1,5 @@
 -- A transaction goes as it would alone (this project's own): a script in which each step on another number is a blank
--- line, and
--- what the steps on a number come to in a run.
+-- line, and what the steps on a number come to in a run.
 use Rattle.std.specs.Prelude.{◌≡◌, ℕ, zero, suc, ◌+◌, Bool, true, false, not, nat_eq, if◌then◌else◌, List, [], ◌∷◌, ◌++◌, map, length, take, drop, codes, slice_get, unwrap_or, Option, Some, None, Result, Ok, Err}
 use Rattle.std.specs.List.{flat_map, range_with_len}
 use Rattle.std.specs.Fmt.{decimal}
@@ -73,7 +72,7 @@ pub record Came : Type 0 where
   pub outcome : PlainOutcome
   pub ledger : PlainLedger
 
--- behind a line: what it came to, and what the lines behind it do; nothing follows a refused line
+-- after a line: what it came to, and what the lines after it do; nothing follows a refused line
 abbrev pub came_behind : {A : Type 0} → Result (RunState × List ℕ) ScriptKind → (List ℕ → List A)
     → (RunState → List A) → List A
 came_behind (Ok x) here next = here x.1 ++ next x.0
@@ -152,7 +151,7 @@ text_without_ids names c = step_text_with (λ (id : ℕ). []) names c
 abbrev pub text_of : List (List ℕ) → Came → List ℕ
 text_of names c = step_text names c.step c.outcome c.ledger
 
--- ---- the lines with which the program closes a number behind the lines of a script
+-- ---- the lines with which the program closes a number after the lines of a script
 
 module _ (players : List Player) (status : Code) where
   -- what the end of a place leaves, where it is open
@@ -192,17 +191,14 @@ module _ (players : List Player) (status : Code) where
 
 -- ---- a transaction goes as it would alone
 
--- where the lines of a script lead, behind n lines
+-- where the lines of a script lead, after n lines
 abbrev pub state_behind : Setting → ℕ → RunState → List (List ℕ) → RunState
 state_behind setting n s script = (run_lines (line_step setting) n s script).last
 
 -- A run and that of the script of one number alone, from the same start: the number's steps tell and answer the same,
--- and its
--- births and receipts are the same, in their order and but for ids and marks, behind the lines and when all is ended
--- behind
--- them. Its lines of the report are the same but for ids, also those with which the program closes it. Both runs end
--- at the
--- same line, for the same fault if there is one.
+-- and its births and receipts are the same, in their order and but for ids and marks, after the lines and when all is
+-- ended after them. Its lines of the report are the same but for ids, also those with which the program closes it.
+-- Both runs end at the same line, for the same fault if there is one.
 pub record GoesAsAlone (setting : Setting) (number n : ℕ) (s : RunState)
     (script : List (List ℕ)) : Type 0 where
   pub outcomes : map (λ (c : Came). told_in c.outcome) (came_among setting number n s script)

@@ -20,7 +20,7 @@ read_as (Err kind) = Err kind
 unfoldable pub line_read : LineStep (Unit {0})
 line_read done line = read_as (parsed line)
 
--- why a line among some bytes is refused, if one is; whether the input ends behind them
+-- why a line among some bytes is refused, if one is; whether the input ends after them
 abbrev pub refused_in : List ℕ → Bool → Option ScriptKind
 refused_in bytes ended = (run_of line_read 0 tt bytes ended).refused
 
@@ -45,7 +45,7 @@ abbrev pub ReadsAll : Result Ending Stop → ℕ → SourceState → SourceState
 ReadsAll result m x y = Runs line_read Whatever result m tt tt x y nowhere nowhere
 
 -- how a run ends, by the bytes: at the end of a script of which no line is refused; at the first line that is; or
--- behind lines that aren't
+-- after lines that aren't
 abbrev pub EndsAtBytes : Result Ending Stop → List ℕ → List ℕ → List ℕ → Type 0
 EndsAtBytes (Ok Done) script taken left = (refused_in script true ≡ None) × (left ≡ [])
 EndsAtBytes (Ok (Refused kind)) script taken left = refused_in script true ≡ Some kind

@@ -24,7 +24,7 @@ step_of s (Ok (lines.Caller caller)) = []
 step_of s (Err kind) = []
 
 module _ (setting : Setting) where
-  -- of a line that was applied, and of those behind it
+  -- of a line that was applied, and of those after it
   abbrev pub steps_behind : RunState → List ℕ → Result (RunState × List ℕ) ScriptKind
       → (RunState → List Met) → List Met
   steps_behind s line (Ok applied) next = step_of s (parsed line) ++ next applied.0
@@ -54,8 +54,7 @@ module _ (setting : Setting) where
       ≡ report_of_steps s.slots (steps_of s bytes ended)
 
   -- The place of a number after the lines among some bytes, and the outcomes of the steps on it, are what these steps
-  -- come to alone,
-  -- from that place on, each in the world as it stood before it.
+  -- come to alone, from that place on, each in the world as it stood before it.
   pub record ComesAlone (s : RunState) (bytes : List ℕ) (ended : Bool) (number : ℕ)
       (slot : PlainSlot) : Type 0 where
     pub slot_is : slot_at (run_of (line_step setting) 0 s bytes ended).last.slots number

@@ -1,4 +1,4 @@
--- A whole run of a script: its lines, and how the open transactions are ended behind them (this project's own).
+-- A whole run of a script: its lines, and how the open transactions are ended after them (this project's own).
 use Rattle.std.specs.Prelude.{◌≡◌, ◌⊎◌, ℕ, ◌+◌, ◌≤◌, List, [], ◌∷◌, ◌++◌, length, true, None, Result, Ok, Err}
 use Rattle.pam_outside.specs.Streams.{SourceState, SinkState}
 use Rattle.pam_room.specs.Module.{Player, notes_of}
@@ -21,7 +21,7 @@ use Rattle.session_run.specs.Reported.{CutBy}
 
 -- ---- the last line
 
--- what is written behind their lines, where n lines were applied
+-- what is written after their lines, where n lines were applied
 abbrev pub last_line : Ending → ℕ → List ℕ
 last_line Done n = []
 last_line ReadFault n = read_fault_text
@@ -35,9 +35,8 @@ module _ (players : List Player) where
   last_words ending n s = closings_text (closings players (ending_status ending) s)
       ++ last_line ending n
 
-  -- What was ended and written behind the lines. All transactions were, and the last line is written, whole or not;
-  -- or up
-  -- to one that was ended and whose lines aren't whole.
+  -- What was ended and written after the lines. All transactions were, and the last line is written, whole or not; or
+  -- up to one that was ended and whose lines aren't whole.
   abbrev pub EndsTo : Ending → ℕ → Result (Unit {0}) Stop → RunState → RunState → List Closing
       → List Closing → List ℕ → Type 0
   EndsTo ending n (Ok done) s t whole others part = (others ≡ []) × (part ≡ last_line ending n)
@@ -56,7 +55,7 @@ module _ (players : List Player) where
     pub to : EndsTo ending n result s t whole others part
     pub calls : new.calls ≤ old.calls + length (closings_text whole ++ part) + 1
 
-  -- A run that stops behind its lines: in the last line, with all transactions ended; or in the lines of one, behind
+  -- A run that stops after its lines: in the last line, with all transactions ended; or in the lines of one, after
   -- which the others are ended and not reported.
   abbrev pub StopsIn : Stop → Ending → ℕ → RunState → RunState → List Closing → List ℕ → Type 0
   StopsIn stop ending n s t [] part = CutBy stop part (last_line ending n)
@@ -78,8 +77,7 @@ module _ (players : List Player) where
 
 module _ (setting : Setting) where
   -- It ends: the lines are reported, the closings and the last line, and all transactions are ended. Whatever births
-  -- and ends ledger
-  -- and data stood for, they stand for these and then those of the lines and closings.
+  -- and ends ledger and data stood for, they stand for these and then those of the lines and closings.
   pub record EndsAs (ending : Ending) (start end : RunState) (input taken left text : List ℕ) : Type
       0 where
     pub lines : ℕ
@@ -92,7 +90,7 @@ module _ (setting : Setting) where
     pub stands : StandOn (notes_of setting.players)
         (run_events setting (ending_status ending) start input lines last) start end
 
-  -- it stops among its lines, and all transactions are ended; nothing is written behind that
+  -- it stops among its lines, and all transactions are ended; nothing is written after that
   pub record StopsAmongLines (stop : Stop) (start end : RunState)
       (input taken left text : List ℕ) : Type 0 where
     pub last : RunState
@@ -100,7 +98,7 @@ module _ (setting : Setting) where
     pub closed : end ≡ all_closed setting.players (stop_status stop) last
     pub stands : StandsCut setting (stop_status stop) start end input text
 
-  -- it stops behind them
+  -- it stops after them
   pub record StopsBehindLines (stop : Stop) (start end : RunState)
       (input taken left text : List ℕ) : Type 0 where
     pub ending : Ending

@@ -20,7 +20,7 @@ use session_report::closing_report;
 use std::alloc::Global;
 
 /// Ends every open transaction with this status, the lowest number first, and writes the lines of each before the next
-/// is ended. Where that stops, the one that was ended last isn't reported whole, and those behind it are open.
+/// is ended. Where that stops, the one that was ended last isn't reported whole, and those after it are open.
 pub(crate) fn close_reported<K: Sink>(
     alloc: Global,
     library: &mut Library,

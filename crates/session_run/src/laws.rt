@@ -60,7 +60,7 @@ pub fn transactions_go_as_alone()
     pam_library::laws::calls_keep_to_themselves();
 }
 
-/// What the lines among some bytes come to, number by number. The place of a number behind them,
+/// What the lines among some bytes come to, number by number. The place of a number after them,
 /// and the outcomes of the steps on it, are what its own steps come to alone, each in the world as
 /// it stood before it (`alone`). What is reported of the lines is what is told of these steps and
 /// of the others, in order (`steps`). It does nothing: its contract is a law.
@@ -75,7 +75,7 @@ pub fn numbers_stand_side_by_side()
 }
 
 /// The lines of a script change files by what the modules of the lines that their steps visit play,
-/// one after another, and by nothing else; and the closings behind them change none. It does
+/// one after another, and by nothing else; and the closings after them change none. It does
 /// nothing: its contract is a law.
 pub fn runs_change_files_by_plays()
     ensures script { (setting : Setting) (n : ℕ) (s : RunState) (script : List (List ℕ)) →

@@ -1,5 +1,5 @@
 //! A run of a script over sixteen transactions: each line is applied and its report written before the next is looked
-//! at, and behind the last one every open transaction is ended.
+//! at, and after the last one every open transaction is ended.
 //!
 //! Begin at run.rt; lines.rt reads on line by line, serve.rt serves one, and closing.rt ends what is open.
 #![tactic(auto)]

@@ -28,7 +28,7 @@ use std::alloc::Global;
 
 /// Runs a script. Each line is applied to the transactions and its report written before the next one is looked at.
 ///
-/// Behind the last line every open transaction is ended, the lowest number first, each reported
+/// After the last line every open transaction is ended, the lowest number first, each reported
 /// before the next: with SUCCESS at the end of the input; with SYSTEM_ERR where the source failed,
 /// and then `read fault` is written; with ABORT where a line was refused, and then which line and
 /// why. Where a write failed nothing more is written, and the transactions that are open are ended

@@ -33,7 +33,7 @@ use script_stream::{Lines, MAX_LINES};
 use session_report::step_report;
 use std::alloc::Global;
 
-/// Serves one line that has so many before it: it is applied, and then its report is written. Answers why it was
+/// Serves one line that has n before it: it is applied, and then its report is written. Answers why it was
 /// refused, if it was; then nothing happened.
 pub(crate) fn answer_line<K: Sink>(
     alloc: Global,

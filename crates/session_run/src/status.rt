@@ -4,7 +4,7 @@ ghost use Rattle.session_run.specs.Whole.{ending_status, stop_status};
 use item_stream::{Ending, Stop};
 use pam_base::{Code, ScriptKind};
 
-/// The status with which open transactions are ended behind such an ending.
+/// The status with which open transactions are ended after such an ending.
 pub(crate) fn ending_status(ending: Ending<ScriptKind>) -> Code
     ensures { result ≡ ending_status ending }
 {

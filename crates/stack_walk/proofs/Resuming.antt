@@ -15,7 +15,7 @@ use Rattle.stack_walk.specs.PathLaw.{GoesOn}
 use Rattle.stack_walk.proofs.Following.{state_if, state_onward, walk_keeps}
 use Rattle.stack_walk.proofs.Serving.{visited, unvisited}
 
--- visits, and more behind them
+-- visits, and more after them
 abbrev Grown : List Visit → List Visit → Type 0
 Grown vs ws = (more : List Visit) × (ws ≡ vs ++ more)
 

@@ -37,7 +37,7 @@ module _ (State : Type 0) where
   onward_resumes (after n) f f' w w' before each here = each n
   onward_resumes stop f f' w w' before each here = here
 
-  -- behind a walk that ended
+  -- after a walk that ended
   behind_walk : (v : Walked (PassState State)) (before : List Visit) (again : List Code → Walked (PassState Telling)) (w : Walked (PassState State)) (f : Walked (PassState Telling) → Walked (PassState Telling))
       → Resumes v before again → v.stopped ≡ false → Resumes w v.state.visits (λ past. f (walked v.opinion (pass_state past v.state.visits (telling [])))) → Resumes w before (λ past. f (again past))
   behind_walk v before again w f one ends two = record {

@@ -1,6 +1,5 @@
 -- A pass over a stack (the Module Writers' Guide on setcred; putting off is this project's own): which answer
--- decides, what is
--- visited, and how a pass that was put off goes on.
+-- decides, what is visited, and how a pass that was put off goes on.
 use Rattle.std.specs.Prelude.{◌≡◌, ℕ, Bool, true, false, if◌then◌else◌, nat_eq, List, [], ◌∷◌, ◌++◌, Some, None, unwrap_or}
 use Rattle.pam_base.specs.declared.code.Code.{Code}
 use Rattle.pam_base.specs.declared.code.Code.TheVariants as codes

@@ -75,8 +75,7 @@ Retells State = (trail : State → List Seen) (kind : PassKind) (kept : KeptAnsw
     pass_after kind kept replaying stack past (telling left))
 
 -- What a pass that was put off was given leads a later one, by nothing told, to a line that it asks. What is kept by
--- then doesn't
--- matter where it doesn't decide.
+-- then doesn't matter where it doesn't decide.
 abbrev pub ResumesAsking : Type 0 → Type 0
 ResumesAsking State =
     (kind : PassKind) (kept later : KeptAnswers) (answering : Answering State) (stack : Stack)

@@ -12,7 +12,7 @@ use Rattle.stack_walk.specs.Walk.{Next, after, stop}
 abbrev pub KeptAnswers : Type 0
 KeptAnswers = ℕ → Option Code
 
--- whether the opinion is negative behind an action, of whether it was at the list's entry and before the line
+-- whether the opinion is negative after an action, of whether it was at the list's entry and before the line
 abbrev pub negative_after : Action → Bool → Bool → Bool
 negative_after actions.Ignore entry now = now
 negative_after actions.Ok entry now = now
@@ -22,7 +22,7 @@ negative_after actions.Die entry now = true
 negative_after actions.Reset entry now = entry
 negative_after (actions.Jump n) entry now = now
 
--- where a list goes on behind a line; done ends it where the opinion isn't negative
+-- where a list goes on after a line; done ends it where the opinion isn't negative
 abbrev pub next_by : Action → ℕ → Bool → Next
 next_by actions.Die left now = stop
 next_by actions.Done left now = if now then after 0 else stop
@@ -34,7 +34,7 @@ abbrev pub negative_behind : Action → ℕ → Bool → Bool → Bool
 negative_behind (actions.Jump n) left entry now = if nat_le n left then now else true
 negative_behind action left entry now = negative_after action entry now
 
--- the places met, whether the opinion is negative behind them, and whether a place without a kept answer was met
+-- the places met, whether the opinion is negative after them, and whether a place without a kept answer was met
 pub record Met : Type 0 where
   pub places : List ℕ
   pub negative : Bool
@@ -56,7 +56,7 @@ abbrev pub met_at : ℕ → Option Code → Bool → (Code → Met) → Met
 met_at at None negative on = record { places = at ∷ []; negative = negative; lacks = true }
 met_at at (Some answer) negative on = behind (at ∷ []) (on answer)
 
--- What is met of a stack whose first line has the place `at`, with so many nodes at its front passed over. Only
+-- What is met of a stack whose first line has the place `at`, with n nodes at its front passed over. Only
 -- whether the opinion is negative is followed, and each line acts by its kept answer. A place without one is the last.
 abbrev pub route_from : KeptAnswers → ℕ → Stack → ℕ → Bool → Bool → Met
 route_from kept skip none at entry now = met now

@@ -41,13 +41,13 @@ abbrev pub is_negative : Impression → Bool
 is_negative Negative = true
 is_negative impression = false
 
--- whether a list ends behind a line: after die, and after done where the new opinion isn't negative
+-- whether a list ends after a line: after die, and after done where the new opinion isn't negative
 abbrev pub ends : Action → Opinion → Bool
 ends actions.Die new = true
 ends actions.Done new = not (is_negative new.impression)
 ends action new = false
 
--- where a list goes on behind a line: so many nodes further, or nowhere
+-- where a list goes on after a line: n nodes further, or nowhere
 pub data Next : Type 0 where
   after : ℕ → Next
   stop : Next
@@ -57,7 +57,7 @@ abbrev pub next_of : Action → ℕ → Opinion → Next
 next_of (actions.Jump n) left new = if nat_le n left then after n else stop
 next_of action left new = if ends action new then stop else after 0
 
--- the opinion behind a line; a jump over more nodes than are left overruns
+-- the opinion after a line; a jump over more nodes than are left overruns
 abbrev pub settled : Action → ℕ → Opinion → Opinion
 settled (actions.Jump n) left new = if nat_le n left then new else overrun
 settled action left new = new
@@ -67,7 +67,7 @@ abbrev pub onward : {State : Type 0} → Next → (ℕ → Walked State) → Wal
 onward (after n) rest here = rest n
 onward stop rest here = here
 
--- The walk over a stack whose first line has the place `at`, with so many nodes at its front passed over.
+-- The walk over a stack whose first line has the place `at`, with n nodes at its front passed over.
 -- A substack is walked with the present opinion as its entry; what ends it ends only itself, but where a line puts
 -- off, all is put off.
 abbrev pub walk : {State : Type 0} → PassKind → Serving State → ℕ → Stack → ℕ → Opinion → Opinion

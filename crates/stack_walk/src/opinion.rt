@@ -56,7 +56,7 @@ impl Opinion {
         }
     }
 
-    /// Whether the list ends behind a line with this action, where this is the opinion after it.
+    /// Whether the list ends after a line with this action, where this is the opinion after it.
     pub fn ends(self, action: Action) -> bool
         ensures { result ≡ ends action self }
     {

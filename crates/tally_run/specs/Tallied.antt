@@ -56,10 +56,9 @@ calls_in (passed_by t ∷ ts) = calls_in ts
 -- ---- a run
 
 -- These visits lead the file from its state in some files to that in others: each visited line is one of
--- pam_faillock, and its call finds the file as
--- the one before left it, or its module leaves the file. Where one `fail_interval` is used, what stands in the file
--- is what stood at the start
--- while nothing was written, and else those that count of the failures that were recorded since they were last cleared.
+-- pam_faillock, and its call finds the file as the one before left it, or its module leaves the file. Where one
+-- `fail_interval` is used, what stands in the file is what stood at the start while nothing was written, and else
+-- those that count of the failures that were recorded since they were last cleared.
 pub record Tallies (path : List ℕ) (players : List Player) (before : List File)
     (visits : List TimedVisit) (after : List File) : Type 0 where
   pub lines : List TalliedVisit

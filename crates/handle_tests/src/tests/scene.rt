@@ -25,7 +25,7 @@ pub struct Outcome {
     pub answers: Vec<Result<Code, NoMemory>>,
     /// What the lines that were visited answered.
     pub visits: Vec<Code>,
-    /// Id and status of each receipt, behind an end with the status 9.
+    /// Id and status of each receipt, after an end with the status 9.
     pub receipts: Vec<(u64, u32)>,
 }
 
