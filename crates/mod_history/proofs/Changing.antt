@@ -16,9 +16,9 @@ use Rattle.pam_room.specs.declared.transaction.Transaction.{Transaction}
 use Rattle.account_db.specs.declared.shadow.Shadow.{Shadow}
 use Rattle.account_files.specs.declared.content.Content.{Content}
 use Rattle.account_files.specs.Accounts.{nothing_known}
-use Rattle.account_files.specs.Act.{Act, reads_file, replaces_file, stage_of}
+use Rattle.account_files.specs.Act.{Act, Came, Leads, reads_file, replaces_file, stage_of}
 use Rattle.account_files.specs.Speaks.{Speaks}
-use Rattle.module_acts.specs.Comes.{Came, Comes, Goes, Leads, lent}
+use Rattle.module_acts.specs.Comes.{Comes, Goes, lent}
 use Rattle.module_acts.specs.Steps.{sees_caller}
 use Rattle.module_acts.specs.Talks.{Talks}
 use Rattle.mod_unix.specs.declared.look.Look.{Look}

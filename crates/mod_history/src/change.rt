@@ -1,7 +1,8 @@
 ghost use Rattle.std.specs.Prelude.{◌≡◌, ◌≤◌, ◌<◌, IsTrue, IfOk, IfSome, length};
 ghost use Rattle.pam_outside.specs.Time.{ClockState};
 ghost use Rattle.pam_room.specs.Plain.{plain_call, plain_process};
-ghost use Rattle.module_acts.specs.Comes.{Came, Comes, lent};
+ghost use Rattle.account_files.specs.Act.{Came};
+ghost use Rattle.module_acts.specs.Comes.{Comes, lent};
 ghost use Rattle.module_acts.specs.Talks.{Talks};
 ghost use Rattle.mod_history.specs.Pwhistory.{by_history, by_look, checks_token, remember_of, remembers, renews, short_number};
 

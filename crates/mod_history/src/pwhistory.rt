@@ -78,18 +78,3 @@ fn at_once(call: &Call) -> Option<Code>
         | Func::CloseSession => Some(Code::ModuleUnknown),
     }
 }
-
-// The answer, which is CONV_ERR where the conversation gave no reply.
-fn ended(answer: Result<Code, Refuse<ConvErr>>) -> Result<Code, NoMemory>
-    ensures told { (step : (Code → Act) → Act) (old new : Scene) → Comes answer step old new →
-        IfOk result (λ code. Goes (step answers) old code new) }
-{
-    laws::acting();
-    match answer {
-        Ok(code) => Ok(code),
-        Err(refused) => match refused {
-            Refuse::NoMemory => Err(NoMemory),
-            Refuse::Named(_) => Ok(Code::ConvErr),
-        },
-    }
-}

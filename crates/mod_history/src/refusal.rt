@@ -4,7 +4,8 @@ ghost use Rattle.conv_port.specs.Conv.{ConvState};
 ghost use Rattle.pam_outside.specs.Files.{VaultState};
 ghost use Rattle.pam_outside.specs.Time.{ClockState};
 ghost use Rattle.pam_room.specs.State.{PlainProcess};
-ghost use Rattle.module_acts.specs.Comes.{Came, Leads, lent};
+ghost use Rattle.account_files.specs.Act.{Came, Leads};
+ghost use Rattle.module_acts.specs.Comes.{lent};
 ghost use Rattle.module_acts.specs.Talks.{Talks};
 ghost use Rattle.mod_history.specs.Pwhistory.{has_hash, is_enforced, is_refused, refuses_token, unsets_item, was_used};
 

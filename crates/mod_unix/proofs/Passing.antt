@@ -8,8 +8,8 @@ use Rattle.pam_base.specs.declared.fault.Refuse.TheVariants.{NoMemory, Named}
 use Rattle.item_store.specs.Items.{ItemTexts}
 use Rattle.pam_room.specs.Call.{PlainCall}
 use Rattle.pam_room.specs.State.{Scene}
-use Rattle.account_files.specs.Act.{Act, sees_items}
-use Rattle.module_acts.specs.Comes.{Comes, Goes, Leads, then_on}
+use Rattle.account_files.specs.Act.{Act, Leads, sees_items}
+use Rattle.module_acts.specs.Comes.{Comes, Goes, then_on}
 use Rattle.module_acts.specs.Steps.{requests_delay}
 use Rattle.mod_unix.specs.declared.authenticate.Answer.{Answer}
 use Rattle.mod_unix.specs.declared.authenticate.Answer.TheVariants.{Kept, Unkept}

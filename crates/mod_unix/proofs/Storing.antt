@@ -14,8 +14,8 @@ use Rattle.pam_room.specs.State.{Scene}
 use Rattle.account_db.specs.declared.shadow.Shadow.{Shadow}
 use Rattle.account_files.specs.declared.content.Content.{Content}
 use Rattle.account_files.specs.Accounts.{account_limit}
-use Rattle.account_files.specs.Act.{Act, reads_file, sees_items, replaces_file}
-use Rattle.module_acts.specs.Comes.{Came, Comes, Ends, Goes, Leads, early, then}
+use Rattle.account_files.specs.Act.{Act, Came, Leads, reads_file, replaces_file, sees_items}
+use Rattle.module_acts.specs.Comes.{Comes, Ends, Goes, early, then}
 use Rattle.module_acts.specs.Steps.{exchanges, sees_clock, sets_item}
 use Rattle.mod_unix.specs.declared.look.Look.{Look}
 use Rattle.mod_unix.specs.declared.look.Look.TheVariants.{Unknown, Unavailable, Plain, Shadowed}

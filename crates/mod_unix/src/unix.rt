@@ -131,21 +131,6 @@ fn settle(
     }
 }
 
-// The answer, which is CONV_ERR where the conversation gave no reply.
-fn ended(answer: Result<Code, Refuse<ConvErr>>) -> Result<Code, NoMemory>
-    ensures told { (step : (Code → Act) → Act) (old new : Scene) → Comes answer step old new →
-        IfOk result (λ code. Goes (step answers) old code new) }
-{
-    laws::acting();
-    match answer {
-        Ok(code) => Ok(code),
-        Err(refused) => match refused {
-            Refuse::NoMemory => Err(NoMemory),
-            Refuse::Named(_) => Ok(Code::ConvErr),
-        },
-    }
-}
-
 // The answer that was kept for setcred.
 fn kept_code(datums: &DataList) -> Code
     ensures { result ≡ kept_code (named_data datums.now.live) }
