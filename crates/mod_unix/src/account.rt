@@ -9,9 +9,8 @@ ghost use Rattle.mod_unix.specs.Account.{account_by, checks_account};
 
 use crate::aging::{aged, day_of};
 use crate::look::{Look, look_up};
-use account_files::user_of;
 use conv_port::Conv;
-use module_acts::{laws, require_user};
+use module_acts::{laws, require_user, user_of};
 use pam_base::{Code, ConvErr, Refuse};
 use pam_outside::{Clock, Vault, current_moment};
 use pam_room::{Process, Transaction};

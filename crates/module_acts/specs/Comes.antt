@@ -54,8 +54,10 @@ module _ {A B : Type 0} (first : (A → Act) → Act) (next : A → (B → Act) 
   -- one step, and another behind it
   pub then : (r : Result B (Refuse ConvErr)) (x : A) (a b c : Scene) → Came x first a b
       → Comes r (next x) b c → Comes r (λ act. first (λ y. next y act)) a c
-  then (Ok v) x a b c f n = λ act known code end rest. f (λ y. next y act) known code end (n act known code end rest)
-  then (Err (Named e)) x a b c f n = λ act known. f (λ y. next y act) known codes.ConvErr c (n act known)
+  then (Ok v) x a b c f n = λ act known code end rest. f (λ y. next y act) known code end
+      (n act known code end rest)
+  then (Err (Named e)) x a b c f n = λ act known. f (λ y. next y act) known codes.ConvErr c
+      (n act known)
   then (Err NoMemory) x a b c f n = tt
 
   -- the first step ended it
@@ -68,7 +70,8 @@ module _ {B : Type 0} (step : Act → Act) (next : (B → Act) → Act) where
   -- a step without a value, and another behind it
   pub then_on : (r : Result B (Refuse ConvErr)) (a b c : Scene) → Leads step a b → Comes r next b c
       → Comes r (λ act. step (next act)) a c
-  then_on (Ok v) a b c f n = λ act known code end rest. f (next act) known code end (n act known code end rest)
+  then_on (Ok v) a b c f n = λ act known code end rest. f (next act) known code end
+      (n act known code end rest)
   then_on (Err (Named e)) a b c f n = λ act known. f (next act) known codes.ConvErr c (n act known)
   then_on (Err NoMemory) a b c f n = tt
 
