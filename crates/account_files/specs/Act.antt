@@ -182,15 +182,25 @@ pub record Acts (act : Act) (known : Known) (old : Scene) (code : Code) (new : S
   pub code_is : code ≡ (act (stage_of known old)).code
   pub scene_is : new ≡ with_played (act (stage_of known old)) old
 
--- A step over files came to this value, and left the vault so: what is done with the value from there on is what the
--- whole does from here.
+-- What is done from there on is what the whole does from here, whatever is known of the account files.
+abbrev pub Leads : (Act → Act) → Scene → Scene → Type 0
+Leads step old new =
+    (act : Act) (known : Known) (code : Code) (end : Scene)
+    → Acts act known new code end → Acts (step act) known old code end
+
+-- A step came to this value: what is done with it from there on is what the whole does from here.
+abbrev pub Came : {A : Type 0} → A → ((A → Act) → Act) → Scene → Scene → Type 0
+Came {A} value step old new =
+    (act : A → Act) (known : Known) (code : Code) (end : Scene)
+    → Acts (act value) known new code end → Acts (step act) known old code end
+
+-- A step over files came to this value, and left the vault so.
 abbrev pub StepsTo : {A : Type 0} → ((A → Act) → Act) → A → Process → VaultState → VaultState
     → Type 0
 StepsTo {A} step value process old new =
-    (room : PlainRoom) (clock : ClockState) (act : A → Act) (known : Known) (code : Code)
-    (end : Scene)
-    → Acts (act value) known (scene_of room new clock (plain_process process)) code end
-    → Acts (step act) known (scene_of room old clock (plain_process process)) code end
+    (room : PlainRoom) (clock : ClockState)
+    → Came value step (scene_of room old clock (plain_process process))
+    (scene_of room new clock (plain_process process))
 
 -- The same of a step that may read account files, by what is known of them before and after it.
 abbrev pub LooksTo : {A : Type 0} → ((A → Act) → Act) → A → Process → Known → VaultState → Known

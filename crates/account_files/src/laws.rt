@@ -1,58 +1,25 @@
-ghost use Rattle.std.specs.Prelude.{◌≡◌, ℕ, Bool, List, [], true, false, Option, Result, IfOk, codes, unwrap_or};
+ghost use Rattle.std.specs.Prelude.{◌≡◌, ℕ, Bool, List, true, false, Option, Result, IfOk, codes};
 ghost use Rattle.pam_base.specs.declared.code.Code.{Code};
 ghost use Rattle.pam_base.specs.declared.fault.NoMemory.{NoMemory};
-ghost use Rattle.pam_base.specs.declared.style.Style.{Style};
-ghost use Rattle.conv_port.specs.Conv.{ConvState};
-ghost use Rattle.data_cleanup.specs.Ledger.{PlainLedger};
-ghost use Rattle.data_cleanup.specs.Sets.{Sets};
 ghost use Rattle.item_store.specs.Items.{ItemTexts};
 ghost use Rattle.pam_outside.specs.Files.{VaultState, counted, file_put, is_failing};
 ghost use Rattle.pam_outside.specs.Time.{ClockState};
-ghost use Rattle.pam_room.specs.declared.transaction.Transaction.{Transaction};
 ghost use Rattle.pam_room.specs.Call.{PlainCall};
-ghost use Rattle.pam_room.specs.Plain.{plain_transaction};
-ghost use Rattle.pam_room.specs.State.{PlainProcess, PlainRoom, Scene, room_of, scene_of};
-ghost use Rattle.pam_room.specs.Stays.{Stays};
-ghost use Rattle.pam_room.specs.Module.{PlaysIn, seen_of};
-ghost use Rattle.pam_room.specs.Say.{asked, user_asked};
+ghost use Rattle.pam_room.specs.State.{PlainProcess, PlainRoom, Scene, scene_of};
+ghost use Rattle.pam_room.specs.Module.{PlaysIn};
 ghost use Rattle.account_db.specs.declared.passwd.Passwd.{Passwd};
 ghost use Rattle.account_db.specs.declared.group.Group.{Group};
 ghost use Rattle.account_files.specs.declared.content.Content.{Content};
 ghost use Rattle.pam_outside.specs.Paths.{path_of};
 ghost use Rattle.account_files.specs.Content.{after_named, content_at, named_content};
 ghost use Rattle.account_files.specs.Accounts.{Known, account_limit, groups_looked, known_groups, known_passwds, nothing_known, passwds_looked, shells_in};
-ghost use Rattle.account_files.specs.Act.{Act, Acts, answers, asks_user, plays_by, reads_file, reads_groups, reads_passwds, reads_shells, replaces_file, sees_items, sees_moment, shown, shows};
-ghost use Rattle.account_files.specs.Speaks.{Speaks};
+ghost use Rattle.account_files.specs.Act.{Act, Acts, answers, plays_by, reads_file, reads_groups, reads_passwds, reads_shells, replaces_file, sees_items, sees_moment};
 
 /// Does nothing: its contract is the laws by which a module's step is put before what it does from there on. Each
 /// takes what the step's own call ensures, and that the rest acts as it is told.
 pub fn act_steps()
     ensures answers { (code : Code) (known : Known) (s : Scene) →
         Acts (answers code) known s code s }
-    ensures refused { (known : Known) (t u : Transaction) (conv conv' : ConvState)
-        (vault : VaultState) (clock : ClockState) (process : PlainProcess) (act : List ℕ → Act) →
-        Speaks t u → user_asked (seen_of (room_of (plain_transaction t) conv))
-        ≡ asked true (seen_of (room_of (plain_transaction u) conv')) →
-        Acts (asks_user act) known (scene_of (room_of (plain_transaction t) conv) vault clock
-        process) Code.ConvErr (scene_of (room_of (plain_transaction u) conv') vault clock process) }
-    ensures knowing { (known : Known) (t u : Transaction) (conv conv' : ConvState)
-        (vault : VaultState) (clock : ClockState) (process : PlainProcess) (act : List ℕ → Act)
-        (code : Code) (new : Scene) →
-        Speaks t u → user_asked (seen_of (room_of (plain_transaction t) conv))
-        ≡ asked false (seen_of (room_of (plain_transaction u) conv')) →
-        Acts (act (unwrap_or u.items.user [])) known (scene_of (room_of (plain_transaction u) conv')
-        vault clock process) code new →
-        Acts (asks_user act) known (scene_of (room_of (plain_transaction t) conv) vault clock
-        process) code new }
-    ensures showing { (known : Known) (t u : Transaction) (conv conv' : ConvState)
-        (vault : VaultState) (clock : ClockState) (process : PlainProcess) (style : Style)
-        (text : List ℕ) (act : Act) (code : Code) (new : Scene) →
-        Speaks t u → seen_of (room_of (plain_transaction u) conv')
-        ≡ shown style text (seen_of (room_of (plain_transaction t) conv)) →
-        Acts act known (scene_of (room_of (plain_transaction u) conv') vault clock process) code
-        new →
-        Acts (shows style text act) known (scene_of (room_of (plain_transaction t) conv) vault clock
-        process) code new }
     ensures seeing { (act : ItemTexts → Act) (known : Known) (s : Scene) (code : Code)
         (new : Scene) →
         Acts (act s.room.transaction.items) known s code new →
@@ -100,16 +67,4 @@ pub fn act_steps()
         groups_looked process.root known vault ≡ record { known = now; vault = after } →
         Acts (act (known_groups now)) now (scene_of room after clock process) code new →
         Acts (reads_groups act) known (scene_of room vault clock process) code new }
-{}
-
-/// Does nothing: its contract is what holds of a module that only speaks, in any world.
-pub fn speaking()
-    ensures none { (t : Transaction) → Speaks t t }
-    ensures again { (t u v : Transaction) → Speaks t u → Speaks u v → Speaks t v }
-    ensures stays { (t u : Transaction) (process : PlainProcess) → Speaks t u →
-        Stays (plain_transaction t) (plain_transaction u) process process }
-    ensures others { (t u : Transaction) → Speaks t u → (u.serving ≡ t.serving)
-        × (u.trail ≡ t.trail) }
-    ensures sets { (t u : Transaction) (ledger : PlainLedger) → Speaks t u →
-        Sets t.serving t.datums ledger u.datums ledger }
 {}

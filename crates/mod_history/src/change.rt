@@ -1,7 +1,8 @@
 ghost use Rattle.std.specs.Prelude.{◌≡◌, ◌≤◌, ◌<◌, IsTrue, IfOk, IfSome, length};
 ghost use Rattle.pam_outside.specs.Time.{ClockState};
 ghost use Rattle.pam_room.specs.Plain.{plain_call, plain_process};
-ghost use Rattle.module_acts.specs.Comes.{Came, Comes, lent};
+ghost use Rattle.account_files.specs.Act.{Came};
+ghost use Rattle.module_acts.specs.Comes.{Comes, lent};
 ghost use Rattle.module_acts.specs.Talks.{Talks};
 ghost use Rattle.mod_history.specs.Pwhistory.{by_history, by_look, checks_token, remember_of, remembers, renews, short_number};
 
@@ -9,10 +10,9 @@ use crate::file::{HISTORY_LIMIT, HISTORY_NAME, history_in, store_text};
 use crate::history::{History, hashes_of};
 use crate::refusal::{is_refused, refuse_token};
 use crate::renewal::renewed_text;
-use account_files::user_of;
 use conv_port::Conv;
 use mod_unix::{Look, look_up, take_token};
-use module_acts::{laws, read_whole, require_user};
+use module_acts::{laws, read_whole, require_user, user_of};
 use pam_base::{Code, ConvErr, NoMemory, Refuse, Text, number_in};
 use pam_outside::Vault;
 use pam_room::{Call, Process, Transaction};

@@ -2,7 +2,7 @@ ghost use Rattle.std.specs.Prelude.{◌≡◌, IsTrue, IfOk};
 ghost use Rattle.pam_outside.specs.Time.{ClockState};
 ghost use Rattle.pam_room.specs.Plain.{plain_process};
 ghost use Rattle.pam_room.specs.State.{PlainRoom, scene_of};
-ghost use Rattle.module_acts.specs.Comes.{Came};
+ghost use Rattle.account_files.specs.Act.{Came};
 ghost use Rattle.mod_unix.specs.Change.{by_done};
 ghost use Rattle.mod_history.specs.Pwhistory.{history_in, stores_text};
 

@@ -4,14 +4,16 @@ ghost use Rattle.pam_outside.specs.Time.{ClockState};
 ghost use Rattle.pam_room.specs.Module.{length_note};
 ghost use Rattle.account_files.specs.Accounts.{nothing_known};
 ghost use Rattle.account_files.specs.Act.{Acts, standing};
-ghost use Rattle.account_files.specs.Speaks.{Speaks};
+ghost use Rattle.module_acts.specs.Comes.{Finishes};
+ghost use Rattle.module_acts.specs.Talks.{Talks};
 ghost use Rattle.mod_history.specs.Wheel.{at_once, by_group, by_membership, checks_wheel, code_by_groups, code_by_passwds, group_of_gid, is_passed_over, trusted, wheel_group, wheel_plays};
 
 use account_db::{Group, Groups, Passwd, PasswdFile, entry_of, entry_of_uid, group_of, is_member};
-use account_files::{Accounts, has_argument, has_user, laws, user_of};
+use account_files::{Accounts, has_argument, laws};
 use conv_port::Conv;
 use data_cleanup::{Datum, Receipt};
-use pam_base::{Code, Func, NoMemory, Texts};
+use module_acts::{ended, require_user, user_of};
+use pam_base::{Code, ConvErr, Func, NoMemory, Refuse, Texts};
 use pam_outside::{Clock, Vault};
 use pam_room::{Call, Module, Process, Transaction, spend_by_length};
 use std::alloc::Global;
@@ -50,11 +52,14 @@ impl Module for Wheel {
         _clock: &mut dyn Clock,
     ) -> Result<Code, NoMemory> {
         laws::act_steps();
-        laws::speaking();
+        module_acts::laws::talking();
         module_acts::laws::acting();
         match at_once(call.func) {
             Some(code) => Ok(code),
-            None => check_wheel(alloc, call, transaction, process, conv, vault),
+            None => {
+                let answer = check_wheel(alloc, call, transaction, process, conv, vault);
+                ended(answer)
+            }
         }
     }
 
@@ -81,22 +86,17 @@ fn check_wheel(
     process: &Process,
     conv: &mut dyn Conv,
     vault: &mut dyn Vault,
-) -> Result<Code, NoMemory>
+) -> Result<Code, Refuse<ConvErr>>
     ensures conv_tells { conv_tells conv.new ≡ conv_tells conv.old }
     ensures vault_tells { vault_tells vault.new ≡ vault_tells vault.old }
     ensures told { IsTrue (conv_tells conv.old) → IsTrue (vault_tells vault.old) →
-        (clock : ClockState) →
-        IfOk result (λ code. Acts (checks_wheel call.now.args.now process.now.caller) nothing_known
+        (clock : ClockState) → Finishes result (checks_wheel call.now.args.now process.now.caller)
         (standing transaction.old (conv_holds conv.old) (vault_holds vault.old) clock process.now)
-        code
-        (standing transaction.new (conv_holds conv.new) (vault_holds vault.new) clock
-        process.now)) }
-    ensures speaks { Speaks transaction.old transaction.new }
+        (standing transaction.new (conv_holds conv.new) (vault_holds vault.new) clock process.now) }
+    ensures talks { Talks transaction.old transaction.new }
 {
     laws::act_steps();
-    if !has_user(alloc, transaction, conv)? {
-        return Ok(Code::ConvErr);
-    }
+    require_user(alloc, transaction, conv)?;
     let caller = process.caller;
     let mut accounts = Accounts::new();
     accounts.read_passwds(alloc, vault, process.root.bytes())?;

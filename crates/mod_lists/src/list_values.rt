@@ -10,7 +10,8 @@ ghost use Rattle.mod_lists.specs.Listfile.{group_values, reads_values, text_valu
 
 use crate::list_settings::ListItem;
 use account_db::group_names;
-use account_files::{Account, Accounts, laws, user_of};
+use account_files::{Account, Accounts, laws};
+use module_acts::user_of;
 use pam_base::{ItemName, NoMemory, Text, Texts};
 use pam_outside::Vault;
 use pam_room::{Process, Transaction, get_item};

@@ -5,16 +5,18 @@ ghost use Rattle.pam_outside.specs.Time.{ClockState};
 ghost use Rattle.pam_room.specs.Module.{length_note};
 ghost use Rattle.account_files.specs.Accounts.{nothing_known};
 ghost use Rattle.account_files.specs.Act.{Acts, answers, standing};
-ghost use Rattle.account_files.specs.Speaks.{Speaks};
+ghost use Rattle.module_acts.specs.Comes.{Finishes};
+ghost use Rattle.module_acts.specs.Talks.{Talks};
 ghost use Rattle.mod_lists.specs.SucceedIf.{at_once, checks_conditions, conditions_in, is_about_log, meets_all, succeed_if_plays, uses_uid};
 
 use crate::condition::condition_of;
 use crate::trial::try_words;
 use crate::truth::Truth;
-use account_files::{Accounts, has_user, laws};
+use account_files::{Accounts, laws};
 use conv_port::Conv;
 use data_cleanup::{Datum, Receipt};
-use pam_base::{Code, Func, NoMemory, Text, Texts};
+use module_acts::{ended, require_user};
+use pam_base::{Code, ConvErr, Func, NoMemory, Refuse, Text, Texts};
 use pam_outside::{Clock, Vault};
 use pam_room::{Call, Module, Process, Transaction, spend_by_length};
 use std::alloc::Global;
@@ -53,10 +55,13 @@ impl Module for SucceedIf {
         _clock: &mut dyn Clock,
     ) -> Result<Code, NoMemory> {
         laws::act_steps();
-        laws::speaking();
+        module_acts::laws::talking();
         match at_once(call.func) {
             Some(code) => Ok(code),
-            None => check_conditions(alloc, call.args, transaction, process, conv, vault),
+            None => {
+                let answer = check_conditions(alloc, call.args, transaction, process, conv, vault);
+                ended(answer)
+            }
         }
     }
 
@@ -82,26 +87,21 @@ fn check_conditions(
     process: &Process,
     conv: &mut dyn Conv,
     vault: &mut dyn Vault,
-) -> Result<Code, NoMemory>
+) -> Result<Code, Refuse<ConvErr>>
     ensures conv_tells { conv_tells conv.new ≡ conv_tells conv.old }
     ensures vault_tells { vault_tells vault.new ≡ vault_tells vault.old }
     ensures told { IsTrue (conv_tells conv.old) → IsTrue (vault_tells vault.old) →
-        (clock : ClockState) →
-        IfOk result (λ code. Acts (checks_conditions args.now) nothing_known
+        (clock : ClockState) → Finishes result (checks_conditions args.now)
         (standing transaction.old (conv_holds conv.old) (vault_holds vault.old) clock process.now)
-        code
-        (standing transaction.new (conv_holds conv.new) (vault_holds vault.new) clock
-        process.now)) }
-    ensures speaks { Speaks transaction.old transaction.new }
+        (standing transaction.new (conv_holds conv.new) (vault_holds vault.new) clock process.now) }
+    ensures talks { Talks transaction.old transaction.new }
 {
     laws::act_steps();
-    laws::speaking();
+    module_acts::laws::talking();
     if uses_uid(args) {
         return Ok(Code::ServiceErr);
     }
-    if !has_user(alloc, transaction, conv)? {
-        return Ok(Code::ConvErr);
-    }
+    require_user(alloc, transaction, conv)?;
     let conditions = conditions_in(alloc, args)?;
     let code = meet_all(alloc, &conditions, transaction, process, vault)?;
     Ok(code)

@@ -14,8 +14,9 @@ ghost use Rattle.mod_lists.specs.SucceedIf.{by_groups, by_passwds, is_in_any, it
 use crate::condition::{AccountField, Condition, Field, ItemField, Test};
 use crate::truth::{Truth, in_sense};
 use account_db::{Groups, Passwd, is_in_group};
-use account_files::{Account, Accounts, laws, user_of};
+use account_files::{Account, Accounts, laws};
 use item_store::Items;
+use module_acts::user_of;
 use pam_base::{ItemName, NoMemory, Parts};
 use pam_outside::Vault;
 use pam_room::{Process, Transaction, get_item};

@@ -3,17 +3,19 @@ ghost use Rattle.conv_port.specs.Conv.{ConvState};
 ghost use Rattle.pam_room.specs.Module.{length_note};
 ghost use Rattle.account_files.specs.Accounts.{Known, nothing_known};
 ghost use Rattle.account_files.specs.Act.{Acts, standing};
-ghost use Rattle.account_files.specs.Speaks.{Speaks};
+ghost use Rattle.module_acts.specs.Comes.{Finishes};
+ghost use Rattle.module_acts.specs.Talks.{Talks};
 ghost use Rattle.mod_tally.specs.Settings.{plain_settings};
 ghost use Rattle.mod_tally.specs.Faillock.{by_name, by_spared, checks_tally, faillock_plays, is_no_file, spared_answer, task_of};
 
 use crate::settings::{Settings, Task, settings_of, task_among};
 use crate::tally_file::{is_no_file, read_tally, tally_name};
 use crate::task::by_task;
-use account_files::{Account, Accounts, has_user, laws, user_of};
+use account_files::{Account, Accounts, laws};
 use conv_port::Conv;
 use data_cleanup::{Datum, Receipt};
-use pam_base::{Code, Func, NoMemory};
+use module_acts::{ended, require_user, user_of};
+use pam_base::{Code, ConvErr, Func, NoMemory, Refuse};
 use pam_outside::{Clock, Vault};
 use pam_room::{Call, Module, Process, Transaction, spend_by_length};
 use std::alloc::Global;
@@ -51,11 +53,11 @@ impl Module for Faillock {
         clock: &mut dyn Clock,
     ) -> Result<Code, NoMemory> {
         laws::act_steps();
-        laws::speaking();
+        module_acts::laws::talking();
         match task_of(call.func, task_among(call.args)) {
             Ok(task) => {
                 let settings = settings_of(call);
-                check_tally(
+                let answer = check_tally(
                     alloc,
                     task,
                     &settings,
@@ -64,7 +66,8 @@ impl Module for Faillock {
                     conv,
                     vault,
                     clock,
-                )
+                );
+                ended(answer)
             }
             Err(code) => Ok(code),
         }
@@ -99,23 +102,21 @@ fn check_tally(
     conv: &mut dyn Conv,
     vault: &mut dyn Vault,
     clock: &dyn Clock,
-) -> Result<Code, NoMemory>
+) -> Result<Code, Refuse<ConvErr>>
     ensures conv_tells { conv_tells conv.new ≡ conv_tells conv.old }
     ensures vault_tells { vault_tells vault.new ≡ vault_tells vault.old }
     ensures told { IsTrue (conv_tells conv.old) → IsTrue (vault_tells vault.old) →
         IsTrue (clock_tells clock.now) →
-        IfOk result (λ code. Acts (checks_tally task (plain_settings settings.now)) nothing_known
+        Finishes result (checks_tally task (plain_settings settings.now))
         (standing transaction.old (conv_holds conv.old) (vault_holds vault.old)
-        (clock_holds clock.now) process.now) code
+        (clock_holds clock.now) process.now)
         (standing transaction.new (conv_holds conv.new) (vault_holds vault.new)
-        (clock_holds clock.now) process.now)) }
-    ensures speaks { Speaks transaction.old transaction.new }
+        (clock_holds clock.now) process.now) }
+    ensures talks { Talks transaction.old transaction.new }
 {
     laws::act_steps();
-    laws::speaking();
-    if !has_user(alloc, transaction, conv)? {
-        return Ok(Code::ConvErr);
-    }
+    module_acts::laws::talking();
+    require_user(alloc, transaction, conv)?;
     let code = check_user(alloc, task, settings, transaction, process, vault, clock)?;
     Ok(code)
 }

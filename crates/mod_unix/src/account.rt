@@ -2,15 +2,15 @@ ghost use Rattle.std.specs.Prelude.{◌≡◌, IsTrue};
 ghost use Rattle.pam_outside.specs.Files.{VaultState};
 ghost use Rattle.pam_room.specs.Plain.{plain_process};
 ghost use Rattle.pam_room.specs.State.{PlainProcess, PlainRoom, scene_of};
-ghost use Rattle.module_acts.specs.Comes.{Came, Comes, lent};
+ghost use Rattle.account_files.specs.Act.{Came};
+ghost use Rattle.module_acts.specs.Comes.{Comes, lent};
 ghost use Rattle.module_acts.specs.Talks.{Talks};
 ghost use Rattle.mod_unix.specs.Account.{account_by, checks_account};
 
 use crate::aging::{aged, day_of};
 use crate::look::{Look, look_up};
-use account_files::user_of;
 use conv_port::Conv;
-use module_acts::{laws, require_user};
+use module_acts::{laws, require_user, user_of};
 use pam_base::{Code, ConvErr, Refuse};
 use pam_outside::{Clock, Vault, current_moment};
 use pam_room::{Process, Transaction};

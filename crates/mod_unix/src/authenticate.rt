@@ -9,9 +9,9 @@ ghost use Rattle.mod_unix.specs.Authenticate.{asks_password, authenticates, by_l
 
 use crate::look::{Look, look_up};
 use crate::verify::verify;
-use account_files::{has_argument, user_of};
+use account_files::has_argument;
 use conv_port::Conv;
-use module_acts::{laws, request_delay, require_token, require_user};
+use module_acts::{laws, request_delay, require_token, require_user, user_of};
 use pam_base::{Code, ConvErr, DISALLOW_NULL_AUTHTOK, ItemName, Refuse};
 use pam_outside::Vault;
 use pam_room::{Call, Process, Transaction, get_item};

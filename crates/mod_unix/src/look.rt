@@ -4,7 +4,7 @@ ghost use Rattle.pam_room.specs.Plain.{plain_process};
 ghost use Rattle.pam_room.specs.State.{PlainRoom, scene_of};
 ghost use Rattle.account_files.specs.Accounts.{account_limit};
 ghost use Rattle.account_files.specs.Content.{IsWithin};
-ghost use Rattle.module_acts.specs.Comes.{Came};
+ghost use Rattle.account_files.specs.Act.{Came};
 ghost use Rattle.mod_unix.specs.Look.{field_in, is_x, looks, shadow_in};
 
 use account_db::{Shadow, entry_of, passwds, shadow_of, shadows};

@@ -1,2 +1,3 @@
 mod Carrying
+mod Ending
 mod Talks_on

@@ -5,7 +5,8 @@ ghost use Rattle.pam_outside.specs.Files.{VaultState};
 ghost use Rattle.pam_outside.specs.Time.{ClockState};
 ghost use Rattle.pam_room.specs.State.{PlainProcess};
 ghost use Rattle.pam_room.specs.Plain.{plain_process};
-ghost use Rattle.module_acts.specs.Comes.{Goes, Leads, lent};
+ghost use Rattle.account_files.specs.Act.{Leads};
+ghost use Rattle.module_acts.specs.Comes.{Goes, lent};
 ghost use Rattle.module_acts.specs.Steps.{answers_keeping, requests_delay, sets_item};
 ghost use Rattle.module_acts.specs.Talks.{Talks};
 

@@ -2,9 +2,8 @@ ghost use Rattle.std.specs.Prelude.{◌≡◌, ◌≤◌, IsTrue, IfOk, OnOk};
 ghost use Rattle.pam_outside.specs.Time.{ClockState};
 ghost use Rattle.pam_room.specs.Plain.{plain_process};
 ghost use Rattle.pam_room.specs.State.{PlainRoom, scene_of};
-ghost use Rattle.account_files.specs.Act.{reads_file, replaces_file};
+ghost use Rattle.account_files.specs.Act.{Came, reads_file, replaces_file};
 ghost use Rattle.account_files.specs.Content.{IsWithin};
-ghost use Rattle.module_acts.specs.Comes.{Came};
 
 use account_files::{Content, laws, read_named, replace_named};
 use pam_base::NoMemory;
