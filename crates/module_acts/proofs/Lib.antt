@@ -1,3 +1,3 @@
 mod Carrying
-mod Ending
+mod Refusing
 mod Talks_on

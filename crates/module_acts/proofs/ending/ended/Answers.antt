@@ -1,6 +1,6 @@
 use Rattle.account_files.specs.Accounts.{nothing_known}
 use Rattle.account_files.specs.Act.{answers}
-use Rattle.module_acts.proofs.Ending.{refused, unanswered}
+use Rattle.module_acts.proofs.Refusing.{refused, unanswered}
 use Rattle.module_acts.proofs.ending.ended.Goals as goal
 
 pub returns-in-Ok-clause-told : goal.returns-in-Ok-clause-told
