@@ -1,20 +1,14 @@
 -- Steps of what a module does, put before what it does from there on.
-use Rattle.std.proofs.Common.{◌≡◌, ℕ, zero, suc, Bool, true, false, cond, List, [], Option, Some, None, codes, unwrap_or, Result, Ok, Err, IfOk, refl, sym, ap, ◌∙◌}
+use Rattle.std.proofs.Common.{◌≡◌, ℕ, zero, suc, Bool, true, false, cond, List, [], Option, Some, None, codes, Result, Ok, Err, IfOk, refl, sym, ap, ◌∙◌}
 use Rattle.std.proofs.lemmas.List.{append-nil}
 use Rattle.pam_base.specs.declared.code.Code.{Code}
-use Rattle.pam_base.specs.declared.code.Code.TheVariants.{ConvErr}
 use Rattle.pam_base.specs.declared.fault.NoMemory.{NoMemory}
-use Rattle.pam_base.specs.declared.style.Style.{Style}
-use Rattle.conv_port.specs.Conv.{ConvState}
 use Rattle.item_store.specs.Items.{ItemTexts}
 use Rattle.pam_outside.specs.Files.{File, VaultState, counted, file_put, is_failing}
 use Rattle.pam_outside.specs.Time.{ClockState}
-use Rattle.pam_room.specs.declared.transaction.Transaction.{Transaction}
-use Rattle.pam_room.specs.Plain.{plain_transaction}
 use Rattle.pam_room.specs.Call.{PlainCall}
-use Rattle.pam_room.specs.State.{PlainProcess, PlainRoom, Scene, room_of, scene_of}
-use Rattle.pam_room.specs.Module.{Played, PlaysIn, after_calls, failing_of, seen_of, sight_of, with_played}
-use Rattle.pam_room.specs.Say.{asked, user_asked}
+use Rattle.pam_room.specs.State.{PlainProcess, PlainRoom, Scene, scene_of}
+use Rattle.pam_room.specs.Module.{Played, PlaysIn, after_calls, failing_of, sight_of, with_played}
 use Rattle.account_db.specs.declared.group.Group.{Group}
 use Rattle.account_db.specs.declared.passwd.Passwd.{Passwd}
 use Rattle.account_files.specs.declared.content.Content.{Content}
@@ -23,7 +17,7 @@ use Rattle.pam_outside.specs.Paths.{path_of}
 use Rattle.account_files.specs.Content.{after_named, content_at, is_rooted, named_content}
 use Rattle.account_files.specs.Accounts.{Known, Looked, groups_looked, account_limit, known_groups, known_passwds, nothing_known, passwds_looked, shells_in}
 use Rattle.account_files.specs.Accounts.{groups_by as known_groups_by, passwds_by as known_by}
-use Rattle.account_files.specs.Act.{Act, Acts, answers, asks_user, called, content_seen, groups_by, later, passwds_by, plays_by, reads_file, reads_groups, reads_if, reads_passwds, reads_shells, replaced, replaces_file, sees_items, sees_moment, shown, shows, stage_of}
+use Rattle.account_files.specs.Act.{Act, Acts, answers, called, content_seen, groups_by, later, passwds_by, plays_by, reads_file, reads_groups, reads_if, reads_passwds, reads_shells, replaced, replaces_file, sees_items, sees_moment, stage_of}
 
 -- ---- a step that leaves the vault, and one that calls it once
 

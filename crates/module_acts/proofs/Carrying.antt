@@ -25,7 +25,7 @@ use Rattle.pam_room.specs.Call.{PlainCall}
 use Rattle.pam_room.specs.State.{PlainProcess, PlainTransaction, Scene, room_of, scene_of}
 use Rattle.pam_room.specs.Module.{HasSet, NamedData, Played, PlaysIn, SeenRoom, births_of, named_data, seen_of, with_played}
 use Rattle.pam_room.specs.Say.{Asked, Asks, Says, asked, speak, token_asked, token_of, user_asked}
-use Rattle.account_files.specs.Accounts.{Known, nothing_known}
+use Rattle.account_files.specs.Accounts.{Known}
 use Rattle.account_files.specs.Act.{Act, Acts, Leads, Stage, answers, asks_user, in_room, plays_by, sees_items, shown, shows, stage_of}
 use Rattle.module_acts.specs.Comes.{Comes, ComesTo, Goes, lent}
 use Rattle.module_acts.specs.Steps.{answers_keeping, asks_token, exchanges, requests_delay, sees_caller, sees_clock, sees_data, sets_item, with_replies}
