@@ -12,7 +12,7 @@ TOP = os.path.dirname(os.path.dirname(os.path.abspath(__file__)))
 PROGRAM = os.path.abspath(os.environ.get("PAMSESS") or f"{TOP}/crates/pam_session_cli/out/pam_session_cli")
 
 # What a stored row or example has beside its tree.
-PARTS = ("README.md", "after", "cases", "checked", "input", "output", "script", "status", "words")
+PARTS = ("README.md", "after", "cases", "checked", "client", "input", "input.hex", "output", "output.hex", "runs", "script", "status", "words")
 
 # How long a run may take, and how long one of a case that is run hundreds of times, in seconds.
 SECONDS = 60
@@ -160,6 +160,15 @@ def read(path, missing=b""):
         return file.read()
 
 
+def read_part(path):
+    """The bytes that a stored part stands for: its own; or those that it spells, where its name ends in .hex."""
+    text = read(path)
+    if not path.endswith(".hex"):
+        return text
+    lines = [line for line in text.splitlines(keepends=True) if not line.startswith(b"#")]
+    return b"".join(line[1:] if line.startswith(b"|") else bytes.fromhex(line.decode()) for line in lines)
+
+
 def files_below(folder, left_out=()):
     found = {}
     for at, folders, names in os.walk(folder):
@@ -176,22 +185,23 @@ def stored_case(name, folders):
     """The case that the files of these folders tell, the last one first, and their trees over one another."""
 
     def part(*names, missing=b""):
-        return next((read(f"{it}/{one}") for it in folders[::-1] for one in names if os.path.isfile(f"{it}/{one}")), missing)
+        return next((read_part(f"{it}/{one}") for it in folders[::-1] for one in names if os.path.isfile(f"{it}/{one}")), missing)
 
     files = {}
     for folder in folders:
         files.update(files_below(folder, PARTS))
     after = next((files_below(f"{it}/after") for it in folders[::-1] if os.path.isdir(f"{it}/after")), {})
     words = part("words", missing=b"run\nROOT\n").decode("utf-8", "surrogateescape").splitlines()
-    return Case(name, files, part("script", "input"), part("output"), int(part("status", missing=b"0")), after, words)
+    given, output = part("script", "input", "input.hex"), part("output", "output.hex")
+    return Case(name, files, given, output, int(part("status", missing=b"0")), after, words)
 
 
 def stored_cases(top):
-    """The rows or examples of a folder, where it is there; of a row with cases the first two."""
+    """The rows or examples of a folder, where it is there; of a row with cases the first two that no front end runs."""
     for row in sorted(os.listdir(top)) if os.path.isdir(top) else []:
         folder, name = f"{top}/{row}", f"{os.path.basename(top)}/{row}"
         cases = sorted(os.listdir(f"{folder}/cases")) if os.path.isdir(f"{folder}/cases") else []
-        for inner in cases[:2]:
+        for inner in [it for it in cases if not os.path.isfile(f"{folder}/cases/{it}/runs")][:2]:
             yield stored_case(f"{name}, {inner}", [folder, f"{folder}/cases/{inner}"])
         if not cases and any(os.path.isfile(f"{folder}/{part}") for part in ("script", "words")):
             yield stored_case(name, [folder])

@@ -1,5 +1,5 @@
 -- Frames are cut and refused as the stream wants it.
-use Rattle.std.proofs.Common.{◌≡◌, ℕ, zero, suc, ◌+◌, ◌≤◌, ◌<◌, ◌⊎◌, inl, inr, Bool, true, false, cond, List, [], ◌∷◌, ◌++◌, length, take, drop, Option, Some, None, Result, Ok, Err, nat_le, refl, sym, ap, subst, ◌∙◌, arith, length-drop}
+use Rattle.std.proofs.Common.{◌≡◌, ℕ, zero, suc, ◌+◌, ◌≤◌, ◌<◌, inl, inr, Bool, true, false, cond, List, [], ◌∷◌, ◌++◌, length, take, drop, Option, Some, None, Result, Ok, Err, nat_le, refl, sym, ap, subst, ◌∙◌, arith, length-drop}
 use Rattle.std.proofs.lemmas.Bool.{le-leb, lt-leb, cases_lt}
 use Rattle.std.proofs.lemmas.List.{take-append-le, drop-append-le, nil_from_length}
 use Rattle.pam_wire.specs.declared.front.Front.{Front}
@@ -36,12 +36,12 @@ unfolding looked looked_most
 looked-none n ended = refl
 
 module _ (settles : FrontSettles) where
-  record IsWhole (bytes : List ℕ) (size : ℕ) : Type 0 where
-    some : 4 ≤ size
-    within : size ≤ length bytes
-    stays : (more : List ℕ) → front_of (bytes ++ more) ≡ Whole size
+  pub record IsWhole (bytes : List ℕ) (size : ℕ) : Type 0 where
+    pub some : 4 ≤ size
+    pub within : size ≤ length bytes
+    pub stays : (more : List ℕ) → front_of (bytes ++ more) ≡ Whole size
 
-  whole_of : (bytes : List ℕ) (size : ℕ) → front_of bytes ≡ Whole size → IsWhole bytes size
+  pub whole_of : (bytes : List ℕ) (size : ℕ) → front_of bytes ≡ Whole size → IsWhole bytes size
   whole_of bytes size e =
       let s : (more : List ℕ) → Settles (Whole size) bytes more = λ more. subst (λ f. Settles f bytes more) e (settles bytes more) in
       record { some = (s []).0; within = (s []).1; stays = λ more. (s more).2 }
@@ -113,11 +113,11 @@ module _ (settles : FrontSettles) where
   }
 
   module _ {State : Type 0} (answers : CallStep State) where
-    step-many : (n : ℕ) (s : State) (frame : List ℕ) → 65536 ≤ n → step_at answers n s frame ≡ Err TooManyFrames
+    pub step-many : (n : ℕ) (s : State) (frame : List ℕ) → 65536 ≤ n → step_at answers n s frame ≡ Err TooManyFrames
     unfolding step_at
     step-many n s frame ge = rw (le-leb 65536 n ge) refl
 
-    step-bad : (n : ℕ) (s : State) (frame : List ℕ) → n < 65536 → step_of frame ≡ None → step_at answers n s frame ≡ Err BadFrame
+    pub step-bad : (n : ℕ) (s : State) (frame : List ℕ) → n < 65536 → step_of frame ≡ None → step_at answers n s frame ≡ Err BadFrame
     unfolding step_at
     step-bad n s frame lt none = rw (lt-leb 65536 n lt) (ap (called answers s) none)
 
@@ -134,13 +134,13 @@ module _ (settles : FrontSettles) where
     ]
 
     -- the first frame is refused
-    refused_run : (n : ℕ) (c : State) (bytes item : List ℕ) (ended : Bool) (k : FrameFault) → looked n bytes ended ≡ item ∷ [] → step_at answers n c item ≡ Err k
+    pub refused_run : (n : ℕ) (c : State) (bytes item : List ℕ) (ended : Bool) (k : FrameFault) → looked n bytes ended ≡ item ∷ [] → step_at answers n c item ≡ Err k
         → run_of looked (step_at answers) n c bytes ended ≡ come_to [] c n (Some k)
     unfolding run_of run_items
     refused_run n c bytes item ended k e s = ap (run_items (step_at answers) n c) e ∙ ap (λ r. after n c r (λ d. come_to [] d (n + 1) None)) s
 
     -- the first frame is whole
-    whole_run : (n : ℕ) (c : State) (bytes item behind : List ℕ) (ended : Bool) → looked n bytes ended ≡ item ∷ looked (n + 1) behind ended
+    pub whole_run : (n : ℕ) (c : State) (bytes item behind : List ℕ) (ended : Bool) → looked n bytes ended ≡ item ∷ looked (n + 1) behind ended
         → run_of looked (step_at answers) n c bytes ended ≡ after n c (step_at answers n c item) (λ d. run_of looked (step_at answers) (n + 1) d behind ended)
     unfolding run_of run_items
     whole_run n c bytes item behind ended e = ap (run_items (step_at answers) n c) e

@@ -1,5 +1,5 @@
 -- The frames of steps are looked at first.
-use Rattle.std.proofs.Common.{◌≡◌, ℕ, suc, ◌+◌, ◌≤◌, ◌<◌, Bool, true, false, cond, eqb, List, [], ◌∷◌, ◌++◌, length, take, drop, map, Option, Some, None, refl, sym, ap, subst, ◌∙◌, arith, append_assoc}
+use Rattle.std.proofs.Common.{◌≡◌, ℕ, ◌+◌, ◌≤◌, ◌<◌, Bool, true, false, cond, eqb, List, [], ◌∷◌, ◌++◌, length, drop, map, Some, None, refl, ap, subst, ◌∙◌, arith, append_assoc}
 use Rattle.std.proofs.Math.Seq.{take-append_seam, drop-append_seam}
 use Rattle.std.proofs.lemmas.Bool.{eqb-true}
 use Rattle.pam_base.specs.declared.call.Step.{Step}
@@ -24,14 +24,14 @@ whole_by bytes step OutOfRange e = absurd cc
 whole_by bytes step (Whole size) e = ap (λ n. Whole n) (size_by bytes step size _ refl e)
 
 module _ (settles : FrontSettles) (reads : ReadsTable) where
-  front_of-frame : (step : Step) (more : List ℕ) → has_frame step ≡ true → front_of (frame_of step ++ more) ≡ Whole (length (frame_of step))
+  pub front_of-frame : (step : Step) (more : List ℕ) → has_frame step ≡ true → front_of (frame_of step ++ more) ≡ Whole (length (frame_of step))
   front_of-frame step more has =
       let read : step_of (frame_of step) ≡ Some step = (reads (frame_of step) step).0 (record { within = has; bytes_are = refl }) in
       let whole : front_of (frame_of step) ≡ Whole (length (frame_of step)) = whole_by (frame_of step) step (front_of (frame_of step)) read in
       let s : Settles (Whole (length (frame_of step))) (frame_of step) more = subst (λ f. Settles f (frame_of step) more) whole (settles (frame_of step) more) in
       s.2
 
-  first : (n : ℕ) (step : Step) (more : List ℕ) (ended : Bool) → n < 65536 → has_frame step ≡ true → looked n (frame_of step ++ more) ended ≡ frame_of step ∷ looked (n + 1) more ended
+  pub first : (n : ℕ) (step : Step) (more : List ℕ) (ended : Bool) → n < 65536 → has_frame step ≡ true → looked n (frame_of step ++ more) ended ≡ frame_of step ∷ looked (n + 1) more ended
   first n step more ended lt has =
       looked-whole settles n (frame_of step ++ more) (length (frame_of step)) ended lt (front_of-frame step more has)
       ∙ ap (λ (z : List ℕ). z ∷ looked (n + 1) (drop (length (frame_of step)) (frame_of step ++ more)) ended) (take-append_seam (frame_of step) more)

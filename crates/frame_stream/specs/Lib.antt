@@ -1,3 +1,4 @@
 pub mod Looked
 pub mod Run
 pub mod Laws
+pub mod Spelled

@@ -1,11 +1,11 @@
 -- Which frames of a stream are looked at, of the bytes that were taken so far.
-use Rattle.std.specs.Prelude.{◌≡◌, ◌⊎◌, ℕ, zero, suc, ◌+◌, ◌≤◌, Bool, List, [], ◌∷◌, length, take, drop, Option, None, nat_le, if◌then◌else◌}
+use Rattle.std.specs.Prelude.{◌≡◌, ◌⊎◌, ℕ, zero, suc, ◌+◌, ◌≤◌, Bool, List, [], ◌∷◌, length, take, drop, None, nat_le, if◌then◌else◌}
 use Rattle.pam_wire.specs.declared.front.Front.{Front}
 use Rattle.pam_wire.specs.declared.front.Front.TheVariants.{Open, OutOfRange, Whole}
 use Rattle.pam_wire.specs.Read.{front_of, step_of}
 
--- A frame that is whole is looked at, and then what stands behind it. A length that no frame has is looked at with all
--- that stands behind it, and the beginning of a frame where the input has ended.
+-- A frame that is whole is looked at, and then what stands after it. A length that no frame has is
+-- looked at with all that stands after it, and the beginning of a frame where the input has ended.
 abbrev pub looked_by : Front → List ℕ → Bool → (ℕ → List (List ℕ)) → List (List ℕ)
 looked_by Open bytes ended behind = if ended then bytes ∷ [] else []
 looked_by OutOfRange bytes ended behind = bytes ∷ []
@@ -17,7 +17,8 @@ looked_most most n [] ended = []
 looked_most zero n (b ∷ bs) ended = []
 looked_most (suc most) n (b ∷ bs) ended =
     if nat_le 65536 n then (b ∷ bs) ∷ []
-    else looked_by (front_of (b ∷ bs)) (b ∷ bs) ended (λ size. looked_most most (n + 1) (drop size (b ∷ bs)) ended)
+    else looked_by (front_of (b ∷ bs)) (b ∷ bs) ended
+    (λ size. looked_most most (n + 1) (drop size (b ∷ bs)) ended)
 
 -- a frame has a byte at least, so there are at most as many as bytes
 unfoldable pub looked : ℕ → List ℕ → Bool → List (List ℕ)

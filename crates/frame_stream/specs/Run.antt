@@ -9,10 +9,13 @@ use Rattle.pam_wire.specs.Read.{step_of}
 abbrev pub CallStep : Type 0 → Type 0
 CallStep State = State → Step → State × List ℕ
 
-abbrev pub called : {State : Type 0} → CallStep State → State → Option Step → Result (State × List ℕ) FrameFault
+abbrev pub called : {State : Type 0} → CallStep State → State → Option Step
+    → Result (State × List ℕ) FrameFault
 called answers s None = Err BadFrame
 called answers s (Some step) = Ok (answers s step)
 
 -- a frame that has n frames before it; frame 65,537 is refused
-unfoldable pub step_at : {State : Type 0} → CallStep State → ℕ → State → List ℕ → Result (State × List ℕ) FrameFault
-step_at answers n s frame = if nat_le 65536 n then Err TooManyFrames else called answers s (step_of frame)
+unfoldable pub step_at : {State : Type 0} → CallStep State → ℕ → State → List ℕ
+    → Result (State × List ℕ) FrameFault
+step_at answers n s frame =
+    if nat_le 65536 n then Err TooManyFrames else called answers s (step_of frame)

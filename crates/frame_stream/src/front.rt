@@ -5,7 +5,7 @@ use crate::limit::MAX_FRAMES;
 use item_stream::Front;
 use pam_wire::{Front as FrameFront, front_of, laws};
 
-/// What stands at the front of bytes behind so many frames: a frame, which may be no call; nothing
+/// What stands at the front of bytes after n frames: a frame, which may be no call; nothing
 /// yet; or a length that no frame has, or the first byte of one frame too many.
 pub fn front_of_frames(before: u32, held: &[u8]) -> Front
     ensures { IsFront looked refuses result before held.now }

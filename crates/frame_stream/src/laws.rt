@@ -1,10 +1,41 @@
-ghost use Rattle.frame_stream.specs.Laws.{StepsAreLookedAt};
+ghost use Rattle.frame_stream.specs.Laws.{AllAreLookedAt, BytesSpell, RunIsOfSteps, ServedAreSteps, StepsAreLookedAt};
 
-/// Where some bytes are the frames of steps and a rest behind them, these frames are looked at
-/// first, and then the rest. It does nothing: its contract is a law about the definitions.
+use crate::frames::CallStepping;
+
+// None of these does anything: its contract is a law about the definitions.
+
+/// Where some bytes are the frames of steps and a rest after them, these frames are looked at first, and then the
+/// rest.
 pub fn steps_are_looked_at()
     ensures { StepsAreLookedAt }
 {
     pam_wire::laws::front_settles();
     pam_wire::laws::frame_is_read();
+}
+
+/// Where the input ends, all its bytes are looked at, in order.
+pub fn all_are_looked_at()
+    ensures { AllAreLookedAt }
+{
+    pam_wire::laws::front_settles();
+}
+
+/// Some bytes are the frames of steps, at most 65,536, and a rest that begins a frame, or is refused.
+pub fn bytes_spell_steps()
+    ensures { BytesSpell }
+{
+    pam_wire::laws::front_settles();
+    pam_wire::laws::frame_is_read();
+    pam_wire::laws::front_opens_by_the_table();
+}
+
+/// A run over some bytes is one over the steps that they spell: its text is their answers, one after the other. Where
+/// it stops, what was served is the answers of the first steps.
+pub fn runs_are_of_steps<R: CallStepping>()
+    ensures run { (setting : R.Setting) → RunIsOfSteps (R.answers setting) }
+    ensures served { (setting : R.Setting) → ServedAreSteps (R.answers setting) }
+{
+    pam_wire::laws::front_settles();
+    pam_wire::laws::frame_is_read();
+    pam_wire::laws::front_opens_by_the_table();
 }

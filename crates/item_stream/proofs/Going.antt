@@ -47,7 +47,6 @@ module _ {State Kind : Type 0} (looked : Looks) (step : ItemStep State Kind) (Fa
     tells = record {
       served = [];
       begun = None;
-      items = 0;
       number = refl;
       ended = false;
       at_end = λ e. absurd cc;
@@ -101,12 +100,11 @@ module _ {State Kind : Type 0} (looked : Looks) (step : ItemStep State Kind) (Fa
       run = served_run b.ended ∙ ap (with_text text) b.run;
     }
 
-    stops_by : (stop : Stop) (e : State) (left more_text : List ℕ) → StopsBy looked step Fails stop m d e (held ++ got) left more_text
-        → StopsBy looked step Fails stop n c e (met ++ got) left (text ++ more_text)
-    stops_by stop e left more_text b = record {
+    stops_by : (stop : Stop) (k : ℕ) (e : State) (left more_text : List ℕ) → StopsBy looked step Fails stop m k d e (held ++ got) left more_text
+        → StopsBy looked step Fails stop n k c e (met ++ got) left (text ++ more_text)
+    stops_by stop k e left more_text b = record {
       served = a.served ++ b.served;
       begun = b.begun;
-      items = b.items;
       number = omega (arith, a.number, b.number, length-append a.served b.served);
       ended = b.ended;
       at_end = b.at_end;
@@ -126,7 +124,7 @@ module _ {State Kind : Type 0} (looked : Looks) (step : ItemStep State Kind) (Fa
       → GoesOn looked step n m c d met held text → Tells looked step Fails r m k d e (held ++ got) rest left more_text → Tells looked step Fails r n k c e (met ++ got) rest left (text ++ more_text)
   tells_both n m k c d e met held got rest left text more_text (Ok None) a b = goes_on n m c d met held text got a k e rest more_text b
   tells_both n m k c d e met held got rest left text more_text (Ok (Some ending)) a b = ends_by n m c d met held text got a ending k e left more_text b
-  tells_both n m k c d e met held got rest left text more_text (Err stop) a b = stops_by n m c d met held text got a stop e left more_text b
+  tells_both n m k c d e met held got rest left text more_text (Err stop) a b = stops_by n m c d met held text got a stop k e left more_text b
 
   -- the last read of two stretches is that of the second, where it read
   last_both : (n m : ℕ) (c d : State) (got held more text : List ℕ) → GoesOn looked step n m c d got held text

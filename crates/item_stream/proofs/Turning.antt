@@ -107,7 +107,6 @@ module _ {State Kind : Type 0} (looked : Looks) (refuses : Refuses) (step : Item
       | inl h ↦ record {
         served = [];
         begun = Some (take item_size held);
-        items = n;
         number = omega arith;
         ended = false;
         at_end = λ e. absurd cc;
@@ -125,7 +124,6 @@ module _ {State Kind : Type 0} (looked : Looks) (refuses : Refuses) (step : Item
       | inr h ↦ record {
         served = [];
         begun = None;
-        items = n;
         number = omega arith;
         ended = false;
         at_end = λ e. absurd cc;
@@ -204,7 +202,6 @@ module _ {State Kind : Type 0} (looked : Looks) (refuses : Refuses) (step : Item
           record {
             served = [];
             begun = Some held;
-            items = n;
             number = omega arith;
             ended = how.ended;
             at_end = how.at_end;
@@ -222,7 +219,6 @@ module _ {State Kind : Type 0} (looked : Looks) (refuses : Refuses) (step : Item
       | inr h ↦ record {
         served = [];
         begun = None;
-        items = n;
         number = omega arith;
         ended = how.ended;
         at_end = how.at_end;

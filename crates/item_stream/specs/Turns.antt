@@ -90,15 +90,14 @@ abbrev pub begun_items : Option (List ℕ) → List (List ℕ)
 begun_items None = []
 begun_items (Some item) = item ∷ []
 
--- The run has stopped: items at the front, both of those among the bytes met and of all, were served whole, and at
--- most one item more was begun.
+-- The run has stopped: items at the front, both of those among the bytes met and of all, were served whole, so that m
+-- stand before what follows, and at most one item more was begun.
 pub record StopsBy {State Kind : Type 0} (looked : Looks) (step : ItemStep State Kind)
-    (Fails : State → List ℕ → State → Type 0) (stop : Stop) (n : ℕ) (c d : State)
+    (Fails : State → List ℕ → State → Type 0) (stop : Stop) (n m : ℕ) (c d : State)
     (met left text : List ℕ) : Type 0 where
   pub served : List (List ℕ)
   pub begun : Option (List ℕ)
-  pub items : ℕ
-  pub number : items ≡ n + length served
+  pub number : m ≡ n + length served
   pub ended : Bool
   pub at_end : ended ≡ true → left ≡ []
   pub others_met : List (List ℕ)
@@ -108,9 +107,9 @@ pub record StopsBy {State Kind : Type 0} (looked : Looks) (step : ItemStep State
   pub middle : State
   pub whole : List ℕ
   pub part : List ℕ
-  pub run : run_items step n c served ≡ come_to whole middle items None
+  pub run : run_items step n c served ≡ come_to whole middle m None
   pub parts : text ≡ whole ++ part
-  pub stopped : StopsAt step Fails stop items begun middle d part
+  pub stopped : StopsAt step Fails stop m begun middle d part
 
 -- what was written for the bytes that a state met
 abbrev pub Tells : {State Kind : Type 0} → Looks → ItemStep State Kind
@@ -121,7 +120,7 @@ Tells looked step Fails (Ok None) n m c d met held left text =
 Tells looked step Fails (Ok (Some ending)) n m c d met held left text =
     EndsBy looked step ending n m c d met left text
 Tells looked step Fails (Err stop) n m c d met held left text =
-    StopsBy looked step Fails stop n c d met left text
+    StopsBy looked step Fails stop n m c d met left text
 
 -- the last read, by what was got after other bytes: it took at most a buffer, and nothing that was there before it
 -- was refused

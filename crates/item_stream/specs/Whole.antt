@@ -27,7 +27,7 @@ Reports looked step Fails (Ok (Refused kind)) m c d input taken left text =
     × (ended : Bool) × (ended ≡ true → left ≡ [])
     × (run_of looked step 0 c taken ended ≡ come_to text d m (Some kind))
 Reports looked step Fails (Err stop) m c d input taken left text =
-    StopsBy looked step Fails stop 0 c d taken left text
+    StopsBy looked step Fails stop 0 m c d taken left text
 
 -- a run from the first byte on: the state is c before and d after it, and m items were applied
 pub record Runs {State Kind : Type 0} (looked : Looks) (step : ItemStep State Kind)

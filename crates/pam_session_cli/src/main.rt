@@ -1,23 +1,11 @@
-//! `pamsess`: applies the calls of a script to the transactions of a configuration and reports what each answers, logs
-//! somebody in, or prints what a configuration or a tally comes to.
+//! `pamsess`: applies the calls of a script or of a front end to the transactions of a configuration and reports what
+//! each answers, logs somebody in, or prints what a configuration or a tally comes to.
 #![tactic(auto)]
 
 ghost use Rattle.std.specs.Prelude.{◌≡◌, [], IfOk, OnErr, length};
 
-mod command;
-mod desk;
-mod generation;
-mod login;
-mod opening;
-mod operand;
-mod program;
-mod script_run;
-mod status;
-mod usage;
-
-use conv_port::{Conv, QueueConv, TermConv};
+use conv_port::{Conv, QueueConv, TermConv, WireConv};
 use data_cleanup::Ledger;
-pub use desk::Desk;
 use mod_basic::{Debug, Deny, Permit, Probe, Rootok};
 use mod_env::Env as EnvModule;
 use mod_history::{Pwhistory, Securetty, Wheel};
@@ -30,7 +18,7 @@ use pam_outside::{
     Source, Vault, WriterSink,
 };
 use pam_room::{Module, Process, World};
-pub use program::pamsess;
+use session_program::{Desk, pamsess};
 use std::alloc::Global;
 use std::io::ErrorKind;
 use std::process::ExitCode;
@@ -67,7 +55,8 @@ fn exit_status(answered: io::Result<u8>) -> u8
     }
 }
 
-// Makes the streams, a conversation without replies for each transaction, and the terminal, and calls the program with them.
+// Makes the streams, a conversation without replies for each transaction, which waits where a front end is to answer,
+// and the terminal, and calls the program with them.
 fn run(rt: HostRuntime) -> io::Result<u8> {
     let alloc = rt.alloc();
     let words = words(&rt)?;
@@ -75,8 +64,14 @@ fn run(rt: HostRuntime) -> io::Result<u8> {
     let mut out = WriterSink::new(io::writer(&rt));
     let term: Box<dyn Conv> = Box::new(alloc, TermConv::new(rt.stdin(), rt.stderr()))?;
     let mut convs: Vec<Box<dyn Conv>> = Vec::new(alloc);
+    let waits = begins_with("wire", &words);
     for _ in 0..TRANSACTIONS {
-        convs.push(Box::new(alloc, QueueConv::new(alloc))?)?;
+        let conv: Box<dyn Conv> = if waits {
+            Box::new(alloc, WireConv::new(alloc))?
+        } else {
+            Box::new(alloc, QueueConv::new(alloc))?
+        };
+        convs.push(conv)?;
     }
     run_in_world(rt, &words, convs, term, &mut script, &mut out)
 }
@@ -140,7 +135,7 @@ fn begins_with(command: &str, words: &[String]) -> bool {
 }
 
 // Calls it with the shipped modules, and a delay function that waits as long as it is asked to, but three seconds at most, and not
-// behind SUCCESS.
+// after SUCCESS.
 fn serve<S: Source, K: Sink>(
     alloc: Global,
     words: &[String],

@@ -1,4 +1,4 @@
-//! What the program says, and what it leaves behind, where calls of the source, the sink or the vault are to fail.
+//! What the program says, and what it leaves, where calls of the source, the sink or the vault are to fail.
 
 use super::*;
 use pam_outside::{MemSink, MemSource};
@@ -45,7 +45,16 @@ const DATA: Row = Row {
 const NO_OTHER: &[u8] =
     b"1 start refused /etc/pam.d/other 0 ReadFailed 16\n1 authenticate not open\n1 end not open\n";
 
-static ROWS: [Row; 17] = [
+/// A front end's start of a transaction, and its answer.
+const FRAMES: Row = Row {
+    words: &["wire", "/r"],
+    script: b"\x00\x05\x01\x01\x01t\x00",
+    output: b"\x00\x00\x00\x00\x00\x00\x00\x121 start SUCCESS 0\n",
+    status: 6,
+    ..LOGIN
+};
+
+static ROWS: [Row; 19] = [
     // A call of the vault: the folder, the file, `other` for the second type and for the last, and
     // one that comes no more.
     Row {
@@ -91,7 +100,7 @@ static ROWS: [Row; 17] = [
         failing_writes: &[10000],
         ..LOGIN
     },
-    // The sink: at each line of a script with data, behind its last line, and while a refused line
+    // The sink: at each line of a script with data, after its last line, and while a refused line
     // or a read fault is told.
     Row {
         failing_writes: &[1],
@@ -143,6 +152,16 @@ static ROWS: [Row; 17] = [
         output: b"",
         status: 6,
         ..LOGIN
+    },
+    Row {
+        failing_writes: &[2],
+        ..FRAMES
+    },
+    Row {
+        failing_reads: &[2],
+        output: b"\x00\x00\x00\x00\x00\x00\x00\x121 start SUCCESS 0\n\x00\x00\x00\x00\x00\x00\x00\x161 closed SYSTEM_ERR 4\n",
+        status: 5,
+        ..FRAMES
     },
 ];
 

@@ -1,11 +1,10 @@
 -- A frame in front of some bytes: it is read as its step, and what is read is a frame.
-use Rattle.std.proofs.Common.{◌≡◌, ℕ, zero, suc, ◌+◌, ◌*◌, ◌-◌, ◌^◌, ◌<◌, ◌≤◌, ◌/◌, ◌%◌, ◌⊎◌, inl, inr, Bool, true, false, ◌&&◌, ◌||◌, cond, eqb, List, [], ◌∷◌, ◌++◌, length, take, drop, get_or, Option, Some, None, nat_lt, nat_le, codes, not, refl, sym, ap, subst, ◌∙◌, arith, length-append, append_assoc}
-use Rattle.std.proofs.Math.Seq.{take-append_seam, drop-append_seam}
-use Rattle.std.proofs.lemmas.Bool.{leb-true, leb-false, ltb-true, ltb-false, le-leb, lt-leb, lt-ltb, le-ltb, eqb-true, eq-eqb, and_parts, and_from}
-use Rattle.std.proofs.lemmas.List.{take-append-drop, length-take-le, take_all}
+use Rattle.std.proofs.Common.{◌≡◌, ℕ, zero, suc, ◌+◌, ◌-◌, ◌<◌, ◌≤◌, Bool, true, false, ◌&&◌, ◌||◌, cond, List, [], ◌∷◌, ◌++◌, length, take, drop, get_or, Option, Some, None, nat_lt, nat_le, codes, not, refl, sym, ap, subst, ◌∙◌, arith, length-append}
+use Rattle.std.proofs.Math.Seq.{take-append_seam}
+use Rattle.std.proofs.lemmas.Bool.{leb-true, le-leb, le-ltb, and_parts, and_from}
+use Rattle.std.proofs.lemmas.List.{take-append-drop, length-take-le}
 use Rattle.std.proofs.lemmas.List.Elements.{All-head, All-tail, All-take}
 use Rattle.std.proofs.lemmas.Nat.{be_bytes_2, from_be_bytes-to_be_bytes_2}
-use Rattle.std.proofs.lemmas.Option.{same_Some}
 use Rattle.std.specs.Int.{w16, from_be_bytes, to_be_bytes}
 use Rattle.std.specs.List.{list_all}
 use Rattle.std.specs.Str.{bytes_eq}
@@ -20,12 +19,12 @@ use Rattle.pam_wire.specs.declared.kind.Kind.{Kind}
 use Rattle.pam_wire.specs.declared.next.Next.{Next}
 use Rattle.pam_wire.specs.declared.next.Next.TheVariants as next
 use Rattle.pam_wire.specs.Frame.{AreBytes, value_bytes, rest_of, is_value, is_sound, has_frame, body_of, sized, frame_of}
-use Rattle.pam_wire.specs.Kind.{kind_of_call, kind_of_number, number_of}
+use Rattle.pam_wire.specs.Kind.{kind_of_call, kind_of_number}
 use Rattle.pam_wire.specs.Read.{call_of_kind, step_with, step_in, front_by, front_of}
 use Rattle.pam_wire.specs.Stream.{next_in, next_by, next_of, IsBody}
-use Rattle.pam_wire.proofs.Rests.{small, mapped, call-written, call-read, kind-read, kind_number-read}
+use Rattle.pam_wire.proofs.Rests.{mapped, call-written, call-read, kind-read, kind_number-read}
 
--- ---- what stands behind a length
+-- ---- what stands after a length
 
 pub step-read : (step : Step) → has_frame step ≡ true → step_in (body_of step) ≡ Some step
 step-read step e =

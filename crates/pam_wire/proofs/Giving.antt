@@ -1,16 +1,15 @@
 -- The steps that were given are those of the bytes fed.
-use Rattle.std.proofs.Common.{◌≡◌, ℕ, ◌+◌, ◌≤◌, ◌<◌, true, List, [], ◌∷◌, ◌++◌, length, take, drop, Option, Some, None, refl, sym, ap, subst, ◌∙◌, arith, length-append, append_assoc}
+use Rattle.std.proofs.Common.{◌≡◌, ℕ, ◌+◌, ◌<◌, true, List, [], ◌∷◌, ◌++◌, length, drop, sym, ap, ◌∙◌, arith, length-append, append_assoc}
 use Rattle.std.proofs.lemmas.List.{append-nil}
 use Rattle.std.proofs.lemmas.List.Elements.{All-drop, All-same}
 use Rattle.std.proofs.Math.Seq.{drop-append_seam}
 use Rattle.std.specs.List.{AllByRecursion}
 use Rattle.pam_base.specs.declared.call.Step.{Step}
-use Rattle.pam_wire.specs.declared.next.Next.{Next}
 use Rattle.pam_wire.specs.declared.next.Next.TheVariants as next
 use Rattle.pam_wire.specs.Frame.{AreBytes, has_frame, frame_of, frames_of}
-use Rattle.pam_wire.specs.Stream.{FramesState, next_of, IsOpen, AreFramesOf, HasNoFrame, Gave}
+use Rattle.pam_wire.specs.Stream.{FramesState, next_of, IsOpen, Gave}
 use Rattle.pam_wire.proofs.Framing.{frame-written}
-use Rattle.pam_wire.proofs.Opening.{next-open, bad-not_open, bad-no_frame}
+use Rattle.pam_wire.proofs.Opening.{next-open}
 
 frames_of-append : (steps : List Step) (step : Step) → frames_of (steps ++ step ∷ []) ≡ frames_of steps ++ frame_of step
 frames_of-append [] step = append-nil (frame_of step)
@@ -20,7 +19,7 @@ framed-append : (steps : List Step) (step : Step) → AllByRecursion (λ (s : St
 framed-append [] step all e = (e, tt)
 framed-append (s ∷ steps) step all e = (all.0, framed-append steps step all.1 e)
 
--- the bytes behind the steps given are bytes
+-- the bytes after the steps given are bytes
 rest-bytes : (fed : List ℕ) (steps : List Step) (now : FramesState) → AreBytes fed → Gave fed steps now → AreBytes now.rest
 rest-bytes fed steps now all g =
     All-same (λ b. b < 256) now.rest (drop (length (frames_of steps)) fed) (sym (ap (drop (length (frames_of steps))) g.frames.parts ∙ drop-append_seam (frames_of steps) now.rest))

@@ -1,15 +1,13 @@
 -- What holds of frames.
-use Rattle.std.proofs.Common.{◌≡◌, ◌↔◌, ℕ, suc, ◌+◌, ◌-◌, ◌≤◌, ◌<◌, Bool, true, false, eqb, cond, List, [], ◌∷◌, ◌++◌, length, take, drop, Option, Some, None, refl, sym, ap, subst, ◌∙◌, arith, length-append, length-drop, append_assoc}
+use Rattle.std.proofs.Common.{◌≡◌, ℕ, ◌+◌, ◌-◌, Bool, true, false, eqb, cond, List, [], ◌∷◌, ◌++◌, length, take, drop, Option, Some, None, refl, sym, ap, ◌∙◌, arith, length-drop, append_assoc}
 use Rattle.std.proofs.Math.Seq.{drop-append_seam}
 use Rattle.std.proofs.lemmas.Bool.{eqb-true, eq-eqb}
-use Rattle.std.proofs.lemmas.List.{append-nil, take_all, nil_from_length, drop_all}
-use Rattle.std.specs.List.{AllByRecursion}
+use Rattle.std.proofs.lemmas.List.{append-nil, take_all, drop_all}
 use Rattle.pam_base.specs.declared.call.Step.{Step}
 use Rattle.pam_wire.specs.declared.front.Front.{Front}
 use Rattle.pam_wire.specs.declared.front.Front.TheVariants.{Open, OutOfRange, Whole}
-use Rattle.pam_wire.specs.declared.next.Next.{Next}
 use Rattle.pam_wire.specs.declared.next.Next.TheVariants as next
-use Rattle.pam_wire.specs.Frame.{IsFrame, AreBytes, has_frame, body_of, sized, frame_of, frames_of}
+use Rattle.pam_wire.specs.Frame.{IsFrame, AreBytes, has_frame, body_of, frame_of, frames_of}
 use Rattle.pam_wire.specs.Read.{step_in, step_by, step_of, front_of}
 use Rattle.pam_wire.specs.Stream.{next_in, next_by, next_of, AreFramesOf, HasNoFrame}
 use Rattle.pam_wire.specs.Laws.{ReadsTable, HasOneFrame, IsOneStep, BeginsNoOther, HasOneReading}

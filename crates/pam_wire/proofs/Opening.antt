@@ -1,6 +1,6 @@
 -- When the front of some bytes is open.
-use Rattle.std.proofs.Common.{◌≡◌, ℕ, zero, suc, ◌+◌, ◌*◌, ◌-◌, ◌^◌, ◌<◌, ◌≤◌, ◌/◌, ◌%◌, ◌⊎◌, inl, inr, Bool, true, false, ◌&&◌, ◌||◌, cond, List, [], ◌∷◌, ◌++◌, length, take, drop, Option, Some, None, nat_lt, nat_le, refl, sym, ap, subst, ◌∙◌, arith, length-append, append_assoc, replicate}
-use Rattle.std.proofs.lemmas.Bool.{leb-true, leb-false, ltb-true, ltb-false, le-leb, lt-leb, lt-ltb, le-ltb}
+use Rattle.std.proofs.Common.{◌≡◌, ℕ, ◌+◌, ◌*◌, ◌-◌, ◌<◌, ◌≤◌, ◌/◌, ◌%◌, Bool, true, false, ◌||◌, cond, List, [], ◌∷◌, ◌++◌, length, take, drop, Option, Some, None, nat_lt, nat_le, refl, sym, ap, ◌∙◌, arith, length-append, append_assoc, replicate}
+use Rattle.std.proofs.lemmas.Bool.{leb-false, ltb-false, lt-leb, le-ltb}
 use Rattle.std.proofs.lemmas.List.{length-replicate}
 use Rattle.std.proofs.lemmas.List.Elements.{All-head, All-tail}
 use Rattle.std.specs.Int.{w16, from_be_bytes, to_be_bytes}
@@ -9,8 +9,8 @@ use Rattle.pam_wire.specs.declared.front.Front.{Front}
 use Rattle.pam_wire.specs.declared.front.Front.TheVariants.{Open, OutOfRange, Whole}
 use Rattle.pam_wire.specs.declared.next.Next.{Next}
 use Rattle.pam_wire.specs.declared.next.Next.TheVariants as next
-use Rattle.pam_wire.specs.Frame.{AreBytes, has_frame, sized, frame_of}
-use Rattle.pam_wire.specs.Read.{step_in, front_by, front_of}
+use Rattle.pam_wire.specs.Frame.{AreBytes, sized, frame_of}
+use Rattle.pam_wire.specs.Read.{front_by, front_of}
 use Rattle.pam_wire.specs.Stream.{next_in, next_by, next_of, IsBody, IsOpen, AreFramesOf, HasNoFrame}
 use Rattle.pam_wire.proofs.Framing.{two_back, said-size, in_range, frame-read}
 
@@ -34,7 +34,7 @@ short_by said follow false false false h k l e = record { low = ltb-false said 2
 short_of : (said follow : ℕ) → front_by said follow ≡ Open → IsShort said follow
 short_of said follow e = short_by said follow _ _ _ refl refl refl e
 
--- bytes that begin with a length, with zeros behind them
+-- bytes that begin with a length, with zeros after them
 opened : (a b : ℕ) (more : List ℕ) (said : ℕ) → a < 256 → b < 256 → from_be_bytes w16 (a ∷ b ∷ []) ≡ said → IsShort said (length more) → IsOpen (a ∷ b ∷ more)
 opened a b more said a' b' s is =
     let body = more ++ zeros (said - length more) in

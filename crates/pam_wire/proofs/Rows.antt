@@ -1,8 +1,7 @@
 -- Worked rows, computed.
-use Rattle.std.specs.Prelude.{◌≡◌, ℕ, List, [], ◌∷◌, ◌++◌, Some, None, codes, refl}
-use Rattle.pam_base.specs.declared.call.AppCall.TheVariants.{Start, End, Authenticate, GetEnv, Reply}
-use Rattle.pam_base.specs.declared.call.Step.{Step}
-use Rattle.pam_wire.specs.declared.front.Front.TheVariants.{Open, OutOfRange, Whole}
+use Rattle.std.specs.Prelude.{◌≡◌, [], ◌∷◌, Some, None, codes, refl}
+use Rattle.pam_base.specs.declared.call.AppCall.TheVariants.{Start, End, Authenticate, Reply}
+use Rattle.pam_wire.specs.declared.front.Front.TheVariants.{Open, OutOfRange}
 use Rattle.pam_wire.specs.Frame.{frame_of, answer_of}
 use Rattle.pam_wire.specs.Read.{front_of, step_of}
 

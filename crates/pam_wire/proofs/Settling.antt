@@ -1,13 +1,13 @@
 -- What stands in front of some bytes stays so, whatever follows them.
-use Rattle.std.proofs.Common.{◌≡◌, ℕ, suc, ◌+◌, ◌*◌, ◌≤◌, ◌<◌, Bool, true, false, ◌||◌, cond, List, [], ◌∷◌, ◌++◌, length, nat_lt, nat_le, refl, sym, ap, subst, ◌∙◌, arith, length-append}
-use Rattle.std.proofs.lemmas.Bool.{leb-true, leb-false, ltb-true, ltb-false, le-leb, lt-ltb, or_cases}
+use Rattle.std.proofs.Common.{◌≡◌, ℕ, suc, ◌+◌, ◌≤◌, Bool, true, false, ◌||◌, cond, List, [], ◌∷◌, ◌++◌, length, nat_lt, nat_le, refl, arith, length-append}
+use Rattle.std.proofs.lemmas.Bool.{leb-true, leb-false, ltb-true, ltb-false, le-leb, lt-ltb}
 use Rattle.std.specs.Int.{w16, from_be_bytes}
 use Rattle.pam_wire.specs.declared.front.Front.{Front}
 use Rattle.pam_wire.specs.declared.front.Front.TheVariants.{Open, OutOfRange, Whole}
 use Rattle.pam_wire.specs.Read.{front_by, front_of}
 use Rattle.pam_wire.specs.Laws.{Settles, FrontSettles}
 
--- by a length, where so many bytes follow, and others behind them
+-- by a length, where so many bytes follow, and others after them
 unfoldable SettlesBy : Front → ℕ → ℕ → ℕ → Type 0
 SettlesBy (Whole size) said follow all = (4 ≤ size) × (size ≤ suc (suc follow)) × (front_by said all ≡ Whole size)
 SettlesBy OutOfRange said follow all = front_by said all ≡ OutOfRange

@@ -1,6 +1,7 @@
--- Frames: which bytes stand for which step (this project's own; the calls are those of pam(3)). A frame is two bytes,
--- big-endian, that say how many follow, then the transaction's number, the kind, and what the kind has behind it.
-use Rattle.std.specs.Prelude.{◌≡◌, ℕ, ◌+◌, ◌<◌, ◌^◌, Bool, true, false, List, [], ◌∷◌, ◌++◌, length, Option, Some, None, All, IsTrue, nat_le, nat_lt, ◌&&◌}
+-- Frames: which bytes stand for which step (this project's own; the calls are those of pam(3)). A
+-- frame is two bytes, big-endian, that say how many follow, then the transaction's number, the
+-- kind, and what the kind has after it.
+use Rattle.std.specs.Prelude.{◌≡◌, ℕ, ◌<◌, ◌^◌, Bool, true, false, List, [], ◌∷◌, ◌++◌, length, Option, Some, None, All, IsTrue, nat_le, nat_lt, ◌&&◌}
 use Rattle.std.specs.Int.{w16, w32, w64, to_be_bytes}
 use Rattle.pam_base.specs.declared.call.AppCall.{AppCall}
 use Rattle.pam_base.specs.declared.call.AppCall.TheVariants as calls
@@ -9,7 +10,7 @@ use Rattle.pam_base.specs.Item.{item_number}
 use Rattle.pam_base.specs.ServiceName.{is_service_name}
 use Rattle.pam_wire.specs.Kind.{number_of, kind_of_call}
 
--- ---- what stands behind a kind
+-- ---- what stands after a kind
 
 -- a number has four bytes, big-endian
 abbrev pub number_bytes : ℕ → List ℕ
@@ -82,7 +83,7 @@ has_frame step = nat_le step.number 255 && is_sound step.call
 
 -- ---- the frame of a step
 
--- what stands behind its length
+-- what stands after its length
 abbrev pub body_of : Step → List ℕ
 body_of step = step.number ∷ number_of (kind_of_call step.call) ∷ rest_of step.call
 
@@ -97,14 +98,14 @@ pub record IsFrame (bytes : List ℕ) (step : Step) : Type 0 where
   pub within : IsTrue (has_frame step)
   pub bytes_are : bytes ≡ frame_of step
 
--- the frames of steps, one behind the other
+-- the frames of steps, one after the other
 abbrev pub frames_of : List Step → List ℕ
 frames_of [] = []
 frames_of (step ∷ steps) = frame_of step ++ frames_of steps
 
 -- ---- answers
 
--- a report behind its length of eight bytes, big-endian
+-- a report after its length of eight bytes, big-endian
 abbrev pub answer_of : List ℕ → List ℕ
 answer_of report = to_be_bytes w64 (length report) ++ report
 

@@ -25,7 +25,10 @@ number_of kinds.DelayFn = 15
 number_of kinds.Reply = 16
 
 abbrev pub all_kinds : List Kind
-all_kinds = kinds.Start ∷ kinds.End ∷ kinds.Authenticate ∷ kinds.SetCred ∷ kinds.AcctMgmt ∷ kinds.OpenSession ∷ kinds.CloseSession ∷ kinds.ChAuthTok ∷ kinds.SetItem ∷ kinds.GetItem ∷ kinds.PutEnv ∷ kinds.GetEnv ∷ kinds.EnvList ∷ kinds.FailDelay ∷ kinds.DelayFn ∷ kinds.Reply ∷ []
+all_kinds = kinds.Start ∷ kinds.End ∷ kinds.Authenticate ∷ kinds.SetCred ∷ kinds.AcctMgmt
+    ∷ kinds.OpenSession ∷ kinds.CloseSession ∷ kinds.ChAuthTok ∷ kinds.SetItem ∷ kinds.GetItem
+    ∷ kinds.PutEnv ∷ kinds.GetEnv ∷ kinds.EnvList ∷ kinds.FailDelay ∷ kinds.DelayFn ∷ kinds.Reply
+    ∷ []
 
 -- the kind of a number
 abbrev pub kind_of_number : ℕ → Option Kind

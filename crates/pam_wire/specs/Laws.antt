@@ -5,36 +5,48 @@ use Rattle.pam_wire.specs.declared.front.Front.{Front}
 use Rattle.pam_wire.specs.declared.front.Front.TheVariants.{Open, OutOfRange, Whole}
 use Rattle.pam_wire.specs.Frame.{IsFrame, AreBytes}
 use Rattle.pam_wire.specs.Read.{front_of, step_of}
-use Rattle.pam_wire.specs.Stream.{AreFramesOf, HasNoFrame}
+use Rattle.pam_wire.specs.Stream.{AreFramesOf, HasNoFrame, IsOpen}
 
 -- a frame by the table is read as its step, and where bytes are read as a step they are its frame
 abbrev pub ReadsTable : Type 0
-ReadsTable = (bytes : List ℕ) (step : Step) → (IsFrame bytes step → step_of bytes ≡ Some step) × (AreBytes bytes → step_of bytes ≡ Some step → IsFrame bytes step)
+ReadsTable = (bytes : List ℕ) (step : Step) → (IsFrame bytes step → step_of bytes ≡ Some step)
+    × (AreBytes bytes → step_of bytes ≡ Some step → IsFrame bytes step)
 
 -- no step has two frames
 abbrev pub HasOneFrame : Type 0
-HasOneFrame = (step : Step) (one other : List ℕ) → IsFrame one step → IsFrame other step → one ≡ other
+HasOneFrame = (step : Step) (one other : List ℕ) → IsFrame one step → IsFrame other step
+    → one ≡ other
 
 -- no bytes are the frames of two steps
 abbrev pub IsOneStep : Type 0
-IsOneStep = (one other : Step) (bytes : List ℕ) → IsFrame bytes one → IsFrame bytes other → one ≡ other
+IsOneStep = (one other : Step) (bytes : List ℕ) → IsFrame bytes one → IsFrame bytes other
+    → one ≡ other
 
 -- a frame that begins with a frame is that frame
 abbrev pub BeginsNoOther : Type 0
-BeginsNoOther = (one other : Step) (bytes more : List ℕ) → IsFrame bytes one → IsFrame (bytes ++ more) other → more ≡ []
+BeginsNoOther = (one other : Step) (bytes more : List ℕ) → IsFrame bytes one
+    → IsFrame (bytes ++ more) other → more ≡ []
 
--- However some bytes are cut into steps' frames and a rest in whose front no frame stands, the steps and the rest are
--- the same.
+-- However some bytes are cut into steps' frames and a rest in whose front no frame stands, the
+-- steps and the rest are the same.
 abbrev pub HasOneReading : Type 0
-HasOneReading = (bytes : List ℕ) (steps others : List Step) (rest left : List ℕ) → AreFramesOf bytes steps rest → HasNoFrame rest →
-    AreFramesOf bytes others left → HasNoFrame left → (steps ≡ others) × (rest ≡ left)
+HasOneReading = (bytes : List ℕ) (steps others : List Step) (rest left : List ℕ)
+    → AreFramesOf bytes steps rest → HasNoFrame rest
+    → AreFramesOf bytes others left → HasNoFrame left → (steps ≡ others) × (rest ≡ left)
 
--- What stands in front of some bytes stays, whatever follows them: a frame, and a length that no frame has. An open
--- front has at most 581 bytes.
+-- What stands in front of some bytes stays, whatever follows them: a frame, and a length that no
+-- frame has. An open front has at most 581 bytes.
 abbrev pub Settles : Front → List ℕ → List ℕ → Type 0
-Settles (Whole size) bytes more = (4 ≤ size) × (size ≤ length bytes) × (front_of (bytes ++ more) ≡ Whole size)
+Settles (Whole size) bytes more =
+    (4 ≤ size) × (size ≤ length bytes) × (front_of (bytes ++ more) ≡ Whole size)
 Settles OutOfRange bytes more = (0 < length bytes) × (front_of (bytes ++ more) ≡ OutOfRange)
 Settles Open bytes more = length bytes ≤ 581
 
 abbrev pub FrontSettles : Type 0
 FrontSettles = (bytes more : List ℕ) → Settles (front_of bytes) bytes more
+
+-- The front of some bytes is open exactly where a frame whose length is in range has begun, and
+-- isn't whole.
+abbrev pub OpensByTable : Type 0
+OpensByTable = (rest : List ℕ) → (AreBytes rest → front_of rest ≡ Open → IsOpen rest)
+    × (IsOpen rest → front_of rest ≡ Open)

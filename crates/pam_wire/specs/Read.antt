@@ -15,7 +15,7 @@ use Rattle.pam_wire.specs.declared.front.Front.TheVariants.{Open, OutOfRange, Wh
 use Rattle.pam_wire.specs.Frame.{is_text, is_name}
 use Rattle.pam_wire.specs.Kind.{kind_of_number}
 
--- ---- what stands behind a kind
+-- ---- what stands after a kind
 
 abbrev pub number_in : List ℕ → Option ℕ
 number_in rest = if length rest == 4 then Some (from_be_bytes w32 rest) else None
@@ -32,7 +32,8 @@ no_text (b ∷ bs) = None
 
 abbrev pub value_in : List ℕ → Option (Option (List ℕ))
 value_in [] = None
-value_in (b ∷ text) = if b == 0 then no_text text else if b == 1 then option_map Some (text_in text) else None
+value_in (b ∷ text) =
+    if b == 0 then no_text text else if b == 1 then option_map Some (text_in text) else None
 
 abbrev pub switch_in : List ℕ → Option Bool
 switch_in (b ∷ []) = if b == 0 then Some false else if b == 1 then Some true else None
@@ -56,7 +57,8 @@ setting_in (b ∷ rest) = setting_of (item_of_number b) rest
 abbrev pub start_in : List ℕ → Option AppCall
 start_in [] = None
 start_in (size ∷ rest) =
-    if nat_le size (length rest) && is_service_name (take size rest) then option_map (calls.Start (take size rest)) (value_in (drop size rest))
+    if nat_le size (length rest) && is_service_name (take size rest)
+    then option_map (calls.Start (take size rest)) (value_in (drop size rest))
     else None
 
 abbrev pub list_in : List ℕ → Option AppCall
@@ -89,18 +91,22 @@ call_of_kind (Some kind) rest = call_in kind rest
 abbrev pub step_with : ℕ → AppCall → Step
 step_with number call = record { number = number; call = call }
 
--- the step of what stands behind a length
+-- the step of what stands after a length
 abbrev pub step_in : List ℕ → Option Step
-step_in (number ∷ kind ∷ rest) = option_map (step_with number) (call_of_kind (kind_of_number kind) rest)
+step_in (number ∷ kind ∷ rest) =
+    option_map (step_with number) (call_of_kind (kind_of_number kind) rest)
 step_in body = None
 
 -- ---- how long a frame is
 
 -- By the length that it begins with, and by how many bytes follow: from 2 to 580 may be said.
 abbrev pub front_by : ℕ → ℕ → Front
-front_by said follow = if nat_lt said 2 || nat_lt 580 said then OutOfRange else if nat_le said follow then Whole (said + 2) else Open
+front_by said follow =
+    if nat_lt said 2 || nat_lt 580 said then OutOfRange
+    else if nat_le said follow then Whole (said + 2) else Open
 
--- what stands at the front of some bytes; where one byte is there, a length that it begins is at least 256 times it
+-- what stands at the front of some bytes; where one byte is there, a length that it begins is at
+-- least 256 times it
 abbrev pub front_of : List ℕ → Front
 front_of [] = Open
 front_of (a ∷ []) = if nat_lt 2 a then OutOfRange else Open

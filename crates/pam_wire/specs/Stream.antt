@@ -32,11 +32,15 @@ next_by (Whole size) rest = next_in (step_in (take (size - 2) (drop 2 rest))) si
 abbrev pub next_of : List ℕ → Next
 next_of rest = next_by (front_of rest) rest
 
--- the next step is taken, or there is none yet, or there is no frame; without memory all is as before
+-- the next step is taken, or there is none yet, or there is no frame; without memory all is as
+-- before
 abbrev pub Nexts : Result (Option Step) (Refuse BadFrame) → FramesState → FramesState → Type 0
-Nexts (Ok (Some step)) old new = (size : ℕ) × (next_of old.rest ≡ next.Frame step size) × (new ≡ record { place = old.place + size; rest = drop size old.rest })
+Nexts (Ok (Some step)) old new =
+    (size : ℕ) × (next_of old.rest ≡ next.Frame step size)
+    × (new ≡ record { place = old.place + size; rest = drop size old.rest })
 Nexts (Ok None) old new = (next_of old.rest ≡ next.Open) × (new ≡ old)
-Nexts (Err (Named fault)) old new = (next_of old.rest ≡ next.Bad) × (fault.place ≡ old.place) × (new ≡ old)
+Nexts (Err (Named fault)) old new =
+    (next_of old.rest ≡ next.Bad) × (fault.place ≡ old.place) × (new ≡ old)
 Nexts (Err NoMemory) old new = new ≡ old
 
 -- ---- the same by the table of frames alone
@@ -53,24 +57,29 @@ pub record IsOpen (rest : List ℕ) : Type 0 where
   pub some : 0 < length more
   pub parts : sized body ≡ rest ++ more
 
--- the bytes are the frames of these steps, and a rest behind them
+-- the bytes are the frames of these steps, and a rest after them
 pub record AreFramesOf (bytes : List ℕ) (steps : List Step) (rest : List ℕ) : Type 0 where
   pub framed : AllByRecursion (λ (step : Step). IsTrue (has_frame step)) steps
   pub parts : bytes ≡ frames_of steps ++ rest
 
 -- no step's frame stands in front of it
 abbrev pub HasNoFrame : List ℕ → Type 0
-HasNoFrame rest = (step : Step) (more : List ℕ) → IsTrue (has_frame step) → AreFramesOf rest (step ∷ []) more → ⊥
+HasNoFrame rest = (step : Step) (more : List ℕ) → IsTrue (has_frame step)
+    → AreFramesOf rest (step ∷ []) more → ⊥
 
 -- what was fed, and the steps that were given of it
 pub record Gave (fed : List ℕ) (steps : List Step) (now : FramesState) : Type 0 where
   pub frames : AreFramesOf fed steps now.rest
   pub place : now.place ≡ length (frames_of steps)
 
--- The steps given are those at the front of the bytes fed, and a step is given where one more is there; none is
--- exactly where what is behind them is open, and a fault names the first byte behind them.
-abbrev pub GivesNext : Result (Option Step) (Refuse BadFrame) → List ℕ → List Step → FramesState → Type 0
+-- The steps given are those at the front of the bytes fed, and a step is given where one more is
+-- there; none is exactly where what is after them is open, and a fault names the first byte after
+-- them.
+abbrev pub GivesNext : Result (Option Step) (Refuse BadFrame) → List ℕ → List Step → FramesState
+    → Type 0
 GivesNext (Ok (Some step)) fed steps new = Gave fed (steps ++ step ∷ []) new
 GivesNext (Ok None) fed steps new = Gave fed steps new × IsOpen new.rest
-GivesNext (Err (Named fault)) fed steps new = Gave fed steps new × HasNoFrame new.rest × (IsOpen new.rest → ⊥) × (fault.place ≡ length (frames_of steps))
+GivesNext (Err (Named fault)) fed steps new =
+    Gave fed steps new × HasNoFrame new.rest × (IsOpen new.rest → ⊥)
+    × (fault.place ≡ length (frames_of steps))
 GivesNext (Err NoMemory) fed steps new = Gave fed steps new

@@ -31,7 +31,7 @@ pub fn answer_of(alloc: Global, report: &[u8]) -> Result<Text, NoMemory>
     Ok(Text::from_vec(answer))
 }
 
-// Adds what stands behind the kind.
+// Adds what stands after the kind.
 fn push_rest(body: &mut Vec<u8>, call: &AppCall) -> Result<(), NoMemory>
     requires { IsTrue (is_sound call.now) }
     ensures { OnOk result (body.new.items ≡ body.old.items ++ rest_of call.now) }

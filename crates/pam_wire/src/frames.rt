@@ -43,13 +43,14 @@ impl Frames {
         }
     }
 
-    /// Adds a piece behind what was fed before; all together has fewer than 2^63 bytes. Without memory all is as
+    /// Adds a piece after what was fed before; all together has fewer than 2^63 bytes. Without memory all is as
     /// before.
     pub fn feed(&mut self, piece: &[u8]) -> Result<(), NoMemory>
         requires { self.old.place + length self.old.rest + length piece.now < 2 ^ 63 }
         ensures ok { OnOk result (self.new ≡ record { place = self.old.place; rest = self.old.rest ++ piece.now }) }
         ensures err { OnErr result (self.new ≡ self.old) }
-        ensures gave { (fed : List ℕ) (steps : List TheStep) → Gave fed steps self.old → OnOk result (Gave (fed ++ piece.now) steps self.new) }
+        ensures gave { (fed : List ℕ) (steps : List TheStep) → Gave fed steps self.old →
+            OnOk result (Gave (fed ++ piece.now) steps self.new) }
     {
         self.held.extend_from_slice(piece)?;
         Ok(())
@@ -62,7 +63,8 @@ impl Frames {
         requires { self.old.place + length self.old.rest < 2 ^ 63 }
         ensures next { Nexts result self.old self.new }
         ensures fed { self.new.place + length self.new.rest ≡ self.old.place + length self.old.rest }
-        ensures gave { (fed : List ℕ) (steps : List TheStep) → AreBytes fed → Gave fed steps self.old → GivesNext result fed steps self.new }
+        ensures gave { (fed : List ℕ) (steps : List TheStep) → AreBytes fed →
+            Gave fed steps self.old → GivesNext result fed steps self.new }
     {
         match next_of(alloc, &self.held)? {
             Next::Open => Ok(None),

@@ -1,7 +1,7 @@
 ghost use Rattle.std.specs.Prelude.{◌≡◌, length};
 ghost use Rattle.pam_wire.specs.Read.{front_by, front_of};
 
-/// The least and the most bytes behind a length.
+/// The least and the most bytes after a length.
 const MIN_BODY: usize = 2;
 
 const MAX_BODY: usize = 580;
@@ -16,7 +16,7 @@ pub enum Front {
     Open,
     /// A length that no frame has.
     OutOfRange,
-    /// A frame of so many bytes, its length among them. It may be no call.
+    /// A frame of n bytes, its length among them. It may be no call.
     Whole(usize),
 }
 

@@ -1,4 +1,4 @@
-ghost use Rattle.pam_wire.specs.Laws.{ReadsTable, HasOneFrame, IsOneStep, BeginsNoOther, HasOneReading, FrontSettles};
+ghost use Rattle.pam_wire.specs.Laws.{ReadsTable, HasOneFrame, IsOneStep, BeginsNoOther, HasOneReading, FrontSettles, OpensByTable};
 
 // Each of these does nothing: its contract is a law about the definitions, for those who call it in a proof.
 
@@ -18,7 +18,7 @@ pub fn no_frame_begins_another()
     ensures { BeginsNoOther }
 {}
 
-/// The steps that are read of some bytes, and what is left behind them, depend on the bytes alone, and not on how they
+/// The steps that are read of some bytes, and what is left after them, depend on the bytes alone, and not on how they
 /// were cut into pieces.
 pub fn steps_are_those_of_the_bytes()
     ensures { HasOneReading }
@@ -27,4 +27,9 @@ pub fn steps_are_those_of_the_bytes()
 /// What stands in front of some bytes stays so, whatever follows them.
 pub fn front_settles()
     ensures { FrontSettles }
+{}
+
+/// What is read of the front of some bytes as the beginning of a frame is one by the table, and nothing else is.
+pub fn front_opens_by_the_table()
+    ensures { OpensByTable }
 {}

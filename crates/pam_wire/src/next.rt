@@ -13,7 +13,7 @@ pub enum Next {
     Open,
     /// No frame, or one that is no call.
     Bad,
-    /// The frame of a step, of so many bytes.
+    /// The frame of a step, of n bytes.
     Frame(Step, usize),
 }
 

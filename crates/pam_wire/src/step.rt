@@ -29,7 +29,7 @@ pub fn step_of(alloc: Global, frame: &[u8]) -> Result<Option<Step>, NoMemory>
     }
 }
 
-/// The step of what stands behind a length. None exactly where it is no call.
+/// The step of what stands after a length. None exactly where it is no call.
 pub(crate) fn step_in(alloc: Global, body: &[u8]) -> Result<Option<Step>, NoMemory>
     ensures step { IfOk result (λ step. step ≡ step_in body.now) }
     ensures fit { IfOk result (λ found. IfSome found (λ step. IsTrue (is_fit step.call))) }
@@ -71,7 +71,7 @@ fn call_in(alloc: Global, kind: Kind, rest: &[u8]) -> Result<Option<AppCall>, No
     })
 }
 
-// ---- what stands behind a kind
+// ---- what stands after a kind
 
 fn number_in(rest: &[u8]) -> Option<u32>
     ensures { result ≡ number_in rest.now }

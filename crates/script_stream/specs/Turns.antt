@@ -29,8 +29,8 @@ abbrev pub ServesTold : {State : Type 0} → LineStep State → LineFails State
 ServesTold step Fails = items.ServesTold (step_at step) Fails
 
 -- the run has stopped
-abbrev pub StopsBy : {State : Type 0} → LineStep State → LineFails State → Stop → ℕ → State → State
-    → List ℕ → List ℕ → List ℕ → Type 0
+abbrev pub StopsBy : {State : Type 0} → LineStep State → LineFails State → Stop → ℕ → ℕ → State
+    → State → List ℕ → List ℕ → List ℕ → Type 0
 StopsBy step Fails = items.StopsBy looked (step_at step) Fails
 
 -- the last read

@@ -25,7 +25,7 @@ module _ (setting : Setting) (start : RunState) (x y : SourceState) (p : SinkSta
       → (done : Unit {0}) → Closes setting.players (ending_status ending) (Ok done) last end between q → RunsFrames setting (Ok ending) start end x y p q
   ended ending frames last end between q r done c = record { served = Ok ending; frames = frames; last = last; between = between; runs = r; behind = (refl, c) }
 
-  -- it stops behind the frames
+  -- it stops after the frames
   pub broken : (ending : Ending FrameFault) (frames : ℕ) (last middle end : RunState) (between q : SinkState) → Runs looked (step_at (answers setting)) (Fails setting) (Ok ending) frames start last x y p between
       → (stop : Stop) → Closes setting.players (ending_status ending) (Err stop) last middle between q → end ≡ all_closed setting.players (stop_status stop) middle → RunsFrames setting (Err stop) start end x y p q
   broken ending frames last middle end between q r stop c e = record { served = Ok ending; frames = frames; last = last; between = between; runs = r; behind = (middle, c, e) }

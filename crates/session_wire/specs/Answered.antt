@@ -22,25 +22,31 @@ module _ (players : List Player) (status : Code) where
   -- the lowest one was ended: its lines, and how much of them is written
   pub record ClosesOne (s t : RunState) (part : List ℕ) (old new : SinkState) : Type 0 where
     pub text : List ℕ
-    pub first : closings players status s ≡ record { text = text; state = t } ∷ closings players status t
+    pub first : closings players status s
+        ≡ record { text = text; state = t } ∷ closings players status t
     pub written : new.written ≡ old.written ++ part
     pub calls : new.calls ≤ old.calls + length part + 1
 
   -- whether one was open
   abbrev pub ClosesNext : Result Bool Stop → RunState → RunState → SinkState → SinkState → Type 0
   ClosesNext (Ok false) s t old new = (closings players status s ≡ []) × (t ≡ s) × (new ≡ old)
-  ClosesNext (Ok true) s t old new = (part : List ℕ) × (c : ClosesOne s t part old new) × (c.text ≡ part) × (new.calls ≤ old.calls + length part)
-  ClosesNext (Err stop) s t old new = (part : List ℕ) × (c : ClosesOne s t part old new) × CutBy stop part c.text
+  ClosesNext (Ok true) s t old new =
+      (part : List ℕ) × (c : ClosesOne s t part old new) × (c.text ≡ part)
+      × (new.calls ≤ old.calls + length part)
+  ClosesNext (Err stop) s t old new =
+      (part : List ℕ) × (c : ClosesOne s t part old new) × CutBy stop part c.text
 
   -- ---- all of them; or up to one that was ended and whose lines aren't whole
 
-  abbrev pub ClosesTo : Result (Unit {0}) Stop → RunState → RunState → List Closing → List Closing → List ℕ → Type 0
+  abbrev pub ClosesTo : Result (Unit {0}) Stop → RunState → RunState → List Closing → List Closing
+      → List ℕ → Type 0
   ClosesTo (Ok done) s t whole others part = (others ≡ []) × (part ≡ []) × (t ≡ last_state s whole)
   ClosesTo (Err stop) s t whole [] part = ⊥
   ClosesTo (Err stop) s t whole (c ∷ cs) part = CutBy stop part c.text × (t ≡ c.state)
 
   -- what a told sink shows of it
-  pub record Closes (result : Result (Unit {0}) Stop) (s t : RunState) (old new : SinkState) : Type 0 where
+  pub record Closes (result : Result (Unit {0}) Stop) (s t : RunState) (old new : SinkState)
+      : Type 0 where
     pub whole : List Closing
     pub others : List Closing
     pub among : closings players status s ≡ whole ++ others

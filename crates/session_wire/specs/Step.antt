@@ -19,17 +19,21 @@ answered c = (c.0, answer_of c.1)
 
 -- the state after a call, and its answer
 unfoldable pub answers : Setting → CallStep RunState
-answers setting s step = answered (called setting step (stepped setting.players setting.delay s.slots s.world step))
+answers setting s step =
+    answered (called setting step (stepped setting.players setting.delay s.slots s.world step))
 
--- The states that a frame may leave whose call found no memory: what the call says of its transaction, with every other
--- as it was, and of the data and the world.
+-- The states that a frame may leave whose call found no memory: what the call says of its
+-- transaction, with every other as it was, and of the data and the world.
 pub record Fails (setting : Setting) (s : RunState) (frame : List ℕ) (t : RunState) : Type 0 where
   pub step : Step
   pub asked : step_of frame ≡ Some step
   pub place : FailsAt true step.call (slot_at s.slots step.number) (slot_at t.slots step.number)
-  pub others : (number : ℕ) → (number ≡ step.number → ⊥) → slot_at t.slots number ≡ slot_at s.slots number
-  pub spends : SpendsAt (notes_of setting.players) (length setting.players) (slot_at s.slots step.number) step.call
-      (lists_of s.slots step.number) s.world.process.ledger (lists_of t.slots step.number) t.world.process.ledger
+  pub others : (number : ℕ) → (number ≡ step.number → ⊥)
+      → slot_at t.slots number ≡ slot_at s.slots number
+  pub spends : SpendsAt (notes_of setting.players) (length setting.players)
+      (slot_at s.slots step.number) step.call
+      (lists_of s.slots step.number) s.world.process.ledger
+      (lists_of t.slots step.number) t.world.process.ledger
   pub root : t.world.process.root ≡ s.world.process.root
   pub caller : t.world.process.caller ≡ s.world.process.caller
   pub world : leaves_world (slot_at s.slots step.number) step.call ≡ true → t.world ≡ s.world

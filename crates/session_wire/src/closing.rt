@@ -3,6 +3,8 @@ ghost use Rattle.pam_outside.specs.Counts.{RisesIf};
 ghost use Rattle.pam_library.specs.Plain.{gear_in};
 ghost use Rattle.pam_library.specs.Slots.{NoneIsOpen};
 ghost use Rattle.pam_library.specs.Sound.{IsSoundFor};
+ghost use Rattle.session_run.specs.AnyWorld.{ProceedsFor};
+ghost use Rattle.session_run.specs.Ends.{HasStatus};
 ghost use Rattle.item_stream.specs.Turns.{has_write_fault};
 ghost use Rattle.session_run.specs.State.{state_of};
 ghost use Rattle.session_run.specs.Closings.{open_count};
@@ -20,7 +22,7 @@ use session_run::end_next;
 use std::alloc::Global;
 
 /// Ends every open transaction with this status, the lowest number first, and writes the answer of each before the next
-/// is ended. Where that stops, the one that was ended last isn't answered whole, and those behind it are open.
+/// is ended. Where that stops, the one that was ended last isn't answered whole, and those after it are open.
 pub(crate) fn close_answered<K: Sink>(
     alloc: Global,
     library: &mut Library,
@@ -44,6 +46,10 @@ pub(crate) fn close_answered<K: Sink>(
         (⟦<World as WorldTold>⟧.plain world.new))
         (K.sink_holds sink.old) (K.sink_holds sink.new) }
     ensures none_open { OnOk result (NoneIsOpen (⟦<Library as LibraryTold>⟧.slots library.new)) }
+    ensures proceeds { ProceedsFor (HasStatus status)
+        (⟦<Gear as GearTold>⟧.players (gear_in library.old))
+        world.old.process.ledger (⟦<Library as LibraryTold>⟧.slots library.old)
+        world.new.process.ledger (⟦<Library as LibraryTold>⟧.slots library.new) }
     ensures sound { IsSoundFor (⟦<Gear as GearTold>⟧.players (gear_in library.new))
         (⟦<Library as LibraryTold>⟧.slots library.new) world.new.process.ledger }
     ensures faults { RisesIf (has_write_fault result) (K.sink_faults sink.old)
@@ -85,6 +91,10 @@ fn close_next<K: Sink>(
         < open_count (⟦<Library as LibraryTold>⟧.slots library.old) }
     ensures none_open { result ≡ Ok false → NoneIsOpen
         (⟦<Library as LibraryTold>⟧.slots library.new) }
+    ensures proceeds { ProceedsFor (HasStatus status)
+        (⟦<Gear as GearTold>⟧.players (gear_in library.old))
+        world.old.process.ledger (⟦<Library as LibraryTold>⟧.slots library.old)
+        world.new.process.ledger (⟦<Library as LibraryTold>⟧.slots library.new) }
     ensures sound { IsSoundFor (⟦<Gear as GearTold>⟧.players (gear_in library.new))
         (⟦<Library as LibraryTold>⟧.slots library.new) world.new.process.ledger }
     ensures faults { RisesIf (has_write_fault result) (K.sink_faults sink.old)

@@ -1,16 +1,23 @@
-ghost use Rattle.std.specs.Prelude.{◌≡◌, ◌&&◌, ◌≤◌, ◌+◌, ℕ, None, Ok, IsTrue};
+ghost use Rattle.std.specs.Prelude.{◌≡◌, ◌&&◌, ◌≤◌, ◌+◌, ◌++◌, ℕ, [], None, Ok, IsTrue, is_err};
 ghost use Rattle.pam_base.specs.declared.code.Code.{Code};
 ghost use Rattle.pam_outside.specs.Counts.{RisesIf};
 ghost use Rattle.pam_library.specs.Plain.{gear_in};
 ghost use Rattle.pam_library.specs.Sound.{IsSoundFor};
+ghost use Rattle.pam_wire.specs.Frame.{AreBytes};
+ghost use Rattle.item_stream.specs.Taking.{Finds, IsFound};
 ghost use Rattle.item_stream.specs.Turns.{Turns, has_read_fault, has_write_fault};
 ghost use Rattle.item_stream.specs.Whole.{Runs, at_last};
-ghost use Rattle.frame_stream.specs.Looked.{looked};
+ghost use Rattle.frame_stream.specs.Looked.{looked, refuses};
 ghost use Rattle.frame_stream.specs.Run.{step_at};
+ghost use Rattle.session_run.specs.AnyWorld.{ProceedsFor};
+ghost use Rattle.session_run.specs.Reading.{WritesSome};
 ghost use Rattle.session_run.specs.State.{setting_of, state_of};
+ghost use Rattle.session_wire.specs.Ends.{IsEndIn, LeadsTo};
+ghost use Rattle.session_wire.specs.Reading.{ReadsAll, ReadsTurn, TakesBytes};
 ghost use Rattle.session_wire.specs.Step.{answers, Fails};
 
 use crate::meaning::Meaning;
+use crate::reading::reading_is_turns;
 use crate::serve::serve_frame;
 use fail_delay::{DelayFn, DelayTold};
 use frame_stream::{FrameFault, FramesOf, MAX_FRAMES};
@@ -54,7 +61,17 @@ pub(crate) fn serve_frames<S: Source, K: Sink>(
         (⟦<World as WorldTold>⟧.plain world.new))
         (S.source_holds source.old) (S.source_holds source.new)
         (K.sink_holds sink.old) (K.sink_holds sink.new)) }
+    ensures reads { IsTrue (S.source_tells source.old) →
+        ReadsAll result frames.new (S.source_holds source.old) (S.source_holds source.new) }
+    ensures takes { IsTrue (S.source_tells source.old) →
+        TakesBytes [] (S.source_holds source.old) (S.source_holds source.new) }
+    ensures writes { IsTrue (K.sink_tells sink.old) →
+        WritesSome result (K.sink_holds sink.old) (K.sink_holds sink.new) }
     ensures few { frames.new ≤ MAX_FRAMES }
+    ensures proceeds { ProceedsFor (IsEndIn (S.source_tells source.old) 0
+        (S.source_holds source.old).left) (⟦<Gear as GearTold>⟧.players (gear_in library.old))
+        world.old.process.ledger (⟦<Library as LibraryTold>⟧.slots library.old)
+        world.new.process.ledger (⟦<Library as LibraryTold>⟧.slots library.new) }
     ensures sound { IsSoundFor (⟦<Gear as GearTold>⟧.players (gear_in library.new))
         (⟦<Library as LibraryTold>⟧.slots library.new) world.new.process.ledger }
     ensures source_faults { RisesIf (has_read_fault (at_last result)) (S.source_faults source.old)
@@ -65,6 +82,7 @@ pub(crate) fn serve_frames<S: Source, K: Sink>(
     laws::first_turn::<FramesOf<Meaning>>();
     laws::turns_go_on::<FramesOf<Meaning>>();
     laws::turns_are_a_run::<FramesOf<Meaning>>();
+    reading_is_turns();
     let mut reader = match Reader::new(alloc) {
         Ok(reader) => reader,
         Err(NoMemory) => return Err(Stop::NoMemory),
@@ -112,8 +130,23 @@ fn take_turn<S: Source, K: Sink>(
         reader.old reader.new
         (S.source_holds source.old) (S.source_holds source.new)
         (K.sink_holds sink.old) (K.sink_holds sink.new)) }
+    ensures reads { IsTrue (S.source_tells source.old) →
+        ReadsTurn result frames.old frames.new reader.old reader.new (S.source_holds source.old)
+        (S.source_holds source.new) }
+    ensures takes { IsTrue (S.source_tells source.old) →
+        TakesBytes reader.old (S.source_holds source.old) (S.source_holds source.new) }
+    ensures writes { IsTrue (K.sink_tells sink.old) →
+        WritesSome result (K.sink_holds sink.old) (K.sink_holds sink.new) }
     ensures few { frames.new ≤ MAX_FRAMES }
     ensures next { result ≡ Ok None → frames.new ≡ frames.old + 1 }
+    ensures leads { result ≡ Ok None → IsTrue (S.source_tells source.old) →
+        LeadsTo frames.old frames.new (reader.old ++ (S.source_holds source.old).left)
+        (reader.new ++ (S.source_holds source.new).left) }
+    ensures proceeds { ProceedsFor (IsEndIn (S.source_tells source.old) frames.old
+        (reader.old ++ (S.source_holds source.old).left))
+        (⟦<Gear as GearTold>⟧.players (gear_in library.old))
+        world.old.process.ledger (⟦<Library as LibraryTold>⟧.slots library.old)
+        world.new.process.ledger (⟦<Library as LibraryTold>⟧.slots library.new) }
     ensures sound { IsSoundFor (⟦<Gear as GearTold>⟧.players (gear_in library.new))
         (⟦<Library as LibraryTold>⟧.slots library.new) world.new.process.ledger }
     ensures source_faults { RisesIf (has_read_fault result) (S.source_faults source.old)
@@ -123,8 +156,10 @@ fn take_turn<S: Source, K: Sink>(
 {
     laws::nothing_found_is_a_turn::<FramesOf<Meaning>>();
     laws::found_item_is_a_turn::<FramesOf<Meaning>>();
+    frame_stream::laws::all_are_looked_at();
+    reading_is_turns();
     let before = *frames;
-    match reader.find::<FramesOf<Meaning>, S>(source, before) {
+    match find_frame(reader, source, before) {
         Err(Failed) => Ok(Some(Ending::ReadFault)),
         Ok(Found::End) => Ok(Some(Ending::Done)),
         Ok(Found::Item { length, size }) => {
@@ -155,3 +190,24 @@ fn take_turn<S: Source, K: Sink>(
         },
     }
 }
+
+// Takes bytes until a frame is whole, or what is held is refused.
+fn find_frame<S: Source>(reader: &mut Reader, source: &mut S, before: u32) -> Result<Found, Failed>
+    ensures found { IsFound looked result before reader.new }
+    ensures bytes { AreBytes reader.new }
+    ensures tells { S.source_tells source.new ≡ S.source_tells source.old }
+    ensures told { IsTrue (S.source_tells source.old) →
+        Finds looked refuses result before reader.old reader.new
+        (S.source_holds source.old) (S.source_holds source.new) }
+    ensures faults { RisesIf (is_err result) (S.source_faults source.old)
+        (S.source_faults source.new) }
+{
+    let found = reader.find::<FramesOf<Meaning>, S>(source, before);
+    are_bytes(reader.bytes());
+    found
+}
+
+// The elements of a slice of bytes are bytes. It does nothing.
+fn are_bytes(held: &[u8])
+    ensures { AreBytes held.now }
+{}

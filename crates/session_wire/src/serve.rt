@@ -1,13 +1,20 @@
 ghost use Rattle.std.specs.Prelude.{◌≡◌, ◌&&◌, ◌<◌, ℕ, List, IsTrue, None, Some, Ok};
+ghost use Rattle.pam_base.specs.declared.call.Step.{Step as TheStep};
 ghost use Rattle.pam_base.specs.declared.code.Code.{Code};
 ghost use Rattle.pam_base.specs.Call.{is_fit};
 ghost use Rattle.pam_outside.specs.Counts.{RisesIf};
 ghost use Rattle.pam_library.specs.Plain.{gear_in};
 ghost use Rattle.pam_library.specs.Sound.{IsSoundFor};
+ghost use Rattle.pam_wire.specs.Frame.{IsFrame};
 ghost use Rattle.pam_wire.specs.Read.{step_of};
 ghost use Rattle.item_stream.specs.Turns.{ServesTold, has_write_fault};
 ghost use Rattle.frame_stream.specs.Run.{step_at};
+ghost use Rattle.session_run.specs.AnyWorld.{ProceedsFor};
+ghost use Rattle.session_run.specs.Ends.{IsEndStep};
+ghost use Rattle.session_run.specs.Reading.{WritesSome};
 ghost use Rattle.session_run.specs.State.{setting_of, state_of};
+ghost use Rattle.session_wire.specs.Ends.{AsksEndAt};
+ghost use Rattle.session_wire.specs.Reading.{ReadsFrame};
 ghost use Rattle.session_wire.specs.Step.{answers, served, Fails};
 
 use crate::meaning::Meaning;
@@ -23,7 +30,7 @@ use pam_wire::{answer_of, step_of};
 use session_report::step_report;
 use std::alloc::Global;
 
-/// Serves one frame that has so many before it: its call is applied, and then its answer is written. Answers why it was
+/// Serves one frame that has n before it: its call is applied, and then its answer is written. Answers why it was
 /// refused, if it was; then nothing happened.
 pub(crate) fn serve_frame<K: Sink>(
     alloc: Global,
@@ -54,11 +61,20 @@ pub(crate) fn serve_frame<K: Sink>(
         (K.sink_holds sink.old) (K.sink_holds sink.new)) }
     ensures sound { IsSoundFor (⟦<Gear as GearTold>⟧.players (gear_in library.new))
         (⟦<Library as LibraryTold>⟧.slots library.new) world.new.process.ledger }
+    ensures proceeds { ProceedsFor (AsksEndAt frames frame.now)
+        (⟦<Gear as GearTold>⟧.players (gear_in library.old))
+        world.old.process.ledger (⟦<Library as LibraryTold>⟧.slots library.old)
+        world.new.process.ledger (⟦<Library as LibraryTold>⟧.slots library.new) }
     ensures few { result ≡ Ok None → frames < MAX_FRAMES }
+    ensures framed { result ≡ Ok None → (step : TheStep) × IsFrame frame.now step }
+    ensures reads { ReadsFrame result frames frame.now }
+    ensures writes { IsTrue (K.sink_tells sink.old) →
+        WritesSome result (K.sink_holds sink.old) (K.sink_holds sink.new) }
     ensures faults { RisesIf (has_write_fault result) (K.sink_faults sink.old)
         (K.sink_faults sink.new) }
 {
     laws::item_is_served::<FramesOf<Meaning>>();
+    pam_wire::laws::frame_is_read();
     if frames >= MAX_FRAMES {
         return Ok(Some(FrameFault::TooManyFrames));
     }
@@ -103,6 +119,12 @@ fn serve_call<K: Sink>(
         (K.sink_holds sink.old) (K.sink_holds sink.new)) }
     ensures sound { IsSoundFor (⟦<Gear as GearTold>⟧.players (gear_in library.new))
         (⟦<Library as LibraryTold>⟧.slots library.new) world.new.process.ledger }
+    ensures proceeds { ProceedsFor (IsEndStep step.now)
+        (⟦<Gear as GearTold>⟧.players (gear_in library.old))
+        world.old.process.ledger (⟦<Library as LibraryTold>⟧.slots library.old)
+        world.new.process.ledger (⟦<Library as LibraryTold>⟧.slots library.new) }
+    ensures writes { IsTrue (K.sink_tells sink.old) →
+        WritesSome result (K.sink_holds sink.old) (K.sink_holds sink.new) }
     ensures faults { RisesIf (has_write_fault result) (K.sink_faults sink.old)
         (K.sink_faults sink.new) }
 {

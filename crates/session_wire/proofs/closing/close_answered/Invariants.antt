@@ -1,9 +1,12 @@
 use Rattle.std.proofs.Common.{◌≡◌, ◌&&◌, Bool, true, List, length, map}
 use Rattle.dispatch_core.specs.Lines.{names_of}
-use Rattle.pam_room.specs.Module.{Player, player_of}
+use Rattle.pam_room.specs.Module.{Player, notes_of, player_of}
 use Rattle.pam_room.specs.Plain.{plain_world}
 use Rattle.pam_library.specs.Plain.{gear_in, slots_in, tells_in}
+use Rattle.pam_library.specs.Slots.{lists_of}
 use Rattle.pam_library.specs.Sound.{IsSound}
+use Rattle.session_run.specs.AnyWorld.{ProceedsBy}
+use Rattle.session_run.specs.Ends.{HasStatus}
 use Rattle.session_run.specs.State.{RunState, state_of}
 use Rattle.session_run.specs.Closings.{open_count}
 use Rattle.session_wire.proofs.Answering.{ClosesSome}
@@ -28,6 +31,7 @@ invariant-loop-stop g l =
       sink_tells : g.K.Sink.sink_tells l.sink ≡ g.K.Sink.sink_tells l.fn.sink;
       told : g.K.Sink.sink_tells l.fn.sink ≡ true → ClosesSome players_start l.status start now (g.K.Sink.sink_holds l.fn.sink) (g.K.Sink.sink_holds l.sink);
       faults : g.K.Sink.sink_faults l.sink ≡ g.K.Sink.sink_faults l.fn.sink;
+      proceeds : ProceedsBy (HasStatus l.status) (notes_of players_start) l.fn.world.process.ledger (lists_of start.slots) l.world.process.ledger (lists_of now.slots);
       sound : IsSound (names_of players) (length players) now.slots l.world.process.ledger;
     }
 

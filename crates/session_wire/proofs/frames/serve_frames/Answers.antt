@@ -1,6 +1,9 @@
-use Rattle.std.proofs.Common.{◌∙◌, Some, None, Ok, Err, refl, arith}
+use Rattle.std.proofs.Common.{◌∙◌, Some, None, Ok, Err, refl, ap, arith}
 use Rattle.item_stream.specs.declared.ending.Stop.TheVariants.{NoMemory}
 use Rattle.item_stream.specs.Turns.{has_read_fault}
+use Rattle.session_wire.proofs.Asking.{asks_before, leads_nowhere, leads_on}
+use Rattle.session_wire.proofs.Proceeding.{goes_on, nothing_done, proceeds_so}
+use Rattle.session_wire.proofs.Consuming.{err_then, err_unwritten, ok_then, ok_unwritten, takes_none, takes_on}
 use Rattle.session_wire.proofs.Telling.{both_tell}
 use Rattle.session_wire.proofs.frames.serve_frames.Goals as goal
 
@@ -16,9 +19,14 @@ loop-ending-init g c = record {
   sink_tells = refl;
   source_tells = refl;
   told = λ delay is told source sink. rw (c.requires.first, c.in-Ok.ensures) (c.first_turn.ensures.none_yet _ _ _ _);
+  reads = λ source. rw (c.requires.first, c.in-Ok.ensures) (c.reading_is_turns.ensures.none_yet _ _ _);
+  takes = λ source. takes_none _;
+  writes = λ sink. ok_unwritten _ _;
   few = omega (arith, c.requires.first);
   source_faults = refl;
   sink_faults = refl;
+  leads = λ source. rw (c.requires.first, c.in-Ok.ensures) (leads_nowhere _ _);
+  proceeds = nothing_done _ _ _ _ _ _ refl refl;
   sound = c.requires.sound;
 }
 
@@ -36,9 +44,16 @@ loop-ending-preserved g c =
       told = λ delay is told source sink.
           let next = turn delay (rw (← was.gear) at is) (both_tell _ _ _ _ was.tells was.world_tells told) (was.source_tells ∙ source) (was.sink_tells ∙ sink) in
           c.turns_go_on.ensures _ (Ok None) _ _ _ _ _ _ _ _ _ _ _ _ _ _ (was.told delay is told source sink) (rw was.gear at next);
+      reads = λ source.
+          let next = (rw c.in-Ok-None.field-0-is at c.in-Ok-None.ensures.reads) (was.source_tells ∙ source) in
+          c.reading_is_turns.ensures.on (Ok None) _ _ _ _ _ _ _ _ _ _ _ _ _ _ (was.reads source) next;
+      takes = λ source. takes_on _ _ _ _ (was.takes source) (c.take_turn.ensures.takes (was.source_tells ∙ source));
+      writes = λ sink. ok_then _ c.in-Ok-None.field-0 _ _ _ _ (was.writes sink) (c.in-Ok-None.ensures.writes (was.sink_tells ∙ sink));
       few = c.take_turn.ensures.few;
       source_faults = read ∙ was.source_faults;
       sink_faults = c.in-Ok-None.ensures.sink_faults ∙ was.sink_faults;
+      leads = λ source. leads_on _ _ _ _ _ _ (was.leads source) (c.take_turn.ensures.leads (c.in-Ok-None.is ∙ ap Ok c.in-Ok-None.field-0-is) (was.source_tells ∙ source));
+      proceeds = goes_on _ _ _ _ _ _ _ _ was.proceeds (proceeds_so _ _ (λ number status has source. asks_before _ _ _ _ (was.leads source) number status (has (was.source_tells ∙ source))) _ _ _ _ _ (rw was.gear at c.take_turn.ensures.proceeds));
       sound = c.take_turn.ensures.sound;
     }
 
@@ -56,3 +71,59 @@ returns-in-Err-take_turn-clause-told g c = λ delay is told source sink.
     let next = c.in-Err-take_turn.ensures.told delay (rw (← was.gear) at is) (both_tell _ _ _ _ was.tells was.world_tells told) (was.source_tells ∙ source) (was.sink_tells ∙ sink) in
     c.turns_are_a_run.ensures _ (Err c.in-Err-take_turn.stop) _ _ _ _ _ _ _ _
     (c.turns_go_on.ensures _ (Err c.in-Err-take_turn.stop) _ _ _ _ _ _ _ _ _ _ _ _ _ _ (was.told delay is told source sink) (rw was.gear at next))
+
+pub returns-in-Err-clause-proceeds : goal.returns-in-Err-clause-proceeds
+returns-in-Err-clause-proceeds g c = nothing_done _ _ _ _ _ _ refl refl
+
+pub returns-in-Ok-Some-clause-proceeds : goal.returns-in-Ok-Some-clause-proceeds
+returns-in-Ok-Some-clause-proceeds g c =
+    let was = c.loop-ending.invariant in
+    goes_on _ _ _ _ _ _ _ _ was.proceeds (proceeds_so _ _ (λ number status has source. asks_before _ _ _ _ (was.leads source) number status (has (was.source_tells ∙ source))) _ _ _ _ _ (rw was.gear at c.take_turn.ensures.proceeds))
+
+pub returns-in-Ok-Some-clause-takes : goal.returns-in-Ok-Some-clause-takes
+returns-in-Ok-Some-clause-takes g c = λ source.
+    let was = c.loop-ending.invariant in
+    takes_on _ _ _ _ (was.takes source) (c.take_turn.ensures.takes (was.source_tells ∙ source))
+
+pub returns-in-Err-take_turn-clause-proceeds : goal.returns-in-Err-take_turn-clause-proceeds
+returns-in-Err-take_turn-clause-proceeds g c =
+    let was = c.loop-ending.invariant in
+    goes_on _ _ _ _ _ _ _ _ was.proceeds (proceeds_so _ _ (λ number status has source. asks_before _ _ _ _ (was.leads source) number status (has (was.source_tells ∙ source))) _ _ _ _ _ (rw was.gear at c.take_turn.ensures.proceeds))
+
+pub returns-in-Err-take_turn-clause-takes : goal.returns-in-Err-take_turn-clause-takes
+returns-in-Err-take_turn-clause-takes g c = λ source.
+    let was = c.loop-ending.invariant in
+    takes_on _ _ _ _ (was.takes source) (c.take_turn.ensures.takes (was.source_tells ∙ source))
+
+pub returns-in-Err-clause-takes : goal.returns-in-Err-clause-takes
+returns-in-Err-clause-takes g c = λ source. takes_none _
+
+pub returns-in-Err-clause-reads : goal.returns-in-Err-clause-reads
+returns-in-Err-clause-reads g c = λ source.
+    rw c.requires.first (c.reading_is_turns.ensures.run (Err NoMemory) _ _ _ _ _ _ _ _ (c.reading_is_turns.ensures.no_memory _ _ _))
+
+pub returns-in-Ok-Some-clause-reads : goal.returns-in-Ok-Some-clause-reads
+returns-in-Ok-Some-clause-reads g c = λ source.
+    let turn = rw c.in-Ok-Some.field-0-is at c.in-Ok-Some.ensures.reads in
+    let was = c.loop-ending.invariant in
+    c.reading_is_turns.ensures.run (Ok c.in-Ok-Some.ending) _ _ _ _ _ _ _ _
+    (c.reading_is_turns.ensures.on (Ok (Some c.in-Ok-Some.ending)) _ _ _ _ _ _ _ _ _ _ _ _ _ _ (was.reads source) (turn (was.source_tells ∙ source)))
+
+pub returns-in-Err-take_turn-clause-reads : goal.returns-in-Err-take_turn-clause-reads
+returns-in-Err-take_turn-clause-reads g c = λ source.
+    let was = c.loop-ending.invariant in
+    c.reading_is_turns.ensures.run (Err c.in-Err-take_turn.stop) _ _ _ _ _ _ _ _
+    (c.reading_is_turns.ensures.on (Err c.in-Err-take_turn.stop) _ _ _ _ _ _ _ _ _ _ _ _ _ _ (was.reads source) (c.in-Err-take_turn.ensures.reads (was.source_tells ∙ source)))
+
+pub returns-in-Err-clause-writes : goal.returns-in-Err-clause-writes
+returns-in-Err-clause-writes g c = λ sink. err_unwritten _ _
+
+pub returns-in-Ok-Some-clause-writes : goal.returns-in-Ok-Some-clause-writes
+returns-in-Ok-Some-clause-writes g c = λ sink.
+    let was = c.loop-ending.invariant in
+    ok_then _ c.in-Ok-Some.field-0 _ _ _ _ (was.writes sink) (c.in-Ok-Some.ensures.writes (was.sink_tells ∙ sink))
+
+pub returns-in-Err-take_turn-clause-writes : goal.returns-in-Err-take_turn-clause-writes
+returns-in-Err-take_turn-clause-writes g c = λ sink.
+    let was = c.loop-ending.invariant in
+    err_then _ c.in-Err-take_turn.stop _ _ _ (was.writes sink) (c.in-Err-take_turn.ensures.writes (was.sink_tells ∙ sink))

@@ -1,10 +1,15 @@
-use Rattle.std.proofs.Common.{◌≡◌, ◌≤◌, ◌-◌, ◌&&◌, ℕ, Bool, true, List, [], length, map, None, Ok}
+use Rattle.std.proofs.Common.{◌≡◌, ◌≤◌, ◌-◌, ◌&&◌, ℕ, Bool, true, List, [], ◌++◌, length, map, None, Ok}
 use Rattle.pam_base.specs.declared.code.Code.{Code}
 use Rattle.dispatch_core.specs.Lines.{names_of}
-use Rattle.pam_room.specs.Module.{Player, player_of}
+use Rattle.pam_room.specs.Module.{Player, notes_of, player_of}
 use Rattle.pam_room.specs.Plain.{plain_world}
 use Rattle.pam_library.specs.Plain.{gear_in, slots_in, tells_in}
+use Rattle.pam_library.specs.Slots.{lists_of}
 use Rattle.pam_library.specs.Sound.{IsSound}
+use Rattle.session_run.specs.AnyWorld.{ProceedsBy}
+use Rattle.session_run.specs.Reading.{WritesSome}
+use Rattle.session_wire.specs.Ends.{IsEndIn, LeadsTo}
+use Rattle.session_wire.specs.Reading.{ReadsTurn, TakesBytes}
 use Rattle.item_stream.specs.Turns.{Turns}
 use Rattle.frame_stream.specs.Looked.{looked}
 use Rattle.frame_stream.specs.Run.{step_at}
@@ -35,9 +40,14 @@ invariant-loop-ending g l =
       told : (delay : Code → ℕ → ℕ) → (delay_told.ghosts g.dyn-2).delay_is (gear_in l.fn.library).delay delay → lib_start && world_start ≡ true → g.S.Source.source_tells l.fn.source ≡ true → g.K.Sink.sink_tells l.fn.sink ≡ true →
           (let setting = setting_of players_start delay in
           Turns looked (step_at (answers setting)) (Fails setting) (Ok None) 0 l.frames start now [] l.reader (g.S.Source.source_holds l.fn.source) (g.S.Source.source_holds l.source) (g.K.Sink.sink_holds l.fn.sink) (g.K.Sink.sink_holds l.sink));
+      reads : g.S.Source.source_tells l.fn.source ≡ true → ReadsTurn (Ok None) 0 l.frames [] l.reader (g.S.Source.source_holds l.fn.source) (g.S.Source.source_holds l.source);
+      takes : g.S.Source.source_tells l.fn.source ≡ true → TakesBytes [] (g.S.Source.source_holds l.fn.source) (g.S.Source.source_holds l.source);
+      writes : g.K.Sink.sink_tells l.fn.sink ≡ true → WritesSome {T = ℕ} (Ok 0) (g.K.Sink.sink_holds l.fn.sink) (g.K.Sink.sink_holds l.sink);
       few : l.frames ≤ 65536;
       source_faults : g.S.Source.source_faults l.source ≡ g.S.Source.source_faults l.fn.source;
       sink_faults : g.K.Sink.sink_faults l.sink ≡ g.K.Sink.sink_faults l.fn.sink;
+      leads : g.S.Source.source_tells l.fn.source ≡ true → LeadsTo 0 l.frames (g.S.Source.source_holds l.fn.source).left (l.reader ++ (g.S.Source.source_holds l.source).left);
+      proceeds : ProceedsBy (IsEndIn (g.S.Source.source_tells l.fn.source) 0 (g.S.Source.source_holds l.fn.source).left) (notes_of players_start) l.fn.world.process.ledger (lists_of start.slots) l.world.process.ledger (lists_of now.slots);
       sound : IsSound (names_of players) (length players) now.slots l.world.process.ledger;
     }
 

@@ -1,6 +1,7 @@
 use Rattle.std.proofs.Common.{Ok, Err, refl}
 use Rattle.session_wire.proofs.Serving.{failed_place, called_frame, applied_only, failed_call}
-use Rattle.session_wire.proofs.Spending.{receipts_stay}
+use Rattle.session_wire.proofs.Proceeding.{call_ends, one_call, receipts_stay}
+use Rattle.session_wire.proofs.Consuming.{all_written, err_unwritten, front_written}
 use Rattle.session_wire.proofs.serve.serve_call.Goals as goal
 
 pub returns-in-Err-clause-told : goal.returns-in-Err-clause-told
@@ -36,3 +37,33 @@ returns-clause-told g c = λ delay is told sink frames frame few asked.
 
 pub step_report-requires-clause-from : goal.step_report-requires-clause-from
 step_report-requires-clause-from g c = rw c.in-Ok.ensures.filed_from (receipts_stay _ _ _ _ _ _ _ _ c.apply.ensures.spends)
+
+pub returns-in-Err-clause-proceeds : goal.returns-in-Err-clause-proceeds
+returns-in-Err-clause-proceeds g c = one_call _ _ _ _ _ _ _ c.apply.ensures.moves (call_ends _ _ _)
+
+pub returns-in-Err-step_report-clause-proceeds : goal.returns-in-Err-step_report-clause-proceeds
+returns-in-Err-step_report-clause-proceeds g c = one_call _ _ _ _ _ _ _ c.apply.ensures.moves (call_ends _ _ _)
+
+pub returns-in-Err-answer_of-clause-proceeds : goal.returns-in-Err-answer_of-clause-proceeds
+returns-in-Err-answer_of-clause-proceeds g c = one_call _ _ _ _ _ _ _ c.apply.ensures.moves (call_ends _ _ _)
+
+pub returns-in-Ok-write_all-clause-proceeds : goal.returns-in-Ok-write_all-clause-proceeds
+returns-in-Ok-write_all-clause-proceeds g c = one_call _ _ _ _ _ _ _ c.apply.ensures.moves (call_ends _ _ _)
+
+pub returns-clause-proceeds : goal.returns-clause-proceeds
+returns-clause-proceeds g c = one_call _ _ _ _ _ _ _ c.apply.ensures.moves (call_ends _ _ _)
+
+pub returns-in-Err-clause-writes : goal.returns-in-Err-clause-writes
+returns-in-Err-clause-writes g c = λ sink. err_unwritten _ _
+
+pub returns-in-Err-step_report-clause-writes : goal.returns-in-Err-step_report-clause-writes
+returns-in-Err-step_report-clause-writes g c = λ sink. err_unwritten _ _
+
+pub returns-in-Err-answer_of-clause-writes : goal.returns-in-Err-answer_of-clause-writes
+returns-in-Err-answer_of-clause-writes g c = λ sink. err_unwritten _ _
+
+pub returns-in-Ok-write_all-clause-writes : goal.returns-in-Ok-write_all-clause-writes
+returns-in-Ok-write_all-clause-writes g c = λ sink. all_written _ c.in-Ok-write_all.field-0 _ _ _ (c.in-Ok-write_all.ensures.told sink)
+
+pub returns-clause-writes : goal.returns-clause-writes
+returns-clause-writes g c = λ sink. front_written c.in-Err-write_all.field-0 _ _ _ (c.in-Err-write_all.ensures.told sink)

@@ -1,0 +1,40 @@
+-- Which steps some bytes spell, and what stands after their frames, in words that no reader uses
+-- (this project's own).
+use Rattle.std.specs.Prelude.{◌≡◌, ◌⊎◌, ℕ, ◌+◌, ◌<◌, ◌≤◌, Bool, true, List, [], ◌∷◌, ◌++◌, length, Option, Some, None}
+use Rattle.pam_base.specs.declared.call.Step.{Step}
+use Rattle.pam_wire.specs.Stream.{AreFramesOf, HasNoFrame, IsOpen}
+use Rattle.frame_stream.specs.declared.fault.FrameFault.{FrameFault}
+use Rattle.frame_stream.specs.declared.fault.FrameFault.TheVariants.{BadFrame, TooManyFrames}
+use Rattle.frame_stream.specs.Run.{CallStep}
+
+-- Whether what stands after n frames is refused; `ended` says that the input ends after it. It
+-- isn't where nothing stands there, or the beginning of a frame that may still come. It is a bad
+-- frame where no frame begins it, and the input ends or it is not even the beginning of one; and
+-- one frame too many where it is anything after 65,536.
+abbrev pub IsBehind : ℕ → List ℕ → Bool → Option FrameFault → Type 0
+IsBehind n rest ended None = IsOpen rest × (ended ≡ true → rest ≡ []) × (65536 ≤ n → rest ≡ [])
+IsBehind n rest ended (Some BadFrame) =
+    (n < 65536) × HasNoFrame rest × (((ended ≡ true) × (0 < length rest)) ⊎ (IsOpen rest → ⊥))
+IsBehind n rest ended (Some TooManyFrames) = (65536 ≤ n) × (0 < length rest)
+
+-- The bytes are the frames of these steps, at most 65,536 with those n that stand before them, and
+-- a rest after them.
+pub record SpellsFrom (n : ℕ) (bytes : List ℕ) (ended : Bool) (steps : List Step) (rest : List ℕ)
+    (fault : Option FrameFault) : Type 0 where
+  pub frames : AreFramesOf bytes steps rest
+  pub few : n + length steps ≤ 65536
+  pub behind : IsBehind (n + length steps) rest ended fault
+
+-- the same from the first byte on
+abbrev pub Spells : List ℕ → Bool → List Step → List ℕ → Option FrameFault → Type 0
+Spells bytes ended steps rest fault = SpellsFrom 0 bytes ended steps rest fault
+
+-- what is written for steps, one answer after the other, and the state after them
+module _ {State : Type 0} (answers : CallStep State) where
+  abbrev pub answers_to : State → List Step → List ℕ
+  answers_to s [] = []
+  answers_to s (step ∷ steps) = (answers s step).1 ++ answers_to (answers s step).0 steps
+
+  abbrev pub state_behind : State → List Step → State
+  state_behind s [] = s
+  state_behind s (step ∷ steps) = state_behind (answers s step).0 steps

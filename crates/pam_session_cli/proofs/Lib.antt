@@ -1,5 +1,0 @@
-pub mod Alone
-pub mod Cleaning
-pub mod LoggingIn
-pub mod Statuses
-pub mod Telling

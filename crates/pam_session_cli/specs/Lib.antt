@@ -1,7 +1,0 @@
-pub mod Command
-pub mod Asked
-pub mod Run
-pub mod Login
-pub mod Generate
-pub mod CleanedUp
-pub mod Status

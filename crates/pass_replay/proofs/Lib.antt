@@ -1,0 +1,7 @@
+pub mod Dropping
+pub mod Telling
+pub mod Keeping
+pub mod Peeling
+pub mod Serving
+pub mod Walking
+pub mod Finishing

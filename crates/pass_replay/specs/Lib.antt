@@ -1,0 +1,7 @@
+pub mod Replay
+pub mod Told
+pub mod Kept
+pub mod Held
+pub mod Walk
+pub mod Passed
+pub mod Retold

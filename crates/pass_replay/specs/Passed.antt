@@ -1,0 +1,31 @@
+-- What a pass and a call came to, in the words of the calls (this project's own).
+use Rattle.std.specs.Prelude.{List, Option, Some, None}
+use Rattle.pam_base.specs.declared.code.Code.{Code}
+use Rattle.pam_base.specs.declared.code.Code.TheVariants.{Incomplete}
+use Rattle.stack_walk.specs.declared.opinion.Opinion.{Opinion}
+use Rattle.stack_walk.specs.declared.seen.Seen.{Seen}
+use Rattle.stack_walk.specs.Opinion.{verdict}
+use Rattle.stack_walk.specs.Pass.{Visit, answers_of}
+use Rattle.stack_walk.specs.Retell.{Telling}
+use Rattle.dispatch_core.specs.Calls as calls
+use Rattle.pass_replay.specs.declared.passed.Passed.{Passed}
+use Rattle.pass_replay.specs.Kept.{kept_answers}
+use Rattle.pass_replay.specs.Told.{telling_from}
+
+abbrev pub passed_of : List (Option Seen) → Passed → calls.Passed Telling
+passed_of told p = record {
+  code = p.code;
+  kept = kept_answers p.kept;
+  paused = p.paused;
+  state = telling_from told p.next p.astray;
+}
+
+-- the code of a walk that ended with this opinion, or was put off
+abbrev pub ended_code : Option Opinion → Code
+ended_code None = Incomplete
+ended_code (Some opinion) = verdict opinion
+
+-- the answers to go on after, where it was put off
+abbrev pub ended_paused : Option Opinion → List Visit → Option (List Code)
+ended_paused None visits = Some (answers_of visits)
+ended_paused (Some opinion) visits = None

@@ -1,0 +1,23 @@
+-- What a stack call comes to that is gone over again, in the words of the calls (this project's own).
+use Rattle.std.specs.Prelude.{List, Option}
+use Rattle.control_words.specs.Stack.{stack_of}
+use Rattle.service_load.specs.Stacks.{Stacks}
+use Rattle.service_load.specs.declared.trees.Trees.{Trees}
+use Rattle.stack_walk.specs.declared.seen.Seen.{Seen}
+use Rattle.stack_walk.specs.Retell.{Telling}
+use Rattle.dispatch_core.specs.Calls.{Went, went}
+use Rattle.pass_replay.specs.declared.retold.Retold.{Retold}
+use Rattle.pass_replay.specs.Held.{held_of}
+use Rattle.pass_replay.specs.Told.{telling_from}
+
+-- the four stacks of a load
+abbrev pub stacks_in : Trees → Stacks
+stacks_in trees = record {
+  auth = stack_of trees.auth.vec.items;
+  account = stack_of trees.account.vec.items;
+  password = stack_of trees.password.vec.items;
+  session = stack_of trees.session.vec.items;
+}
+
+abbrev pub went_of : List (Option Seen) → Retold → Went Telling
+went_of told r = went r.code (held_of r.held) (telling_from told r.next r.astray)

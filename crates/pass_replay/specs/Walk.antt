@@ -1,0 +1,33 @@
+-- A walk over lines that answer what was told of them (this project's own).
+use Rattle.std.specs.Prelude.{◌≡◌, ℕ, List, drop, Option, Some, None}
+use Rattle.pam_base.specs.declared.code.Code.{Code}
+use Rattle.control_words.specs.Stack.{Stack}
+use Rattle.stack_walk.specs.declared.opinion.Opinion.{Opinion}
+use Rattle.stack_walk.specs.declared.pass_kind.PassKind.{PassKind}
+use Rattle.stack_walk.specs.declared.seen.Seen.{Seen}
+use Rattle.stack_walk.specs.Walk.{Next, after, stop, Serving, Walked, walk, walked, halted}
+use Rattle.stack_walk.specs.Retell.{Telling}
+use Rattle.stack_walk.specs.Pass.{PassState, pass_state}
+use Rattle.pass_replay.specs.declared.onward.Onward.{Onward}
+use Rattle.pass_replay.specs.declared.replay.Replay.{Replay}
+use Rattle.pass_replay.specs.Kept.{visits_of}
+use Rattle.pass_replay.specs.Told.{telling_from}
+
+-- how far a pass has come, by the answers of its earlier calls and the told lines
+abbrev pub state_in : List Code → List (Option Seen) → Replay → PassState Telling
+state_in past told r = pass_state (drop r.used past) (visits_of r.visits) (telling_from told r.next r.astray)
+
+-- how many of n nodes that are left are passed over where their list goes on; all of them where it ends
+abbrev pub skip_of : Next → ℕ → ℕ
+skip_of (after n) left = n
+skip_of stop left = left
+
+-- what is left of a walk after a line: it goes on, or None where the line put it off
+abbrev pub after_line : {State : Type 0} → PassKind → Serving State → Stack → ℕ → Opinion → Opinion → Option Onward → State → Walked State
+after_line kind serve rest at entry opinion None state = halted opinion state
+after_line kind serve rest at entry opinion (Some onward) state = walk kind serve onward.skip rest at entry onward.opinion state
+
+-- a walk ended with this opinion and state, or was put off at this state
+abbrev pub Comes : {State : Type 0} → Walked State → Option Opinion → State → Type 0
+Comes w (Some opinion) state = w ≡ walked opinion state
+Comes w None state = w ≡ halted w.opinion state

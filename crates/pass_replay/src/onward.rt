@@ -1,0 +1,44 @@
+ghost use Rattle.std.specs.Prelude.{◌≡◌, if◌then◌else◌, nat_le};
+ghost use Rattle.stack_walk.specs.Opinion.{overrun};
+ghost use Rattle.stack_walk.specs.Walk.{next_of, settled};
+ghost use Rattle.pass_replay.specs.Walk.{skip_of};
+
+use control_words::Action;
+use stack_walk::Opinion;
+
+/// Where a list goes on after a line: the opinion, and how many of its nodes are passed over, all that are left where
+/// it ends.
+#[derive(Clone, Copy, Debug)]
+pub struct Onward {
+    pub opinion: Opinion,
+    pub skip: usize,
+}
+
+/// Where a list of which `left` nodes are left goes on, after an action that came to an opinion.
+pub fn onward_from(action: Action, left: usize, new: Opinion) -> Onward
+    ensures opinion { result.opinion ≡ settled action left new }
+    ensures skip { result.skip ≡ skip_of (next_of action left new) left }
+{
+    if let Action::Jump(number) = action {
+        return jumped(usize::from(number), left, new);
+    }
+    let skip = if new.ends(action) { left } else { 0 };
+    Onward { opinion: new, skip }
+}
+
+// Behind a jump; one over more nodes than are left ends the list.
+fn jumped(number: usize, left: usize, new: Opinion) -> Onward
+    ensures opinion { result.opinion ≡ (if nat_le number left then new else overrun) }
+    ensures skip { result.skip ≡ (if nat_le number left then number else left) }
+{
+    if number <= left {
+        return Onward {
+            opinion: new,
+            skip: number,
+        };
+    }
+    Onward {
+        opinion: Opinion::overrun(),
+        skip: left,
+    }
+}

@@ -1,0 +1,51 @@
+ghost use Rattle.std.specs.Prelude.{◌≡◌, ◌≤◌, ◌+◌, ◌-◌, ◌∷◌, [], Some, IfSome, IfNone, drop, length, slice_get};
+ghost use Rattle.stack_walk.specs.Retell.{is_of};
+ghost use Rattle.stack_walk.specs.Seen.{seen_of};
+ghost use Rattle.pass_replay.specs.Told.{lines_before, visits_in};
+
+use control_words::{Rule, module_name};
+use stack_walk::Seen;
+
+/// The index of the first told line that is a visit, from 0; how many there are where none is.
+pub fn first_visit(told: &[Option<Seen>]) -> usize
+    ensures { result ≡ lines_before 0 told.now }
+{
+    first_left(told, 0)
+}
+
+/// The index of the first visit among the told lines from one on; how many told lines there are where none is.
+pub fn first_left(told: &[Option<Seen>], from: usize) -> usize
+    ensures same { visits_in (drop result told.now) ≡ visits_in (drop from told.now) }
+    ensures within { result ≤ length told.now }
+    ensures left { result ≡ lines_before
+        (length (visits_in told.now) - length (visits_in (drop result told.now))) told.now }
+{
+    match next_seen(told, from) {
+        Some((at, _)) => at,
+        None => told.len(),
+    }
+}
+
+/// The first visit among the told lines from one on, with its index.
+pub fn next_seen(told: &[Option<Seen>], from: usize) -> Option<(usize, &Seen)>
+    ensures some { IfSome result (λ found. visits_in (drop from told.now)
+        ≡ seen_of found.1.now ∷ visits_in (drop (found.0 + 1) told.now)) }
+    ensures at { IfSome result (λ found. slice_get told.now found.0 ≡ Some (Some found.1.now)) }
+    ensures none { IfNone result (visits_in (drop from told.now) ≡ []) }
+{
+    let mut next = from;
+    while let Some(line) = told.get(next) {
+        if let Some(seen) = line {
+            return Some((next, seen));
+        }
+        next += 1;
+    }
+    None
+}
+
+/// Whether a visit tells of the line of a rule at a place.
+pub fn is_of(seen: &Seen, rule: &Rule, place: usize) -> bool
+    ensures { result ≡ is_of (seen_of seen.now) rule.now place }
+{
+    seen.place == place as u64 && seen.name.bytes() == module_name(rule.path.bytes())
+}

@@ -1,0 +1,10 @@
+pub mod Cutting
+pub mod Numbers
+pub mod Unquoting
+pub mod Known
+pub mod Forms
+pub mod Reading
+pub mod Printing
+pub mod Commands
+pub mod Padding
+pub mod Tested

@@ -1,0 +1,70 @@
+-- What is read of a line, in the words of the report's lines: the contents that don't count are left out.
+use Rattle.std.specs.Prelude.{◌≡◌, IfOk, List, [], ◌∷◌, Option, Some, None, Result}
+use Rattle.std.specs.Option.{option_map}
+use Rattle.pam_base.specs.declared.code.Code.TheVariants as codes
+use Rattle.pam_base.specs.declared.call.Func.TheVariants as funcs
+use Rattle.pam_base.specs.declared.fault.FaultKind.TheVariants.{OpenBracket}
+use Rattle.pam_base.specs.declared.fault.NoMemory.{NoMemory}
+use Rattle.service_load.specs.FirstFault.{fault_at}
+use Rattle.stack_walk.specs.declared.seen.Seen.{Seen}
+use Rattle.stack_walk.specs.Seen.{seen_of}
+use Rattle.report_lines.specs.Line as lines
+use Rattle.report_reader.specs.declared.form.Spoken.{Spoken}
+use Rattle.report_reader.specs.declared.form.Spoken.TheVariants as spoken
+use Rattle.report_reader.specs.declared.form.Answer.{Answer}
+use Rattle.report_reader.specs.declared.form.Answer.TheVariants as answers
+use Rattle.report_reader.specs.declared.form.Outcome.{Outcome}
+use Rattle.report_reader.specs.declared.form.Outcome.TheVariants as outcomes
+use Rattle.report_reader.specs.declared.form.Form.{Form}
+use Rattle.report_reader.specs.declared.form.Form.TheVariants as forms
+use Rattle.report_reader.specs.Says.{Says, tells, results, lasts, bare}
+
+abbrev pub command_of : Spoken → lines.Command
+command_of spoken.Start = lines.starts
+command_of spoken.End = lines.ends
+command_of (spoken.Run func) = lines.runs func
+command_of spoken.SetItem = lines.sets_item
+command_of spoken.GetItem = lines.gets_item
+command_of spoken.PutEnv = lines.puts_env
+command_of spoken.GetEnv = lines.gets_env
+command_of spoken.EnvList = lines.lists_env
+command_of spoken.FailDelay = lines.asks_delay
+command_of spoken.DelayFn = lines.switches_delay
+command_of spoken.Reply = lines.replies
+
+abbrev pub all_spoken : List Spoken
+all_spoken = spoken.Start ∷ spoken.End ∷ spoken.Run funcs.Authenticate ∷ spoken.Run funcs.SetCred
+    ∷ spoken.Run funcs.AcctMgmt ∷ spoken.Run funcs.OpenSession ∷ spoken.Run funcs.CloseSession
+    ∷ spoken.Run funcs.ChAuthTok ∷ spoken.SetItem ∷ spoken.GetItem ∷ spoken.PutEnv ∷ spoken.GetEnv
+    ∷ spoken.EnvList ∷ spoken.FailDelay ∷ spoken.DelayFn ∷ spoken.Reply ∷ []
+
+abbrev pub shown_of : Answer → lines.Shown
+shown_of (answers.Code code) = lines.shows_code code
+shown_of answers.Fault = lines.shows_fault (fault_at [] 0 OpenBracket)
+shown_of answers.Value = lines.shows_value None
+shown_of answers.Count = lines.shows_count 0
+shown_of answers.NotOpen = lines.shows_not_open
+shown_of answers.AlreadyOpen = lines.shows_already_open
+shown_of answers.BadNumber = lines.shows_bad_number
+shown_of (answers.Pending func) = lines.shows_pending func
+
+abbrev pub result_of : Outcome → lines.Result
+result_of (outcomes.Answered command answer) = lines.answered (command_of command) (shown_of answer)
+result_of outcomes.Closed = lines.closed_by_program codes.Success
+
+abbrev pub told_of : Option Seen → lines.Told
+told_of None = lines.told_missing []
+told_of (Some v) = lines.told_visit (seen_of v)
+
+abbrev pub says_of : Form → Says
+says_of (forms.Told number visit) = tells number (told_of visit)
+says_of (forms.Result number outcome) = results number (result_of outcome)
+says_of forms.Last = lasts lines.unread
+
+-- what counts of what is read is what counts of this
+abbrev pub IsRead : Option Form → Option Says → Type 0
+IsRead form s = option_map says_of form ≡ option_map bare s
+
+-- and so it is where there was memory
+abbrev pub Reads : Result (Option Form) NoMemory → Option Says → Type 0
+Reads result s = IfOk result (λ form. IsRead form s)

@@ -1,0 +1,35 @@
+ghost use Rattle.std.specs.Prelude.{◌≡◌, ◌∷◌, ◌++◌, [], IfOk, string_bytes};
+ghost use Rattle.report_lines.specs.Line.{refused_at, script_text, unread};
+ghost use Rattle.report_reader.specs.Form.{Reads};
+ghost use Rattle.report_reader.specs.Guess.{guessed_last, if_printed};
+ghost use Rattle.report_reader.specs.Says.{lasts};
+
+use crate::form::Form;
+use crate::names::script_fault_in;
+use crate::printed::if_printed;
+use crate::words::{before_space, behind_space, number_of};
+use pam_base::{NoMemory, ScriptKind};
+use report_lines::read_fault_line;
+use std::alloc::Global;
+
+/// Reads the last line of a run that couldn't go on.
+pub fn read_last(alloc: Global, line: &[u8]) -> Result<Option<Form>, NoMemory>
+    ensures { Reads result (if_printed line.now (lasts (guessed_last line.now))) }
+{
+    if line == b"read fault".as_slice() {
+        return Ok(if_printed(read_fault_line(), line, Form::Last));
+    }
+    let words = behind_space(line);
+    let kind = script_fault_in(before_space(behind_space(words)));
+    let text = script_line(alloc, number_of(before_space(words)), kind)?;
+    Ok(if_printed(text.as_str(), line, Form::Last))
+}
+
+// The line of a script that is refused at this line, whatever number that is.
+fn script_line(alloc: Global, line: u64, kind: ScriptKind) -> Result<String, NoMemory>
+    ensures { IfOk result (λ text. string_bytes text ≡ script_text line kind) }
+{
+    let name = kind.name();
+    let number = kind.number();
+    Ok(format!(in alloc; "script {line} {name} {number}\n")?)
+}

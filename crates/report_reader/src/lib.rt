@@ -1,0 +1,18 @@
+//! Reads the lines of a report: what a line says is guessed from its words, and it says so where that is printed as the
+//! line.
+#![tactic(auto)]
+
+mod form;
+mod last;
+pub mod laws;
+mod line;
+mod names;
+mod outcome;
+mod printed;
+mod quoted;
+mod shown;
+mod told;
+mod words;
+
+pub use form::{Answer, Form, Outcome, Spoken};
+pub use line::read_line;

@@ -1,0 +1,73 @@
+ghost use Rattle.std.specs.Prelude.{◌≡◌};
+ghost use Rattle.report_reader.specs.Form.{Reads};
+ghost use Rattle.report_reader.specs.Guess.{guessed_result, guessed_told, read_line, read_numbered, told_or};
+
+use crate::form::Form;
+use crate::last::read_last;
+use crate::outcome::read_result;
+use crate::told::{read_cleanup, read_message, read_missing, read_variable, read_visit, read_wait};
+use crate::words::{before_space, behind_space, number_of};
+use pam_base::{NoMemory, are_digits};
+use std::alloc::Global;
+
+/// What a line of a report says, which is handed in without its newline. None exactly where it has no form.
+pub fn read_line(alloc: Global, line: &[u8]) -> Result<Option<Form>, NoMemory>
+    ensures { Reads result (read_line line.now) }
+{
+    if !are_digits(before_space(line)) {
+        return read_last(alloc, line);
+    }
+    let number = number_of(before_space(line));
+    let behind_number = behind_space(line);
+    read_numbered(
+        alloc,
+        line,
+        number,
+        before_space(behind_number),
+        behind_space(behind_number),
+    )
+}
+
+fn read_numbered(
+    alloc: Global,
+    line: &[u8],
+    number: u64,
+    word: &[u8],
+    words: &[u8],
+) -> Result<Option<Form>, NoMemory>
+    ensures { Reads result (read_numbered line.now number word.now words.now) }
+{
+    if number > u64::from(u32::MAX) {
+        return Ok(None);
+    }
+    read_words(alloc, line, number as u32, word, words)
+}
+
+// Reads a line of a transaction, by its word.
+fn read_words(
+    alloc: Global,
+    line: &[u8],
+    number: u32,
+    word: &[u8],
+    words: &[u8],
+) -> Result<Option<Form>, NoMemory>
+    ensures { Reads result
+        (told_or line.now number (guessed_told word.now words.now)
+        (guessed_result word.now words.now)) }
+{
+    if word == b"say".as_slice() {
+        read_message(alloc, line, number, words)
+    } else if word == b"line".as_slice() {
+        read_visit(alloc, line, number, words)
+    } else if word == b"clean".as_slice() {
+        read_cleanup(alloc, line, number, words)
+    } else if word == b"wait".as_slice() {
+        read_wait(alloc, line, number, words)
+    } else if word == b"note".as_slice() {
+        read_missing(alloc, line, number, words)
+    } else if word == b"env".as_slice() {
+        read_variable(alloc, line, number, words)
+    } else {
+        read_result(alloc, line, number, word, words)
+    }
+}

@@ -1,0 +1,6 @@
+use Rattle.report_reader.specs.Guess.{read_line}
+use Rattle.session_audit.proofs.Auditing.{readers_audit}
+use Rattle.session_audit.proofs.laws.lines_audit.Goals as goal
+
+pub returns : goal.returns
+returns c = readers_audit read_line c.reads_lines.ensures

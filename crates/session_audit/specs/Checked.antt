@@ -1,0 +1,107 @@
+-- What the checker holds while it reads a report, in the words of places and blocks (this project's own).
+use Rattle.std.specs.Prelude.{◌≡◌, ◌≤◌, ℕ, ◌+◌, Bool, true, false, ◌&&◌, List, [], ◌∷◌, map, length, Option, Some, None}
+use Rattle.std.specs.Option.{option_map}
+use Rattle.pam_base.specs.declared.code.Code.{Code}
+use Rattle.pam_base.specs.declared.call.Func.{Func}
+use Rattle.service_load.specs.Stacks.{Stacks}
+use Rattle.dispatch_core.specs.Calls.{Held}
+use Rattle.pass_replay.specs.Held.{held_of}
+use Rattle.stack_walk.specs.declared.seen.Seen.{Seen}
+use Rattle.report_lines.specs.Line.{Told, Command, runs, Shown, shows_code, shows_pending, Result, answered, closed_by_program, Block}
+use Rattle.report_reader.specs.Form.{told_of}
+use Rattle.report_reader.specs.Guess.{read_line}
+use Rattle.report_reader.specs.Says.{Says, bare}
+use Rattle.session_audit.specs.declared.place.Place as held
+use Rattle.session_audit.specs.declared.place.Place.TheVariants as helds
+use Rattle.session_audit.specs.declared.checker.Begun.{Begun}
+use Rattle.session_audit.specs.declared.checker.Checker.{Checker}
+use Rattle.session_audit.specs.declared.judge.StackCall.{StackCall}
+use Rattle.session_audit.specs.declared.judge.Judged.{Judged}
+use Rattle.session_audit.specs.declared.judge.Judged.TheVariants as judged
+use Rattle.session_audit.specs.declared.verdict.Verdict.{Verdict}
+use Rattle.session_audit.specs.declared.verdict.Verdict.TheVariants as verdicts
+use Rattle.session_audit.specs.Fits.{Place, shut, running, place_at, visits_told, is_none, is_bad_number, only_if, aborted_by, at_shut, at_running, behind_block}
+use Rattle.session_audit.specs.Differs.{Gathered, nothing_yet, gathered, lines_before, bad_line, differs_from}
+use Rattle.session_audit.specs.Whole.{lines_read}
+
+abbrev pub place_of : held.Place → Place
+place_of helds.Closed = shut
+place_of (helds.Open h) = running (held_of h)
+
+abbrev pub told_in : List (Option Seen) → List Told
+told_in told = map told_of told
+
+-- the block that is being read
+abbrev pub gathered_of : Option Begun → Gathered
+gathered_of None = nothing_yet
+gathered_of (Some b) = gathered b.number (told_in b.told.items)
+
+-- ---- results of calls that run no stack, and of stack calls that have no code
+
+abbrev pub at_quiet : Held → Command → Shown → Option Place
+at_quiet h (runs func) (shows_pending other) = only_if (aborted_by h.pending func other) (running h)
+at_quiet h command shown = at_running h command shown
+
+abbrev pub behind_quiet : Place → Result → Option Place
+behind_quiet shut (answered command shown) = at_shut command shown
+behind_quiet shut (closed_by_program code) = None
+behind_quiet (running h) (answered command shown) = at_quiet h command shown
+behind_quiet (running h) (closed_by_program code) = Some shut
+
+-- whether what a command came to that neither runs a stack nor ends the transaction fits an open one
+abbrev pub LeavesOpen : Bool → Command → Shown → Type 0
+LeavesOpen fits command shown = (h : Held) → at_running h command shown ≡ only_if fits (running h)
+
+-- a result is the code of a stack call
+abbrev pub IsCall : Option StackCall → Result → Type 0
+IsCall (Some call) result = result ≡ answered (runs call.func) (shows_code call.code)
+IsCall None result = (func : Func) (code : Code) → result ≡ answered (runs func) (shows_code code) → ⊥
+
+-- ---- what a block was found to come to
+
+-- it is the place behind it, or else which line doesn't fit
+abbrev pub IsJudged : Judged → Option Place → ℕ → Type 0
+IsJudged (judged.Fits place) behind bad = behind ≡ Some (place_of place)
+IsJudged (judged.Differs line) behind bad = (behind ≡ None) × (line ≡ bad)
+
+-- and so among all places; a line is named where it doesn't fit
+abbrev pub IsPlaced : Stacks → List held.Place → Block → Option ℕ → List held.Place → Type 0
+IsPlaced stacks old b (Some line) new = (behind_block stacks (map place_of old) b ≡ None) × (line ≡ bad_line stacks (place_at (map place_of old) b.number) b)
+IsPlaced stacks old b None new = (behind_block stacks (map place_of old) b ≡ Some (map place_of new)) × (length new ≡ length old)
+
+-- and so of a number that no transaction has
+abbrev pub IsUnplaced : Option ℕ → List Told → Result → Type 0
+IsUnplaced None told result = (stacks : Stacks) → (is_bad_number stacks result && is_none (visits_told told)) ≡ true
+IsUnplaced (Some line) told result = ((stacks : Stacks) → (is_bad_number stacks result && is_none (visits_told told)) ≡ false) × (line ≡ lines_before 0 told)
+
+-- ---- lines that are left
+
+-- what counts of the lines of a text
+abbrev pub bare_lines : List ℕ → List (Option Says)
+bare_lines text = map (option_map bare) (lines_read read_line text)
+
+-- the first of these lines that differs, where the checker is
+abbrev pub differs_at : Stacks → Checker → List (Option Says) → Option ℕ
+differs_at stacks c lines = differs_from stacks (map place_of c.places.items) (gathered_of c.begun) c.lines lines
+
+-- the block that has begun is of the lines that were taken
+abbrev pub begun_within : Option Begun → ℕ → Type 0
+begun_within None lines = Unit {0}
+begun_within (Some b) lines = length b.told.items ≤ lines
+
+-- a checker behind some lines
+pub record IsBehind (c : Checker) (lines : ℕ) : Type 0 where
+  pub lines_are : c.lines ≡ lines
+  pub sixteen : length c.places.items ≡ 16
+  pub begun : begun_within c.begun lines
+
+-- A line is taken, behind which there are lines or not: it is named, or what is named is named further on.
+abbrev pub IsTaken : Stacks → Checker → Option Says → Bool → Option ℕ → Checker → Type 0
+IsTaken stacks old line is_last (Some named) new = (lines : List (Option Says)) → is_none lines ≡ is_last → differs_at stacks old (line ∷ lines) ≡ Some named
+IsTaken stacks old line is_last None new =
+    IsBehind new (old.lines + 1) × ((lines : List (Option Says)) → is_none lines ≡ is_last → differs_at stacks old (line ∷ lines) ≡ differs_at stacks new lines)
+
+-- the line that a verdict names
+abbrev pub line_of : Verdict → Option ℕ
+line_of verdicts.Fits = None
+line_of (verdicts.Differs line) = Some line

@@ -1,0 +1,133 @@
+ghost use Rattle.std.specs.Prelude.{◌≡◌, ◌-◌, [], IfOk, Some, length};
+ghost use Rattle.service_load.specs.Load.{AreBounded};
+ghost use Rattle.stack_walk.specs.Retell.{telling};
+ghost use Rattle.dispatch_core.specs.Calls.{goes};
+ghost use Rattle.pass_replay.specs.Held.{held_of};
+ghost use Rattle.pass_replay.specs.Replay.{as_told};
+ghost use Rattle.pass_replay.specs.Retold.{stacks_in};
+ghost use Rattle.report_lines.specs.Line.{answered, runs, shows_code};
+ghost use Rattle.report_reader.specs.Form.{result_of};
+ghost use Rattle.session_audit.specs.Checked.{IsCall, IsJudged, behind_quiet, place_of, told_in};
+ghost use Rattle.session_audit.specs.Differs.{lines_before, visits_good};
+ghost use Rattle.session_audit.specs.Fits.{behind_call, behind_result, is_refused_change, running, visits_told, without_visits};
+
+use crate::place::{Place, behind_quiet};
+use pam_base::{Code, Func, NoMemory};
+use pass_replay::{Held, first_visit, retell};
+use report_reader::{Answer, Outcome, Spoken};
+use service_load::Trees;
+use stack_walk::Seen;
+use std::alloc::Global;
+
+/// What a block comes to at its number's place.
+#[derive(Debug, Drop)]
+pub enum Judged {
+    /// It fits, and leads to this place.
+    Fits(Place),
+    /// It doesn't. This line of it is named, counted from 0.
+    Differs(usize),
+}
+
+/// Judges a block by what it tells and its result.
+pub fn judge(
+    alloc: Global,
+    trees: &Trees,
+    place: Place,
+    told: &[Option<Seen>],
+    outcome: Outcome,
+) -> Result<Judged, NoMemory>
+    requires { AreBounded trees.now }
+    ensures { IfOk result (λ judged. IsJudged judged
+        (behind_result (stacks_in trees.now) (place_of place) (visits_told (told_in told.now)) (result_of outcome))
+        (lines_before (visits_good (stacks_in trees.now) (Some (place_of place)) (visits_told (told_in told.now)) (result_of outcome)) (told_in told.now))) }
+{
+    match place {
+        Place::Open(held) => match stack_call(outcome) {
+            Some(call) => judge_call(alloc, trees, held, call.func, call.code, told),
+            None => Ok(judge_quiet(Place::Open(held), told, outcome)),
+        },
+        Place::Closed => Ok(judge_quiet(Place::Closed, told, outcome)),
+    }
+}
+
+// A stack call and its code.
+struct StackCall {
+    func: Func,
+    code: Code,
+}
+
+fn stack_call(outcome: Outcome) -> Option<StackCall>
+    ensures { IsCall result (result_of outcome) }
+{
+    match outcome {
+        Outcome::Answered(Spoken::Run(func), Answer::Code(code)) => Some(StackCall { func, code }),
+        _ => None,
+    }
+}
+
+// A block whose result isn't the code of a stack call tells no visits.
+fn judge_quiet(place: Place, told: &[Option<Seen>], outcome: Outcome) -> Judged
+    ensures { IsJudged result
+        (without_visits (visits_told (told_in told.now)) (behind_quiet (place_of place) (result_of outcome)))
+        (lines_before 0 (told_in told.now)) }
+{
+    let first = first_visit(told);
+    if first < told.len() {
+        return Judged::Differs(first);
+    }
+    match behind_quiet(place, outcome) {
+        Some(behind) => Judged::Fits(behind),
+        None => Judged::Differs(first),
+    }
+}
+
+fn judge_call(
+    alloc: Global,
+    trees: &Trees,
+    held: Held,
+    func: Func,
+    code: Code,
+    told: &[Option<Seen>],
+) -> Result<Judged, NoMemory>
+    requires { AreBounded trees.now }
+    ensures { IfOk result (λ judged. IsJudged judged
+        (behind_result (stacks_in trees.now) (running (held_of held)) (visits_told (told_in told.now)) (answered (runs func) (shows_code code)))
+        (lines_before (visits_good (stacks_in trees.now) (Some (running (held_of held))) (visits_told (told_in told.now)) (answered (runs func) (shows_code code))) (told_in told.now))) }
+{
+    let first = first_visit(told);
+    if first == told.len() && is_refused_change(func, code) {
+        return Ok(Judged::Fits(Place::Open(held)));
+    }
+    if held.is_other_pending(func) {
+        return Ok(Judged::Differs(first));
+    }
+    judge_retold(alloc, trees, held, func, code, told)
+}
+
+// A change of token whose flags are refused visits nothing.
+fn is_refused_change(func: Func, code: Code) -> bool
+    ensures { result ≡ is_refused_change func code [] }
+{
+    func == Func::ChAuthTok && code == Code::SystemErr
+}
+
+fn judge_retold(
+    alloc: Global,
+    trees: &Trees,
+    held: Held,
+    func: Func,
+    code: Code,
+    told: &[Option<Seen>],
+) -> Result<Judged, NoMemory>
+    requires { AreBounded trees.now }
+    ensures { IfOk result (λ judged. IsJudged judged
+        (behind_call code (goes as_told (stacks_in trees.now) func (held_of held) (telling (visits_told (told_in told.now)))))
+        (lines_before (length (visits_told (told_in told.now)) - length (goes as_told (stacks_in trees.now) func (held_of held) (telling (visits_told (told_in told.now)))).state.left) (told_in told.now))) }
+{
+    let retold = retell(alloc, trees, func, held, told)?;
+    if !retold.astray && retold.next == told.len() && code == retold.code {
+        Ok(Judged::Fits(Place::Open(retold.held)))
+    } else {
+        Ok(Judged::Differs(retold.next))
+    }
+}

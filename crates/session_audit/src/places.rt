@@ -1,0 +1,77 @@
+ghost use Rattle.std.specs.Prelude.{◌≡◌, IfOk, map};
+ghost use Rattle.service_load.specs.Stacks.{Stacks};
+ghost use Rattle.service_load.specs.Load.{AreBounded};
+ghost use Rattle.pass_replay.specs.Retold.{stacks_in};
+ghost use Rattle.report_lines.specs.Line.{block_of};
+ghost use Rattle.report_reader.specs.Form.{result_of};
+ghost use Rattle.session_audit.specs.Checked.{IsPlaced, IsUnplaced, place_of, told_in};
+ghost use Rattle.session_audit.specs.Fits.{all_shut, is_bad_number};
+
+use crate::judge::{Judged, judge};
+use crate::place::Place;
+use pam_base::NoMemory;
+use pass_replay::first_visit;
+use report_reader::{Answer, Outcome};
+use service_load::Trees;
+use stack_walk::Seen;
+use std::alloc::Global;
+
+// The numbers of transactions are from 1 to this one.
+const HANDLE_LIMIT: usize = 16;
+
+/// The places of all numbers, closed.
+pub fn closed_places(alloc: Global) -> Result<Vec<Place>, NoMemory>
+    ensures { IfOk result (λ places. map place_of places.items ≡ all_shut) }
+{
+    let mut places = Vec::new(alloc);
+    for _ in 0..HANDLE_LIMIT {
+        places.push(Place::Closed)?;
+    }
+    Ok(places)
+}
+
+/// Judges a block at the place of its number, which becomes what the block leads to. The line of it, counted from 0, that
+/// differs; None where it fits.
+pub fn judge_at(
+    alloc: Global,
+    trees: &Trees,
+    places: &mut Vec<Place>,
+    number: u32,
+    told: &[Option<Seen>],
+    outcome: Outcome,
+) -> Result<Option<usize>, NoMemory>
+    requires bounded { AreBounded trees.now }
+    ensures { IfOk result (λ line. IsPlaced (stacks_in trees.now) places.old.items
+        (block_of number (told_in told.now) (result_of outcome)) line places.new.items) }
+{
+    let number = number as usize;
+    if number == 0 || places.len() < number {
+        return Ok(judge_nowhere(told, outcome));
+    }
+    let place = std::mem::replace(&mut places[number - 1], Place::Closed);
+    match judge(alloc, trees, place, told, outcome)? {
+        Judged::Fits(behind) => {
+            places[number - 1] = behind;
+            Ok(None)
+        }
+        Judged::Differs(line) => Ok(Some(line)),
+    }
+}
+
+// A block of a number that no transaction has.
+fn judge_nowhere(told: &[Option<Seen>], outcome: Outcome) -> Option<usize>
+    ensures { IsUnplaced result (told_in told.now) (result_of outcome) }
+{
+    let first = first_visit(told);
+    if first == told.len() && is_bad_number(outcome) {
+        None
+    } else {
+        Some(first)
+    }
+}
+
+fn is_bad_number(outcome: Outcome) -> bool
+    ensures { (stacks : Stacks) → result ≡ is_bad_number stacks (result_of outcome) }
+{
+    matches!(outcome, Outcome::Answered(_, Answer::BadNumber))
+}

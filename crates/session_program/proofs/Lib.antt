@@ -1,0 +1,6 @@
+pub mod Alone
+pub mod Cleaning
+pub mod LoggingIn
+pub mod Statuses
+pub mod Telling
+pub mod Wiring

@@ -1,0 +1,160 @@
+-- What a run that was begun, or wasn't, says by its status.
+use Rattle.std.proofs.Common.{◌≡◌, inl, inr, ℕ, suc, Bool, true, false, ◌&&◌, IsTrue, List, [], ◌∷◌, length, map, Option, Some, None, Result, Ok, Err, refl, sym, ap, ap₂, ◌∙◌, subst, subst₂, arith}
+use Rattle.conv_port.specs.Conv.{ConvState}
+use Rattle.data_cleanup.specs.Cleanup.{Notes}
+use Rattle.data_cleanup.specs.Ledger.{PlainLedger}
+use Rattle.data_due.specs.Stands.{StandFor}
+use Rattle.pam_outside.specs.Streams.{SourceState, SinkState}
+use Rattle.pam_room.specs.Module.{notes_of}
+use Rattle.pam_room.specs.State.{PlainWorld}
+use Rattle.pam_library.specs.Slots.{NoneIsOpen, PlainSlot, closed, lists_of, slot_at}
+use Rattle.pam_library.specs.Sound.{IsSound}
+use Rattle.script_stream.specs.Turns.{Ending}
+use Rattle.item_stream.specs.declared.ending.Ending.TheVariants.{Done, ReadFault, Refused}
+use Rattle.item_stream.specs.declared.ending.Stop.{Stop}
+use Rattle.item_stream.specs.declared.ending.Stop.TheVariants.{NoMemory, WriteFault}
+use Rattle.session_run.specs.SideBySide.{ComesAlone, TellsSteps}
+use Rattle.session_run.specs.State.{Setting, RunState, state_of}
+use Rattle.session_run.specs.Whole.{RunsScript}
+use Rattle.session_program.specs.Command.{Request, runs}
+use Rattle.session_program.specs.Run.{Completes, IsBegun, IsDone, IsRefused, IsUnder, IsUnread, Runs, opening, status_of}
+use Rattle.session_program.proofs.Statuses.{done_whole, refused_whole, unread_whole}
+
+pub both_left : (a b : Bool) → IsTrue (a && b) → IsTrue a
+both_left true b both = refl
+both_left false b both = both
+
+pub both_right : (a b : Bool) → IsTrue (a && b) → IsTrue b
+both_right true b both = both
+both_right false b both = absurd (cc)
+
+pub both_true : (a b : Bool) → IsTrue a → IsTrue b → IsTrue (a && b)
+both_true true b left right = right
+both_true false b left right = left
+
+-- ---- before the first line
+
+map-closed : {B : Type 0} (holds : B → ConvState) (convs : List B) → map closed (map holds convs) ≡ map (λ b. closed (holds b)) convs
+map-closed holds [] = refl
+map-closed holds (b ∷ convs) = ap (λ (t : List PlainSlot). closed (holds b) ∷ t) (map-closed holds convs)
+
+length-map : {B C : Type 0} (f : B → C) (bs : List B) → length (map f bs) ≡ length bs
+length-map f [] = refl
+length-map f (b ∷ bs) = ap (λ (n : ℕ). suc n) (length-map f bs)
+
+no_entries : (ledger : PlainLedger) → ledger.births ≡ [] → ledger.filed ≡ [] → record { births = []; filed = [] } ≡ ledger
+no_entries ledger births filed = ap₂ (λ b f. record { births = b; filed = f }) (sym births) (sym filed)
+
+pub sound_at_first : {B : Type 0} (holds : B → ConvState) (convs : List B) (names : List (List ℕ)) (modules : ℕ) (slots : List PlainSlot) (ledger : PlainLedger)
+    → ((states : List ConvState) → length states ≡ 16 → IsSound names modules (map closed states) (record { births = []; filed = [] }))
+    → length convs ≡ 16 → slots ≡ map (λ b. closed (holds b)) convs → ledger.births ≡ [] → ledger.filed ≡ []
+    → IsSound names modules slots ledger
+sound_at_first holds convs names modules slots ledger law sixteen are births filed =
+    subst₂ (IsSound names modules) (map-closed holds convs ∙ sym are) (no_entries ledger births filed) (law (map holds convs) (length-map holds convs ∙ sixteen))
+
+pub stand_at_first : {B : Type 0} (note : Notes) (holds : B → ConvState) (convs : List B) (slots : List PlainSlot) (ledger : PlainLedger)
+    → ((states : List ConvState) → StandFor note 17 (record { births = []; filed = [] }) (lists_of (map closed states)) [])
+    → slots ≡ map (λ b. closed (holds b)) convs → ledger.births ≡ [] → ledger.filed ≡ []
+    → StandFor note 17 ledger (lists_of slots) []
+stand_at_first note holds convs slots ledger law are births filed =
+    subst₂ (λ (s : List PlainSlot) (l : PlainLedger). StandFor note 17 l (lists_of s) []) (map-closed holds convs ∙ sym are) (no_entries ledger births filed) (law (map holds convs))
+
+none_open : {B : Type 0} (holds : B → ConvState) (convs : List B) → NoneIsOpen (map (λ b. closed (holds b)) convs)
+none_open holds [] = tt
+none_open holds (b ∷ convs) = (refl, none_open holds convs)
+
+pub none_open_at_first : {B : Type 0} (holds : B → ConvState) (convs : List B) (slots : List PlainSlot) → slots ≡ map (λ b. closed (holds b)) convs → NoneIsOpen slots
+none_open_at_first holds convs slots are = subst NoneIsOpen (sym are) (none_open holds convs)
+
+module _ (setting : Setting) (slots ends : List PlainSlot) (root : List ℕ) (old now new : PlainWorld) (x y : SourceState) (p q : SinkState) where
+  pub begun : (result : Result Ending Stop) (status : ℕ) → status ≡ status_of result → IsUnder root old now
+      → StandFor (notes_of setting.players) 17 old.process.ledger (lists_of slots) []
+      → ((start : RunState) (bytes : List ℕ) (ended : Bool) (number : ℕ) (slot : PlainSlot) → slot_at start.slots number ≡ Some slot → ComesAlone setting start bytes ended number slot)
+      → ((start : RunState) (bytes : List ℕ) (ended : Bool) → TellsSteps setting start bytes ended)
+      → RunsScript setting result (state_of slots now) (state_of ends new) x y p q → IsBegun setting status (opening slots root old) new x y p q
+  begun result status is under none_yet alone steps ran = record {
+    result = result;
+    is = is;
+    end = state_of ends new;
+    world_is = refl;
+    runs = subst (λ (w : PlainWorld). RunsScript setting result (state_of slots w) (state_of ends new) x y p q) under.world_is ran;
+    none_yet = none_yet;
+    side_by_side = λ bytes ended. record { alone = λ number slot is. alone (opening slots root old) bytes ended number slot is; steps = steps (opening slots root old) bytes ended };
+  }
+
+-- ---- by the status
+
+module _ (setting : Setting) (start end : RunState) (x y : SourceState) (p q : SinkState) where
+  abbrev NoneYet : Type 0
+  NoneYet = StandFor (notes_of setting.players) 17 start.world.process.ledger (lists_of start.slots) []
+
+  done_by : (result : Result Ending Stop) → NoneYet → RunsScript setting result start end x y p q → status_of result ≡ 0 → IsDone setting start end.world x y p q
+  done_by (Ok Done) none_yet ran is = done_whole setting start end x y p q none_yet ran
+  done_by (Ok ReadFault) none_yet ran is = absurd (omega (arith, is))
+  done_by (Ok (Refused kind)) none_yet ran is = absurd (omega (arith, is))
+  done_by (Err NoMemory) none_yet ran is = absurd (omega (arith, is))
+  done_by (Err WriteFault) none_yet ran is = absurd (omega (arith, is))
+
+  refused_by : (result : Result Ending Stop) → NoneYet → RunsScript setting result start end x y p q → status_of result ≡ 7 → IsRefused setting start end.world x y p q
+  refused_by (Ok Done) none_yet ran is = absurd (omega (arith, is))
+  refused_by (Ok ReadFault) none_yet ran is = absurd (omega (arith, is))
+  refused_by (Ok (Refused kind)) none_yet ran is = refused_whole setting start end x y p q kind none_yet ran
+  refused_by (Err NoMemory) none_yet ran is = absurd (omega (arith, is))
+  refused_by (Err WriteFault) none_yet ran is = absurd (omega (arith, is))
+
+  unread_by : (result : Result Ending Stop) → NoneYet → RunsScript setting result start end x y p q → status_of result ≡ 5 → IsUnread setting start end.world x y p q
+  unread_by (Ok Done) none_yet ran is = absurd (omega (arith, is))
+  unread_by (Ok ReadFault) none_yet ran is = unread_whole setting start end x y p q none_yet ran
+  unread_by (Ok (Refused kind)) none_yet ran is = absurd (omega (arith, is))
+  unread_by (Err NoMemory) none_yet ran is = absurd (omega (arith, is))
+  unread_by (Err WriteFault) none_yet ran is = absurd (omega (arith, is))
+
+  completes_by : (R W : Type 0) (result : Result Ending Stop) → RunsScript setting result start end x y p q → (status_of result ≡ 5 → R) → (status_of result ≡ 6 → W) → Completes (status_of result) R W setting start x
+  completes_by R W (Ok Done) ran read write accepted no_read no_write = inl refl
+  completes_by R W (Ok ReadFault) ran read write accepted no_read no_write = absurd (no_read (read refl))
+  completes_by R W (Ok (Refused kind)) ran read write accepted no_read no_write =
+      let e : None ≡ Some kind = sym accepted ∙ ap (λ r. r.refused) ran.outcome.comes.0 in
+      absurd (cc)
+  completes_by R W (Err NoMemory) ran read write accepted no_read no_write = inr refl
+  completes_by R W (Err WriteFault) ran read write accepted no_read no_write = absurd (no_write (write refl))
+
+module _ (setting : Setting) (status : ℕ) (slots : List PlainSlot) (root asked : List ℕ) (old new : PlainWorld) (x y : SourceState) (p q : SinkState) (same : root ≡ asked) where
+  pub runs_asked : Runs setting status slots root old new x y p q → Runs setting status slots asked old new x y p q
+  runs_asked ran = subst (λ (r : List ℕ). Runs setting status slots r old new x y p q) same ran
+
+  done_of : Runs setting status slots asked old new x y p q → status ≡ 0 → IsDone setting (opening slots asked old) new x y p q
+  done_of (inl b) is = subst (λ (w : PlainWorld). IsDone setting (opening slots asked old) w x y p q) (sym b.world_is) (done_by setting (opening slots asked old) b.end x y p q b.result b.none_yet b.runs (sym b.is ∙ is))
+  done_of (inr n) is = absurd (omega (arith, n.0, is))
+
+  refused_of : Runs setting status slots asked old new x y p q → status ≡ 7 → IsRefused setting (opening slots asked old) new x y p q
+  refused_of (inl b) is = subst (λ (w : PlainWorld). IsRefused setting (opening slots asked old) w x y p q) (sym b.world_is) (refused_by setting (opening slots asked old) b.end x y p q b.result b.none_yet b.runs (sym b.is ∙ is))
+  refused_of (inr n) is = absurd (omega (arith, n.0, is))
+
+  unread_of : Runs setting status slots asked old new x y p q → status ≡ 5 → IsUnread setting (opening slots asked old) new x y p q
+  unread_of (inl b) is = subst (λ (w : PlainWorld). IsUnread setting (opening slots asked old) w x y p q) (sym b.world_is) (unread_by setting (opening slots asked old) b.end x y p q b.result b.none_yet b.runs (sym b.is ∙ is))
+  unread_of (inr n) is = absurd (omega (arith, n.0, is))
+
+  completes_of : (R W : Type 0) → Runs setting status slots asked old new x y p q → (status ≡ 5 → R) → (status ≡ 6 → W) → Completes status R W setting (opening slots asked old) x
+  completes_of R W (inl b) read write =
+      subst (λ (n : ℕ). Completes n R W setting (opening slots asked old) x) (sym b.is)
+      (completes_by setting (opening slots asked old) b.end x y p q R W b.result b.runs (λ e. read (b.is ∙ e)) (λ e. write (b.is ∙ e)))
+  completes_of R W (inr n) read write = λ accepted no_read no_write. inr n.0
+
+  pub done_asked : Runs setting status slots root old new x y p q → status ≡ 0 → IsDone setting (opening slots asked old) new x y p q
+  done_asked ran is = done_of (runs_asked ran) is
+
+  pub refused_asked : Runs setting status slots root old new x y p q → status ≡ 7 → IsRefused setting (opening slots asked old) new x y p q
+  refused_asked ran is = refused_of (runs_asked ran) is
+
+  pub unread_asked : Runs setting status slots root old new x y p q → status ≡ 5 → IsUnread setting (opening slots asked old) new x y p q
+  unread_asked ran is = unread_of (runs_asked ran) is
+
+  pub completes_asked : (R W : Type 0) → Runs setting status slots root old new x y p q → (status ≡ 5 → R) → (status ≡ 6 → W) → Completes status R W setting (opening slots asked old) x
+  completes_asked R W ran read write = completes_of R W (runs_asked ran) read write
+
+-- the root that was asked for is the one that was found
+pub asked_root : (found given asked : List ℕ) (request : Option Request) → Some (runs found) ≡ request → request ≡ Some (runs asked) → given ≡ found → given ≡ asked
+asked_root found given asked request is same taken =
+    let e : Some (runs found) ≡ Some (runs asked) = is ∙ same in
+    let f : found ≡ asked = cc in
+    taken ∙ f

@@ -1,0 +1,55 @@
+-- Module data when the program has ended (pam_set_data(3), pam_end(3); which ends there are is this
+-- project's own).
+use Rattle.std.specs.Prelude.{◌≡◌, ℕ, nat_lt, if◌then◌else◌, Bool, List, length, Option, Some, None, Result}
+use Rattle.data_cleanup.specs.Cleanup.{Notes}
+use Rattle.data_cleanup.specs.Due.{Event, due}
+use Rattle.data_cleanup.specs.Ledger.{PlainLedger}
+use Rattle.data_cleanup.specs.Tidy.{Tidy}
+use Rattle.data_due.specs.Stands.{births_of, receipts_in, times_filed}
+use Rattle.item_stream.specs.declared.ending.Stop.{Stop}
+use Rattle.session_generate.specs.declared.generating.Generated.{Generated}
+use Rattle.session_generate.specs.Generated.{IsEndOfGenerate}
+use Rattle.session_login.specs.declared.attempt.Verdict.{Verdict}
+use Rattle.session_login.specs.Ends.{IsEndOfLogin}
+use Rattle.session_run.specs.Ends.{EndsAre, IsEndOfRun}
+use Rattle.session_wire.specs.Ends.{IsEndOfRun as IsEndOfWire}
+use Rattle.session_program.specs.Command.{Request, runs, logs_in, generates, wires}
+use Rattle.session_program.specs.Generate.{generate_status}
+use Rattle.session_program.specs.Login.{login_status}
+
+-- Each datum that was set was cleaned up exactly once: the receipts are those that births and ends of transactions
+-- make due, in their order, each with its status, and every birth has one. The ledger is in order: each receipt has
+-- its owner's note, and a datum that was replaced by one of its transaction and name has the status that says so.
+-- Each end, by its number and its status, is one of these.
+pub record IsCleanedUp (Is : ℕ → ℕ → Type 0) (note : Notes) (ledger : PlainLedger) : Type 0 where
+  pub events : List Event
+  pub ends_are : EndsAre Is events
+  pub births : ledger.births ≡ births_of events
+  pub receipts : receipts_in ledger.filed ≡ due note events
+  pub tidy : Tidy note ledger
+  pub once : (id : ℕ) → times_filed id (receipts_in ledger.filed)
+      ≡ (if nat_lt id (length ledger.births) then 1 else 0)
+
+-- an end of a login that comes to this status
+abbrev pub EndsLogin : ℕ → ℕ → ℕ → Type 0
+EndsLogin status number ended = (result : Result Verdict Stop) × (status ≡ login_status result)
+    × IsEndOfLogin result number ended
+
+-- an end of a generation that comes to this status
+abbrev pub EndsGenerate : ℕ → ℕ → ℕ → Type 0
+EndsGenerate status number ended = (result : Result Generated Stop)
+    × (status ≡ generate_status result) × IsEndOfGenerate result number ended
+
+-- Which ends there may be, by what the program was asked for and the status that it comes to. In a run whose script
+-- is told, each transaction was ended with the status that one of the script's lines asks for, for that number, or
+-- with one of those with which a run ends what is open; where frames are told, likewise by the frames. The commands
+-- that open no transaction end none.
+abbrev pub MayEnd : Option Request → Bool → List ℕ → ℕ → ℕ → ℕ → Type 0
+MayEnd (Some (runs root)) tells script status number ended = IsEndOfRun tells script number ended
+MayEnd (Some (logs_in root service user)) tells script status number ended =
+    EndsLogin status number ended
+MayEnd (Some (generates seed lines)) tells script status number ended =
+    EndsGenerate status number ended
+MayEnd (Some (wires root)) tells script status number ended =
+    IsEndOfWire tells script number ended
+MayEnd request tells script status number ended = ⊥

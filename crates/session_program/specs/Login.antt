@@ -1,0 +1,62 @@
+-- A login under a root, by the status with which the program ends (this project's own).
+use Rattle.std.specs.Prelude.{◌≡◌, ◌⊎◌, ℕ, List, Option, Result, Ok, Err}
+use Rattle.pam_outside.specs.Streams.{SinkState}
+use Rattle.pam_room.specs.State.{PlainWorld}
+use Rattle.pam_library.specs.Slots.{PlainSlot}
+use Rattle.item_stream.specs.declared.ending.Stop.{Stop}
+use Rattle.item_stream.specs.declared.ending.Stop.TheVariants.{NoMemory, WriteFault}
+use Rattle.session_login.specs.declared.attempt.Verdict.{Verdict}
+use Rattle.session_login.specs.declared.attempt.Verdict.TheVariants.{Passed, Denied, Refused}
+use Rattle.session_login.specs.Login.{login_of}
+use Rattle.session_login.specs.Told.{LogsIn, SaysVerdict, Shows}
+use Rattle.session_run.specs.State.{Setting, RunState, state_of}
+
+-- 0 where the user was let in, 3 where the configuration is refused, 8 where the login is denied
+abbrev pub login_status : Result Verdict Stop → ℕ
+login_status (Ok Passed) = 0
+login_status (Ok Refused) = 3
+login_status (Err NoMemory) = 4
+login_status (Err WriteFault) = 6
+login_status (Ok (Denied code)) = 8
+
+abbrev pub IsLoginStatus : ℕ → Type 0
+IsLoginStatus n = (result : Result Verdict Stop) × (n ≡ login_status result)
+
+-- the world under a root
+abbrev pub at_root : List ℕ → PlainWorld → PlainWorld
+at_root root w = record w { process = record w.process { root = root } }
+
+pub record IsAtRoot (root : List ℕ) (old new : PlainWorld) : Type 0 where
+  pub world_is : new ≡ at_root root old
+
+-- before the first call: sixteen closed places, the terminal's conversation in the first
+abbrev pub entry : List PlainSlot → List ℕ → PlainWorld → RunState
+entry slots root w = state_of slots (at_root root w)
+
+-- somebody was asked to log in: what is written of the definition's login, and the world after it
+pub record IsLogin (setting : Setting) (status : ℕ) (service : List ℕ) (user : Option (List ℕ))
+    (start : RunState) (world : PlainWorld) (p q : SinkState) : Type 0 where
+  pub result : Result Verdict Stop
+  pub is : status ≡ login_status result
+  pub end : RunState
+  pub world_is : world ≡ end.world
+  pub logs_in : LogsIn setting (login_of setting service user start) result start end p q
+
+-- there was no memory for the root or the places, and nothing happened
+pub record IsNoLogin (status : ℕ) (old new : PlainWorld) (p q : SinkState) : Type 0 where
+  pub is : status ≡ 4
+  pub world : new ≡ old
+  pub sink : q ≡ p
+
+-- a told login
+abbrev pub LogsInBy : Setting → ℕ → List PlainSlot → List ℕ → List ℕ → Option (List ℕ) → PlainWorld
+    → PlainWorld → SinkState → SinkState → Type 0
+LogsInBy setting status slots root service user old new p q =
+    IsLogin setting status service user (entry slots root old) new p q
+    ⊎ IsNoLogin status old new p q
+
+-- where the sink alone tells: how often it was written, and what the verdict is written as
+pub record ShowsLogin (status : ℕ) (p q : SinkState) : Type 0 where
+  pub result : Result Verdict Stop
+  pub is : status ≡ login_status result
+  pub shows : Shows SaysVerdict result p q

@@ -1,0 +1,67 @@
+-- The statuses of the commands that read no script (this project's own).
+use Rattle.std.specs.Prelude.{◌≡◌, ◌⊎◌, ℕ, ◌+◌, ◌≤◌, List, ◌++◌, length, Result, Ok, Err}
+use Rattle.pam_outside.specs.Counts.{Rose}
+use Rattle.pam_outside.specs.Files.{VaultState, counted}
+use Rattle.pam_outside.specs.Streams.{SinkState}
+use Rattle.item_stream.specs.declared.ending.Stop.{Stop}
+use Rattle.item_stream.specs.declared.ending.Stop.TheVariants.{NoMemory, WriteFault}
+use Rattle.session_check.specs.declared.finding.Found.{Found}
+use Rattle.session_check.specs.declared.finding.Found.TheVariants.{Configured, Refused}
+use Rattle.session_check.specs.Check.{Check, Checks}
+use Rattle.session_tally.specs.declared.finding.Tallied.{Tallied}
+use Rattle.session_tally.specs.declared.finding.Tallied.TheVariants.{Listed, Damaged, Unread}
+use Rattle.session_tally.specs.Tally.{Lists, PlainTally}
+use Rattle.session_program.specs.Command.{usage}
+
+-- of a check: 0 where the service is configured, 3 where its configuration is refused
+abbrev pub check_status : Result Found Stop → ℕ
+check_status (Ok Configured) = 0
+check_status (Ok Refused) = 3
+check_status (Err NoMemory) = 4
+check_status (Err WriteFault) = 6
+
+-- a told check, by its status
+pub record ChecksBy (status : ℕ) (c : Check) (old new : SinkState) (vault : VaultState) : Type
+    0 where
+  pub result : Result Found Stop
+  pub is : status ≡ check_status result
+  pub checks : Checks result c old new vault
+
+abbrev pub IsCheckStatus : ℕ → Type 0
+IsCheckStatus n = (result : Result Found Stop) × (n ≡ check_status result)
+
+-- of a list of failures: 0 where they are listed, 9 where the file is damaged, 10 where it can't be
+-- read
+abbrev pub tally_status : Result Tallied Stop → ℕ
+tally_status (Ok Listed) = 0
+tally_status (Ok Damaged) = 9
+tally_status (Ok Unread) = 10
+tally_status (Err NoMemory) = 4
+tally_status (Err WriteFault) = 6
+
+-- a told list, by its status
+pub record TalliesBy (status : ℕ) (t : PlainTally) (old new : SinkState) : Type 0 where
+  pub result : Result Tallied Stop
+  pub is : status ≡ tally_status result
+  pub lists : Lists result t old new
+
+abbrev pub IsTallyStatus : ℕ → Type 0
+IsTallyStatus n = (result : Result Tallied Stop) × (n ≡ tally_status result)
+
+-- the vault was called once, or, where there was no memory for the path, not at all
+abbrev pub CallsOnce : ℕ → VaultState → VaultState → Type 0
+CallsOnce status old new = (new ≡ counted old) ⊎ ((status ≡ 4) × (new ≡ old))
+
+-- the vault's faults, before and after: they rise with 10, and neither with 0 nor with 9
+pub record CountsUnread (status before now : ℕ) : Type 0 where
+  pub unread : status ≡ 10 → Rose before now
+  pub read : (status ≡ 0) ⊎ (status ≡ 9) → now ≡ before
+
+-- the usage line is written, or a front of it where a write failed
+pub record WritesUsage (status : ℕ) (old new : SinkState) : Type 0 where
+  pub front : List ℕ
+  pub back : List ℕ
+  pub parts : usage ≡ front ++ back
+  pub written : new.written ≡ old.written ++ front
+  pub all : status ≡ 2 → front ≡ usage
+  pub calls : new.calls ≤ old.calls + length front + 1

@@ -1,0 +1,93 @@
+-- A run of a front end's frames under a root, by the status with which the program ends (this
+-- project's own).
+use Rattle.std.specs.Prelude.{◌≡◌, ◌⊎◌, ℕ, ◌+◌, ◌≤◌, true, List, ◌++◌, length, Option, Result, Ok, Err}
+use Rattle.pam_base.specs.declared.call.Step.{Step}
+use Rattle.pam_outside.specs.Streams.{SourceState, SinkState}
+use Rattle.pam_room.specs.State.{PlainWorld}
+use Rattle.pam_library.specs.Slots.{PlainSlot}
+use Rattle.pam_wire.specs.Frame.{AreBytes}
+use Rattle.item_stream.specs.declared.ending.Ending.{Ending}
+use Rattle.item_stream.specs.declared.ending.Ending.TheVariants.{Done, ReadFault, Refused}
+use Rattle.item_stream.specs.declared.ending.Stop.{Stop}
+use Rattle.item_stream.specs.declared.ending.Stop.TheVariants.{NoMemory, WriteFault}
+use Rattle.frame_stream.specs.declared.fault.FrameFault.{FrameFault}
+use Rattle.frame_stream.specs.declared.fault.FrameFault.TheVariants.{BadFrame, TooManyFrames}
+use Rattle.frame_stream.specs.Spelled.{Spells}
+use Rattle.session_run.specs.State.{RunState, Setting}
+use Rattle.session_wire.specs.Reading.{LooksBefore, SpellsTo}
+use Rattle.session_wire.specs.Whole.{Answers, AnswersAll, ending_by}
+use Rattle.session_program.specs.Run.{IsNotBegun, opening}
+
+-- 0 where the input ends after a frame, 5 where it can't be read on, 13 at a bad frame, 14 at one
+-- frame too many
+abbrev pub wire_status : Result (Ending FrameFault) Stop → ℕ
+wire_status (Ok Done) = 0
+wire_status (Err NoMemory) = 4
+wire_status (Ok ReadFault) = 5
+wire_status (Err WriteFault) = 6
+wire_status (Ok (Refused BadFrame)) = 13
+wire_status (Ok (Refused TooManyFrames)) = 14
+
+abbrev pub IsWireStatus : ℕ → Type 0
+IsWireStatus n = (result : Result (Ending FrameFault) Stop) × (n ≡ wire_status result)
+
+-- the input was read to its end, or to what is refused in it
+abbrev pub IsReadThrough : ℕ → Type 0
+IsReadThrough n = (n ≡ 0) ⊎ ((n ≡ 13) ⊎ (n ≡ 14))
+
+-- ---- where all objects tell
+
+-- A run of frames was begun: by the steps that the bytes taken spell, which answers are written,
+-- and the world after it.
+pub record IsServed (setting : Setting) (status : ℕ) (start : RunState) (world : PlainWorld)
+    (x y : SourceState) (p q : SinkState) : Type 0 where
+  pub result : Result (Ending FrameFault) Stop
+  pub is : status ≡ wire_status result
+  pub end : RunState
+  pub world_is : world ≡ end.world
+  pub answers : Answers setting result start end x y p q
+
+-- a told run of frames, by its status; or there was no memory for the root or the places, and
+-- nothing happened
+abbrev pub Serves : Setting → ℕ → List PlainSlot → List ℕ → PlainWorld → PlainWorld → SourceState
+    → SourceState → SinkState → SinkState → Type 0
+Serves setting status slots root old new x y p q =
+    IsServed setting status (opening slots root old) new x y p q
+    ⊎ ((status ≡ 4) × IsNotBegun old new x y p q)
+
+-- the run came to this ending: all steps that the bytes taken spell are answered, and the closings
+-- after them
+pub record IsAnswered (setting : Setting) (ending : Ending FrameFault) (start : RunState)
+    (world : PlainWorld) (x y : SourceState) (p q : SinkState) : Type 0 where
+  pub end : RunState
+  pub world_is : world ≡ end.world
+  pub all : AnswersAll setting ending start end x y p q
+
+-- with status 0, 5, 13 and 14 it came to the ending of that status
+abbrev pub AnswersBy : Setting → ℕ → RunState → PlainWorld → SourceState → SourceState → SinkState
+    → SinkState → Type 0
+AnswersBy setting status start world x y p q =
+    (ending : Ending FrameFault) → status ≡ wire_status (Ok ending)
+    → IsAnswered setting ending start world x y p q
+
+-- ---- where the source alone tells
+
+-- What was taken, with at most one read more than it has bytes. With status 0, 5, 13 and 14 it is
+-- the frames of steps, at most 65,536, and a rest after them by which the run ended. A run that
+-- wasn't begun for want of memory took nothing.
+pub record ReadsFramesBy (status : ℕ) (x y : SourceState) : Type 0 where
+  pub taken : List ℕ
+  pub source : x.left ≡ taken ++ y.left
+  pub reads : y.calls ≤ x.calls + length taken + 1
+  pub ends : y.reads_at_end ≤ x.reads_at_end + 1
+  pub by : (ending : Ending FrameFault) → status ≡ wire_status (Ok ending)
+      → SpellsTo ending taken y.left
+  pub looks : LooksBefore taken
+
+-- Where the whole input is bytes that spell these steps and have this after them, and nothing
+-- failed, the status is that of it, or there was no memory.
+abbrev pub WireCompletes : ℕ → List ℕ → Type 0 → Type 0 → Type 0
+WireCompletes status input read_failed write_failed =
+    (steps : List Step) (rest : List ℕ) (fault : Option FrameFault) → AreBytes input
+    → Spells input true steps rest fault → (read_failed → ⊥) → (write_failed → ⊥)
+    → (status ≡ wire_status (Ok (ending_by fault))) ⊎ (status ≡ 4)

@@ -1,0 +1,31 @@
+ghost use Rattle.std.specs.Prelude.{◌≡◌};
+ghost use Rattle.session_program.specs.Status.{check_status, tally_status};
+
+use item_stream::Stop;
+use session_check::Found;
+use session_tally::Tallied;
+
+/// The program's status after a check.
+pub(crate) fn status_of_check(found: Result<Found, Stop>) -> u8
+    ensures { result ≡ check_status found }
+{
+    match found {
+        Ok(Found::Configured) => 0,
+        Ok(Found::Refused) => 3,
+        Err(Stop::NoMemory) => 4,
+        Err(Stop::WriteFault) => 6,
+    }
+}
+
+/// The program's status after a list of failures.
+pub(crate) fn status_of_tally(tallied: Result<Tallied, Stop>) -> u8
+    ensures { result ≡ tally_status tallied }
+{
+    match tallied {
+        Ok(Tallied::Listed) => 0,
+        Ok(Tallied::Damaged) => 9,
+        Ok(Tallied::Unread) => 10,
+        Err(Stop::NoMemory) => 4,
+        Err(Stop::WriteFault) => 6,
+    }
+}

@@ -1,0 +1,75 @@
+-- What the bytes of a stream of frames alone say of a run of it, whatever its calls do (this
+-- project's own).
+use Rattle.std.specs.Prelude.{◌≡◌, ℕ, ◌+◌, ◌≤◌, Bool, true, false, List, [], ◌++◌, length, Option, None, Result, Ok, Err}
+use Rattle.pam_base.specs.declared.call.Step.{Step}
+use Rattle.pam_outside.specs.Streams.{SourceState, SinkState}
+use Rattle.pam_wire.specs.Frame.{AreBytes}
+use Rattle.item_stream.specs.declared.ending.Ending.{Ending}
+use Rattle.item_stream.specs.declared.ending.Stop.{Stop}
+use Rattle.item_stream.specs.Turns.{IsEndedBy, ServesTold, Turns, refusal_of}
+use Rattle.item_stream.specs.Whole.{Runs}
+use Rattle.frame_stream.specs.declared.fault.FrameFault.{FrameFault}
+use Rattle.frame_stream.specs.Looked.{looked}
+use Rattle.frame_stream.specs.Run.{CallStep, step_at}
+use Rattle.frame_stream.specs.Spelled.{Spells}
+use Rattle.session_run.specs.Reading.{Whatever, nowhere}
+
+-- ---- one frame, one turn and many, for calls that do nothing and an unwritten sink
+
+abbrev pub call_read : CallStep (Unit {0})
+call_read done step = (tt, [])
+
+abbrev pub ReadsFrame : Result (Option FrameFault) Stop → ℕ → List ℕ → Type 0
+ReadsFrame result n frame =
+    ServesTold (step_at call_read) Whatever result n frame tt tt nowhere nowhere
+
+abbrev pub ReadsTurn : Result (Option (Ending FrameFault)) Stop → ℕ → ℕ → List ℕ → List ℕ
+    → SourceState → SourceState → Type 0
+ReadsTurn result n m before held x y =
+    Turns looked (step_at call_read) Whatever result n m tt tt before held x y nowhere nowhere
+
+abbrev pub ReadsAll : Result (Ending FrameFault) Stop → ℕ → SourceState → SourceState → Type 0
+ReadsAll result m x y = Runs looked (step_at call_read) Whatever result m tt tt x y nowhere nowhere
+
+-- what was taken after these is bytes, as they are
+pub record TakesBytes (before : List ℕ) (x y : SourceState) : Type 0 where
+  pub got : List ℕ
+  pub source : x.left ≡ got ++ y.left
+  pub bytes : AreBytes (before ++ got)
+
+-- ---- the whole run
+
+-- How a run ends by the bytes taken. They are the frames of these steps, at most 65,536, and a
+-- rest: nothing, at the end of the input; nothing or the beginning of a frame, where the source
+-- failed; or what is refused.
+pub record SpellsTo (ending : Ending FrameFault) (taken left : List ℕ) : Type 0 where
+  pub ended : Bool
+  pub at_end : ended ≡ true → left ≡ []
+  pub by : IsEndedBy ending ended
+  pub steps : List Step
+  pub rest : List ℕ
+  pub spells : Spells taken ended steps rest (refusal_of ending)
+
+abbrev pub EndsAtBytes : Result (Ending FrameFault) Stop → List ℕ → List ℕ → Type 0
+EndsAtBytes (Ok ending) taken left = SpellsTo ending taken left
+EndsAtBytes (Err stop) taken left = Unit {0}
+
+-- All frames are looked at before the next read: without the bytes of the last read, at most 512,
+-- nothing that was taken is refused.
+pub record LooksBefore (taken : List ℕ) : Type 0 where
+  pub early : List ℕ
+  pub late : List ℕ
+  pub parts : taken ≡ early ++ late
+  pub room : length late ≤ 512
+  pub steps : List Step
+  pub rest : List ℕ
+  pub spells : Spells early false steps rest None
+
+-- what was taken, with at most one read more than it has bytes
+pub record ReadsFrames (result : Result (Ending FrameFault) Stop) (x y : SourceState) : Type 0 where
+  pub taken : List ℕ
+  pub source : x.left ≡ taken ++ y.left
+  pub reads : y.calls ≤ x.calls + length taken + 1
+  pub ends : y.reads_at_end ≤ x.reads_at_end + 1
+  pub by : EndsAtBytes result taken y.left
+  pub looks : LooksBefore taken
