@@ -27,5 +27,7 @@ module _ (step : (Answer → Act) → Act) (answer : Answer) (code : Code) (s b 
   pub settled : (r : Result Code Memoryless) (number : ℕ) (end : Scene) → answer ≡ Kept code → number ≡ number_of code → Came answer step s b
       → IfOk r (λ a. Goes (answers_keeping (record { name = setcred_return; payload = number ∷ [] }) code) b a end) → IfOk r (λ a. Goes (step settles) s a end)
   unfolding settles
-  settled (Ok a) number end is e h g = (rw is at h) settles nothing_known a end (subst (λ n. Goes (answers_keeping (record { name = setcred_return; payload = n ∷ [] }) code) b a end) e g)
+  settled (Ok a) number end is e h g =
+      let came : Came (Kept code) step s b = subst (λ (x : Answer). Came x step s b) is h in
+      came settles nothing_known a end (subst (λ n. Goes (answers_keeping (record { name = setcred_return; payload = n ∷ [] }) code) b a end) e g)
   settled (Err none) number end is e h g = g

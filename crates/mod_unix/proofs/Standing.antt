@@ -28,6 +28,7 @@ use Rattle.mod_unix.specs.Verify.{hash_verified}
 use Rattle.mod_unix.proofs.Faultless.{made}
 use Rattle.mod_unix.proofs.New_shadow.{others_stay, same_text, put_there, no_lock, made_ok, fits_so}
 use Rattle.mod_unix.proofs.Second_pass.{Written, Ended, looked}
+use Rattle.pam_base.specs.declared.code.Code.TheVariants as returns
 
 module _ (read : (user hash : List ℕ) (day : ℕ) (text : List ℕ) (entries : List Shadow) → has_byte 58 hash ≡ false → has_byte 10 hash ≡ false → day < 10 ^ 9 → shadows_of text ≡ Ok entries → shadows_of (with_hash user hash day text) ≡ Ok (changed_entries user hash day entries))
     (users : (user hash : List ℕ) (day : ℕ) (entries : List Shadow) (entry : Shadow) → shadow_of user entries ≡ Some entry → shadow_of user (changed_entries user hash day entries) ≡ Some (renewed hash day entry))
