@@ -16,8 +16,8 @@ returns-in-Some-clause-told g c = λ talks tells clock.
     (steps.passwds _ _ _ clock _ _ _ _ _ _ (rw (c.bytes.ensures, c.new-accounts.ensures) at (c.in_ok-read_passwds.ensures.told tells))
     (rw (← decided) (steps.answers _ _ _)))
 
-pub returns-in_ok-code-in-None-clause-told : goal.returns-in_ok-code-in-None-clause-told
-returns-in_ok-code-in-None-clause-told g c = λ talks tells clock.
+pub returns-clause-told : goal.returns-clause-told
+returns-clause-told g c = λ talks tells clock.
     let steps = c.act_steps.ensures in
     let open_ = rw (c.in-None.is, c.user_of-user.ensures, c.passwds.ensures) at c.in_ok-decided.ensures in
     c.in_ok-require_user.ensures.told talks _ clock _ _ _ _ _
