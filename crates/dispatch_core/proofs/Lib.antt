@@ -11,3 +11,4 @@ pub mod Pathing
 pub mod Lining
 pub mod Sounding
 pub mod Telling
+pub mod Reaching

@@ -1,5 +1,5 @@
 -- A line's answer, by what the chain tells of the line.
-use Rattle.std.proofs.Common.{◌≡◌, ℕ, ◌+◌, ◌<◌, ◌≤◌, Bool, true, false, if◌then◌else◌, Option, Some, None, IfSome, Result, Ok, Err, IfOk, List, [], ◌∷◌, length, map, refl, sym, ◌∙◌, ap, subst, arith}
+use Rattle.std.proofs.Common.{◌≡◌, ℕ, ◌+◌, ◌<◌, ◌≤◌, Bool, true, false, if◌then◌else◌, Option, Some, None, IfSome, Result, Ok, Err, IfOk, OnErr, List, [], ◌∷◌, ◌++◌, length, map, refl, sym, ◌∙◌, ap, subst, arith}
 use Rattle.std.proofs.lemmas.List.{length-map}
 use Rattle.std.specs.Str.{bytes_eq}
 use Rattle.pam_base.specs.declared.call.Func.{Func}
@@ -7,11 +7,13 @@ use Rattle.pam_base.specs.declared.code.Code.{Code}
 use Rattle.control_words.specs.Module.{name_of_module}
 use Rattle.control_words.specs.Stack.{Stack, lines_in}
 use Rattle.handler_chain.specs.FlatLines.{FlatLine, module_at, module_of, no_rule, number_of_name, rule_at}
-use Rattle.pam_room.specs.State.{State}
+use Rattle.pam_room.specs.declared.visits.Visit.{Visit}
+use Rattle.pam_room.specs.State.{PlainTransaction, State}
 use Rattle.pam_room.specs.Module.{Note, Player, Plays, player_of}
 use Rattle.pam_room.specs.Serve.{serve_line}
 use Rattle.pam_room.specs.Serve as room
 use Rattle.stack_walk.specs.Pass.{AnswersAs}
+use Rattle.dispatch_core.specs.Failing.{IsAtWork, visited_at}
 use Rattle.dispatch_core.specs.Lines.{answers_by, names_of}
 use Rattle.dispatch_core.proofs.Standing.{standing, at_line-stands}
 
@@ -44,6 +46,27 @@ module_there label mods stack names i number within is found =
     let few : 0 + length names ≤ length mods = omega (arith, ap length is, length-map mods label) in
     subst (λ (o : Option ℕ). IfSome o (λ n. n < length mods)) (sym (found ∙ module_is stack names i within))
     (found_within (name_of_module (rule_at stack i).path) 0 (length mods) names few)
+
+-- the module of a line is the one that is found of a player's name
+number_is : {M : Type 0} (label : M → List ℕ) (plays : M → Plays) (note : M → Note) (mods : List M) (stack : Stack) (names : List (List ℕ)) (i : ℕ) (number : Option ℕ)
+    → i < lines_in stack → names ≡ map label mods → number ≡ module_at stack names i
+    → number ≡ module_of (names_of (map (player_of label plays note) mods)) (rule_at stack i)
+number_is label plays note mods stack names i number within is found =
+    found ∙ module_is stack names i within ∙ ap (λ (ns : List (List ℕ)). module_of ns (rule_at stack i)) (is ∙ names_are label plays note mods)
+
+-- a line that found no memory is no visit, and its module was at work
+pub line_at_work : {M E : Type 0} (label : M → List ℕ) (plays : M → Plays) (note : M → Note) (mods : List M) (stack : Stack) (names : List (List ℕ)) (i : ℕ) (number : Option ℕ) (result : Result Code E) (old new : PlainTransaction)
+    → i < lines_in stack → names ≡ map label mods → number ≡ module_at stack names i → OnErr result (number ≡ Some new.serving) → OnErr result (new.trail ≡ old.trail)
+    → OnErr result (IsAtWork (map (player_of label plays note) mods) (rule_at stack i) old new)
+line_at_work label plays note mods stack names i number (Ok code) old new within is found work trail = tt
+line_at_work label plays note mods stack names i number (Err e) old new within is found work trail =
+    (sym (number_is label plays note mods stack names i number within is found) ∙ work, trail)
+
+-- a line that answered is the visit of its index
+pub line_visited : {E : Type 0} (result : Result Code E) (stack : Stack) (i place : ℕ) (path : List ℕ) (old new : List Visit) → place ≡ i + 1 → path ≡ (rule_at stack i).path
+    → IfOk result (λ code. new ≡ old ++ record { place = place; path = path; answer = code } ∷ []) → IfOk result (λ code. new ≡ old ++ visited_at stack i code ∷ [])
+line_visited (Ok code) stack i place path old new at its seen = rw (← at, ← its) seen
+line_visited (Err e) stack i place path old new at its seen = tt
 
 -- what a line's module serves is the line's answer
 module _ {M : Type 0} (label : M → List ℕ) (plays : M → Plays) (note : M → Note) (mods : List M) (func : Func) (flags : ℕ) (stack : Stack) (i : ℕ) where

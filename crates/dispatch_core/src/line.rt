@@ -1,4 +1,4 @@
-ghost use Rattle.std.specs.Prelude.{◌≡◌, ◌<◌, ◌≤◌, ◌^◌, ◌+◌, ◌&&◌, length, map, IfOk, OnOk, IsTrue};
+ghost use Rattle.std.specs.Prelude.{◌≡◌, ◌<◌, ◌≤◌, ◌^◌, ◌+◌, ◌&&◌, ◌∷◌, ◌++◌, [], length, map, IfOk, OnOk, OnErr, IsTrue};
 ghost use Rattle.control_words.specs.Stack.{lines_in};
 ghost use Rattle.handler_chain.specs.FlatLines.{rule_at};
 ghost use Rattle.pam_room.specs.State.{state_of};
@@ -7,6 +7,7 @@ ghost use Rattle.pam_room.specs.Module.{notes_of, player_of};
 ghost use Rattle.pam_room.specs.Plain.{plain_process, plain_transaction};
 ghost use Rattle.stack_walk.specs.Pass.{AnswersAs};
 ghost use Rattle.dispatch_core.specs.AnyWorld.{GoesSoundly};
+ghost use Rattle.dispatch_core.specs.Failing.{IsAtWork, visited_at};
 ghost use Rattle.dispatch_core.specs.Lines.{answers_by};
 ghost use Rattle.dispatch_core.specs.Paths.{HasPaths};
 
@@ -49,6 +50,11 @@ pub fn ask_line(
         (⟦<World as WorldTold>⟧.plain world.new))) }
     ensures visits { OnOk result (length room.new.transaction.trail.visits
         ≡ length room.old.transaction.trail.visits + 1) }
+    ensures visited { IfOk result (λ answer. room.new.transaction.trail.visits
+        ≡ room.old.transaction.trail.visits ++ visited_at chain.now.nodes i answer ∷ []) }
+    ensures at_work { OnErr result (IsAtWork (map (player_of label plays note) mods.now)
+        (rule_at chain.now.nodes i) (plain_transaction room.old.transaction)
+        (plain_transaction room.new.transaction)) }
     ensures spare { room.old.transaction.trail.spare ≤ room.new.transaction.trail.spare + 1 }
     ensures paths { HasPaths chain.now.nodes (i + 1) paths.new }
     ensures sound { GoesSoundly (notes_of (map (player_of label plays note) mods.now))

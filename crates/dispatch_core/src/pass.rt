@@ -1,4 +1,4 @@
-ghost use Rattle.std.specs.Prelude.{◌≡◌, ◌<◌, ◌≤◌, ◌^◌, ◌+◌, ◌*◌, ◌&&◌, [], None, Some, true, is_some, length, map, IfOk, OnOk, OnErr, IsNone, IsTrue};
+ghost use Rattle.std.specs.Prelude.{◌≡◌, ◌<◌, ◌≤◌, ◌^◌, ◌+◌, ◌*◌, ◌&&◌, ◌⊎◌, [], None, Some, true, is_some, length, map, IfOk, OnOk, OnErr, IsNone, IsTrue};
 ghost use Rattle.control_words.specs.Stack.{lines_in};
 ghost use Rattle.frozen_chain.specs.Kept.{empty_cells, lines_kept};
 ghost use Rattle.pam_room.specs.State.{state_of};
@@ -7,6 +7,7 @@ ghost use Rattle.pam_room.specs.Module.{notes_of, player_of};
 ghost use Rattle.pam_room.specs.Plain.{plain_process, plain_transaction};
 ghost use Rattle.stack_walk.specs.Pass.{pass_after};
 ghost use Rattle.dispatch_core.specs.AnyWorld.{GoesSoundly};
+ghost use Rattle.dispatch_core.specs.Failing.{IsUntouched, StopsAt};
 ghost use Rattle.dispatch_core.specs.Given.{past_of};
 ghost use Rattle.dispatch_core.specs.Lines.{answers_by};
 ghost use Rattle.dispatch_core.specs.Paths.{HasPaths};
@@ -67,6 +68,13 @@ fn walk(
     ensures looks { OnOk result (chain.new.looks + 4 * length room.old.transaction.trail.visits
         ≤ chain.old.looks + 4 *
         (length room.new.transaction.trail.visits + length supplies.old.given.past)) }
+    ensures stopped { OnErr result
+        (StopsAt (map (player_of label plays note) mods.now) request.func request.flags
+        chain.old.nodes request.kind (by_place follows.now) supplies.old.given.past
+        (⟦<Room as RoomTold>⟧.tells room.old && ⟦<World as WorldTold>⟧.tells world.old)
+        (state_of (⟦<Room as RoomTold>⟧.plain room.old) (⟦<World as WorldTold>⟧.plain world.old))
+        (state_of (⟦<Room as RoomTold>⟧.plain room.new)
+        (⟦<World as WorldTold>⟧.plain world.new))) }
     ensures sound { GoesSoundly (notes_of (map (player_of label plays note) mods.now))
         (length mods.now)
         (plain_transaction room.old.transaction) (plain_transaction room.new.transaction)
@@ -134,6 +142,15 @@ fn walk_all(
     ensures looks { OnOk result (chain.new.looks + 4 * length room.old.transaction.trail.visits
         ≤ chain.old.looks + 4 *
         (length room.new.transaction.trail.visits + length (past_of paused.old))) }
+    ensures stopped { OnErr result
+        (IsUntouched (⟦<Room as RoomTold>⟧.plain room.old) (⟦<Room as RoomTold>⟧.plain room.new)
+        room.old.conv room.new.conv world.old world.new
+        ⊎ StopsAt (map (player_of label plays note) mods.now) request.func request.flags
+        chain.old.nodes request.kind (by_place follows.now) (past_of paused.old)
+        (⟦<Room as RoomTold>⟧.tells room.old && ⟦<World as WorldTold>⟧.tells world.old)
+        (state_of (⟦<Room as RoomTold>⟧.plain room.old) (⟦<World as WorldTold>⟧.plain world.old))
+        (state_of (⟦<Room as RoomTold>⟧.plain room.new)
+        (⟦<World as WorldTold>⟧.plain world.new))) }
     ensures sound { GoesSoundly (notes_of (map (player_of label plays note) mods.now))
         (length mods.now)
         (plain_transaction room.old.transaction) (plain_transaction room.new.transaction)
@@ -183,8 +200,9 @@ fn keep_answers(kind: PassKind, kept: &mut Kept, keeps: Kept, answered: bool)
 /// puts it off; then the answers that it was given are paused, and after no other code are any.
 /// After a pass that keeps, its answers are kept; after a loose one none are.
 ///
-/// It takes all memory of its own before the first module serves. After want of memory a pass that keeps has nothing
-/// kept, any other leaves what was kept, nothing is paused, and no datum waits for its cleanup.
+/// It takes all memory of its own before the first module serves. So after want of memory either nothing happened at
+/// all, or lines were visited as the stack leads to them, and the module of the next one found none. A pass that keeps
+/// has nothing kept then, any other leaves what was kept, nothing is paused, and no datum waits for its cleanup.
 pub fn dispatch(
     alloc: Global,
     chain: &mut Chain,
@@ -220,6 +238,15 @@ pub fn dispatch(
     ensures looks { OnOk result (chain.new.looks + 4 * length room.old.transaction.trail.visits
         ≤ chain.old.looks + 4 *
         (length room.new.transaction.trail.visits + length (past_of paused.old))) }
+    ensures stopped { OnErr result
+        (IsUntouched (⟦<Room as RoomTold>⟧.plain room.old) (⟦<Room as RoomTold>⟧.plain room.new)
+        room.old.conv room.new.conv world.old world.new
+        ⊎ StopsAt (map (player_of label plays note) mods.now) request.func request.flags
+        chain.old.nodes request.kind (by_place kept.old) (past_of paused.old)
+        (⟦<Room as RoomTold>⟧.tells room.old && ⟦<World as WorldTold>⟧.tells world.old)
+        (state_of (⟦<Room as RoomTold>⟧.plain room.old) (⟦<World as WorldTold>⟧.plain world.old))
+        (state_of (⟦<Room as RoomTold>⟧.plain room.new)
+        (⟦<World as WorldTold>⟧.plain world.new))) }
     ensures sound { GoesSoundly (notes_of (map (player_of label plays note) mods.now))
         (length mods.now)
         (plain_transaction room.old.transaction) (plain_transaction room.new.transaction)

@@ -35,6 +35,7 @@ impl Supplies {
         ensures none { paused.new ≡ None }
         ensures room { ⟦<Room as RoomTold>⟧.plain room.new ≡ ⟦<Room as RoomTold>⟧.plain room.old }
         ensures tells { ⟦<Room as RoomTold>⟧.tells room.new ≡ ⟦<Room as RoomTold>⟧.tells room.old }
+        ensures conv { room.new.conv ≡ room.old.conv }
     {
         let given = Given::resume(alloc, paused, chain.len())?;
         let paths = Paths::of(alloc, chain)?;
@@ -47,6 +48,7 @@ fn reserve_visits(room: &mut Room, lines: usize) -> Result<(), NoMemory>
     ensures spare { OnOk result (lines ≤ room.new.transaction.trail.spare) }
     ensures room { ⟦<Room as RoomTold>⟧.plain room.new ≡ ⟦<Room as RoomTold>⟧.plain room.old }
     ensures tells { ⟦<Room as RoomTold>⟧.tells room.new ≡ ⟦<Room as RoomTold>⟧.tells room.old }
+    ensures conv { room.new.conv ≡ room.old.conv }
 {
     room.transaction.trail.reserve(lines)
 }

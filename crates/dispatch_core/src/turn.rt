@@ -1,4 +1,4 @@
-ghost use Rattle.std.specs.Prelude.{◌≡◌, ◌<◌, ◌≤◌, ◌^◌, ◌+◌, ◌*◌, ◌&&◌, ℕ, List, [], None, is_none, is_some, true, length, map, IfOk, OnOk, IfSome, IsNone, IsTrue};
+ghost use Rattle.std.specs.Prelude.{◌≡◌, ◌<◌, ◌≤◌, ◌^◌, ◌+◌, ◌*◌, ◌&&◌, ℕ, List, [], None, is_none, is_some, true, length, map, IfOk, OnOk, OnErr, IfSome, IsNone, IsTrue};
 ghost use Rattle.control_words.specs.Stack.{lines_in};
 ghost use Rattle.handler_chain.specs.FlatLines.{rule_at};
 ghost use Rattle.frozen_chain.specs.Kept.{lines_kept};
@@ -11,6 +11,7 @@ ghost use Rattle.stack_walk.specs.Route.{KeptAnswers};
 ghost use Rattle.stack_walk.specs.Pass.{Visit, decides, is_incomplete, pass_state, serving};
 ghost use Rattle.stack_walk.specs.Walk.{ServedAs};
 ghost use Rattle.dispatch_core.specs.AnyWorld.{GoesSoundly};
+ghost use Rattle.dispatch_core.specs.Failing.{GoesBy, IsAtWork, Takes};
 ghost use Rattle.dispatch_core.specs.Index.{walk_on};
 ghost use Rattle.dispatch_core.specs.Lines.{answers_by};
 ghost use Rattle.dispatch_core.specs.Paths.{HasPaths};
@@ -86,6 +87,16 @@ pub fn next_answer(
     ensures taken { IfOk result (λ answer. supplies.new.given.taken
         ≡ taken_with supplies.old.given.taken answer) }
     ensures none { IfOk result (λ answer. IsNone answer → supplies.new.given.past ≡ []) }
+    ensures took { IfOk result (λ answer. IfSome answer (λ code. Takes
+        (map (player_of label plays note) mods.now) request.func request.flags chain.now.nodes
+        (⟦<Room as RoomTold>⟧.tells room.old && ⟦<World as WorldTold>⟧.tells world.old) i code
+        supplies.old.given.past supplies.new.given.past
+        (state_of (⟦<Room as RoomTold>⟧.plain room.old) (⟦<World as WorldTold>⟧.plain world.old))
+        (state_of (⟦<Room as RoomTold>⟧.plain room.new)
+        (⟦<World as WorldTold>⟧.plain world.new)))) }
+    ensures at_work { OnErr result ((supplies.old.given.past ≡ [])
+        × IsAtWork (map (player_of label plays note) mods.now) (rule_at chain.now.nodes i)
+        (plain_transaction room.old.transaction) (plain_transaction room.new.transaction)) }
     ensures answers { OnOk result (length supplies.old.given.taken + length supplies.old.given.past
         + supplies.old.given.room
         ≤ length supplies.new.given.taken + length supplies.new.given.past +
@@ -170,6 +181,20 @@ pub fn walk_line(
     ensures taken { IfOk result (λ answer. supplies.new.given.taken
         ≡ taken_with supplies.old.given.taken answer) }
     ensures none { IfOk result (λ answer. IsNone answer → supplies.new.given.past ≡ []) }
+    ensures took { IfOk result (λ answer. IfSome answer (λ code. Takes
+        (map (player_of label plays note) mods.now) request.func request.flags chain.old.nodes
+        (⟦<Room as RoomTold>⟧.tells room.old && ⟦<World as WorldTold>⟧.tells world.old)
+        walker.old.at code supplies.old.given.past supplies.new.given.past
+        (state_of (⟦<Room as RoomTold>⟧.plain room.old) (⟦<World as WorldTold>⟧.plain world.old))
+        (state_of (⟦<Room as RoomTold>⟧.plain room.new)
+        (⟦<World as WorldTold>⟧.plain world.new)))) }
+    ensures goes { IfOk result (λ answer. IfSome answer (λ code.
+        GoesBy request.kind (by_place follows.now) chain.old.nodes code walker.old
+        walker.new)) }
+    ensures at_work { OnErr result ((supplies.old.given.past ≡ [])
+        × IsAtWork (map (player_of label plays note) mods.now)
+        (rule_at chain.old.nodes walker.old.at)
+        (plain_transaction room.old.transaction) (plain_transaction room.new.transaction)) }
     ensures answers { OnOk result (length supplies.old.given.taken + length supplies.old.given.past
         + supplies.old.given.room
         ≤ length supplies.new.given.taken + length supplies.new.given.past +

@@ -3,5 +3,6 @@ mod Calling
 mod Resting
 mod Authenticating
 mod Changing
+mod Stopping
 mod Lacking
 mod Rows

@@ -1,5 +1,5 @@
 -- A pass over a chain, with cells for what it keeps, is a pass over a stack, with a function of places.
-use Rattle.std.proofs.Common.{◌≡◌, ℕ, zero, suc, List, [], ◌∷◌, Option, Some, None, Result, Ok, Err, IfOk, true, false, map, refl, sym, ◌∙◌, ap, subst}
+use Rattle.std.proofs.Common.{◌≡◌, ℕ, zero, suc, List, [], ◌∷◌, Option, Some, None, Result, Ok, Err, IfOk, OnErr, ◌⊎◌, Bool, true, false, map, refl, sym, ◌∙◌, ap, subst}
 use Rattle.std.proofs.Math.Path.{fun_ext}
 use Rattle.pam_base.specs.declared.code.Code.{Code}
 use Rattle.pam_base.specs.declared.call.Func.{Func}
@@ -11,6 +11,7 @@ use Rattle.stack_walk.specs.declared.pass_kind.PassKind.TheVariants.{Keep, Follo
 use Rattle.stack_walk.specs.Pass.{PassState, Visit, kept_in, pass_after}
 use Rattle.stack_walk.specs.Walk.{Walked, code_of}
 use Rattle.stack_walk.specs.Route.{KeptAnswers}
+use Rattle.dispatch_core.specs.Failing.{StopsAt}
 use Rattle.dispatch_core.specs.Lines.{answers_by, names_of}
 use Rattle.dispatch_core.specs.Passes.{by_place, paused_after, KeepsAfter, KeepsAll, LeavesAs}
 use Rattle.pam_room.specs.State.{State}
@@ -70,6 +71,14 @@ pass_told (Ok code) found players func flags kind old new stack past s paused st
     passes_to players func flags kind old new stack past s code paused state
     (subst (λ (ps : List Player). LeavesAs kind (pass_after kind (by_place old) (answers_by ps func flags) stack past s) old code new paused state) e l)
 pass_told (Err none) found players func flags kind old new stack past s paused state e l = tt
+
+-- where a pass stopped
+pub pass_stopped : (result : Result Code NoMemory) (found players : List Player) (func : Func) (flags : ℕ) (kind : PassKind) (old : Answers) (stack : Stack) (past : List Code) (tells : Bool) (s t : State) (U : Type 0) → found ≡ players
+    → OnErr result (U ⊎ StopsAt found func flags stack kind (by_place old) past tells s t) → OnErr result (U ⊎ StopsAt players func flags stack kind (answers_held (kept_answers old)) past tells s t)
+pass_stopped (Ok code) found players func flags kind old stack past tells s t U e stops = tt
+pass_stopped (Err none) found players func flags kind old stack past tells s t U e stops =
+    subst (λ (ps : List Player). U ⊎ StopsAt ps func flags stack kind (answers_held (kept_answers old)) past tells s t) e
+    (subst (λ (kept : KeptAnswers). U ⊎ StopsAt found func flags stack kind kept past tells s t) (held_by_place old) stops)
 
 pub names_given : {M : Type 0} (result : Result (List (List ℕ)) NoMemory) (label : M → List ℕ) (plays : M → Plays) (note : M → Note) (found mods : List M)
     → found ≡ mods

@@ -8,3 +8,4 @@ pub mod End
 pub mod AnyWorld
 pub mod Plain
 pub mod Ready
+pub mod Stopping

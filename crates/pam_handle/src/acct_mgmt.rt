@@ -6,6 +6,7 @@ ghost use Rattle.pam_handle.specs.Call.{CallsAs};
 ghost use Rattle.pam_handle.specs.Plain.{plain_handle, room_in};
 ghost use Rattle.pam_handle.specs.Ready.{IsReadyFor};
 ghost use Rattle.pam_handle.specs.StackCalls.{acct_mgmt};
+ghost use Rattle.pam_handle.specs.Stopping.{StopsOnce};
 
 use crate::gear::{Gear, GearTold};
 use crate::handle::Handle;
@@ -55,6 +56,13 @@ impl Handle {
             (plain_handle ⟦<Room as RoomTold>⟧.plain self.new)
             (plain_handle ⟦<Room as RoomTold>⟧.plain self.new).pending) }
         ensures no_nap { OnErr result (world.new.nap ≡ world.old.nap) }
+        ensures stopped { OnErr result (StopsOnce (⟦<Gear as GearTold>⟧.players gear.now)
+            Func.AcctMgmt flags
+            (⟦<Room as RoomTold>⟧.tells (room_in self.old) && ⟦<World as WorldTold>⟧.tells world.old)
+            (plain_handle ⟦<Room as RoomTold>⟧.plain self.old)
+            (plain_handle ⟦<Room as RoomTold>⟧.plain self.new)
+            (⟦<World as WorldTold>⟧.plain world.old) (⟦<World as WorldTold>⟧.plain world.new)
+            world.old world.new) }
         ensures err { OnErr result (FailsAs Func.AcctMgmt
             (plain_handle ⟦<Room as RoomTold>⟧.plain self.old)
             (plain_handle ⟦<Room as RoomTold>⟧.plain self.new)) }

@@ -7,6 +7,7 @@ ghost use Rattle.pam_handle.specs.Call.{CallsAs};
 ghost use Rattle.pam_handle.specs.Plain.{plain_handle, room_in};
 ghost use Rattle.pam_handle.specs.Ready.{IsReadyFor};
 ghost use Rattle.pam_handle.specs.StackCalls.{authenticate};
+ghost use Rattle.pam_handle.specs.Stopping.{StopsOnce};
 
 use crate::delaying::wait_behind;
 use crate::gear::{Gear, GearTold};
@@ -69,6 +70,13 @@ impl Handle {
             Waits code (plain_handle ⟦<Room as RoomTold>⟧.plain self.old)
             (plain_handle ⟦<Room as RoomTold>⟧.plain self.new)) }
         ensures no_nap { OnErr result (world.new.nap ≡ world.old.nap) }
+        ensures stopped { OnErr result (StopsOnce (⟦<Gear as GearTold>⟧.players gear.now)
+            Func.Authenticate flags
+            (⟦<Room as RoomTold>⟧.tells (room_in self.old) && ⟦<World as WorldTold>⟧.tells world.old)
+            (plain_handle ⟦<Room as RoomTold>⟧.plain self.old)
+            (plain_handle ⟦<Room as RoomTold>⟧.plain self.new)
+            (⟦<World as WorldTold>⟧.plain world.old) (⟦<World as WorldTold>⟧.plain world.new)
+            world.old world.new) }
         ensures err { OnErr result (FailsAs Func.Authenticate
             (plain_handle ⟦<Room as RoomTold>⟧.plain self.old)
             (plain_handle ⟦<Room as RoomTold>⟧.plain self.new)) }

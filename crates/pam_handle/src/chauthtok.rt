@@ -4,6 +4,7 @@ ghost use Rattle.dispatch_core.specs.Given.{past_of};
 ghost use Rattle.dispatch_core.specs.Lines.{names_of};
 ghost use Rattle.pam_room.specs.Module.{notes_of};
 ghost use Rattle.pam_room.specs.Plain.{plain_process, plain_transaction};
+ghost use Rattle.pam_room.specs.State.{state_of};
 ghost use Rattle.pam_room.specs.Stays.{IsReady};
 ghost use Rattle.pam_handle.specs.AnyWorld.{FailsAs, LeavesOthers, LeavesPending, RunsSoundly};
 ghost use Rattle.dispatch_core.specs.Pending.{is_other_pending, pending_behind};
@@ -13,6 +14,7 @@ ghost use Rattle.pam_handle.specs.Pass.{kept_answers};
 ghost use Rattle.pam_handle.specs.Plain.{plain_handle, room_in};
 ghost use Rattle.pam_handle.specs.Ready.{IsReadyFor};
 ghost use Rattle.pam_handle.specs.StackCalls.{change_goes_on, changed, chauthtok, check, has_pass_flag, update};
+ghost use Rattle.pam_handle.specs.Stopping.{StopsChanging, StopsInChange, StopsInCheck, StopsInUpdate};
 
 use crate::flags::has_pass_flag;
 use crate::gear::{Gear, GearTold};
@@ -69,6 +71,12 @@ impl Handle {
             (plain_handle ⟦<Room as RoomTold>⟧.plain self.new)
             (plain_handle ⟦<Room as RoomTold>⟧.plain self.new).pending) }
         ensures no_nap { OnErr result (world.new.nap ≡ world.old.nap) }
+        ensures stopped { OnErr result (StopsChanging (⟦<Gear as GearTold>⟧.players gear.now) flags
+            (⟦<Room as RoomTold>⟧.tells (room_in self.old) && ⟦<World as WorldTold>⟧.tells world.old)
+            (plain_handle ⟦<Room as RoomTold>⟧.plain self.old)
+            (plain_handle ⟦<Room as RoomTold>⟧.plain self.new)
+            (⟦<World as WorldTold>⟧.plain world.old) (⟦<World as WorldTold>⟧.plain world.new)
+            world.old world.new) }
         ensures err { OnErr result (FailsAs Func.ChAuthTok
             (plain_handle ⟦<Room as RoomTold>⟧.plain self.old)
             (plain_handle ⟦<Room as RoomTold>⟧.plain self.new)) }
@@ -141,6 +149,13 @@ fn change(
           pending = pending_behind Func.ChAuthTok
               (kept_answers first.new) paused.new;
         }) (⟦<World as WorldTold>⟧.plain world.new)) }
+    ensures stopped { OnErr result (StopsInChange (⟦<Gear as GearTold>⟧.players gear.now) flags
+        chain.old.nodes
+        (⟦<Room as RoomTold>⟧.tells room.old && ⟦<World as WorldTold>⟧.tells world.old)
+        (kept_answers first.old) (past_of paused.old)
+        (state_of (⟦<Room as RoomTold>⟧.plain room.old) (⟦<World as WorldTold>⟧.plain world.old))
+        (state_of (⟦<Room as RoomTold>⟧.plain room.new) (⟦<World as WorldTold>⟧.plain world.new))
+        world.old world.new) }
     ensures paused { OnErr result (paused.new ≡ None) }
     ensures put_off { IfOk result (λ code. IsTrue (is_some paused.new) → code ≡ Code.Incomplete) }
     ensures nodes { chain.new.nodes ≡ chain.old.nodes }
@@ -192,6 +207,13 @@ fn check(
           pending = pending_behind Func.ChAuthTok
               (kept_answers first.new) paused.new;
         }) (⟦<World as WorldTold>⟧.plain world.new)) }
+    ensures stopped { OnErr result (StopsInCheck (⟦<Gear as GearTold>⟧.players gear.now) flags
+        chain.old.nodes
+        (⟦<Room as RoomTold>⟧.tells room.old && ⟦<World as WorldTold>⟧.tells world.old)
+        (past_of paused.old)
+        (state_of (⟦<Room as RoomTold>⟧.plain room.old) (⟦<World as WorldTold>⟧.plain world.old))
+        (state_of (⟦<Room as RoomTold>⟧.plain room.new) (⟦<World as WorldTold>⟧.plain world.new))
+        world.old world.new) }
     ensures paused { OnErr result (paused.new ≡ None) }
     ensures put_off { IfOk result (λ code. IsTrue (is_some paused.new) → code ≡ Code.Incomplete) }
     ensures nodes { chain.new.nodes ≡ chain.old.nodes }
@@ -259,6 +281,13 @@ fn update(
           pending = pending_behind Func.ChAuthTok
               (kept_answers first.new) paused.new;
         }) (⟦<World as WorldTold>⟧.plain world.new)) }
+    ensures stopped { OnErr result (StopsInUpdate (⟦<Gear as GearTold>⟧.players gear.now) flags
+        chain.old.nodes
+        (⟦<Room as RoomTold>⟧.tells room.old && ⟦<World as WorldTold>⟧.tells world.old)
+        (kept_answers first.old) (past_of paused.old)
+        (state_of (⟦<Room as RoomTold>⟧.plain room.old) (⟦<World as WorldTold>⟧.plain world.old))
+        (state_of (⟦<Room as RoomTold>⟧.plain room.new) (⟦<World as WorldTold>⟧.plain world.new))
+        world.old world.new) }
     ensures paused { OnErr result (paused.new ≡ None) }
     ensures put_off { IfOk result (λ code. IsTrue (is_some paused.new) → code ≡ Code.Incomplete) }
     ensures nodes { chain.new.nodes ≡ chain.old.nodes }

@@ -62,7 +62,7 @@ pub(crate) fn wait_behind(
         (⟦<World as WorldTold>⟧.plain world.old) waited.new
         (⟦<World as WorldTold>⟧.plain world.new) }
     ensures sound { WaitsOnlyAtEnd code delay_on waited.old waited.new }
-    ensures nap { IfNone code (world.new.nap ≡ world.old.nap) }
+    ensures stays { IfNone code (world.new ≡ world.old) }
     ensures process { world.new.process ≡ world.old.process }
 {
     if let Some(code) = code {

@@ -1,4 +1,4 @@
-ghost use Rattle.std.specs.Prelude.{◌≡◌, ◌<◌, ◌^◌, ◌&&◌, None, is_some, length, IfOk, OnErr, IsTrue};
+ghost use Rattle.std.specs.Prelude.{◌≡◌, ◌<◌, ◌^◌, ◌&&◌, ◌⊎◌, None, is_some, length, IfOk, OnErr, IsTrue};
 ghost use Rattle.dispatch_core.specs.AnyWorld.{GoesSoundly};
 ghost use Rattle.dispatch_core.specs.Given.{past_of};
 ghost use Rattle.dispatch_core.specs.Lines.{names_of};
@@ -7,7 +7,8 @@ ghost use Rattle.pam_room.specs.Module.{notes_of};
 ghost use Rattle.pam_room.specs.Plain.{plain_process, plain_transaction};
 ghost use Rattle.pam_room.specs.State.{state_of};
 ghost use Rattle.pam_room.specs.Stays.{IsReady};
-ghost use Rattle.dispatch_core.specs.Calls.{following};
+ghost use Rattle.dispatch_core.specs.Calls.{answers_held, following};
+ghost use Rattle.dispatch_core.specs.Failing.{IsUntouched, StopsAt};
 ghost use Rattle.pam_handle.specs.Pass.{PassesTo, kept_answers, passed};
 
 use crate::gear::{Gear, GearTold};
@@ -51,6 +52,15 @@ pub(crate) fn pass(
     ensures put_off { IfOk result (λ code. IsTrue (is_some paused.new) → code ≡ Code.Incomplete) }
     ensures nodes { chain.new.nodes ≡ chain.old.nodes }
     ensures names { chain.new.names ≡ chain.old.names }
+    ensures stopped { OnErr result
+        (IsUntouched (⟦<Room as RoomTold>⟧.plain room.old) (⟦<Room as RoomTold>⟧.plain room.new)
+        room.old.conv room.new.conv world.old world.new
+        ⊎ StopsAt (⟦<Gear as GearTold>⟧.players gear.now) request.func request.flags
+        chain.old.nodes request.kind (answers_held (kept_answers kept.old)) (past_of paused.old)
+        (⟦<Room as RoomTold>⟧.tells room.old && ⟦<World as WorldTold>⟧.tells world.old)
+        (state_of (⟦<Room as RoomTold>⟧.plain room.old) (⟦<World as WorldTold>⟧.plain world.old))
+        (state_of (⟦<Room as RoomTold>⟧.plain room.new)
+        (⟦<World as WorldTold>⟧.plain world.new))) }
     ensures sound { GoesSoundly (notes_of (⟦<Gear as GearTold>⟧.players gear.now))
         (length (⟦<Gear as GearTold>⟧.players gear.now))
         (plain_transaction room.old.transaction) (plain_transaction room.new.transaction)

@@ -1,19 +1,31 @@
 -- What the checker finds of a block is what the block comes to.
-use Rattle.std.proofs.Common.{◌≡◌, ℕ, zero, suc, ◌+◌, ◌-◌, ◌≤◌, ◌<◌, Bool, true, false, ◌&&◌, eqb, if◌then◌else◌, List, [], ◌∷◌, ◌++◌, map, length, take, drop, Option, Some, None, refl, sym, ◌∙◌, ap, subst, arith}
+use Rattle.std.proofs.Common.{◌≡◌, ℕ, zero, suc, ◌+◌, ◌-◌, ◌≤◌, ◌<◌, Bool, true, false, not, ◌&&◌, eqb, eq-eqb, if◌then◌else◌, List, [], ◌∷◌, ◌++◌, map, length, take, drop, Option, Some, None, refl, sym, ◌∙◌, ap, subst, arith, ne_eqb}
 use Rattle.std.proofs.lemmas.Bool.Decides.{nat_tests}
 use Rattle.pam_base.specs.declared.code.Code.{Code}
 use Rattle.pam_base.specs.declared.call.Func.{Func}
+use Rattle.pam_base.specs.declared.call.Func.TheVariants as funcs
+use Rattle.pam_base.specs.declared.code.Code.TheVariants as codes
+use Rattle.pam_base.specs.declared.fault.NoMemory.{NoMemory}
 use Rattle.stack_walk.specs.declared.seen.Seen.{Seen}
 use Rattle.stack_walk.specs.Seen.{seen_of}
 use Rattle.stack_walk.specs.Retell as retell
+use Rattle.stack_walk.specs.Retell.{telling}
 use Rattle.service_load.specs.Stacks.{Stacks}
-use Rattle.dispatch_core.specs.Calls.{Held}
+use Rattle.dispatch_core.specs.Calls.{Held, Went, goes}
+use Rattle.dispatch_core.specs.Pending.{is_other_pending}
+use Rattle.pass_replay.specs.declared.retold.Retold.{Retold}
+use Rattle.pass_replay.specs.Held.{held_of}
+use Rattle.pass_replay.specs.Replay.{as_told}
+use Rattle.pass_replay.specs.Retold.{went_of}
 use Rattle.pass_replay.specs.Told.{visits_in, lines_before}
+use Rattle.std.specs.Prelude.{IfOk}
+use Rattle.std.specs.Prelude as answers
 use Rattle.report_lines.specs.Line.{Told, told_missing, told_visit, Command, starts, ends, runs, sets_item, gets_item, puts_env, gets_env, lists_env, asks_delay, switches_delay, replies, Shown, shows_code, shows_fault, shows_value, shows_count, shows_not_open, shows_already_open, shows_bad_number, shows_pending, Result, answered, closed_by_program}
-use Rattle.session_audit.specs.Fits.{Place, shut, running, visits_told, is_none, without_visits, behind_result}
+use Rattle.session_audit.specs.Fits.{Place, shut, running, visits_told, is_none, only_if, same_code, is_refused_change, without_visits, behind_call, at_call, behind_result}
 use Rattle.session_audit.specs.Differs as told_lines
 use Rattle.session_audit.specs.Differs.{visits_good}
-use Rattle.session_audit.specs.Checked.{told_in, behind_quiet, IsCall}
+use Rattle.session_audit.specs.Checked.{told_in, behind_quiet, IsCall, IsJudged}
+use Rattle.session_audit.specs.declared.judge.Judged.{Judged}
 
 -- ---- visits among told lines
 
@@ -38,11 +50,152 @@ within_all (suc i) (None ∷ told) = omega (arith, within_all (suc i) told)
 within_all zero (Some v ∷ told) = omega arith
 within_all (suc i) (Some v ∷ told) = omega (arith, within_all i told)
 
--- no visit is among them exactly where all are before the first
-pub quiet_is : (told : List (Option Seen)) → eqb (lines_before 0 told) (length told) ≡ is_none (visits_in told)
-quiet_is [] = refl
-quiet_is (None ∷ told) = grind (arith, nat_tests, quiet_is told)
-quiet_is (Some v ∷ told) = refl
+-- a line of a block that is named is one of its told lines, or the one after them
+pub named_within : (i line : ℕ) (told : List (Option Seen)) → line ≡ told_lines.lines_before i (told_in told) → line ≤ length told
+named_within i line told is = omega (arith, lines_are i told, within_all i told)
+
+-- ---- no visit is among told lines exactly where all stand before the first
+
+skips : (i : ℕ) (told : List (Option Seen)) → lines_before i (None ∷ told) ≡ lines_before i told + 1
+skips zero told = refl
+skips (suc i) told = refl
+
+-- all lines stand before a visit behind the last
+all_before : (told : List (Option Seen)) → lines_before (length (visits_in told)) told ≡ length told
+all_before [] = refl
+all_before (None ∷ told) = omega (arith, skips (length (visits_in told)) told, all_before told)
+all_before (Some v ∷ told) = omega (arith, all_before told)
+
+none_after : (told : List (Option Seen)) → drop (length told) told ≡ []
+none_after [] = refl
+none_after (t ∷ told) = none_after told
+
+no_visits : (told : List (Option Seen)) → length told ≤ lines_before 0 told → visits_in told ≡ []
+no_visits [] le = refl
+no_visits (None ∷ told) le = no_visits told (omega arith)
+no_visits (Some v ∷ told) le = absurd (omega arith)
+
+a_visit : (told : List (Option Seen)) → lines_before 0 told < length told → is_none (visits_in told) ≡ false
+a_visit [] lt = absurd (omega arith)
+a_visit (None ∷ told) lt = a_visit told (omega arith)
+a_visit (Some v ∷ told) lt = refl
+
+none_is : (vs : List retell.Seen) → is_none vs ≡ true → vs ≡ []
+none_is [] is = refl
+none_is (v ∷ vs) is = absurd (cc)
+
+by_left : (told : List (Option Seen)) (next : ℕ) (left : List retell.Seen) → visits_in (drop next told) ≡ left
+    → next ≡ lines_before (length (visits_in told) - length left) told → eqb next (length told) ≡ is_none left
+by_left told next [] is at =
+    let all : length (visits_in told) - 0 ≡ length (visits_in told) = omega arith in
+    eq-eqb next (length told) (at ∙ ap (λ (k : ℕ). lines_before k told) all ∙ all_before told)
+by_left told next (v ∷ left) is at =
+    ne_eqb next (length told) (λ e.
+    let none : v ∷ left ≡ [] = sym is ∙ ap (λ (k : ℕ). visits_in (drop k told)) e ∙ ap visits_in (none_after told) in
+    absurd (cc))
+
+pub all_taken : (told : List (Option Seen)) (next : ℕ) → next ≡ lines_before (length (visits_in told) - length (visits_in (drop next told))) told
+    → eqb next (length told) ≡ is_none (visits_in (drop next told))
+all_taken told next at = by_left told next (visits_in (drop next told)) refl at
+
+-- ---- of what is told to the checker
+
+pub told_none : (told : List (Option Seen)) (first : ℕ) → first ≡ lines_before 0 told → length told ≤ first → visits_told (told_in told) ≡ []
+told_none told first is le = visits_are told ∙ no_visits told (omega arith)
+
+pub told_some : (told : List (Option Seen)) (first : ℕ) → first ≡ lines_before 0 told → first < length told → is_none (visits_told (told_in told)) ≡ false
+told_some told first is lt = ap is_none (visits_are told) ∙ a_visit told (omega arith)
+
+pub told_first : (told : List (Option Seen)) (first : ℕ) → first ≡ lines_before 0 told → first ≡ told_lines.lines_before 0 (told_in told)
+told_first told first is = is ∙ sym (lines_are 0 told)
+
+pub quiet_told : (vs : List retell.Seen) (x : Option Place) → is_none vs ≡ false → without_visits vs x ≡ None
+quiet_told [] x is = absurd (cc)
+quiet_told (v ∷ vs) x is = refl
+
+pub quiet_as : (vs : List retell.Seen) (x y : Option Place) → vs ≡ [] → y ≡ x → without_visits vs x ≡ y
+quiet_as vs x y none is = ap (λ (w : List retell.Seen). without_visits w x) none ∙ sym is
+
+pub and_no : (a b : Bool) → b ≡ false → (a && b) ≡ false
+and_no true b is = is
+and_no false b is = refl
+
+pub both_are : (a b : Bool) (vs : List retell.Seen) → a ≡ b → vs ≡ [] → (a && is_none vs) ≡ b
+both_are true b vs is none = ap is_none none ∙ is
+both_are false b vs is none = is
+
+-- ---- stack calls
+
+pub judged_as : (r : answers.Result Judged NoMemory) (x y : Option Place) (m n : ℕ) → x ≡ y → m ≡ n → IfOk r (λ j. IsJudged j x m) → IfOk r (λ j. IsJudged j y n)
+judged_as r x y m n is line h =
+    subst (λ (k : ℕ). IfOk r (λ j. IsJudged j y k)) line (subst (λ (p : Option Place). IfOk r (λ j. IsJudged j p m)) is h)
+
+if_true : {A : Type 0} → (b : Bool) (x y : A) → b ≡ true → (if b then x else y) ≡ x
+if_true true x y is = refl
+if_true false x y is = absurd (cc)
+
+if_false : {A : Type 0} → (b : Bool) (x y : A) → b ≡ false → (if b then x else y) ≡ y
+if_false true x y is = absurd (cc)
+if_false false x y is = refl
+
+no_more : (b : Bool) → b ≡ (b && true)
+no_more true = refl
+no_more false = refl
+
+nothing_more : (b : Bool) → false ≡ (b && false)
+nothing_more true = refl
+nothing_more false = refl
+
+-- visits aside, a change of token was refused
+pub refused_by : (func : Func) (code : Code) (vs : List retell.Seen) → is_refused_change func code vs ≡ (is_refused_change func code [] && is_none vs)
+refused_by funcs.Authenticate code vs = refl
+refused_by funcs.SetCred code vs = refl
+refused_by funcs.AcctMgmt code vs = refl
+refused_by funcs.OpenSession code vs = refl
+refused_by funcs.CloseSession code vs = refl
+refused_by funcs.ChAuthTok code [] = no_more (same_code code codes.SystemErr)
+refused_by funcs.ChAuthTok code (v ∷ vs) = nothing_more (same_code code codes.SystemErr)
+
+module _ (stacks : Stacks) where
+  pub call_refused : (func : Func) (code : Code) (vs : List retell.Seen) (h : Held) → is_refused_change func code vs ≡ true → at_call stacks func code vs h ≡ Some (running h)
+  call_refused func code vs h is = if_true (is_refused_change func code vs) (Some (running h)) _ is
+
+  pub call_aborted : (func : Func) (code : Code) (vs : List retell.Seen) (h : Held) → is_refused_change func code vs ≡ false → is_other_pending h.pending func ≡ true → at_call stacks func code vs h ≡ None
+  call_aborted func code vs h is other = if_false (is_refused_change func code vs) (Some (running h)) _ is ∙ if_true (is_other_pending h.pending func) None _ other
+
+  pub call_goes : (func : Func) (code : Code) (vs : List retell.Seen) (h : Held) → is_refused_change func code vs ≡ false → is_other_pending h.pending func ≡ false
+      → behind_call code (goes as_told stacks func h (telling vs)) ≡ at_call stacks func code vs h
+  call_goes func code vs h is other = sym (if_false (is_refused_change func code vs) (Some (running h)) _ is ∙ if_false (is_other_pending h.pending func) None _ other)
+
+  pub line_aborted : (func : Func) (vs : List retell.Seen) (h : Held) (n : ℕ) → is_other_pending h.pending func ≡ true → (if is_other_pending h.pending func then 0 else n) ≡ 0
+  line_aborted func vs h n other = if_true (is_other_pending h.pending func) 0 n other
+
+  pub line_goes : (func : Func) (vs : List retell.Seen) (h : Held) (n : ℕ) → is_other_pending h.pending func ≡ false → n ≡ (if is_other_pending h.pending func then 0 else n)
+  line_goes func vs h n other = sym (if_false (is_other_pending h.pending func) 0 n other)
+
+-- what a call that was gone over again took
+pub as_retold : (told : List (Option Seen)) (r : Retold) (code : Code) (w : Went retell.Telling) → went_of told r ≡ w
+    → r.next ≡ lines_before (length (visits_in told) - length (visits_in (drop r.next told))) told
+    → behind_call code w ≡ only_if (not r.astray && (eqb r.next (length told) && same_code code r.code)) (running (held_of r.held))
+as_retold told r code w is at =
+    ap (behind_call code) (sym is)
+    ∙ ap (λ (b : Bool). only_if (not r.astray && (b && same_code code r.code)) (running (held_of r.held))) (sym (all_taken told r.next at))
+
+pub retold_line : (told : List (Option Seen)) (r : Retold) (w : Went retell.Telling) → went_of told r ≡ w
+    → r.next ≡ lines_before (length (visits_in told) - length (visits_in (drop r.next told))) told
+    → r.next ≡ told_lines.lines_before (length (visits_told (told_in told)) - length w.state.left) (told_in told)
+retold_line told r w is at =
+    at ∙ ap (λ (v : Went retell.Telling). lines_before (length (visits_in told) - length v.state.left) told) is
+    ∙ ap (λ (vs : List retell.Seen). lines_before (length vs - length w.state.left) told) (sym (visits_are told))
+    ∙ sym (lines_are (length (visits_told (told_in told)) - length w.state.left) told)
+
+pub only_true : (b : Bool) (p : Place) (x : Option Place) → x ≡ only_if b p → b ≡ true → x ≡ Some p
+only_true true p x is holds = is
+only_true false p x is holds = absurd (cc)
+
+pub only_false : (b : Bool) (p : Place) (x : Option Place) → x ≡ only_if b p → b ≡ false → x ≡ None
+only_false true p x is holds = absurd (cc)
+only_false false p x is holds = is
 
 -- ---- results that are no code of a stack call
 

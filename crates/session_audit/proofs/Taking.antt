@@ -1,8 +1,9 @@
 -- A line that is taken leaves what differs.
-use Rattle.std.proofs.Common.{◌≡◌, ℕ, zero, suc, ◌+◌, ◌-◌, ◌≤◌, Bool, true, false, ◌&&◌, if◌then◌else◌, List, [], ◌∷◌, ◌++◌, map, length, Option, Some, None, refl, sym, ◌∙◌, ap, subst, arith}
+use Rattle.std.proofs.Common.{◌≡◌, ℕ, zero, suc, ◌+◌, ◌-◌, ◌≤◌, Bool, true, false, ◌&&◌, if◌then◌else◌, ltb, leb, ◌<◌, get_or, List, [], ◌∷◌, ◌++◌, map, length, Option, Some, None, refl, sym, ◌∙◌, ap, subst, arith}
 use Rattle.std.specs.Prelude.{slice_get, slice_set}
 use Rattle.std.specs.Option.{option_map}
-use Rattle.std.proofs.lemmas.List.{map-set, set-set}
+use Rattle.std.proofs.lemmas.Bool.Decides.{nat_tests}
+use Rattle.std.proofs.lemmas.List.{map-set, set-set, length-set}
 use Rattle.std.proofs.lemmas.Option.{slice_get-map}
 use Rattle.service_load.specs.Stacks.{Stacks}
 use Rattle.report_lines.specs.Line.{Told, Result, Block, block_of, unread}
@@ -10,7 +11,7 @@ use Rattle.report_reader.specs.Says.{Says, tells, results, lasts}
 use Rattle.session_audit.specs.declared.place.Place as held
 use Rattle.session_audit.specs.Fits.{Place, place_at, with_place, visits_told, is_none, is_bad_number, behind_result, with_behind, behind_at, behind_block}
 use Rattle.session_audit.specs.Differs.{Gathered, nothing_yet, gathered, may_follow, told_so_far, lines_before, visits_good, bad_line, behind_or, none_left, differs_from}
-use Rattle.session_audit.specs.Checked.{place_of}
+use Rattle.session_audit.specs.Checked.{place_of, IsPlaced, IsUnplaced}
 
 abbrev pub nothing_in : Gathered → Bool
 nothing_in nothing_yet = true
@@ -114,3 +115,43 @@ module _ (stacks : Stacks) where
   pub unplaced_line : (places : List Place) (number : ℕ) (told : List Told) (result : Result) → place_at places number ≡ None
       → lines_before 0 told ≡ bad_line stacks (place_at places number) (block_of number told result)
   unplaced_line places number told result none = ap (λ (x : Option Place). bad_line stacks x (block_of number told result)) (sym none)
+
+-- ---- places and their numbers
+
+pub get_some : {A : Type 0} → (xs : List A) (i : ℕ) (p d : A) → i < length xs → p ≡ get_or xs i d → slice_get xs i ≡ Some p
+get_some [] i p d lt is = absurd (omega arith)
+get_some (x ∷ xs) zero p d lt is = ap Some (sym is)
+get_some (x ∷ xs) (suc i) p d lt is = get_some xs i p d (omega arith) is
+
+get_past : {A : Type 0} → (xs : List A) (i : ℕ) → length xs ≤ i → slice_get xs i ≡ None
+get_past [] i le = refl
+get_past (x ∷ xs) zero le = absurd (omega arith)
+get_past (x ∷ xs) (suc i) le = get_past xs i (omega arith)
+
+pub index_of : (number n : ℕ) → (ltb 0 number && leb number n) ≡ true → number ≡ suc (number - 1)
+index_of zero n is = absurd (cc)
+index_of (suc i) n is = omega arith
+
+pub no_place : (old : List held.Place) (number : ℕ) → (ltb 0 number && leb number (length old)) ≡ false → place_at (map place_of old) number ≡ None
+no_place old zero is = refl
+no_place old (suc i) is =
+    let past : length old ≤ i = grind (arith, nat_tests) in
+    slice_get-map place_of old i ∙ ap (option_map place_of) (get_past old i past)
+
+pub a_place : (old : List held.Place) (number : ℕ) → (ltb 0 number && leb number (length old)) ≡ true → number - 1 < length old
+a_place old zero is = absurd (cc)
+a_place old (suc i) is = grind (arith, nat_tests)
+
+pub fits_at : (stacks : Stacks) (old : List held.Place) (number : ℕ) (p between behind : held.Place) (told : List Told) (result : Result) → number ≡ suc (number - 1)
+    → slice_get old (number - 1) ≡ Some p → behind_result stacks (place_of p) (visits_told told) result ≡ Some (place_of behind)
+    → IsPlaced stacks old (block_of number told result) None (slice_set (slice_set old (number - 1) between) (number - 1) behind)
+fits_at stacks old number p between behind told result is at fits =
+    (placed_fits stacks old (number - 1) number p between behind told result is at fits,
+     length-set (slice_set old (number - 1) between) (number - 1) behind ∙ length-set old (number - 1) between)
+
+-- a block of a number without a place
+pub nowhere_is : (stacks : Stacks) (old : List held.Place) (number : ℕ) (told : List Told) (result : Result) (line : Option ℕ) → place_at (map place_of old) number ≡ None
+    → IsUnplaced line told result → IsPlaced stacks old (block_of number told result) line old
+nowhere_is stacks old number told result None none is = (unplaced stacks (map place_of old) number told result true none (is stacks), refl)
+nowhere_is stacks old number told result (Some line) none is =
+    (unplaced stacks (map place_of old) number told result false none (is.0 stacks), is.1 ∙ unplaced_line stacks (map place_of old) number told result none)

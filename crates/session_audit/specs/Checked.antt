@@ -48,10 +48,6 @@ behind_quiet shut (closed_by_program code) = None
 behind_quiet (running h) (answered command shown) = at_quiet h command shown
 behind_quiet (running h) (closed_by_program code) = Some shut
 
--- whether what a command came to that neither runs a stack nor ends the transaction fits an open one
-abbrev pub LeavesOpen : Bool → Command → Shown → Type 0
-LeavesOpen fits command shown = (h : Held) → at_running h command shown ≡ only_if fits (running h)
-
 -- a result is the code of a stack call
 abbrev pub IsCall : Option StackCall → Result → Type 0
 IsCall (Some call) result = result ≡ answered (runs call.func) (shows_code call.code)

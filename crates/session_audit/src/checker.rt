@@ -1,11 +1,12 @@
-ghost use Rattle.std.specs.Prelude.{◌≡◌, ◌≤◌, ◌<◌, ◌+◌, ◌-◌, ◌^◌, ℕ, nat_eq, IfOk, List, Option, Some, None, length};
+ghost use Rattle.std.specs.Prelude.{◌≡◌, ◌≤◌, ◌<◌, ◌+◌, ◌-◌, ◌^◌, ℕ, Bool, nat_eq, IfOk, List, Option, Some, None, length};
 ghost use Rattle.std.specs.Option.{option_map};
 ghost use Rattle.service_load.specs.Stacks.{Stacks};
 ghost use Rattle.service_load.specs.Load.{AreBounded};
 ghost use Rattle.pass_replay.specs.Retold.{stacks_in};
 ghost use Rattle.report_lines.specs.Line.{unread};
+ghost use Rattle.report_reader.specs.Guess.{read_line};
 ghost use Rattle.report_reader.specs.Form.{result_of, says_of, told_of};
-ghost use Rattle.report_reader.specs.Says.{Says, lasts, results, tells};
+ghost use Rattle.report_reader.specs.Says.{Says, bare, lasts, results, tells};
 ghost use Rattle.session_audit.specs.Checked.{IsBehind, IsTaken, begun_within, differs_at, gathered_of, line_of, told_in};
 ghost use Rattle.session_audit.specs.Differs.{differs, may_follow, told_so_far};
 ghost use Rattle.session_audit.specs.Fits.{is_none};
@@ -15,7 +16,7 @@ use crate::place::Place;
 use crate::places::{judge_at, closed_places};
 use crate::verdict::Verdict;
 use pam_base::NoMemory;
-use report_reader::{Form, Outcome};
+use report_reader::{Form, Outcome, read_line};
 use service_load::Trees;
 use stack_walk::Seen;
 use std::alloc::Global;
@@ -50,8 +51,26 @@ impl Checker {
         })
     }
 
-    /// Takes the next line, by what it says; None is one without a form. The line that differs is named, if one does.
-    pub fn take(
+    /// Takes the next line, which is handed in without its newline. The line that differs is named, if one does.
+    pub fn take_line(
+        &mut self,
+        alloc: Global,
+        trees: &Trees,
+        line: &[u8],
+        is_last: bool,
+    ) -> Result<Option<u32>, NoMemory>
+        requires bounded { AreBounded trees.now }
+        requires behind { IsBehind self.old self.old.lines }
+        requires room { self.old.lines < 2 ^ 32 - 1 }
+        ensures { IfOk result (λ named. IsTaken (stacks_in trees.now) self.old
+            (option_map bare (read_line line.now)) is_last named self.new) }
+    {
+        let form = read_line(alloc, line)?;
+        self.take(alloc, trees, form, is_last)
+    }
+
+    // Takes a line by what it says; None is one without a form.
+    fn take(
         &mut self,
         alloc: Global,
         trees: &Trees,

@@ -1,4 +1,4 @@
-ghost use Rattle.std.specs.Prelude.{◌≡◌, ◌-◌, [], IfOk, Some, length};
+ghost use Rattle.std.specs.Prelude.{◌≡◌, ◌-◌, ◌&&◌, [], not, nat_eq, IfOk, Some, length};
 ghost use Rattle.service_load.specs.Load.{AreBounded};
 ghost use Rattle.stack_walk.specs.Retell.{telling};
 ghost use Rattle.dispatch_core.specs.Calls.{goes};
@@ -9,11 +9,11 @@ ghost use Rattle.report_lines.specs.Line.{answered, runs, shows_code};
 ghost use Rattle.report_reader.specs.Form.{result_of};
 ghost use Rattle.session_audit.specs.Checked.{IsCall, IsJudged, behind_quiet, place_of, told_in};
 ghost use Rattle.session_audit.specs.Differs.{lines_before, visits_good};
-ghost use Rattle.session_audit.specs.Fits.{behind_call, behind_result, is_refused_change, running, visits_told, without_visits};
+ghost use Rattle.session_audit.specs.Fits.{behind_call, behind_result, is_refused_change, running, same_code, visits_told, without_visits};
 
 use crate::place::{Place, behind_quiet};
 use pam_base::{Code, Func, NoMemory};
-use pass_replay::{Held, first_visit, retell};
+use pass_replay::{Held, Retold, first_visit, retell};
 use report_reader::{Answer, Outcome, Spoken};
 use service_load::Trees;
 use stack_walk::Seen;
@@ -51,6 +51,7 @@ pub fn judge(
 }
 
 // A stack call and its code.
+#[derive(Clone, Copy)]
 struct StackCall {
     func: Func,
     code: Code,
@@ -94,18 +95,26 @@ fn judge_call(
         (behind_result (stacks_in trees.now) (running (held_of held)) (visits_told (told_in told.now)) (answered (runs func) (shows_code code)))
         (lines_before (visits_good (stacks_in trees.now) (Some (running (held_of held))) (visits_told (told_in told.now)) (answered (runs func) (shows_code code))) (told_in told.now))) }
 {
-    let first = first_visit(told);
-    if first == told.len() && is_refused_change(func, code) {
+    if is_refused_change(func, code, told) {
         return Ok(Judged::Fits(Place::Open(held)));
     }
     if held.is_other_pending(func) {
-        return Ok(Judged::Differs(first));
+        return Ok(Judged::Differs(first_visit(told)));
     }
     judge_retold(alloc, trees, held, func, code, told)
 }
 
 // A change of token whose flags are refused visits nothing.
-fn is_refused_change(func: Func, code: Code) -> bool
+fn is_refused_change(func: Func, code: Code, told: &[Option<Seen>]) -> bool
+    ensures { result ≡ is_refused_change func code (visits_told (told_in told.now)) }
+{
+    if first_visit(told) < told.len() {
+        return false;
+    }
+    is_change_fault(func, code)
+}
+
+fn is_change_fault(func: Func, code: Code) -> bool
     ensures { result ≡ is_refused_change func code [] }
 {
     func == Func::ChAuthTok && code == Code::SystemErr
@@ -125,9 +134,17 @@ fn judge_retold(
         (lines_before (length (visits_told (told_in told.now)) - length (goes as_told (stacks_in trees.now) func (held_of held) (telling (visits_told (told_in told.now)))).state.left) (told_in told.now))) }
 {
     let retold = retell(alloc, trees, func, held, told)?;
-    if !retold.astray && retold.next == told.len() && code == retold.code {
+    if is_retold(code, &retold, told.len()) {
         Ok(Judged::Fits(Place::Open(retold.held)))
     } else {
         Ok(Judged::Differs(retold.next))
     }
+}
+
+// Whether a call took all of n told lines, met no other line, and came to this code.
+fn is_retold(code: Code, retold: &Retold, n: usize) -> bool
+    ensures { result ≡ (not retold.now.astray
+        && (nat_eq retold.now.next n && same_code code retold.now.code)) }
+{
+    !retold.astray && retold.next == n && code == retold.code
 }

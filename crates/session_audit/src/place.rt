@@ -1,10 +1,10 @@
-ghost use Rattle.std.specs.Prelude.{◌≡◌};
+ghost use Rattle.std.specs.Prelude.{◌≡◌, ◌||◌};
 ghost use Rattle.std.specs.Option.{option_map};
 ghost use Rattle.report_lines.specs.Line.{shows_code};
 ghost use Rattle.pass_replay.specs.Held.{held_of};
 ghost use Rattle.report_reader.specs.Form.{command_of, result_of, shown_of};
-ghost use Rattle.session_audit.specs.Checked.{LeavesOpen, at_quiet, behind_quiet, place_of};
-ghost use Rattle.session_audit.specs.Fits.{aborted_by, at_shut};
+ghost use Rattle.session_audit.specs.Checked.{at_quiet, behind_quiet, place_of};
+ghost use Rattle.session_audit.specs.Fits.{aborted_by, at_running, at_shut, only_if, running, same_code};
 
 use pam_base::{Code, Func};
 use pass_replay::Held;
@@ -54,20 +54,29 @@ fn at_closed(command: Spoken, answer: Answer) -> Option<Place>
 }
 
 fn at_open(held: Held, command: Spoken, answer: Answer) -> Option<Place>
-    ensures { option_map place_of result ≡ at_quiet (held_of held) (command_of command) (shown_of answer) }
+    ensures { option_map place_of result
+        ≡ at_quiet (held_of held) (command_of command) (shown_of answer) }
 {
-    match command {
-        Spoken::Run(func) => match answer {
-            Answer::Pending(other) if is_aborted(&held, func, other) => Some(Place::Open(held)),
+    match answer {
+        Answer::Code(code) => after_code(held, command, code),
+        Answer::Pending(other) => match command {
+            Spoken::Run(func) => {
+                let aborted = is_aborted(&held, func, other);
+                open_if(aborted, held)
+            }
             _ => None,
         },
-        Spoken::End => match answer {
-            Answer::Code(Code::Success) => Some(Place::Closed),
-            _ => None,
-        },
-        _ if leaves_open(command, answer) => Some(Place::Open(held)),
-        _ => None,
+        Answer::Value => open_if(matches!(command, Spoken::GetItem | Spoken::GetEnv), held),
+        Answer::Count => open_if(command == Spoken::EnvList, held),
+        Answer::AlreadyOpen => open_if(command == Spoken::Start, held),
+        Answer::Fault | Answer::NotOpen | Answer::BadNumber => None,
     }
+}
+
+fn open_if(fits: bool, held: Held) -> Option<Place>
+    ensures { option_map place_of result ≡ only_if fits (running (held_of held)) }
+{
+    if fits { Some(Place::Open(held)) } else { None }
 }
 
 // Whether a call was aborted because this other one was pending.
@@ -80,26 +89,28 @@ fn is_aborted(held: &Held, func: Func, other: Func) -> bool
     }
 }
 
-// Whether what a command came to that neither runs a stack nor ends the transaction fits an open one.
-fn leaves_open(command: Spoken, answer: Answer) -> bool
-    ensures { LeavesOpen result (command_of command) (shown_of answer) }
+// The place after a code of a call that runs no stack.
+fn after_code(held: Held, command: Spoken, code: Code) -> Option<Place>
+    ensures { option_map place_of result
+        ≡ at_running (held_of held) (command_of command) (shows_code code) }
 {
-    match answer {
-        Answer::Code(code) => may_answer(command, code),
-        Answer::Value => matches!(command, Spoken::GetItem | Spoken::GetEnv),
-        Answer::Count => matches!(command, Spoken::EnvList),
-        Answer::AlreadyOpen => matches!(command, Spoken::Start),
-        Answer::Fault | Answer::NotOpen | Answer::BadNumber | Answer::Pending(_) => false,
+    match command {
+        Spoken::End => {
+            if code == Code::Success {
+                Some(Place::Closed)
+            } else {
+                None
+            }
+        }
+        Spoken::SetItem | Spoken::PutEnv => open_if(is_success_or_bad_item(code), held),
+        Spoken::GetItem => open_if(code == Code::BadItem, held),
+        Spoken::FailDelay | Spoken::DelayFn => open_if(code == Code::Success, held),
+        _ => None,
     }
 }
 
-fn may_answer(command: Spoken, code: Code) -> bool
-    ensures { LeavesOpen result (command_of command) (shows_code code) }
+fn is_success_or_bad_item(code: Code) -> bool
+    ensures { result ≡ (same_code code Code.Success || same_code code Code.BadItem) }
 {
-    match command {
-        Spoken::SetItem | Spoken::PutEnv => code == Code::Success || code == Code::BadItem,
-        Spoken::GetItem => code == Code::BadItem,
-        Spoken::FailDelay | Spoken::DelayFn => code == Code::Success,
-        _ => false,
-    }
+    code == Code::Success || code == Code::BadItem
 }

@@ -1,4 +1,4 @@
-ghost use Rattle.std.specs.Prelude.{◌≡◌, IfOk, map};
+ghost use Rattle.std.specs.Prelude.{◌≡◌, ◌&&◌, IfOk, map, nat_le, nat_lt};
 ghost use Rattle.service_load.specs.Stacks.{Stacks};
 ghost use Rattle.service_load.specs.Load.{AreBounded};
 ghost use Rattle.pass_replay.specs.Retold.{stacks_in};
@@ -24,7 +24,7 @@ pub fn closed_places(alloc: Global) -> Result<Vec<Place>, NoMemory>
     ensures { IfOk result (λ places. map place_of places.items ≡ all_shut) }
 {
     let mut places = Vec::new(alloc);
-    for _ in 0..HANDLE_LIMIT {
+    while places.len() < HANDLE_LIMIT {
         places.push(Place::Closed)?;
     }
     Ok(places)
@@ -44,18 +44,25 @@ pub fn judge_at(
     ensures { IfOk result (λ line. IsPlaced (stacks_in trees.now) places.old.items
         (block_of number (told_in told.now) (result_of outcome)) line places.new.items) }
 {
-    let number = number as usize;
-    if number == 0 || places.len() < number {
+    if !has_place(number, places.len()) {
         return Ok(judge_nowhere(told, outcome));
     }
-    let place = std::mem::replace(&mut places[number - 1], Place::Closed);
+    let i = number as usize - 1;
+    let place = std::mem::replace(&mut places[i], Place::Closed);
     match judge(alloc, trees, place, told, outcome)? {
         Judged::Fits(behind) => {
-            places[number - 1] = behind;
+            places[i] = behind;
             Ok(None)
         }
         Judged::Differs(line) => Ok(Some(line)),
     }
+}
+
+// Whether a number has one of n places.
+fn has_place(number: u32, n: usize) -> bool
+    ensures { result ≡ (nat_lt 0 number && nat_le number n) }
+{
+    0 < number && number as usize <= n
 }
 
 // A block of a number that no transaction has.
@@ -63,7 +70,10 @@ fn judge_nowhere(told: &[Option<Seen>], outcome: Outcome) -> Option<usize>
     ensures { IsUnplaced result (told_in told.now) (result_of outcome) }
 {
     let first = first_visit(told);
-    if first == told.len() && is_bad_number(outcome) {
+    if first < told.len() {
+        return Some(first);
+    }
+    if is_bad_number(outcome) {
         None
     } else {
         Some(first)

@@ -1,8 +1,8 @@
-ghost use Rattle.std.specs.Prelude.{◌≡◌, ◌≤◌, ◌^◌, ◌↔◌, IfOk, length};
+ghost use Rattle.std.specs.Prelude.{◌≡◌, ◌≤◌, ◌<◌, ◌+◌, ◌^◌, ◌↔◌, IfOk, drop, length};
 ghost use Rattle.service_load.specs.Load.{AreBounded};
 ghost use Rattle.pass_replay.specs.Retold.{stacks_in};
 ghost use Rattle.report_reader.specs.Guess.{read_line};
-ghost use Rattle.session_audit.specs.Checked.{line_of};
+ghost use Rattle.session_audit.specs.Checked.{bare_lines, line_of};
 ghost use Rattle.session_audit.specs.Differs.{differs};
 ghost use Rattle.session_audit.specs.Fits.{Fits};
 ghost use Rattle.session_audit.specs.Whole.{lines_read};
@@ -10,7 +10,6 @@ ghost use Rattle.session_audit.specs.Whole.{lines_read};
 use crate::checker::Checker;
 use crate::laws::lines_audit;
 use pam_base::{NoMemory, first_place};
-use report_reader::read_line;
 use service_load::Trees;
 use std::alloc::Global;
 
@@ -28,17 +27,36 @@ pub fn audit(alloc: Global, trees: &Trees, text: &[u8]) -> Result<Verdict, NoMem
     requires short { length text.now ≤ 2 ^ 20 }
     ensures line { IfOk result (λ verdict. line_of verdict
         ≡ differs (stacks_in trees.now) (lines_read read_line text.now)) }
-    ensures fits { IfOk result (λ verdict. verdict ≡ Verdict.Fits ↔ Fits (stacks_in trees.now) text.now) }
+    ensures fits { IfOk result (λ verdict. verdict ≡ Verdict.Fits
+        ↔ Fits (stacks_in trees.now) text.now) }
 {
     lines_audit();
+    let verdict = verdict_of(alloc, trees, text)?;
+    Ok(verdict)
+}
+
+fn verdict_of(alloc: Global, trees: &Trees, text: &[u8]) -> Result<Verdict, NoMemory>
+    requires bounded { AreBounded trees.now }
+    requires short { length text.now ≤ 2 ^ 20 }
+    ensures { IfOk result (λ verdict. line_of verdict
+        ≡ differs (stacks_in trees.now) (bare_lines text.now)) }
+{
     let mut checker = Checker::new(alloc)?;
     let mut rest = text;
     while let Some(n) = first_place(b'\n', rest) {
-        let form = read_line(alloc, &rest[..n])?;
-        rest = &rest[n + 1..];
-        if let Some(line) = checker.take(alloc, trees, form, rest.is_empty())? {
+        let after = after_newline(rest, n);
+        let named = checker.take_line(alloc, trees, &rest[..n], after.is_empty())?;
+        if let Some(line) = named {
             return Ok(Verdict::Differs { line });
         }
+        rest = after;
     }
     Ok(checker.end(rest.is_empty()))
+}
+
+fn after_newline(text: &[u8], n: usize) -> &[u8]
+    requires { n < length text.now }
+    ensures { result.now ≡ drop (n + 1) text.now }
+{
+    &text[n + 1..]
 }

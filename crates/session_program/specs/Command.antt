@@ -18,6 +18,8 @@ pub data Request : Type 0 where
   generates : ℕ → ℕ → Request
   -- the failures of a user under a root
   tallies : List ℕ → List ℕ → Request
+  -- whether a transcript fits a service under a root
+  audits : List ℕ → List ℕ → Request
   -- the calls of a front end, as frames, under a root
   wires : List ℕ → Request
 
@@ -86,6 +88,13 @@ tally_request (root ∷ user ∷ []) =
     then Some (tallies (string_bytes root) (string_bytes user)) else None
 tally_request operands = None
 
+-- ROOT SERVICE
+abbrev pub audit_request : List (String Global) → Option Request
+audit_request (root ∷ service ∷ []) =
+    if is_operand (string_bytes root) && is_service (string_bytes service)
+    then Some (audits (string_bytes root) (string_bytes service)) else None
+audit_request operands = None
+
 -- ROOT
 abbrev pub wire_request : List (String Global) → Option Request
 wire_request (root ∷ []) =
@@ -99,6 +108,7 @@ command_request command operands =
     else if bytes_eq command (codes "login") then login_request operands
     else if bytes_eq command (codes "generate") then generate_request operands
     else if bytes_eq command (codes "tally") then tally_request operands
+    else if bytes_eq command (codes "audit") then audit_request operands
     else if bytes_eq command (codes "wire") then wire_request operands
     else None
 
@@ -107,4 +117,4 @@ request_of [] = None
 request_of (command ∷ operands) = command_request (string_bytes command) operands
 
 abbrev pub usage : List ℕ
-usage = codes "usage: pamsess run ROOT | check ROOT SERVICE | login ROOT SERVICE [USER] | generate SEED LINES | tally ROOT USER | wire ROOT\n"
+usage = codes "usage: pamsess run ROOT | check ROOT SERVICE | login ROOT SERVICE [USER] | generate SEED LINES | tally ROOT USER | audit ROOT SERVICE | wire ROOT\n"

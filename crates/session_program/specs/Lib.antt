@@ -6,3 +6,4 @@ pub mod Generate
 pub mod Wire
 pub mod CleanedUp
 pub mod Status
+pub mod Audit

@@ -1,5 +1,5 @@
 ghost use Rattle.std.specs.Prelude.{◌≡◌, false, IfNone, IfSome, string_bytes};
-ghost use Rattle.session_program.specs.Command.{check_request, draw_request, generate_request, is_operand, is_place, is_service, is_user, login_request, number_operand, request_of, run_request, tally_request, wire_request};
+ghost use Rattle.session_program.specs.Command.{audit_request, check_request, draw_request, generate_request, is_operand, is_place, is_service, is_user, login_request, number_operand, request_of, run_request, tally_request, wire_request};
 ghost use Rattle.session_program.specs.Asked.{IsPlace, asked};
 
 use crate::operand::{Draw, Place};
@@ -22,6 +22,8 @@ pub enum Request<'a> {
     Generate(Draw),
     /// The failures of a user, under this root.
     Tally(&'a [u8], &'a [u8]),
+    /// Whether a transcript fits a service, under this root.
+    Audit(&'a [u8], &'a [u8]),
     /// The calls of a front end, under this root.
     Wire(&'a [u8]),
 }
@@ -37,6 +39,7 @@ pub fn request_in(words: &[String]) -> Option<Request<'_>>
         "login" => login_request(operands),
         "generate" => generate_request(operands),
         "tally" => tally_request(operands),
+        "audit" => audit_request(operands),
         "wire" => wire_request(operands),
         _ => None,
     }
@@ -129,6 +132,17 @@ fn tally_request(operands: &[String]) -> Option<Request<'_>>
     match operands {
         [root, user] if is_operand(root.as_bytes()) && is_user(user.as_bytes()) => {
             Some(Request::Tally(root.as_bytes(), user.as_bytes()))
+        }
+        _ => None,
+    }
+}
+
+fn audit_request(operands: &[String]) -> Option<Request<'_>>
+    ensures { asked result ≡ audit_request operands.now }
+{
+    match operands {
+        [root, service] if is_operand(root.as_bytes()) && is_service(service.as_bytes()) => {
+            Some(Request::Audit(root.as_bytes(), service.as_bytes()))
         }
         _ => None,
     }

@@ -12,7 +12,10 @@ ghost use Rattle.pam_library.specs.Plain.{gear_in};
 ghost use Rattle.pam_library.specs.Sound.{IsSoundFor};
 ghost use Rattle.service_load.specs.Loading.{OnlyCalls};
 ghost use Rattle.session_check.specs.Check.{check_of};
-ghost use Rattle.session_program.specs.Command.{request_of, runs, checks, logs_in, generates, tallies, wires};
+ghost use Rattle.session_program.specs.Command.{request_of, runs, checks, logs_in, generates, tallies, audits, wires};
+ghost use Rattle.transcript_audit.specs.Audit.{audit_of};
+ghost use Rattle.transcript_audit.specs.Transcript.{Takes};
+ghost use Rattle.session_program.specs.Audit.{AuditsBy, IsAuditStatus};
 ghost use Rattle.session_program.specs.CleanedUp.{IsCleanedUp, MayEnd};
 ghost use Rattle.session_program.specs.Generate.{GeneratesBy, IsGenerateStatus};
 ghost use Rattle.session_program.specs.Login.{IsLoginStatus, LogsInBy, ShowsLogin};
@@ -27,7 +30,7 @@ use crate::frame_run::answer_frames;
 use crate::generation::draw;
 use crate::login::log_in;
 use crate::script_run::run;
-use crate::status::{status_of_check, status_of_tally};
+use crate::status::{status_of_audit, status_of_check, status_of_tally};
 use crate::usage::write_usage;
 use fail_delay::{DelayRule, LONGEST_ASKED};
 use pam_base::Code;
@@ -35,6 +38,7 @@ use pam_outside::{Sink, Source};
 use pam_room::{World, WorldTold};
 use session_check::check;
 use session_tally::list_failures;
+use transcript_audit::audit_transcript;
 use std::alloc::Global;
 
 /// The program `pamsess`. `words` are those of the command line, without the program's name:
@@ -49,22 +53,26 @@ use std::alloc::Global;
 /// - `generate SEED LINES` draws a service of that many lines, authenticates by it, and writes what that came to.
 /// - `tally ROOT USER` lists the failures of a user that `pam_faillock(8)` has recorded, and changes nothing of the
 ///   world but what the vault counts. A USER that can be no file's name is none.
+/// - `audit ROOT SERVICE` says whether a transcript, the report of a run, fits the stacks of a service, or which line
+///   doesn't, and changes nothing of the world but what the vault counts.
 /// - `wire ROOT` does what `run` does for the frames of a front end, of at most 65,536 calls, and writes an answer to
 ///   each before the next one is looked at.
 ///
 /// A word isn't empty and doesn't begin with `-`. It answers the program's status:
 ///
 /// - 0: the script or the frames were read to their end, the configuration is printed, the user was let in, the line is
-///   written, or the failures are listed
+///   written, the failures are listed, or the transcript fits
 /// - 2: the words are others, so only a line on the usage is written
 /// - 3: the configuration is refused, or a drawn file is
 /// - 4: memory ran out
-/// - 5: the script or the frames couldn't be read on
+/// - 5: the script, the frames or the transcript couldn't be read on
 /// - 6: a write failed, and what is written is a front of a report
 /// - 7: a line of the script is refused
 /// - 8: the login was denied
 /// - 9: the tally is damaged
 /// - 10: the tally can't be read
+/// - 11: the transcript doesn't fit
+/// - 12: the transcript has more than 1,048,576 bytes
 /// - 13: the frames have a bad one, or end within one
 /// - 14: another byte stands after 65,536 frames
 ///
@@ -234,6 +242,31 @@ pub fn pamsess<S: Source, K: Sink>(
         CountsUnread result (vault_faults (in_box world.old.vault))
         (vault_faults (in_box world.new.vault)) }
 
+    // Where they are audit ROOT SERVICE, the verdict on the transcript is written, or why there is none. With status 3
+    // the transcript isn't read.
+    ensures audited { (root service : List ℕ) →
+        request_of words.now ≡ Some (audits root service) → IsTrue (S.source_tells script.old) →
+        IsTrue (K.sink_tells out.old) → IsTrue (vault_tells (in_box world.old.vault)) →
+        AuditsBy result (audit_of (vault_holds (in_box world.old.vault)) root service)
+        (S.source_holds script.old).left (K.sink_holds out.old) (K.sink_holds out.new) }
+    ensures audit_statuses { (root service : List ℕ) →
+        request_of words.now ≡ Some (audits root service) → IsAuditStatus result }
+    ensures audit_stays { (root service : List ℕ) →
+        request_of words.now ≡ Some (audits root service) →
+        world.new ≡ record world.old { vault = world.new.vault } }
+    ensures audit_calls { (root service : List ℕ) →
+        request_of words.now ≡ Some (audits root service) →
+        IsTrue (vault_tells (in_box world.old.vault)) →
+        OnlyCalls (vault_holds (in_box world.old.vault)) (vault_holds (in_box world.new.vault)) }
+    ensures audit_takes { (root service : List ℕ) →
+        request_of words.now ≡ Some (audits root service) → IsTrue (S.source_tells script.old) →
+        Takes (S.source_holds script.old) (S.source_holds script.new) }
+    ensures audit_refused { (root service : List ℕ) →
+        request_of words.now ≡ Some (audits root service) → result ≡ 3 → script.new ≡ script.old }
+    ensures audit_no_read_fault { (root service : List ℕ) →
+        request_of words.now ≡ Some (audits root service) → result ≢ 5 →
+        S.source_faults script.new ≡ S.source_faults script.old }
+
     // Where they are wire ROOT, and all objects tell: with status 0, 5, 13 and 14 all steps that the bytes taken spell
     // are answered, and the closings, and the world is the one after them. With 4 and 6 it is a front of that.
     ensures wire_answered { (root : List ℕ) (number : Code → ℕ → ℕ) →
@@ -324,6 +357,11 @@ pub fn pamsess<S: Source, K: Sink>(
         Some(Request::Tally(root, user)) => {
             let tallied = list_failures(alloc, root, user, out, &mut *world.vault);
             status_of_tally(tallied)
+        }
+        Some(Request::Audit(root, service)) => {
+            let audited =
+                audit_transcript(alloc, root, service, script, out, &mut *world.vault);
+            status_of_audit(audited)
         }
         Some(Request::Wire(root)) => answer_frames(alloc, root, script, out, world, desk),
     }

@@ -1,9 +1,11 @@
 ghost use Rattle.std.specs.Prelude.{◌≡◌};
+ghost use Rattle.session_program.specs.Audit.{audit_status};
 ghost use Rattle.session_program.specs.Status.{check_status, tally_status};
 
 use item_stream::Stop;
 use session_check::Found;
 use session_tally::Tallied;
+use transcript_audit::Audited;
 
 /// The program's status after a check.
 pub(crate) fn status_of_check(found: Result<Found, Stop>) -> u8
@@ -25,6 +27,21 @@ pub(crate) fn status_of_tally(tallied: Result<Tallied, Stop>) -> u8
         Ok(Tallied::Listed) => 0,
         Ok(Tallied::Damaged) => 9,
         Ok(Tallied::Unread) => 10,
+        Err(Stop::NoMemory) => 4,
+        Err(Stop::WriteFault) => 6,
+    }
+}
+
+/// The program's status after an audit.
+pub(crate) fn status_of_audit(audited: Result<Audited, Stop>) -> u8
+    ensures { result ≡ audit_status audited }
+{
+    match audited {
+        Ok(Audited::Fits) => 0,
+        Ok(Audited::Differs) => 11,
+        Ok(Audited::Refused) => 3,
+        Ok(Audited::TooLong) => 12,
+        Ok(Audited::Unread) => 5,
         Err(Stop::NoMemory) => 4,
         Err(Stop::WriteFault) => 6,
     }

@@ -6,7 +6,7 @@ use pam_base::Failed;
 use pam_outside::{Sink, write_all};
 
 const USAGE: &str =
-    "usage: pamsess run ROOT | check ROOT SERVICE | login ROOT SERVICE [USER] | generate SEED LINES | tally ROOT USER | wire ROOT\n";
+    "usage: pamsess run ROOT | check ROOT SERVICE | login ROOT SERVICE [USER] | generate SEED LINES | tally ROOT USER | audit ROOT SERVICE | wire ROOT\n";
 
 /// Writes the line on the usage. Answers the program's status.
 pub(crate) fn write_usage<K: Sink>(out: &mut K) -> u8

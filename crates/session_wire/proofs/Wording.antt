@@ -224,7 +224,7 @@ module _ (setting : Setting) (served : ServedAreSteps (answers setting)) where
   stops_among start last end x y p q stop m r t e =
       let s = r.report in
       let all = taken_bytes x y r.taken r.source t in
-      let f = served 0 s.items start s.middle r.taken s.ended s.served (begun_items s.begun ++ s.others_met) s.whole (omega arith) all (s.among_met ∙ append_assoc s.served (begun_items s.begun) s.others_met) s.run in
+      let f = served 0 m start s.middle r.taken s.ended s.served (begun_items s.begun ++ s.others_met) s.whole (omega arith) all (s.among_met ∙ append_assoc s.served (begun_items s.begun) s.others_met) s.run in
       record {
         taken = r.taken;
         source = r.source;
@@ -236,6 +236,6 @@ module _ (setting : Setting) (served : ServedAreSteps (answers setting)) where
         written = r.sink ∙ ap (λ (z : List ℕ). p.written ++ z) (s.parts ∙ ap (λ (z : List ℕ). z ++ s.part) f.text_is);
         last = last;
         cut = subst (λ (z : RunState). IsCutIn setting stop f.rest z last s.part) f.state_is
-            (cut_in stop s.items s.begun s.middle last f.rest s.part s.ended s.others_met f.few (bytes_behind r.taken f.rest f.steps f.frames all) f.others s.stopped);
+            (cut_in stop m s.begun s.middle last f.rest s.part s.ended s.others_met f.few (bytes_behind r.taken f.rest f.steps f.frames all) f.others s.stopped);
         closed = e;
       }

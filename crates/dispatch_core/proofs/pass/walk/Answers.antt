@@ -1,4 +1,5 @@
-use Rattle.std.proofs.Common.{◌≡◌, ◌≤◌, ◌<◌, ◌+◌, ◌++◌, ◌∷◌, [], List, Option, Some, None, length, length-append, map, is_some, true, refl, sym, ◌∙◌, ap, subst, arith}
+use Rattle.std.proofs.Common.{◌≡◌, ◌≤◌, ◌<◌, ◌+◌, ◌++◌, ◌∷◌, [], List, Option, Some, None, length, length-append, map, is_some, true, Err, refl, sym, ◌∙◌, ap, subst, arith, rules}
+use Rattle.std.proofs.lemmas.List.{length-map}
 use Rattle.pam_base.specs.declared.code.Code.{Code}
 use Rattle.control_words.specs.Stack.{Stack, lines_in}
 use Rattle.frozen_chain.specs.Kept.{Answers, kept_at, lines_kept}
@@ -14,6 +15,7 @@ use Rattle.dispatch_core.proofs.Pathing.{paths_ahead}
 use Rattle.dispatch_core.proofs.Progress.{nothing_yet, one_more, lines_kept-more, held-more, lines_kept-empty}
 use Rattle.dispatch_core.proofs.Ending.{walks_off, walks_to, turn_more}
 use Rattle.dispatch_core.proofs.Sounding.{sound_none}
+use Rattle.dispatch_core.proofs.Reaching.{far_first, far_later, stops_later}
 use Rattle.dispatch_core.proofs.Telling.{both_tell}
 use Rattle.dispatch_core.proofs.pass.walk.Goals as goal
 
@@ -23,6 +25,7 @@ loop-walker-init g c =
       [],
       record {
         goes = λ told. begun c.args.request.kind (serving c.args.request.kind (by_place c.args.follows.now) answers) c.args.chain.now.nodes c.new-walker.result _ c.new-walker.ensures.at c.new-walker.ensures.opinion c.new-walker.ensures.entries;
+        far = far_first _ _ _ _ _ _ _ _ _ c.new-walker.result c.new-walker.ensures.at c.new-walker.ensures.opinion c.new-walker.ensures.entries;
         progress = nothing_yet c.args.keeps.now c.args.supplies.now.given.taken (lines_in c.args.chain.now.nodes) c.new-walker.result.at c.requires.cells c.requires.taken;
         few = omega (arith, ap length c.requires.taken);
         answers_fit = omega (arith, c.requires.answers);
@@ -84,6 +87,7 @@ loop-walker-preserved g c =
             turn_more c.args.request.kind serve c.loop-walker.chain.nodes c.args.chain.now.nodes c.loop-walker.walker _ _ c.in_ok-_answer.field-0 (Some answer)
             (λ stack o. turned c.args.request.kind serve stack o c.loop-walker.walker.opinion c.walk_line.new.walker (pass_state c.walk_line.new.supplies.given.past (visits_with visits (at + 1) o) later))
             sofar.nodes (c.in_ok-_answer.ensures.told now visits) c.in-Some.is (sofar.goes told);
+        far = far_later _ _ _ _ _ _ _ _ _ _ c.loop-walker.walker c.walk_line.new.walker c.loop-walker.supplies.given.past c.walk_line.new.supplies.given.past answer _ later c.in_ok-_answer.field-0 sofar.nodes _ (both_tell _ _ _ _ sofar.room_tells sofar.world_tells) sofar.far c.in_ok-_answer.ensures.goes c.in_ok-_answer.ensures.took c.in-Some.is;
         progress = one_more c.loop-walker.keeps c.walk_line.new.keeps c.loop-walker.supplies.given.taken c.walk_line.new.supplies.given.taken at c.walk_line.new.walker.at visits answer sofar.progress
             (λ there. omega (arith, sofar.cells there, within, ap lines_in sofar.nodes)) held kept taken ahead;
         few = omega (arith, ap length taken, length-append c.loop-walker.supplies.given.taken (answer ∷ []), sofar.few, ahead);
@@ -111,3 +115,10 @@ returns-clause-told g c = λ told.
     let behind : lines_in c.args.chain.now.nodes ≤ c.loop-walker.walker.at = omega (arith, c.len.ensures.counted, c.loop-walker-test.false, ap lines_in sofar.nodes) in
     walks_to _ c.loop-walker.walker.opinion c.loop-walker.supplies.given.past c.loop-walker.invariant.0 now c.loop-walker.keeps c.loop-walker.supplies.given sofar.progress.taken_is sofar.progress.kept_is _ c.verdict.ensures
     (ended_at_last c.args.request.kind (serving c.args.request.kind (by_place c.args.follows.now) answers) c.args.chain.now.nodes c.loop-walker.walker _ _ behind (sofar.goes told))
+
+pub returns-in_err-_answer-clause-stopped : goal.returns-in_err-_answer-clause-stopped
+returns-in_err-_answer-clause-stopped g c =
+    let sofar = c.loop-walker.invariant.1 in
+    let answered : c.from_residual.result ≡ Err c.in_err-_answer.field-0.0 = search rules in
+    rw answered (stops_later _ _ _ _ _ _ _ _ _ _ c.loop-walker.walker c.loop-walker.supplies.given.past _ _ _ sofar.nodes sofar.far c.in_err-_answer.ensures.at_work.0 (omega (arith, c.loop-walker-test.true, c.len.ensures.counted)) c.in_err-_answer.ensures.at_work.1
+    (length-map c.args.mods.now (player_of (λ b. (goal.Module-dyn g (b.vtable, b.value)).label b.value) (λ b. (goal.Module-dyn g (b.vtable, b.value)).plays b.value) (λ b. (goal.Module-dyn g (b.vtable, b.value)).note b.value))) c.walk_line.ensures.sound (ap (λ b. (goal.Nap-dyn g (b.vtable, b.value)).nap_holds b.value) c.walk_line.ensures.nap))

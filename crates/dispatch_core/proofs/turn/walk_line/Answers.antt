@@ -7,6 +7,7 @@ use Rattle.stack_walk.specs.Pass.{Answering, serving, pass_state, decides}
 use Rattle.dispatch_core.specs.Index.{GoesOn}
 use Rattle.dispatch_core.specs.Lines.{answers_by}
 use Rattle.dispatch_core.specs.Passes.{by_place, answer_in}
+use Rattle.dispatch_core.proofs.Reaching.{goes_by}
 use Rattle.dispatch_core.proofs.Taking.{put_off, taken}
 use Rattle.dispatch_core.proofs.turn.walk_line.Goals as goal
 
@@ -30,3 +31,10 @@ returns-clause-told g c = λ told visits.
     (λ l stands.
     subst (λ (k : Code). GoesOn c.args.request.kind l c.in-Some.answer k c.args.walker.now c.go_on.new.self)
     (c.decide-deciding.ensures ∙ ap (λ (o : Option Code). decides c.args.request.kind (by_place c.args.follows.now) (c.args.walker.now.at + 1) (answer_in o)) (sym c.in-Some.is)) (c.go_on.ensures.goes l stands))
+
+pub returns-clause-goes : goal.returns-clause-goes
+returns-clause-goes g c = goes_by c.args.request.kind (by_place c.args.follows.now) c.args.chain.now.nodes c.in-Some.answer c.args.walker.now c.go_on.new.self c.requires.within
+    (λ l stands. subst (λ (k : Code). GoesOn c.args.request.kind l c.in-Some.answer k c.args.walker.now c.go_on.new.self) c.decide-deciding.ensures (c.go_on.ensures.goes l stands))
+
+pub returns-clause-took : goal.returns-clause-took
+returns-clause-took g c = rw c.in-Some.is at c.in_ok-answer.ensures.took

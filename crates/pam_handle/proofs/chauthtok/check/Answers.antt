@@ -1,10 +1,11 @@
-use Rattle.std.proofs.Common.{None, map, refl, sym, ◌∙◌}
+use Rattle.std.proofs.Common.{◌≡◌, None, Err, map, refl, sym, ◌∙◌, rules}
 use Rattle.dispatch_core.specs.Given.{past_of}
 use Rattle.pam_room.specs.Module.{player_of}
 use Rattle.pam_room.specs.Plain.{plain_room, plain_world}
 use Rattle.pam_room.specs.State.{PlainRoom, PlainWorld}
 use Rattle.pam_handle.specs.Pass.{kept_answers}
 use Rattle.pam_handle.proofs.Changing.{both_tell, checked, checked_alone, if_ok_from, success_over}
+use Rattle.pam_handle.proofs.Stopping.{both_same, check_stops, stops_later}
 use Rattle.pam_handle.proofs.chauthtok.check.Goals as goal
 
 pub returns-in-Success-clause-told : goal.returns-in-Success-clause-told
@@ -31,3 +32,13 @@ returns-in_default-clause-told g c = λ told h room stack.
 
 pub returns-in-Success-clause-sound : goal.returns-in-Success-clause-sound
 returns-in-Success-clause-sound g c = c.soundness_is_transitive.ensures _ _ _ _ _ _ _ _ c.pass.ensures.sound c.update.ensures.sound
+
+pub returns-in_err-code-clause-stopped : goal.returns-in_err-code-clause-stopped
+returns-in_err-code-clause-stopped g c =
+    let answered : c.from_residual.result ≡ Err c.in_err-code.field-0.0 = search rules in
+    rw answered (check_stops _ c.args.flags _ _ _ _ _ _ _ _ _ (rw c.none-kept.ensures at c.in_err-code.ensures.stopped))
+
+pub returns-in-Success-clause-stopped : goal.returns-in-Success-clause-stopped
+returns-in-Success-clause-stopped g c =
+    stops_later _ c.args.flags _ _ c.update.result _ _ _ c.in_ok-code.code c.pass.new.paused _ _ _ _ _ _ _ c.pass.ensures.nodes (both_same _ _ _ _ c.pass.ensures.tells c.pass.ensures.world_tells) c.in-Success.is
+    (success_over c.pass.new.paused c.in_ok-code.code c.in-Success.is c.in_ok-code.ensures.put_off) (λ told. rw c.none-kept.ensures at (c.in_ok-code.ensures.told told)) c.pass.ensures.sound c.update.ensures.stopped

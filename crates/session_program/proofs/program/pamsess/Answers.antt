@@ -93,3 +93,6 @@ returns-in-Some-Wire-clause-cleaned_up g c = cleaned_as _ _ _ _ _ _ _ (rw c.in-S
 
 pub returns-in-Some-Wire-clause-no_read_fault : goal.returns-in-Some-Wire-clause-no_read_fault
 returns-in-Some-Wire-clause-no_read_fault g c = no_fault_read _ _ _ c.answer_frames.ensures.statuses c.answer_frames.ensures.no_read_fault
+
+pub returns-in-Some-Audit-clause-cleaned_up : goal.returns-in-Some-Audit-clause-cleaned_up
+returns-in-Some-Audit-clause-cleaned_up g c = nothing_to_clean _ _ _ c.requires.no_births c.requires.no_receipts

@@ -1,5 +1,7 @@
-use Rattle.std.proofs.Common.{Option, None, map, refl, sym, ◌∙◌, ap}
+use Rattle.std.proofs.Common.{List, Option, None, map, refl, sym, ◌∙◌, ap}
 use Rattle.std.specs.Option.{option_map}
+use Rattle.pam_base.specs.declared.code.Code.{Code}
+use Rattle.pam_handle.specs.Call.{request_behind}
 use Rattle.pam_base.specs.declared.call.Func.TheVariants.{AcctMgmt}
 use Rattle.pam_room.specs.Module.{player_of}
 use Rattle.pam_room.specs.Plain.{plain_room, plain_world}
@@ -9,7 +11,8 @@ use Rattle.pam_handle.specs.Handle.{PlainHandle}
 use Rattle.pam_handle.specs.Pass.{kept_answers, passed}
 use Rattle.pam_handle.specs.Plain.{pending_of, plain_handle}
 use Rattle.pam_handle.specs.declared.put_off.PutOff.{PutOff}
-use Rattle.pam_handle.proofs.Calling.{ran_once}
+use Rattle.pam_handle.proofs.Calling.{on_err, ran_once}
+use Rattle.pam_handle.proofs.Stopping.{on_err_from, stops_once}
 use Rattle.pam_handle.proofs.handle.Handle.acct_mgmt.Goals as goal
 use Rattle.stack_walk.specs.declared.pass_kind.PassKind.TheVariants.{Keep}
 
@@ -23,3 +26,12 @@ returns-clause-told g c = λ told.
     (sym c.is_other_pending.ensures ∙ c.if-is_other_pending.false) (c.taken_up-paused.ensures.past ∙ ap (λ (p : Option PutOff). past_in (option_map pending_of p)) c.take.ensures.value)
     (c.settle.ensures.plain ∙ rw (c.pass-result.ensures.nodes, c.none.ensures) refl)
     (rw c.none-kept.ensures at (c.pass-result.ensures.told told))
+
+pub returns-clause-stopped : goal.returns-clause-stopped
+returns-clause-stopped g c =
+    let h : PlainHandle = plain_handle (plain_room (λ b. (goal.Conv-dyn g (b.vtable, b.value)).conv_holds b.value)) c.args.self.now in
+    let players = map (player_of (λ b. (goal.Module-dyn g (b.vtable, b.value)).label b.value) (λ b. (goal.Module-dyn g (b.vtable, b.value)).plays b.value) (λ b. (goal.Module-dyn g (b.vtable, b.value)).note b.value)) c.args.gear.now.mods.items in
+    stops_once players AcctMgmt c.args.flags _ h _ (plain_world (λ b. (goal.Vault-dyn g (b.vtable, b.value)).vault_holds b.value) (λ b. (goal.Clock-dyn g (b.vtable, b.value)).clock_holds b.value) (λ b. (goal.Nap-dyn g (b.vtable, b.value)).nap_holds b.value)) c.args.world.now c.pass-result.result c.pass-result.new.world _ _ _ _ ((plain_room (λ b. (goal.Conv-dyn g (b.vtable, b.value)).conv_holds b.value)) c.pass-result.new.room) _ _ _ _
+    refl refl refl (ap kept_answers c.none-kept.ensures)
+    (c.taken_up-paused.ensures.past ∙ ap (λ (p : Option PutOff). past_in (option_map pending_of p)) c.take.ensures.value)
+    (on_err_from c.pass-result.result (λ p. ap (λ (k : PlainHandle). k.room) c.settle.ensures.plain ∙ ap (λ (o : Option (List Code)). request_behind o ((plain_room (λ b. (goal.Conv-dyn g (b.vtable, b.value)).conv_holds b.value)) c.pass-result.new.room)) p) c.pass-result.ensures.paused) (on_err c.pass-result.result refl) c.pass-result.ensures.stopped

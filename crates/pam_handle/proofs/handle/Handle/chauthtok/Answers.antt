@@ -1,5 +1,6 @@
 use Rattle.std.proofs.Common.{Option, map, length, refl, sym, ◌∙◌, ap}
 use Rattle.std.specs.Option.{option_map}
+use Rattle.item_store.specs.Items.{ItemTexts}
 use Rattle.pam_base.specs.declared.call.Func.TheVariants.{ChAuthTok}
 use Rattle.pam_room.specs.Module.{notes_of, player_of}
 use Rattle.pam_room.specs.Plain.{plain_room, plain_world}
@@ -10,6 +11,7 @@ use Rattle.pam_handle.specs.Pass.{kept_answers}
 use Rattle.pam_handle.specs.Plain.{pending_of, plain_handle}
 use Rattle.pam_handle.specs.declared.put_off.PutOff.{PutOff}
 use Rattle.pam_handle.proofs.Changing.{changed_as, failed_change, runs_soundly}
+use Rattle.pam_handle.proofs.Stopping.{ended_behind, stops_changing}
 use Rattle.pam_handle.proofs.handle.Handle.chauthtok.Goals as goal
 
 pub returns-clause-told : goal.returns-clause-told
@@ -46,3 +48,15 @@ returns-clause-sound g c =
     c.clear_unless_pending.ensures refl refl refl
     (c.settle.ensures.plain ∙ rw (c.change-result.ensures.nodes, c.clear_unless_put_off.ensures) refl)
     c.change-result.ensures.sound
+
+pub returns-clause-stopped : goal.returns-clause-stopped
+returns-clause-stopped g c =
+    let h : PlainHandle = plain_handle (plain_room (λ b. (goal.Conv-dyn g (b.vtable, b.value)).conv_holds b.value)) c.args.self.now in
+    let players = map (player_of (λ b. (goal.Module-dyn g (b.vtable, b.value)).label b.value) (λ b. (goal.Module-dyn g (b.vtable, b.value)).plays b.value) (λ b. (goal.Module-dyn g (b.vtable, b.value)).note b.value)) c.args.gear.now.mods.items in
+    stops_changing players c.args.flags _ h _ (plain_world (λ b. (goal.Vault-dyn g (b.vtable, b.value)).vault_holds b.value) (λ b. (goal.Clock-dyn g (b.vtable, b.value)).clock_holds b.value) (λ b. (goal.Nap-dyn g (b.vtable, b.value)).nap_holds b.value)) c.args.world.now _ c.change-result.result _ ((plain_room (λ b. (goal.Conv-dyn g (b.vtable, b.value)).conv_holds b.value)) c.change-result.new.room) _ _
+    (ap (λ (items : ItemTexts). record h.room { transaction = record h.room.transaction { items = items } }) c.clear_unless_pending.ensures)
+    (c.taken_up-paused.ensures.first ∙ ap (λ (p : Option PutOff). first_in (option_map pending_of p)) c.take.ensures.value)
+    (c.taken_up-paused.ensures.past ∙ ap (λ (p : Option PutOff). past_in (option_map pending_of p)) c.take.ensures.value)
+    (ended_behind c.change-result.result c.change-result.new.paused ((plain_room (λ b. (goal.Conv-dyn g (b.vtable, b.value)).conv_holds b.value)) c.change-result.new.room) h _ (pending_behind ChAuthTok (kept_answers c.change-result.new.first) c.change-result.new.paused) c.change-result.ensures.paused
+    (c.settle.ensures.plain ∙ rw (c.change-result.ensures.nodes, c.clear_unless_put_off.ensures) refl))
+    c.change-result.ensures.stopped

@@ -1,5 +1,7 @@
-use Rattle.std.proofs.Common.{Option, map, refl, sym, ◌∙◌, ap}
+use Rattle.std.proofs.Common.{List, Option, map, refl, sym, ◌∙◌, ap}
 use Rattle.std.specs.Option.{option_map}
+use Rattle.pam_base.specs.declared.code.Code.{Code}
+use Rattle.pam_handle.specs.Call.{request_behind}
 use Rattle.pam_base.specs.declared.call.Func.TheVariants.{CloseSession}
 use Rattle.pam_room.specs.Module.{player_of}
 use Rattle.pam_room.specs.Plain.{plain_room, plain_world}
@@ -11,6 +13,7 @@ use Rattle.pam_handle.specs.Pass.{kept_answers, passed}
 use Rattle.pam_handle.specs.Plain.{pending_of, plain_handle}
 use Rattle.pam_handle.specs.declared.put_off.PutOff.{PutOff}
 use Rattle.pam_handle.proofs.Calling.{failed, followed_failed, on_err, ran_once}
+use Rattle.pam_handle.proofs.Stopping.{on_err_from, stops_once}
 use Rattle.pam_handle.proofs.handle.Handle.close_session.Goals as goal
 
 pub returns-clause-told : goal.returns-clause-told
@@ -29,3 +32,12 @@ returns-clause-err g c =
     let h : PlainHandle = plain_handle (plain_room (λ b. (goal.Conv-dyn g (b.vtable, b.value)).conv_holds b.value)) c.args.self.now in
     failed c.pass-result.result CloseSession c.pass-result.new.paused (plain_room (λ b. (goal.Conv-dyn g (b.vtable, b.value)).conv_holds b.value) c.pass-result.new.room) h (record h { opened = kept_answers c.pass-result.new.kept }) _
     c.pass-result.ensures.paused (c.settle.ensures.plain ∙ rw (c.pass-result.ensures.nodes, c.none.ensures) refl) (on_err c.pass-result.result refl) (followed_failed c.pass-result.result c.args.self.now.opened c.pass-result.new.kept c.following-kind.result c.following-kind.ensures c.pass-result.ensures.kept) refl tt refl refl refl
+
+pub returns-clause-stopped : goal.returns-clause-stopped
+returns-clause-stopped g c =
+    let h : PlainHandle = plain_handle (plain_room (λ b. (goal.Conv-dyn g (b.vtable, b.value)).conv_holds b.value)) c.args.self.now in
+    let players = map (player_of (λ b. (goal.Module-dyn g (b.vtable, b.value)).label b.value) (λ b. (goal.Module-dyn g (b.vtable, b.value)).plays b.value) (λ b. (goal.Module-dyn g (b.vtable, b.value)).note b.value)) c.args.gear.now.mods.items in
+    stops_once players CloseSession c.args.flags _ h _ (plain_world (λ b. (goal.Vault-dyn g (b.vtable, b.value)).vault_holds b.value) (λ b. (goal.Clock-dyn g (b.vtable, b.value)).clock_holds b.value) (λ b. (goal.Nap-dyn g (b.vtable, b.value)).nap_holds b.value)) c.args.world.now c.pass-result.result c.pass-result.new.world _ _ _ _ ((plain_room (λ b. (goal.Conv-dyn g (b.vtable, b.value)).conv_holds b.value)) c.pass-result.new.room) _ _ _ _
+    refl refl c.following-kind.ensures refl
+    (c.taken_up-paused.ensures.past ∙ ap (λ (p : Option PutOff). past_in (option_map pending_of p)) c.take.ensures.value)
+    (on_err_from c.pass-result.result (λ p. ap (λ (k : PlainHandle). k.room) c.settle.ensures.plain ∙ ap (λ (o : Option (List Code)). request_behind o ((plain_room (λ b. (goal.Conv-dyn g (b.vtable, b.value)).conv_holds b.value)) c.pass-result.new.room)) p) c.pass-result.ensures.paused) (on_err c.pass-result.result refl) c.pass-result.ensures.stopped

@@ -1,0 +1,106 @@
+-- A pass that found no memory: how far it had come, and what was done by then (this project's own).
+use Rattle.std.specs.Prelude.{◌≡◌, ◌⊎◌, ℕ, ◌+◌, ◌-◌, Bool, IsTrue, List, [], ◌∷◌, ◌++◌, length, Option, Some, None}
+use Rattle.pam_base.specs.declared.code.Code.{Code}
+use Rattle.pam_base.specs.declared.code.Code.TheVariants as codes
+use Rattle.pam_base.specs.declared.call.Func.{Func}
+use Rattle.control_words.specs.declared.nodes.Rule.{Rule}
+use Rattle.control_words.specs.Stack.{Stack}
+use Rattle.handler_chain.specs.FlatLines.{module_of, rule_at}
+use Rattle.pam_room.specs.declared.visits.Visit.{Visit as Visited}
+use Rattle.pam_room.specs.Module.{Player, notes_of}
+use Rattle.pam_room.specs.State.{PlainRoom, PlainTransaction, State}
+use Rattle.stack_walk.specs.declared.opinion.Opinion.{Opinion}
+use Rattle.stack_walk.specs.declared.pass_kind.PassKind.{PassKind}
+use Rattle.stack_walk.specs.Route.{KeptAnswers}
+use Rattle.stack_walk.specs.Walk.{halted}
+use Rattle.stack_walk.specs.Pass.{Answering, AnswersAs, Visit, answers_of, pass_after, pass_state, serving, visit}
+use Rattle.dispatch_core.specs.AnyWorld.{GoesSoundly}
+use Rattle.dispatch_core.specs.declared.walker.Walker.{Walker}
+use Rattle.dispatch_core.specs.Index.{walk_on}
+use Rattle.dispatch_core.specs.Lines.{answers_by, names_of}
+
+-- a line that isn't asked: it puts the pass off there, and its place is noted
+abbrev pub unasked : Answering (Option ℕ)
+unasked rule place noted = record { answer = codes.Incomplete; state = Some place }
+
+-- the visits of a trail, as those of a walk
+abbrev pub visits_in : List Visited → List Visit
+visits_in [] = []
+visits_in (v ∷ vs) = visit v.place v.answer ∷ visits_in vs
+
+-- the visit of the line of an index
+abbrev pub visited_at : Stack → ℕ → Code → Visited
+visited_at stack i answer = record {
+  place = i + 1;
+  path = (rule_at stack i).path;
+  answer = answer;
+}
+
+-- the module of a rule was at work, and its line is no visit
+abbrev pub IsAtWork : List Player → Rule → PlainTransaction → PlainTransaction → Type 0
+IsAtWork players rule old new = (module_of (names_of players) rule ≡ Some new.serving)
+    × (new.trail ≡ old.trail)
+
+-- Where a walker goes by an answer that was given, whatever answers come after it.
+abbrev pub GoesBy : PassKind → KeptAnswers → Stack → Code → Walker → Walker → Type 0
+GoesBy kind kept stack code old new = (rest : List Code) (visits : List Visit)
+    → walk_on kind (serving kind kept unasked) stack old (pass_state (code ∷ rest) visits None)
+    ≡ walk_on kind (serving kind kept unasked) stack new
+    (pass_state rest (visits ++ visit (old.at + 1) code ∷ []) None)
+
+module _ (players : List Player) (func : Func) (flags : ℕ) (stack : Stack) where
+  -- lines were visited one after another, each of which answered as its module plays
+  abbrev pub PlayOn : List Visited → State → State → Type 0
+  PlayOn [] s t = t ≡ s
+  PlayOn (v ∷ vs) s t =
+      (u : State)
+      × AnswersAs (answers_by players func flags (rule_at stack (v.place - 1)) v.place s) v.answer u
+      × PlayOn vs u t
+
+  -- the line of an index was asked, after all answers that earlier calls were given
+  pub record IsAsked (tells : Bool) (i : ℕ) (code : Code) (past left : List Code) (s t : State) :
+      Type 0 where
+    pub none_before : past ≡ []
+    pub none_left : left ≡ []
+    pub trail : t.room.transaction.trail
+        ≡ s.room.transaction.trail ++ visited_at stack i code ∷ []
+    pub told : IsTrue tells →
+        AnswersAs (answers_by players func flags (rule_at stack i) (i + 1) s) code t
+
+  -- a line's answer is the next of those that earlier calls were given, and nothing was done; or it was asked
+  abbrev pub Takes : Bool → ℕ → Code → List Code → List Code → State → State → Type 0
+  Takes tells i code past left s t = ((past ≡ code ∷ left) × (t ≡ s))
+      ⊎ IsAsked tells i code past left s t
+
+  -- Since a state, nothing was done but what a module may do that is at work: it kept what modules keep. No line was
+  -- visited, and nobody waited.
+  pub record IsBroken (middle end : State) : Type 0 where
+    pub sound : GoesSoundly (notes_of players) (length players) middle.room.transaction
+        end.room.transaction middle.world.process end.world.process
+    pub trail : end.room.transaction.trail ≡ middle.room.transaction.trail
+    pub nap : end.world.nap ≡ middle.world.nap
+
+  -- Where a pass stopped, after the answers that its earlier calls were given. The lines that it visited are those
+  -- that its stack leads to by their answers, one after another, and the next that it leads to is the line of this
+  -- index, whose module was at work. Where all tells, each visited line answered as its module plays, and all that
+  -- was done since is that module's.
+  pub record StopsAt (kind : PassKind) (kept : KeptAnswers) (past : List Code) (tells : Bool)
+      (start end : State) : Type 0 where
+    pub more : List Visited
+    pub trail : end.room.transaction.trail ≡ start.room.transaction.trail ++ more
+    pub early : List Visit
+    pub resumed : answers_of early ≡ past
+    pub index : ℕ
+    pub opinion : Opinion
+    pub leads : pass_after kind kept unasked stack (past ++ answers_of (visits_in more)) None
+        ≡ halted opinion (pass_state [] (early ++ visits_in more) (Some (index + 1)))
+    pub at_work : module_of (names_of players) (rule_at stack index)
+        ≡ Some end.room.transaction.serving
+    pub played : IsTrue tells → (middle : State) × PlayOn more start middle × IsBroken middle end
+
+-- nothing happened at all
+pub record IsUntouched {Conv World : Type 0} (old new : PlainRoom) (first last : Conv)
+    (before after : World) : Type 0 where
+  pub room : new ≡ old
+  pub conv : last ≡ first
+  pub world : after ≡ before

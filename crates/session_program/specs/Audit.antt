@@ -1,0 +1,30 @@
+-- The statuses of an audit (this project's own).
+use Rattle.std.specs.Prelude.{◌≡◌, ◌⊎◌, ℕ, List, Option, Some, None, Result, Ok, Err}
+use Rattle.pam_outside.specs.Streams.{SinkState}
+use Rattle.item_stream.specs.declared.ending.Stop.{Stop}
+use Rattle.item_stream.specs.declared.ending.Stop.TheVariants.{NoMemory, WriteFault}
+use Rattle.transcript_audit.specs.declared.finding.Audited.{Audited}
+use Rattle.transcript_audit.specs.declared.finding.Audited.TheVariants.{Fits, Differs, Refused, TooLong, Unread}
+use Rattle.transcript_audit.specs.Audit.{Audit, Audits}
+
+-- 0 where the transcript fits, 11 where it doesn't, 12 where it is too long, 5 where it couldn't be read, 3 where the
+-- configuration is refused
+abbrev pub audit_status : Result Audited Stop → ℕ
+audit_status (Ok Fits) = 0
+audit_status (Ok Differs) = 11
+audit_status (Ok Refused) = 3
+audit_status (Ok TooLong) = 12
+audit_status (Ok Unread) = 5
+audit_status (Err NoMemory) = 4
+audit_status (Err WriteFault) = 6
+
+-- a told audit, by its status: of the transcript, or of one that couldn't be read
+pub record AuditsBy (status : ℕ) (audit : Option (List ℕ) → Audit) (transcript : List ℕ)
+    (old new : SinkState) : Type 0 where
+  pub result : Result Audited Stop
+  pub is : status ≡ audit_status result
+  pub audits : Audits result (audit (Some transcript)) old new
+      ⊎ Audits result (audit None) old new
+
+abbrev pub IsAuditStatus : ℕ → Type 0
+IsAuditStatus n = (result : Result Audited Stop) × (n ≡ audit_status result)

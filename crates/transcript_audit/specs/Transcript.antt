@@ -1,0 +1,36 @@
+-- A transcript that is read from a source, up to a limit (this project's own).
+use Rattle.std.specs.Prelude.{◌≡◌, ℕ, ◌+◌, ◌≤◌, ◌<◌, Bool, true, false, List, [], ◌++◌, length, Option, Some, Result, Ok, OnOk}
+use Rattle.pam_base.specs.declared.fault.NoMemory.{NoMemory}
+use Rattle.pam_outside.specs.Streams.{SourceState}
+use Rattle.transcript_audit.specs.declared.transcript.Transcript.{Transcript}
+use Rattle.transcript_audit.specs.declared.transcript.Transcript.TheVariants.{Whole, TooLong, Unread}
+
+-- at most 1,048,577 bytes were taken
+pub record Takes (old new : SourceState) : Type 0 where
+  pub taken : List ℕ
+  pub parts : old.left ≡ taken ++ new.left
+  pub few : length taken ≤ 1048577
+
+-- what was read of a source that held these bytes
+abbrev pub IsRead : Transcript → List ℕ → Type 0
+IsRead (Whole text) left = text ≡ left
+IsRead TooLong left = 1048576 < length left
+IsRead Unread left = Unit {0}
+
+abbrev pub IsShort : Transcript → Type 0
+IsShort (Whole text) = length text ≤ 1048576
+IsShort TooLong = Unit {0}
+IsShort Unread = Unit {0}
+
+abbrev pub is_unread : Transcript → Bool
+is_unread Unread = true
+is_unread transcript = false
+
+-- One read: what it got stands after the text so far, or it failed and got nothing. Without memory what it got is lost.
+pub record ReadsMore (result : Result (Option ℕ) NoMemory) (before after : List ℕ)
+    (old new : SourceState) : Type 0 where
+  pub got : List ℕ
+  pub source : old.left ≡ got ++ new.left
+  pub room : length before + length got ≤ 1048577
+  pub held : OnOk result (after ≡ before ++ got)
+  pub end : result ≡ Ok (Some 0) → new.left ≡ []

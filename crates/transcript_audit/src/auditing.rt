@@ -1,0 +1,77 @@
+ghost use Rattle.std.specs.Prelude.{◌≡◌, ◌≢◌, ◌⊎◌, [], Ok, Err, Some, None, IfOk, IsTrue};
+ghost use Rattle.pam_outside.specs.Counts.{RisesIf};
+ghost use Rattle.service_load.specs.Load.{loaded};
+ghost use Rattle.service_load.specs.Loading.{OnlyCalls};
+ghost use Rattle.item_stream.specs.Turns.{has_write_fault};
+ghost use Rattle.transcript_audit.specs.Audit.{Audit, Audits, IsAudit, audit_of, calls_of, has_read_fault};
+ghost use Rattle.transcript_audit.specs.Transcript.{Takes};
+
+use crate::finding::{Audited, Finding, find};
+use item_stream::Stop;
+use pam_base::{Failed, NoMemory};
+use pam_outside::{Sink, Source, Vault, write_all};
+use std::alloc::Global;
+
+/// Whether the transcript of a run, read from a source, fits the stacks of a service under a root; the line that says
+/// so is written. The service is loaded first: where its configuration is refused, the line of its first fault is
+/// written, and the source isn't read. Of the transcript at most 1,048,577 bytes are taken. Where it can't be read
+/// nothing is written. Of the world only what the vault counts changes. The text is made whole before it is written.
+pub fn audit_transcript<S: Source, K: Sink>(
+    alloc: Global,
+    root: &[u8],
+    service: &[u8],
+    source: &mut S,
+    out: &mut K,
+    vault: &mut dyn Vault,
+) -> Result<Audited, Stop>
+    ensures source_tells { S.source_tells source.new ≡ S.source_tells source.old }
+    ensures sink_tells { K.sink_tells out.new ≡ K.sink_tells out.old }
+    ensures vault_tells { vault_tells vault.new ≡ vault_tells vault.old }
+    // It is the audit of the transcript, or that of one that couldn't be read: `unread` says when.
+    ensures told { IsTrue (K.sink_tells out.old) → IsTrue (vault_tells vault.old) →
+        IsTrue (S.source_tells source.old) →
+        Audits result (audit_of (vault_holds vault.old) root.now service.now
+        (Some (S.source_holds source.old).left)) (K.sink_holds out.old) (K.sink_holds out.new)
+        ⊎ Audits result (audit_of (vault_holds vault.old) root.now service.now None)
+        (K.sink_holds out.old) (K.sink_holds out.new) }
+    // Without memory the vault may have been called less often.
+    ensures asked { IsTrue (vault_tells vault.old) → result ≢ Err Stop.NoMemory →
+        (vault_holds vault.new).calls
+        ≡ calls_of (loaded (vault_holds vault.old) root.now service.now) }
+    ensures stays { IsTrue (vault_tells vault.old) →
+        OnlyCalls (vault_holds vault.old) (vault_holds vault.new) }
+    ensures takes { IsTrue (S.source_tells source.old) →
+        Takes (S.source_holds source.old) (S.source_holds source.new) }
+    ensures refused { result ≡ Ok Audited.Refused → source.new ≡ source.old }
+    // The causes, in any world.
+    ensures unread { RisesIf (has_read_fault result) (S.source_faults source.old)
+        (S.source_faults source.new) }
+    ensures faults { RisesIf (has_write_fault result) (K.sink_faults out.old)
+        (K.sink_faults out.new) }
+{
+    match find(alloc, root, service, source, vault) {
+        Err(NoMemory) => Err(Stop::NoMemory),
+        Ok(finding) => write_finding(&finding, out),
+    }
+}
+
+// Writes what was found. Of a transcript that couldn't be read there is nothing to write.
+fn write_finding<K: Sink>(finding: &Finding, out: &mut K) -> Result<Audited, Stop>
+    requires silent { finding.now.audited ≡ Audited.Unread → finding.now.text ≡ [] }
+    ensures tells { K.sink_tells out.new ≡ K.sink_tells out.old }
+    ensures told { IsTrue (K.sink_tells out.old) → (a : Audit) → IsAudit finding.now a →
+        Audits result a (K.sink_holds out.old) (K.sink_holds out.new) }
+    ensures found { IfOk result (λ found. found ≡ finding.now.audited) }
+    ensures memory { result ≢ Err Stop.NoMemory }
+    ensures unread { finding.now.audited ≡ Audited.Unread → result ≡ Ok Audited.Unread }
+    ensures faults { RisesIf (has_write_fault result) (K.sink_faults out.old)
+        (K.sink_faults out.new) }
+{
+    if finding.audited == Audited::Unread {
+        return Ok(Audited::Unread);
+    }
+    match write_all(out, finding.text.bytes()) {
+        Ok(()) => Ok(finding.audited),
+        Err(Failed) => Err(Stop::WriteFault),
+    }
+}
