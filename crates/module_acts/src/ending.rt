@@ -1,4 +1,4 @@
-ghost use Rattle.std.specs.Prelude.{IfOk};
+ghost use Rattle.std.specs.Prelude.{◌≡◌, Err, IfOk, OnErr};
 ghost use Rattle.pam_base.specs.declared.code.Code.{Code};
 ghost use Rattle.pam_room.specs.State.{Scene};
 ghost use Rattle.account_files.specs.Act.{Act, answers};
@@ -13,6 +13,7 @@ pub fn ended(answer: Result<Code, Refuse<ConvErr>>) -> Result<Code, NoMemory>
         IfOk result (λ code. Goes (step answers) old code new) }
     ensures finished { (act : Act) (old new : Scene) → Finishes answer act old new →
         IfOk result (λ code. Goes act old code new) }
+    ensures memory { OnErr result (answer ≡ Err Refuse.NoMemory) }
 {
     laws::acting();
     match answer {
