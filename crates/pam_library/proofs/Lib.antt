@@ -22,3 +22,4 @@ pub mod Isolating
 pub mod Ordering
 pub mod Filing
 mod Rows
+pub mod Quietly

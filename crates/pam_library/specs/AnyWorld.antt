@@ -131,6 +131,11 @@ abbrev pub CountsRefusal : Answer → ℕ → ℕ → Type 0
 CountsRefusal (answers.Refused fault) before now = KindCounts fault.kind before now
 CountsRefusal answer before now = Unit {0}
 
+-- in any world: a start that found no memory hides no fault of the vault behind that
+abbrev pub HidesNoFault : AppCall → ℕ → ℕ → Type 0
+HidesNoFault (calls.Start service user) before now = now ≡ before
+HidesNoFault call before now = Unit {0}
+
 -- ---- memory
 
 -- the calls that take no memory

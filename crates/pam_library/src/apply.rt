@@ -8,7 +8,7 @@ ghost use Rattle.pam_library.specs.Slots.{handle_limit, lists_of, slot_at};
 ghost use Rattle.pam_library.specs.Sound.{IsSoundFor};
 ghost use Rattle.pam_base.specs.Call.{is_fit};
 ghost use Rattle.pam_library.specs.Step.{StepsAs, stepped};
-ghost use Rattle.pam_library.specs.AnyWorld.{AnswersBy, CountsRefusal, FailsAt, SpendsAt, end_at, leaves_world, refusal, stays_inside, takes_no_memory};
+ghost use Rattle.pam_library.specs.AnyWorld.{AnswersBy, CountsRefusal, FailsAt, HidesNoFault, SpendsAt, end_at, leaves_world, refusal, stays_inside, takes_no_memory};
 
 use crate::laws;
 use crate::library::{Library, LibraryTold};
@@ -37,7 +37,8 @@ impl Library {
     /// A start names a service, and is refused exactly as the configuration is; a reply has at most
     /// 512 bytes. Without memory a start leaves its place closed with its conversation, a stack
     /// call leaves nothing pending, no request for a delay and nothing kept of its own, and any
-    /// other call leaves transaction and world as they were.
+    /// other call leaves transaction and world as they were. Nothing was waited then, and a start
+    /// that found none had no fault of the vault.
     ///
     /// The births of the world's ledger that have no receipt are exactly the data of the open
     /// transactions, before and after.
@@ -125,6 +126,9 @@ impl Library {
         ensures fails { OnErr result (FailsAt (⟦<Library as LibraryTold>⟧.tells self.old)
             step.now.call (slot_at (⟦<Library as LibraryTold>⟧.slots self.old) step.now.number)
             (slot_at (⟦<Library as LibraryTold>⟧.slots self.new) step.now.number)) }
+        ensures no_nap { OnErr result (world.new.nap ≡ world.old.nap) }
+        ensures hides_none { OnErr result (HidesNoFault step.now.call
+            (vault_faults (in_box world.old.vault)) (vault_faults (in_box world.new.vault))) }
     {
         laws::one_place_moves();
         data_due::laws::nothing_moves();

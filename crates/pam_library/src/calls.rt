@@ -1,4 +1,4 @@
-ghost use Rattle.std.specs.Prelude.{◌≡◌, ◌<◌, ◌^◌, false, true, Some, IsTrue, length};
+ghost use Rattle.std.specs.Prelude.{◌≡◌, ◌<◌, ◌^◌, false, true, Some, IsTrue, OnErr, length};
 ghost use Rattle.pam_handle.specs.Items.{all_told};
 ghost use Rattle.pam_handle.specs.Plain.{plain_handle, room_in};
 ghost use Rattle.pam_handle.specs.Ready.{IsReadyFor};
@@ -49,6 +49,7 @@ pub(crate) fn call_open(
     ensures world { leaves_world (Some (opened
         (plain_handle ⟦<Room as RoomTold>⟧.plain handle.old))) call.now ≡ true →
         world.new ≡ world.old }
+    ensures no_nap { OnErr result (world.new.nap ≡ world.old.nap) }
 {
     laws::nothing_grows();
     let filed = receipts_in(world);

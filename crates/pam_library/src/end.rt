@@ -1,4 +1,4 @@
-ghost use Rattle.std.specs.Prelude.{◌≡◌, IfOk, length};
+ghost use Rattle.std.specs.Prelude.{◌≡◌, IfOk, IsOk, length};
 ghost use Rattle.pam_handle.specs.Plain.{plain_handle, room_in};
 ghost use Rattle.pam_handle.specs.Ready.{IsReadyFor};
 ghost use Rattle.pam_library.specs.InPlace.{GoesInPlace};
@@ -36,6 +36,7 @@ pub(crate) fn end(
         (⟦<World as WorldTold>⟧.plain world.old)
         result.outcome (⟦<Slot as SlotTold>⟧.plain result.slot)
         (⟦<World as WorldTold>⟧.plain world.new) }
+    ensures ok { IsOk result.outcome }
     ensures answer { IfOk result.outcome (λ outcome. outcome.answer ≡ Answer.Code Code.Success) }
 {
     let filed_from = receipts_in(world);

@@ -64,6 +64,7 @@ fn call_handle(
         (⟦<World as WorldTold>⟧.plain world.new)) }
     ensures err { OnErr result (FailsAs func (plain_handle ⟦<Room as RoomTold>⟧.plain handle.old)
         (plain_handle ⟦<Room as RoomTold>⟧.plain handle.new)) }
+    ensures no_nap { OnErr result (world.new.nap ≡ world.old.nap) }
     ensures sound { RunsSoundly (notes_of (⟦<Gear as GearTold>⟧.players gear.now))
         (length (⟦<Gear as GearTold>⟧.players gear.now))
         (plain_handle ⟦<Room as RoomTold>⟧.plain handle.old)
@@ -110,6 +111,7 @@ pub(crate) fn call_stack(
     ensures world { leaves_world (Some (opened
         (plain_handle ⟦<Room as RoomTold>⟧.plain handle.old))) (stack_app_call func flags) ≡ true →
         world.new ≡ world.old }
+    ensures no_nap { OnErr result (world.new.nap ≡ world.old.nap) }
 {
     laws::nothing_grows();
     let filed_from = receipts_in(world);

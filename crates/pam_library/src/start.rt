@@ -1,4 +1,4 @@
-ghost use Rattle.std.specs.Prelude.{◌≡◌, ◌<◌, ◌^◌, [], IfOk, IsTrue, length};
+ghost use Rattle.std.specs.Prelude.{◌≡◌, ◌<◌, ◌^◌, [], IfOk, IsTrue, OnErr, length};
 ghost use Rattle.pam_base.specs.ServiceName.{is_service_name};
 ghost use Rattle.pam_handle.specs.Plain.{in_box, plain_handle, room_in};
 ghost use Rattle.pam_handle.specs.Ready.{IsReadyFor};
@@ -84,6 +84,9 @@ pub(crate) fn start(
     ensures faults { IfOk result.outcome (λ outcome.
         CountsRefusal outcome.answer (vault_faults (in_box world.old.vault))
         (vault_faults (in_box world.new.vault))) }
+    ensures no_nap { world.new.nap ≡ world.old.nap }
+    ensures hides_none { OnErr result.outcome (vault_faults (in_box world.new.vault)
+        ≡ vault_faults (in_box world.old.vault)) }
 {
     let filed_from = receipts_in(world);
     match Handle::start(

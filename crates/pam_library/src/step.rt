@@ -1,8 +1,8 @@
-ghost use Rattle.std.specs.Prelude.{◌≡◌, ◌<◌, ◌^◌, true, Some, IfOk, IsTrue, length};
+ghost use Rattle.std.specs.Prelude.{◌≡◌, ◌<◌, ◌^◌, true, Some, IfOk, IsTrue, OnErr, length};
 ghost use Rattle.dispatch_core.specs.Lines.{names_of};
 ghost use Rattle.pam_room.specs.Stays.{IsReady};
 ghost use Rattle.pam_handle.specs.Plain.{in_box, plain_handle, room_in};
-ghost use Rattle.pam_library.specs.AnyWorld.{CountsRefusal, leaves_world};
+ghost use Rattle.pam_library.specs.AnyWorld.{CountsRefusal, HidesNoFault, leaves_world};
 ghost use Rattle.pam_library.specs.InPlace.{GoesInPlace, IsReadyAt};
 ghost use Rattle.pam_library.specs.Slots.{closed, opened};
 ghost use Rattle.pam_library.specs.Sound.{IsAtPlace, IsPlaced};
@@ -45,6 +45,9 @@ impl Slot {
         ensures faults { IfOk result.outcome (λ outcome.
             CountsRefusal outcome.answer (vault_faults (in_box world.old.vault))
             (vault_faults (in_box world.new.vault))) }
+        ensures no_nap { OnErr result.outcome (world.new.nap ≡ world.old.nap) }
+        ensures hides_none { OnErr result.outcome (HidesNoFault step.now.call
+            (vault_faults (in_box world.old.vault)) (vault_faults (in_box world.new.vault))) }
     {
         match self {
             Slot::Closed(conv) => step_closed(alloc, gear, world, conv, step),
@@ -77,6 +80,9 @@ fn step_closed(
     ensures faults { IfOk result.outcome (λ outcome.
         CountsRefusal outcome.answer (vault_faults (in_box world.old.vault))
         (vault_faults (in_box world.new.vault))) }
+    ensures no_nap { OnErr result.outcome (world.new.nap ≡ world.old.nap) }
+    ensures hides_none { OnErr result.outcome (HidesNoFault step.now.call
+        (vault_faults (in_box world.old.vault)) (vault_faults (in_box world.new.vault))) }
 {
     match &step.call {
         AppCall::Start { service, user } => {
@@ -121,6 +127,9 @@ fn step_open(alloc: Global, gear: &Gear, world: &mut World, handle: Handle, step
     ensures faults { IfOk result.outcome (λ outcome.
         CountsRefusal outcome.answer (vault_faults (in_box world.old.vault))
         (vault_faults (in_box world.new.vault))) }
+    ensures no_nap { OnErr result.outcome (world.new.nap ≡ world.old.nap) }
+    ensures hides_none { OnErr result.outcome (HidesNoFault step.now.call
+        (vault_faults (in_box world.old.vault)) (vault_faults (in_box world.new.vault))) }
 {
     let mut handle = handle;
     // What a call on the handle alone told before is dropped.

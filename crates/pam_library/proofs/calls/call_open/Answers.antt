@@ -1,5 +1,6 @@
 use Rattle.std.proofs.Common.{refl}
 use Rattle.pam_library.proofs.Within.{inside_goes}
+use Rattle.pam_library.proofs.Quietly.{anyway}
 use Rattle.pam_library.proofs.calls.call_open.Goals as goal
 
 pub returns-in-SetItem-clause-goes : goal.returns-in-SetItem-clause-goes
@@ -22,3 +23,27 @@ returns-in-FailDelay-clause-goes g c = rw c.in-FailDelay.is (inside_goes _ _ _ _
 
 pub returns-in-DelayFn-clause-goes : goal.returns-in-DelayFn-clause-goes
 returns-in-DelayFn-clause-goes g c = rw c.in-DelayFn.is (inside_goes _ _ _ _ _ _ _ _ _ _ refl c.nothing_grows.ensures c.requires.told c.requires.ready.0 c.requires.ready.1.none_gone c.receipts_in-filed.ensures c.turn_delay.ensures.goes)
+
+pub returns-in-SetItem-clause-no_nap : goal.returns-in-SetItem-clause-no_nap
+returns-in-SetItem-clause-no_nap g c = anyway c.set_item.result refl
+
+pub returns-in-GetItem-clause-no_nap : goal.returns-in-GetItem-clause-no_nap
+returns-in-GetItem-clause-no_nap g c = anyway c.get_item.result refl
+
+pub returns-in-PutEnv-clause-no_nap : goal.returns-in-PutEnv-clause-no_nap
+returns-in-PutEnv-clause-no_nap g c = anyway c.put_env.result refl
+
+pub returns-in-GetEnv-clause-no_nap : goal.returns-in-GetEnv-clause-no_nap
+returns-in-GetEnv-clause-no_nap g c = anyway c.get_env.result refl
+
+pub returns-in-EnvList-clause-no_nap : goal.returns-in-EnvList-clause-no_nap
+returns-in-EnvList-clause-no_nap g c = anyway c.list_env.result refl
+
+pub returns-in-FailDelay-clause-no_nap : goal.returns-in-FailDelay-clause-no_nap
+returns-in-FailDelay-clause-no_nap g c = anyway c.request_delay.result refl
+
+pub returns-in-DelayFn-clause-no_nap : goal.returns-in-DelayFn-clause-no_nap
+returns-in-DelayFn-clause-no_nap g c = anyway c.turn_delay.result refl
+
+pub returns-in-Reply-clause-no_nap : goal.returns-in-Reply-clause-no_nap
+returns-in-Reply-clause-no_nap g c = anyway c.offer_open.result refl

@@ -1,6 +1,7 @@
 use Rattle.std.proofs.Common.{refl}
 use Rattle.pam_library.proofs.Within.{first_of, second_of}
 use Rattle.pam_library.proofs.Starting.{start_of, start_opens, start_refuses}
+use Rattle.pam_library.proofs.Quietly.{refused_quietly}
 use Rattle.pam_library.proofs.start.start.Goals as goal
 
 pub returns-in-Ok-clause-goes : goal.returns-in-Ok-clause-goes
@@ -13,3 +14,6 @@ pub returns-in-Err-clause-goes : goal.returns-in-Err-clause-goes
 returns-in-Err-clause-goes g c = start_of _ _ _ _ c.args.number c.args.service.now c.bytes.result.now c.args.user.now _ _ _ _ _ _ c.bytes.ensures c.bytes_of.ensures
     (start_refuses _ _ _ _ c.args.number _ _ _ _ _ (rw c.in-Err.ensures.others refl) c.in-Err.refused.why _ _ _ c.receipts_in-filed_from.ensures
     (λ all. c.in-Err.ensures.told (first_of _ _ (first_of _ _ (second_of _ _ all)))) c.refuse.ensures.outcome (rw (← c.in-Err.ensures.given_back) c.refuse.ensures.slot))
+
+pub returns-in-Err-clause-hides_none : goal.returns-in-Err-clause-hides_none
+returns-in-Err-clause-hides_none g c = refused_quietly _ c.in-Err.refused.why _ _ _ c.refuse.ensures.outcome c.in-Err.ensures.faults
