@@ -53,25 +53,24 @@ module _ (setting : Setting) (law : CallsStand setting) where
       rw (first_lines setting m s t input others p q w, ← append_assoc events (line_events setting s w.served) (events_of t.world.process.ledger g.went.calls))
       (rw (g.went.ledger, g.went.lists_are) at whole)
 
-  pub cut_short : (status : Code) (s t u : RunState) (input text : List ℕ) (p q : SinkState) → Broken setting 0 s t input p q
-      → Goes (HasStatus status) t u → q.written ≡ p.written ++ text → StandsCut setting status s u input text
-  cut_short status s t u input text p q b closing written =
-      let others : List (List ℕ) = drop b.lines (lines_of input) in
-      let behind : others ≡ b.others = last_lines setting b.lines s b.middle input b.others p b.sink b.served in
+  pub cut_short : (status : Code) (m : ℕ) (s t u : RunState) (input text : List ℕ) (p q : SinkState) → Broken setting 0 m s t input p q
+      → Goes (HasStatus status) t u → q.written ≡ p.written ++ text → StandsCut setting status m s u input text
+  cut_short status m s t u input text p q b closing written =
+      let others : List (List ℕ) = drop m (lines_of input) in
+      let behind : others ≡ b.others = last_lines setting m s b.middle input b.others p b.sink b.served in
       let line : Goes (IsLaterEnd status others) b.middle t = proceeds_so (IsAskedBy b.others) (IsLaterEnd status others) (λ number ended a. inl (rw behind a)) _ _ _ _ _ b.later in
       let last : Goes (IsLaterEnd status others) t u = proceeds_so (HasStatus status) (IsLaterEnd status others) (λ number ended h. inr h) _ _ _ _ _ closing in
       let all : Goes (IsLaterEnd status others) b.middle u = goes_on (IsLaterEnd status others) (notes_of setting.players) _ _ _ _ _ _ line last in
       let w = b.served in
       record {
-        lines = b.lines;
         middle = b.middle;
         whole = w.text;
         part = b.part;
-        run = rw (first_lines setting b.lines s b.middle input b.others p b.sink w) (lead_runs setting w.served 0 b.lines s b.middle w.text w.lead);
+        run = rw (first_lines setting m s b.middle input b.others p b.sink w) (lead_runs setting w.served 0 m s b.middle w.text w.lead);
         parts = same_behind p.written text (w.text ++ b.part) (sym written ∙ b.written ∙ ap (λ (x : List ℕ). x ++ b.part) w.written ∙ append_assoc p.written w.text b.part);
         later = events_of b.middle.world.process.ledger all.went.calls;
         ends_are = events_are (IsLaterEnd status others) b.middle.world.process.ledger all.went.calls all.ends_are;
-        stand = lines_then (IsLaterEnd status others) b.lines s b.middle u input b.others p b.sink w all;
+        stand = lines_then (IsLaterEnd status others) m s b.middle u input b.others p b.sink w all;
       }
 
   pub cut_behind : (status stopped : Code) (m : ℕ) (s t v : RunState) (ledger : PlainLedger) (lists : Lists) (input : List ℕ) (p q : SinkState)

@@ -17,4 +17,5 @@ pub mod Happening
 pub mod Walking
 pub mod Cutting
 pub mod Consuming
+mod Refusing
 mod Filewise

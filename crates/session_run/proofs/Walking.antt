@@ -49,9 +49,8 @@ module _ (setting : Setting) where
   -- one was begun, or none
   pub broken_off : (n : ℕ) (s t : RunState) (input part : List ℕ) (p q : SinkState) → q.written ≡ p.written ++ part
       → ProceedsBy (IsAskedBy (lines_of input)) (notes_of setting.players) s.world.process.ledger (lists_of s.slots) t.world.process.ledger (lists_of t.slots)
-      → Broken setting n s t input p q
+      → Broken setting n n s t input p q
   broken_off n s t input part p q written later = record {
-    lines = n;
     middle = s;
     sink = p;
     others = lines_of input;
@@ -109,14 +108,13 @@ module _ (setting : Setting) where
       → (others : List (List ℕ)) × Served setting m k t u rest others q r → (others : List (List ℕ)) × Served setting n k s u input others p r
   served_to n m k s t u input rest p q r a b = (b.0, served_on n m k s t u input rest b.0 p q r a b.1)
 
-  pub broken_on : (n m : ℕ) (s t u : RunState) (input rest : List ℕ) (p q r : SinkState) → Served setting n m s t input (lines_of rest) p q
-      → Broken setting m t u rest q r → Broken setting n s u input p r
-  broken_on n m s t u input rest p q r a b = record {
-    lines = b.lines;
+  pub broken_on : (n m k : ℕ) (s t u : RunState) (input rest : List ℕ) (p q r : SinkState) → Served setting n m s t input (lines_of rest) p q
+      → Broken setting m k t u rest q r → Broken setting n k s u input p r
+  broken_on n m k s t u input rest p q r a b = record {
     middle = b.middle;
     sink = b.sink;
     others = b.others;
-    served = served_on n m b.lines s t b.middle input rest b.others p q b.sink a b.served;
+    served = served_on n m k s t b.middle input rest b.others p q b.sink a b.served;
     part = b.part;
     written = b.written;
     later = b.later;

@@ -1,5 +1,7 @@
 -- A whole run: its lines, and what is ended and written after them.
-use Rattle.std.proofs.Common.{◌≡◌, ℕ, ◌+◌, ◌≤◌, inl, inr, List, [], ◌∷◌, ◌++◌, length, Ok, Err, refl, sym, ap, ◌∙◌, append_assoc, append-nil, length-append, arith}
+use Rattle.std.proofs.Common.{◌≡◌, ℕ, ◌+◌, ◌≤◌, inl, inr, true, List, [], ◌∷◌, ◌++◌, length, take, Ok, Err, refl, sym, ap, ◌∙◌, append_assoc, append-nil, length-append, arith}
+use Rattle.std.proofs.Math.Seq.{take-append_seam}
+use Rattle.pam_base.specs.Lines.{lines_of}
 use Rattle.pam_base.specs.declared.fault.Failed.{Failed}
 use Rattle.pam_outside.specs.Streams.{SourceState, SinkState, WritesWhole}
 use Rattle.pam_room.specs.Module.{Player, notes_of}
@@ -7,6 +9,8 @@ use Rattle.pam_library.specs.Slots.{NoneIsOpen}
 use Rattle.script_stream.specs.Turns.{Ending}
 use Rattle.item_stream.specs.declared.ending.Stop.{Stop}
 use Rattle.item_stream.specs.declared.ending.Stop.TheVariants.{NoMemory, WriteFault}
+use Rattle.item_stream.specs.Turns.{begun_items}
+use Rattle.script_stream.specs.Looked.{looked}
 use Rattle.script_stream.specs.Turns.{Runs}
 use Rattle.session_run.specs.State.{Setting, RunState}
 use Rattle.session_run.specs.Step.{line_step, Fails}
@@ -14,6 +18,7 @@ use Rattle.session_run.specs.Events.{StandOn, StandsBehind, StandsCut, run_event
 use Rattle.session_run.specs.Closings.{Closing, closings, closings_text, last_state, all_closed}
 use Rattle.session_run.specs.Reported.{Closes, ClosesTo}
 use Rattle.session_run.specs.Whole.{ending_status, stop_status, last_line, last_words, EndsTo, EndsWith, StopsIn, StopsClosing, RunsScript}
+use Rattle.session_run.proofs.Asking.{AllLooked}
 use Rattle.session_run.proofs.Lowest.{none_left}
 
 module _ (players : List Player) (ending : Ending) (n : ℕ) where
@@ -107,17 +112,33 @@ module _ (players : List Player) (ending : Ending) (n : ℕ) where
 
 -- ---- the whole run
 
+-- the items that the stream served are the first lines of the script
+first_served : AllLooked → (n : ℕ) (input taken left : List ℕ) (served others : List (List ℕ)) → input ≡ taken ++ left → n ≡ 0 + length served → looked 0 (taken ++ left) true ≡ served ++ others
+    → served ≡ take n (lines_of input)
+first_served all n input taken left served others source number among =
+    let count : n ≡ length served = omega (arith, number) in
+    let whole : lines_of input ≡ served ++ others = ap lines_of source ∙ sym (all 0 (taken ++ left)) ∙ among in
+    rw (count, whole) (sym (take-append_seam served others))
+
 module _ (setting : Setting) (start : RunState) (x y : SourceState) (p q : SinkState) where
   -- it stopped among its lines
-  pub stopped_lines : (stop : Stop) (n : ℕ) (t u : RunState) → Runs (line_step setting) (Fails setting) (Err stop) n start t x y p q
+  pub stopped_lines : AllLooked → (stop : Stop) (n : ℕ) (t u : RunState) → Runs (line_step setting) (Fails setting) (Err stop) n start t x y p q
       → u ≡ all_closed setting.players (stop_status stop) t
-      → ((text : List ℕ) → q.written ≡ p.written ++ text → StandsCut setting (stop_status stop) start u x.left text) → RunsScript setting (Err stop) start u x y p q
-  stopped_lines stop n t u r e stands = record {
+      → ((text : List ℕ) → q.written ≡ p.written ++ text → StandsCut setting (stop_status stop) n start u x.left text) → RunsScript setting (Err stop) start u x y p q
+  stopped_lines all stop n t u r e stands = record {
     taken = r.taken;
     text = r.text;
     source = r.source;
     sink = r.sink;
-    outcome = inl (record { last = t; stops = r.report; closed = e; stands = stands r.text r.sink });
+    outcome = inl (record {
+      lines = n;
+      last = t;
+      stops = r.report;
+      first = first_served all n x.left r.taken y.left r.report.served (begun_items r.report.begun ++ r.report.others) r.source r.report.number
+          (r.report.among_all ∙ append_assoc r.report.served (begun_items r.report.begun) r.report.others);
+      closed = e;
+      stands = stands r.text r.sink;
+    });
     last = r.last;
     reads = r.reads;
     ends = r.ends;

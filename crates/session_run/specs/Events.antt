@@ -113,15 +113,14 @@ abbrev pub IsAskedBy : List (List ℕ) → ℕ → ℕ → Type 0
 IsAskedBy [] number status = ⊥
 IsAskedBy (line ∷ rest) number status = AsksEnd line number status
 
--- A run stopped: the first lines of a text were served, and at most the next one was begun. What was done to data
--- after them is a birth, or the end that this line asks for.
-pub record Broken (setting : Setting) (n : ℕ) (s t : RunState) (input : List ℕ)
+-- A run stopped after m lines: the first lines of a text were served, and at most the next one was begun. What was
+-- done to data after them is a birth, or the end that this line asks for.
+pub record Broken (setting : Setting) (n m : ℕ) (s t : RunState) (input : List ℕ)
     (p q : SinkState) : Type 0 where
-  pub lines : ℕ
   pub middle : RunState
   pub sink : SinkState
   pub others : List (List ℕ)
-  pub served : Served setting n lines s middle input others p sink
+  pub served : Served setting n m s middle input others p sink
   pub part : List ℕ
   pub written : q.written ≡ sink.written ++ part
   pub later : ProceedsBy (IsAskedBy others) (notes_of setting.players) middle.world.process.ledger
@@ -141,14 +140,14 @@ ServesTurn setting (Ok None) n m s t input rest p q =
     Served setting n m s t input (lines_of rest) p q
 ServesTurn setting (Ok (Some ending)) n m s t input rest p q = (others : List (List ℕ))
     × Served setting n m s t input others p q
-ServesTurn setting (Err stop) n m s t input rest p q = Broken setting n s t input p q
+ServesTurn setting (Err stop) n m s t input rest p q = Broken setting n m s t input p q
 
 -- what many served from the first line on
 abbrev pub ServesAll : Setting → Result Ending Stop → ℕ → RunState → RunState → List ℕ → SinkState
     → SinkState → Type 0
 ServesAll setting (Ok ending) m s t input p q = (others : List (List ℕ))
     × Served setting 0 m s t input others p q
-ServesAll setting (Err stop) m s t input p q = Broken setting 0 s t input p q
+ServesAll setting (Err stop) m s t input p q = Broken setting 0 m s t input p q
 
 -- ---- a run that stops
 
@@ -159,9 +158,8 @@ IsLaterEnd status others number ended = IsAskedBy others number ended
 
 -- Among its lines: the whole text of n lines stands in what was written. Ledger and data stand for their events, and
 -- then for others, whose ends the next line asked for or have this status.
-pub record StandsCut (setting : Setting) (status : Code) (start end : RunState)
+pub record StandsCut (setting : Setting) (status : Code) (lines : ℕ) (start end : RunState)
     (input text : List ℕ) : Type 0 where
-  pub lines : ℕ
   pub middle : RunState
   pub whole : List ℕ
   pub part : List ℕ

@@ -53,7 +53,7 @@ module _ (setting : Setting) where
   line_step s line = applied_or_refused s (parsed line)
 
 -- The states that a line may leave whose call found no memory: what the call says of its transaction, with every other
--- as it was, and of the data and the world.
+-- as it was, and of the data and the world. Nothing was waited.
 pub record Fails (setting : Setting) (s : RunState) (line : List ℕ) (t : RunState) : Type 0 where
   pub step : Step
   pub asked : parsed line ≡ Ok (lines.Step step)
@@ -67,6 +67,7 @@ pub record Fails (setting : Setting) (s : RunState) (line : List ℕ) (t : RunSt
   pub root : t.world.process.root ≡ s.world.process.root
   pub caller : t.world.process.caller ≡ s.world.process.caller
   pub world : leaves_world (slot_at s.slots step.number) step.call ≡ true → t.world ≡ s.world
+  pub nap : t.world.nap ≡ s.world.nap
 
 -- a line that was not refused
 abbrev pub unrefused : {T : Type 0} → Result T Stop → Result (Option ScriptKind) Stop

@@ -1,5 +1,6 @@
 -- A whole run of a script: its lines, and how the open transactions are ended after them (this project's own).
-use Rattle.std.specs.Prelude.{◌≡◌, ◌⊎◌, ℕ, ◌+◌, ◌≤◌, List, [], ◌∷◌, ◌++◌, length, true, None, Result, Ok, Err}
+use Rattle.std.specs.Prelude.{◌≡◌, ◌⊎◌, ℕ, ◌+◌, ◌≤◌, List, [], ◌∷◌, ◌++◌, length, take, true, None, Result, Ok, Err}
+use Rattle.pam_base.specs.Lines.{lines_of}
 use Rattle.pam_outside.specs.Streams.{SourceState, SinkState}
 use Rattle.pam_room.specs.Module.{Player, notes_of}
 use Rattle.pam_library.specs.Slots.{NoneIsOpen}
@@ -90,13 +91,16 @@ module _ (setting : Setting) where
     pub stands : StandOn (notes_of setting.players)
         (run_events setting (ending_status ending) start input lines last) start end
 
-  -- it stops among its lines, and all transactions are ended; nothing is written after that
+  -- It stops among its lines, and all transactions are ended; nothing is written after that. The lines that were
+  -- served whole are the first lines of the script.
   pub record StopsAmongLines (stop : Stop) (start end : RunState)
       (input taken left text : List ℕ) : Type 0 where
+    pub lines : ℕ
     pub last : RunState
-    pub stops : StopsBy (line_step setting) (Fails setting) stop 0 start last taken left text
+    pub stops : StopsBy (line_step setting) (Fails setting) stop 0 lines start last taken left text
+    pub first : stops.served ≡ take lines (lines_of input)
     pub closed : end ≡ all_closed setting.players (stop_status stop) last
-    pub stands : StandsCut setting (stop_status stop) start end input text
+    pub stands : StandsCut setting (stop_status stop) lines start end input text
 
   -- it stops after them
   pub record StopsBehindLines (stop : Stop) (start end : RunState)

@@ -9,12 +9,13 @@ ghost use Rattle.pam_base.specs.declared.code.Code.{Code};
 ghost use Rattle.pam_library.specs.Calls.{events_of};
 ghost use Rattle.pam_library.specs.Plays.{VisitsLead};
 ghost use Rattle.pam_library.specs.Slots.{PlainSlot, handle_limit, slot_at};
-ghost use Rattle.script_stream.specs.Run.{run_lines};
+ghost use Rattle.script_stream.specs.Run.{run_lines, run_of};
 ghost use Rattle.report_lines.specs.Line.{number_words};
 ghost use Rattle.session_run.specs.AnyWorld.{Proceeds};
 ghost use Rattle.pam_room.specs.Module.{Player};
 ghost use Rattle.session_run.specs.Closings.{all_closed, closings, closings_text};
 ghost use Rattle.session_run.specs.Isolation.{Came, GoesAsAlone, IsQuietStart, LeaveFiles, all_closing_texts, alone, came_among, script_alone, step_text_with, text_of, texts_among};
+ghost use Rattle.session_run.specs.Reading.{line_read, refused_in};
 ghost use Rattle.session_run.specs.SideBySide.{ComesAlone, TellsSteps};
 ghost use Rattle.session_run.specs.State.{RunState, Setting};
 ghost use Rattle.session_run.specs.Step.{line_step};
@@ -73,6 +74,16 @@ pub fn numbers_stand_side_by_side()
 {
     pam_library::laws::places_stand_side_by_side();
 }
+
+/// Which line of some bytes is refused, and why, is told by the bytes alone: a run over them is refused for the same
+/// line, whatever its lines do and from whatever state. It does nothing: its contract is a law.
+pub fn refusals_are_of_the_bytes()
+    ensures refused { (setting : Setting) (start : RunState) (bytes : List ℕ) (ended : Bool) →
+        (run_of (line_step setting) 0 start bytes ended).refused ≡ refused_in bytes ended }
+    ensures lines { (setting : Setting) (start : RunState) (bytes : List ℕ) (ended : Bool) →
+        (run_of (line_step setting) 0 start bytes ended).items
+        ≡ (run_of line_read 0 tt bytes ended).items }
+{}
 
 /// The lines of a script change files by what the modules of the lines that their steps visit play,
 /// one after another, and by nothing else; and the closings after them change none. It does

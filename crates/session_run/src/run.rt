@@ -106,6 +106,7 @@ pub fn run_script<S: Source, K: Sink>(
     data_due::laws::all_are_filed();
     pam_library::laws::calls_stand_for_their_events();
     data_due::laws::end_stands();
+    script_stream::laws::whole_input_is_looked_at();
     let mut lines = 0;
     match serve_lines(alloc, library, &mut lines, source, sink, world) {
         Err(stop) => {

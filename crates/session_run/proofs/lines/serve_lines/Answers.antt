@@ -126,10 +126,10 @@ returns-in-Err-take_turn-clause-writes g c = λ sink.
     err_then _ c.in-Err-take_turn.stop _ _ _ (was.writes sink) (c.in-Err-take_turn.ensures.writes (was.sink_tells ∙ sink))
 
 pub returns-in-Err-clause-served : goal.returns-in-Err-clause-served
-returns-in-Err-clause-served g c = λ delay is told source sink. broken_off _ _ _ _ _ [] _ _ (sym (append-nil _)) (nothing_done _ _ _ _ _ _ refl refl)
+returns-in-Err-clause-served g c = λ delay is told source sink. rw c.requires.first (broken_off _ _ _ _ _ [] _ _ (sym (append-nil _)) (nothing_done _ _ _ _ _ _ refl refl))
 
 pub returns-in-Err-take_turn-clause-served : goal.returns-in-Err-take_turn-clause-served
 returns-in-Err-take_turn-clause-served g c = λ delay is told source sink.
     let was = c.loop-ending.invariant in
     let next = c.in-Err-take_turn.ensures.served delay (rw (← was.gear) at is) (both_tell _ _ _ _ was.tells was.world_tells told) (was.source_tells ∙ source) (was.sink_tells ∙ sink) in
-    broken_on _ _ _ _ _ _ _ _ _ _ _ (was.served delay is told source sink) (rw was.gear at next)
+    broken_on _ _ _ _ _ _ _ _ _ _ _ _ (was.served delay is told source sink) (rw was.gear at next)

@@ -11,8 +11,8 @@ use Rattle.session_run.proofs.run.run_script.Goals as goal
 
 pub returns-in-Err-clause-told : goal.returns-in-Err-clause-told
 returns-in-Err-clause-told g c = λ delay is told source sink.
-    stopped_lines _ _ _ _ _ _ c.in-Err.stop _ _ _ (c.in-Err.ensures.told delay is told source sink) (rw (c.serve_lines.ensures.gear, c.stop_status.ensures) at c.close_silently.ensures.closed)
-    (λ text written. cut_short _ c.calls_stand_for_their_events.ensures _ _ _ _ _ text _ _ (c.in-Err.ensures.served delay is told source sink) (rw (c.serve_lines.ensures.gear, c.stop_status.ensures) at c.close_silently.ensures.proceeds) written)
+    stopped_lines _ _ _ _ _ _ c.whole_input_is_looked_at.ensures c.in-Err.stop _ _ _ (c.in-Err.ensures.told delay is told source sink) (rw (c.serve_lines.ensures.gear, c.stop_status.ensures) at c.close_silently.ensures.closed)
+    (λ text written. cut_short _ c.calls_stand_for_their_events.ensures _ _ _ _ _ _ text _ _ (c.in-Err.ensures.served delay is told source sink) (rw (c.serve_lines.ensures.gear, c.stop_status.ensures) at c.close_silently.ensures.proceeds) written)
 
 pub returns-in-Err-clause-proceeds : goal.returns-in-Err-clause-proceeds
 returns-in-Err-clause-proceeds g c = goes_on _ _ _ _ _ _ _ _ (proceeds_so _ _ (by_line _ _) _ _ _ _ _ c.serve_lines.ensures.proceeds) (proceeds_so _ _ (by_stop _ _ c.in-Err.stop _ c.stop_status.ensures) _ _ _ _ _ (rw c.serve_lines.ensures.gear at c.close_silently.ensures.proceeds))
