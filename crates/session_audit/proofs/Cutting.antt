@@ -1,5 +1,5 @@
 -- What is left of a text after a line of it.
-use Rattle.std.proofs.Common.{◌≡◌, ℕ, zero, ◌+◌, ◌<◌, Bool, true, false, eqb, List, [], ◌∷◌, ◌++◌, map, length, take, drop, Option, Some, None, refl, sym, ◌∙◌, ap, ne_eqb, suc, if◌then◌else◌}
+use Rattle.std.proofs.Common.{◌≡◌, ℕ, ◌+◌, Bool, true, false, eqb, List, [], ◌∷◌, ◌++◌, map, length, take, drop, Option, Some, None, refl, sym, ◌∙◌, ap, ne_eqb, suc, if◌then◌else◌}
 use Rattle.std.specs.Option.{option_map}
 use Rattle.pam_base.specs.Bytes.{has_byte, IsFirstPlace}
 use Rattle.pam_base.specs.Lines.{Cut, onto, cut, cut-line, cut-part}

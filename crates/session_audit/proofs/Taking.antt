@@ -1,5 +1,5 @@
 -- A line that is taken leaves what differs.
-use Rattle.std.proofs.Common.{◌≡◌, ℕ, zero, suc, ◌+◌, ◌-◌, ◌≤◌, Bool, true, false, ◌&&◌, if◌then◌else◌, ltb, leb, ◌<◌, get_or, List, [], ◌∷◌, ◌++◌, map, length, Option, Some, None, refl, sym, ◌∙◌, ap, subst, arith}
+use Rattle.std.proofs.Common.{◌≡◌, ℕ, zero, suc, ◌+◌, ◌-◌, ◌≤◌, Bool, true, false, ◌&&◌, if◌then◌else◌, ltb, leb, ◌<◌, get_or, List, [], ◌∷◌, ◌++◌, map, length, Option, Some, None, refl, sym, ◌∙◌, ap, arith}
 use Rattle.std.specs.Prelude.{slice_get, slice_set}
 use Rattle.std.specs.Option.{option_map}
 use Rattle.std.proofs.lemmas.Bool.Decides.{nat_tests}
@@ -10,7 +10,7 @@ use Rattle.report_lines.specs.Line.{Told, Result, Block, block_of, unread}
 use Rattle.report_reader.specs.Says.{Says, tells, results, lasts}
 use Rattle.session_audit.specs.declared.place.Place as held
 use Rattle.session_audit.specs.Fits.{Place, place_at, with_place, visits_told, is_none, is_bad_number, behind_result, with_behind, behind_at, behind_block}
-use Rattle.session_audit.specs.Differs.{Gathered, nothing_yet, gathered, may_follow, told_so_far, lines_before, visits_good, bad_line, behind_or, none_left, differs_from}
+use Rattle.session_audit.specs.Differs.{Gathered, nothing_yet, gathered, may_follow, told_so_far, lines_before, visits_good, bad_line, behind_or, differs_from}
 use Rattle.session_audit.specs.Checked.{place_of, IsPlaced, IsUnplaced}
 
 abbrev pub nothing_in : Gathered → Bool
@@ -145,9 +145,10 @@ a_place old (suc i) is = grind (arith, nat_tests)
 pub fits_at : (stacks : Stacks) (old : List held.Place) (number : ℕ) (p between behind : held.Place) (told : List Told) (result : Result) → number ≡ suc (number - 1)
     → slice_get old (number - 1) ≡ Some p → behind_result stacks (place_of p) (visits_told told) result ≡ Some (place_of behind)
     → IsPlaced stacks old (block_of number told result) None (slice_set (slice_set old (number - 1) between) (number - 1) behind)
-fits_at stacks old number p between behind told result is at fits =
-    (placed_fits stacks old (number - 1) number p between behind told result is at fits,
-     length-set (slice_set old (number - 1) between) (number - 1) behind ∙ length-set old (number - 1) between)
+fits_at stacks old number p between behind told result is at fits = (
+  placed_fits stacks old (number - 1) number p between behind told result is at fits,
+  length-set (slice_set old (number - 1) between) (number - 1) behind ∙ length-set old (number - 1) between,
+)
 
 -- a block of a number without a place
 pub nowhere_is : (stacks : Stacks) (old : List held.Place) (number : ℕ) (told : List Told) (result : Result) (line : Option ℕ) → place_at (map place_of old) number ≡ None

@@ -1,10 +1,11 @@
 -- What the checker holds while it reads a report, in the words of places and blocks (this project's own).
-use Rattle.std.specs.Prelude.{◌≡◌, ◌≤◌, ℕ, ◌+◌, Bool, true, false, ◌&&◌, List, [], ◌∷◌, map, length, Option, Some, None}
+use Rattle.std.specs.Prelude.{◌≡◌, ◌≤◌, ℕ, ◌+◌, ◌-◌, Bool, true, false, ◌&&◌, List, ◌∷◌, map, length, Option, Some, None}
 use Rattle.std.specs.Option.{option_map}
 use Rattle.pam_base.specs.declared.code.Code.{Code}
 use Rattle.pam_base.specs.declared.call.Func.{Func}
 use Rattle.service_load.specs.Stacks.{Stacks}
-use Rattle.dispatch_core.specs.Calls.{Held}
+use Rattle.stack_walk.specs.Retell.{Telling}
+use Rattle.dispatch_core.specs.Calls.{Held, Went}
 use Rattle.pass_replay.specs.Held.{held_of}
 use Rattle.stack_walk.specs.declared.seen.Seen.{Seen}
 use Rattle.report_lines.specs.Line.{Told, Command, runs, Shown, shows_code, shows_pending, Result, answered, closed_by_program, Block}
@@ -20,8 +21,8 @@ use Rattle.session_audit.specs.declared.judge.Judged.{Judged}
 use Rattle.session_audit.specs.declared.judge.Judged.TheVariants as judged
 use Rattle.session_audit.specs.declared.verdict.Verdict.{Verdict}
 use Rattle.session_audit.specs.declared.verdict.Verdict.TheVariants as verdicts
-use Rattle.session_audit.specs.Fits.{Place, shut, running, place_at, visits_told, is_none, is_bad_number, only_if, aborted_by, at_shut, at_running, behind_block}
-use Rattle.session_audit.specs.Differs.{Gathered, nothing_yet, gathered, lines_before, bad_line, differs_from}
+use Rattle.session_audit.specs.Fits.{Place, shut, running, place_at, visits_told, is_none, is_bad_number, only_if, aborted_by, at_shut, at_running, behind_call, behind_result, behind_block}
+use Rattle.session_audit.specs.Differs.{Gathered, nothing_yet, gathered, lines_before, visits_good, bad_line, differs_from}
 use Rattle.session_audit.specs.Whole.{lines_read}
 
 abbrev pub place_of : held.Place → Place
@@ -51,7 +52,8 @@ behind_quiet (running h) (closed_by_program code) = Some shut
 -- a result is the code of a stack call
 abbrev pub IsCall : Option StackCall → Result → Type 0
 IsCall (Some call) result = result ≡ answered (runs call.func) (shows_code call.code)
-IsCall None result = (func : Func) (code : Code) → result ≡ answered (runs func) (shows_code code) → ⊥
+IsCall None result =
+    (func : Func) (code : Code) → result ≡ answered (runs func) (shows_code code) → ⊥
 
 -- ---- what a block was found to come to
 
@@ -60,15 +62,34 @@ abbrev pub IsJudged : Judged → Option Place → ℕ → Type 0
 IsJudged (judged.Fits place) behind bad = behind ≡ Some (place_of place)
 IsJudged (judged.Differs line) behind bad = (behind ≡ None) × (line ≡ bad)
 
+-- a block is judged at its place
+abbrev pub Judges : Stacks → Place → List Told → Result → Judged → Type 0
+Judges stacks place told result j =
+    IsJudged j (behind_result stacks place (visits_told told) result)
+    (lines_before (visits_good stacks (Some place) (visits_told told) result) told)
+
+-- and that of a stack call, by what it comes to where it is gone over again
+abbrev pub JudgesCall : Code → Went Telling → List Told → Judged → Type 0
+JudgesCall code w told j =
+    IsJudged j (behind_call code w)
+    (lines_before (length (visits_told told) - length w.state.left) told)
+
 -- and so among all places; a line is named where it doesn't fit
 abbrev pub IsPlaced : Stacks → List held.Place → Block → Option ℕ → List held.Place → Type 0
-IsPlaced stacks old b (Some line) new = (behind_block stacks (map place_of old) b ≡ None) × (line ≡ bad_line stacks (place_at (map place_of old) b.number) b)
-IsPlaced stacks old b None new = (behind_block stacks (map place_of old) b ≡ Some (map place_of new)) × (length new ≡ length old)
+IsPlaced stacks old b (Some line) new =
+    (behind_block stacks (map place_of old) b ≡ None) ×
+    (line ≡ bad_line stacks (place_at (map place_of old) b.number) b)
+IsPlaced stacks old b None new =
+    (behind_block stacks (map place_of old) b ≡ Some (map place_of new)) ×
+    (length new ≡ length old)
 
 -- and so of a number that no transaction has
 abbrev pub IsUnplaced : Option ℕ → List Told → Result → Type 0
-IsUnplaced None told result = (stacks : Stacks) → (is_bad_number stacks result && is_none (visits_told told)) ≡ true
-IsUnplaced (Some line) told result = ((stacks : Stacks) → (is_bad_number stacks result && is_none (visits_told told)) ≡ false) × (line ≡ lines_before 0 told)
+IsUnplaced None told result =
+    (stacks : Stacks) → (is_bad_number stacks result && is_none (visits_told told)) ≡ true
+IsUnplaced (Some line) told result =
+    ((stacks : Stacks) → (is_bad_number stacks result && is_none (visits_told told)) ≡ false) ×
+    (line ≡ lines_before 0 told)
 
 -- ---- lines that are left
 
@@ -78,24 +99,28 @@ bare_lines text = map (option_map bare) (lines_read read_line text)
 
 -- the first of these lines that differs, where the checker is
 abbrev pub differs_at : Stacks → Checker → List (Option Says) → Option ℕ
-differs_at stacks c lines = differs_from stacks (map place_of c.places.items) (gathered_of c.begun) c.lines lines
+differs_at stacks c lines =
+    differs_from stacks (map place_of c.places.items) (gathered_of c.begun) c.lines lines
 
 -- the block that has begun is of the lines that were taken
 abbrev pub begun_within : Option Begun → ℕ → Type 0
 begun_within None lines = Unit {0}
 begun_within (Some b) lines = length b.told.items ≤ lines
 
--- a checker behind some lines
-pub record IsBehind (c : Checker) (lines : ℕ) : Type 0 where
-  pub lines_are : c.lines ≡ lines
+-- a checker that has taken n lines
+pub record IsAfter (c : Checker) (n : ℕ) : Type 0 where
+  pub lines_are : c.lines ≡ n
   pub sixteen : length c.places.items ≡ 16
-  pub begun : begun_within c.begun lines
+  pub begun : begun_within c.begun n
 
--- A line is taken, behind which there are lines or not: it is named, or what is named is named further on.
+-- A line is taken, after which there are lines or not: it is named, or what differs after it is what differed.
 abbrev pub IsTaken : Stacks → Checker → Option Says → Bool → Option ℕ → Checker → Type 0
-IsTaken stacks old line is_last (Some named) new = (lines : List (Option Says)) → is_none lines ≡ is_last → differs_at stacks old (line ∷ lines) ≡ Some named
-IsTaken stacks old line is_last None new =
-    IsBehind new (old.lines + 1) × ((lines : List (Option Says)) → is_none lines ≡ is_last → differs_at stacks old (line ∷ lines) ≡ differs_at stacks new lines)
+IsTaken stacks old line is_last (Some named) new =
+    (lines : List (Option Says)) → is_none lines ≡ is_last →
+    differs_at stacks old (line ∷ lines) ≡ Some named
+IsTaken stacks old line is_last None new = IsAfter new (old.lines + 1) ×
+    ((lines : List (Option Says)) → is_none lines ≡ is_last →
+    differs_at stacks old (line ∷ lines) ≡ differs_at stacks new lines)
 
 -- the line that a verdict names
 abbrev pub line_of : Verdict → Option ℕ

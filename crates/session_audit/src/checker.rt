@@ -7,13 +7,13 @@ ghost use Rattle.report_lines.specs.Line.{unread};
 ghost use Rattle.report_reader.specs.Guess.{read_line};
 ghost use Rattle.report_reader.specs.Form.{result_of, says_of, told_of};
 ghost use Rattle.report_reader.specs.Says.{Says, bare, lasts, results, tells};
-ghost use Rattle.session_audit.specs.Checked.{IsBehind, IsTaken, begun_within, differs_at, gathered_of, line_of, told_in};
+ghost use Rattle.session_audit.specs.Checked.{IsAfter, IsTaken, begun_within, differs_at, gathered_of, line_of, told_in};
 ghost use Rattle.session_audit.specs.Differs.{differs, may_follow, told_so_far};
 ghost use Rattle.session_audit.specs.Fits.{is_none};
 ghost use Rattle.session_audit.specs.Whole.{formless};
 
 use crate::place::Place;
-use crate::places::{judge_at, closed_places};
+use crate::places::{closed_places, judge_at};
 use crate::verdict::Verdict;
 use pam_base::NoMemory;
 use report_reader::{Form, Outcome, read_line};
@@ -28,8 +28,7 @@ pub struct Begun {
     pub told: Vec<Option<Seen>>,
 }
 
-/// A checker behind some lines of a report: what is known of each number's transaction, the block that has begun, and how
-/// many lines were taken.
+/// A checker after n lines of a report: what is known of each number's transaction, the block that has begun, and n.
 #[derive(Drop)]
 pub struct Checker {
     pub places: Vec<Place>,
@@ -40,7 +39,7 @@ pub struct Checker {
 impl Checker {
     /// A checker before the first line.
     pub fn new(alloc: Global) -> Result<Self, NoMemory>
-        ensures behind { IfOk result (λ c. IsBehind c 0) }
+        ensures behind { IfOk result (λ c. IsAfter c 0) }
         ensures differs { IfOk result (λ c. (stacks : Stacks) (lines : List (Option Says)) →
             differs_at stacks c lines ≡ differs stacks lines) }
     {
@@ -51,7 +50,8 @@ impl Checker {
         })
     }
 
-    /// Takes the next line, which is handed in without its newline. The line that differs is named, if one does.
+    /// Takes the next line, which is handed in without its newline. The number of the line that differs is given, if
+    /// one does.
     pub fn take_line(
         &mut self,
         alloc: Global,
@@ -60,7 +60,7 @@ impl Checker {
         is_last: bool,
     ) -> Result<Option<u32>, NoMemory>
         requires bounded { AreBounded trees.now }
-        requires behind { IsBehind self.old self.old.lines }
+        requires behind { IsAfter self.old self.old.lines }
         requires room { self.old.lines < 2 ^ 32 - 1 }
         ensures { IfOk result (λ named. IsTaken (stacks_in trees.now) self.old
             (option_map bare (read_line line.now)) is_last named self.new) }
@@ -78,10 +78,10 @@ impl Checker {
         is_last: bool,
     ) -> Result<Option<u32>, NoMemory>
         requires bounded { AreBounded trees.now }
-        requires behind { IsBehind self.old self.old.lines }
+        requires behind { IsAfter self.old self.old.lines }
         requires room { self.old.lines < 2 ^ 32 - 1 }
-        ensures { IfOk result (λ named. IsTaken (stacks_in trees.now) self.old (option_map says_of form)
-            is_last named self.new) }
+        ensures { IfOk result (λ named. IsTaken (stacks_in trees.now) self.old
+            (option_map says_of form) is_last named self.new) }
     {
         match form {
             None => Ok(Some(self.lines + 1)),
@@ -95,9 +95,10 @@ impl Checker {
 
     // A last line is the last, and stands within no block.
     fn take_last(&mut self, is_last: bool) -> Option<u32>
-        requires behind { IsBehind self.old self.old.lines }
+        requires behind { IsAfter self.old self.old.lines }
         requires room { self.old.lines < 2 ^ 32 - 1 }
-        ensures { (stacks : Stacks) → IsTaken stacks self.old (Some (lasts unread)) is_last result self.new }
+        ensures { (stacks : Stacks) →
+            IsTaken stacks self.old (Some (lasts unread)) is_last result self.new }
     {
         if is_last && self.begun.is_none() {
             self.lines += 1;
@@ -113,7 +114,7 @@ impl Checker {
         number: u32,
         visit: Option<Seen>,
     ) -> Result<Option<u32>, NoMemory>
-        requires behind { IsBehind self.old self.old.lines }
+        requires behind { IsAfter self.old self.old.lines }
         requires room { self.old.lines < 2 ^ 32 - 1 }
         ensures { IfOk result (λ named. (stacks : Stacks) (is_last : Bool) →
             IsTaken stacks self.old (Some (tells number (told_of visit))) is_last named self.new) }
@@ -136,7 +137,7 @@ impl Checker {
         outcome: Outcome,
     ) -> Result<Option<u32>, NoMemory>
         requires bounded { AreBounded trees.now }
-        requires behind { IsBehind self.old self.old.lines }
+        requires behind { IsAfter self.old self.old.lines }
         requires room { self.old.lines < 2 ^ 32 - 1 }
         ensures { IfOk result (λ named. (is_last : Bool) →
             IsTaken (stacks_in trees.now) self.old (Some (results number (result_of outcome)))
@@ -148,9 +149,7 @@ impl Checker {
         }
         let judged = judge_at(alloc, trees, &mut self.places, number, &begun.told, outcome)?;
         match judged {
-            Some(line) => Ok(Some(
-                self.lines + 1 - begun.told.len() as u32 + line as u32,
-            )),
+            Some(line) => Ok(Some(self.lines + 1 - begun.told.len() as u32 + line as u32)),
             None => {
                 self.lines += 1;
                 Ok(None)
@@ -158,7 +157,7 @@ impl Checker {
         }
     }
 
-    /// The verdict at the end of a text, behind whose last newline nothing is left, or bytes are.
+    /// The verdict at the end of a text, after whose last newline nothing stands, or bytes do.
     pub fn end(&self, is_empty: bool) -> Verdict
         requires room { self.now.lines < 2 ^ 32 - 1 }
         ensures { (stacks : Stacks) (rest : List ℕ) → is_none rest ≡ is_empty →

@@ -1,4 +1,4 @@
-ghost use Rattle.std.specs.Prelude.{◌≡◌, ◌-◌, ◌&&◌, [], not, nat_eq, IfOk, Some, length};
+ghost use Rattle.std.specs.Prelude.{◌≡◌, ◌&&◌, [], not, nat_eq, IfOk};
 ghost use Rattle.service_load.specs.Load.{AreBounded};
 ghost use Rattle.stack_walk.specs.Retell.{telling};
 ghost use Rattle.dispatch_core.specs.Calls.{goes};
@@ -7,9 +7,9 @@ ghost use Rattle.pass_replay.specs.Replay.{as_told};
 ghost use Rattle.pass_replay.specs.Retold.{stacks_in};
 ghost use Rattle.report_lines.specs.Line.{answered, runs, shows_code};
 ghost use Rattle.report_reader.specs.Form.{result_of};
-ghost use Rattle.session_audit.specs.Checked.{IsCall, IsJudged, behind_quiet, place_of, told_in};
-ghost use Rattle.session_audit.specs.Differs.{lines_before, visits_good};
-ghost use Rattle.session_audit.specs.Fits.{behind_call, behind_result, is_refused_change, running, same_code, visits_told, without_visits};
+ghost use Rattle.session_audit.specs.Checked.{IsCall, IsJudged, Judges, JudgesCall, behind_quiet, place_of, told_in};
+ghost use Rattle.session_audit.specs.Differs.{lines_before};
+ghost use Rattle.session_audit.specs.Fits.{is_refused_change, running, same_code, visits_told, without_visits};
 
 use crate::place::{Place, behind_quiet};
 use pam_base::{Code, Func, NoMemory};
@@ -37,9 +37,8 @@ pub fn judge(
     outcome: Outcome,
 ) -> Result<Judged, NoMemory>
     requires { AreBounded trees.now }
-    ensures { IfOk result (λ judged. IsJudged judged
-        (behind_result (stacks_in trees.now) (place_of place) (visits_told (told_in told.now)) (result_of outcome))
-        (lines_before (visits_good (stacks_in trees.now) (Some (place_of place)) (visits_told (told_in told.now)) (result_of outcome)) (told_in told.now))) }
+    ensures { IfOk result (λ judged. Judges (stacks_in trees.now) (place_of place)
+        (told_in told.now) (result_of outcome) judged) }
 {
     match place {
         Place::Open(held) => match stack_call(outcome) {
@@ -69,7 +68,8 @@ fn stack_call(outcome: Outcome) -> Option<StackCall>
 // A block whose result isn't the code of a stack call tells no visits.
 fn judge_quiet(place: Place, told: &[Option<Seen>], outcome: Outcome) -> Judged
     ensures { IsJudged result
-        (without_visits (visits_told (told_in told.now)) (behind_quiet (place_of place) (result_of outcome)))
+        (without_visits (visits_told (told_in told.now))
+        (behind_quiet (place_of place) (result_of outcome)))
         (lines_before 0 (told_in told.now)) }
 {
     let first = first_visit(told);
@@ -91,9 +91,8 @@ fn judge_call(
     told: &[Option<Seen>],
 ) -> Result<Judged, NoMemory>
     requires { AreBounded trees.now }
-    ensures { IfOk result (λ judged. IsJudged judged
-        (behind_result (stacks_in trees.now) (running (held_of held)) (visits_told (told_in told.now)) (answered (runs func) (shows_code code)))
-        (lines_before (visits_good (stacks_in trees.now) (Some (running (held_of held))) (visits_told (told_in told.now)) (answered (runs func) (shows_code code))) (told_in told.now))) }
+    ensures { IfOk result (λ judged. Judges (stacks_in trees.now) (running (held_of held))
+        (told_in told.now) (answered (runs func) (shows_code code)) judged) }
 {
     if is_refused_change(func, code, told) {
         return Ok(Judged::Fits(Place::Open(held)));
@@ -129,9 +128,9 @@ fn judge_retold(
     told: &[Option<Seen>],
 ) -> Result<Judged, NoMemory>
     requires { AreBounded trees.now }
-    ensures { IfOk result (λ judged. IsJudged judged
-        (behind_call code (goes as_told (stacks_in trees.now) func (held_of held) (telling (visits_told (told_in told.now)))))
-        (lines_before (length (visits_told (told_in told.now)) - length (goes as_told (stacks_in trees.now) func (held_of held) (telling (visits_told (told_in told.now)))).state.left) (told_in told.now))) }
+    ensures { IfOk result (λ judged. JudgesCall code
+        (goes as_told (stacks_in trees.now) func (held_of held)
+        (telling (visits_told (told_in told.now)))) (told_in told.now) judged) }
 {
     let retold = retell(alloc, trees, func, held, told)?;
     if is_retold(code, &retold, told.len()) {

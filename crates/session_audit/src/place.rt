@@ -17,7 +17,7 @@ pub enum Place {
     Open(Held),
 }
 
-/// The place behind a result other than the code of a stack call; None where the result doesn't fit.
+/// The place after a result other than the code of a stack call; None where the result doesn't fit.
 pub fn behind_quiet(place: Place, outcome: Outcome) -> Option<Place>
     ensures { option_map place_of result ≡ behind_quiet (place_of place) (result_of outcome) }
 {

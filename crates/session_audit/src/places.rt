@@ -30,8 +30,8 @@ pub fn closed_places(alloc: Global) -> Result<Vec<Place>, NoMemory>
     Ok(places)
 }
 
-/// Judges a block at the place of its number, which becomes what the block leads to. The line of it, counted from 0, that
-/// differs; None where it fits.
+/// Judges a block at the place of its number, which becomes what the block leads to. The line of it that differs,
+/// counted from 0; None where it fits.
 pub fn judge_at(
     alloc: Global,
     trees: &Trees,

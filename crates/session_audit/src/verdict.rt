@@ -21,7 +21,17 @@ pub enum Verdict {
     Differs { line: u32 },
 }
 
-/// Audits a report against the stacks of a service.
+/// Audits a report of at most 1,048,576 bytes against the stacks of a service. It fits where it is the text of blocks,
+/// the lines of one step each, and each block can come after those before it. A stack call can where its stack, gone
+/// over with the answers that the block tells, visits exactly the lines that the block tells, and comes to its code.
+/// Messages, cleanups, waits, notes and values are read for their form alone.
+///
+/// The line that is named is of the first block that doesn't fit: its first line without a form or of another number;
+/// the line after the text's last one, where the text ends within it; its first visit that isn't the next one of the
+/// call; else its last line.
+///
+/// Want of memory is the only refusal. Time is linear in the text's length and in the lines of the stacks that its
+/// calls go over, each call once.
 pub fn audit(alloc: Global, trees: &Trees, text: &[u8]) -> Result<Verdict, NoMemory>
     requires bounded { AreBounded trees.now }
     requires short { length text.now ≤ 2 ^ 20 }

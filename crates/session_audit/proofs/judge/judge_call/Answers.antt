@@ -22,11 +22,12 @@ returns-then-is_other_pending c =
     let h = held_of c.args.held in
     let stacks = stacks_in c.args.trees.now in
     let refused : is_refused_change c.args.func c.args.code vs ≡ false = sym c.is_refused_change.ensures ∙ c.if-is_refused_change.false in
-    let other = sym c.is_other_pending.ensures ∙ c.if-is_other_pending.true in
-    (call_aborted stacks c.args.func c.args.code vs h refused other,
-     told_first told c.first_visit.result c.first_visit.ensures
-     ∙ ap (λ (n : ℕ). lines_before n (told_in told))
-     (sym (line_aborted stacks c.args.func vs h (length vs - length (goes as_told stacks c.args.func h (telling vs)).state.left) other)))
+    let other = sym c.is_other_pending.ensures ∙ c.if-is_other_pending.true in (
+      call_aborted stacks c.args.func c.args.code vs h refused other,
+      told_first told c.first_visit.result c.first_visit.ensures
+          ∙ ap (λ (n : ℕ). lines_before n (told_in told))
+          (sym (line_aborted stacks c.args.func vs h (length vs - length (goes as_told stacks c.args.func h (telling vs)).state.left) other)),
+    )
 
 pub returns : goal.returns
 returns c =
@@ -38,5 +39,5 @@ returns c =
     let other = sym c.is_other_pending.ensures ∙ c.if-is_other_pending.false in
     judged_as c.judge_retold.result _ _ _ _ (call_goes stacks c.args.func c.args.code vs h refused other)
     (ap (λ (n : ℕ). lines_before n (told_in told))
-     (line_goes stacks c.args.func vs h (length vs - length (goes as_told stacks c.args.func h (telling vs)).state.left) other))
+    (line_goes stacks c.args.func vs h (length vs - length (goes as_told stacks c.args.func h (telling vs)).state.left) other))
     c.judge_retold.ensures

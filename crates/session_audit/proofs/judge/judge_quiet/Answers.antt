@@ -1,4 +1,4 @@
-use Rattle.std.proofs.Common.{List, Option, Some, None}
+use Rattle.std.proofs.Common.{Some, None}
 use Rattle.report_reader.specs.Form.{result_of}
 use Rattle.session_audit.specs.Checked.{behind_quiet, place_of, told_in}
 use Rattle.session_audit.specs.Fits.{visits_told}
@@ -8,9 +8,11 @@ use Rattle.session_audit.proofs.judge.judge_quiet.Goals as goal
 pub returns-then-first-told : goal.returns-then-first-told
 returns-then-first-told c =
     let told = c.args.told.now in
-    let first = c.first_visit-first.result in
-    (quiet_told (visits_told (told_in told)) (behind_quiet (place_of c.args.place) (result_of c.args.outcome))
-      (told_some told first c.first_visit-first.ensures c.if-first-told.true), told_first told first c.first_visit-first.ensures)
+    let first = c.first_visit-first.result in (
+      quiet_told (visits_told (told_in told)) (behind_quiet (place_of c.args.place) (result_of c.args.outcome))
+          (told_some told first c.first_visit-first.ensures c.if-first-told.true),
+      told_first told first c.first_visit-first.ensures,
+    )
 
 pub returns-in-Some : goal.returns-in-Some
 returns-in-Some c =
@@ -20,7 +22,8 @@ returns-in-Some c =
 
 pub returns-in-None : goal.returns-in-None
 returns-in-None c =
-    let told = c.args.told.now in
-    (quiet_as (visits_told (told_in told)) (behind_quiet (place_of c.args.place) (result_of c.args.outcome)) None
-      (told_none told c.first_visit-first.result c.first_visit-first.ensures c.if-first-told.false) c.in-None.ensures,
-     told_first told c.first_visit-first.result c.first_visit-first.ensures)
+    let told = c.args.told.now in (
+      quiet_as (visits_told (told_in told)) (behind_quiet (place_of c.args.place) (result_of c.args.outcome)) None
+          (told_none told c.first_visit-first.result c.first_visit-first.ensures c.if-first-told.false) c.in-None.ensures,
+      told_first told c.first_visit-first.result c.first_visit-first.ensures,
+    )

@@ -15,7 +15,7 @@ returns-then-is_retold c =
     let r = c.in_ok-retold.retold in
     let w = goes as_told (stacks_in c.args.trees.now) c.args.func (held_of c.args.held) (telling (visits_told (told_in told))) in
     let is : went_of told r ≡ w = c.in_ok-retold.ensures.goes
-        ∙ ap (λ (vs : List Seen). goes as_told (stacks_in c.args.trees.now) c.args.func (held_of c.args.held) (telling vs)) (sym (visits_are told)) in
+    ∙ ap (λ (vs : List Seen). goes as_told (stacks_in c.args.trees.now) c.args.func (held_of c.args.held) (telling vs)) (sym (visits_are told)) in
     only_true (not r.astray && (eqb r.next (length told) && same_code c.args.code r.code)) (running (held_of r.held)) _
     (as_retold told r c.args.code w is c.in_ok-retold.ensures.next) (sym c.is_retold.ensures ∙ c.if-is_retold.true)
 
@@ -25,7 +25,8 @@ returns-else-is_retold c =
     let r = c.in_ok-retold.retold in
     let w = goes as_told (stacks_in c.args.trees.now) c.args.func (held_of c.args.held) (telling (visits_told (told_in told))) in
     let is : went_of told r ≡ w = c.in_ok-retold.ensures.goes
-        ∙ ap (λ (vs : List Seen). goes as_told (stacks_in c.args.trees.now) c.args.func (held_of c.args.held) (telling vs)) (sym (visits_are told)) in
-    (only_false (not r.astray && (eqb r.next (length told) && same_code c.args.code r.code)) (running (held_of r.held)) _
-     (as_retold told r c.args.code w is c.in_ok-retold.ensures.next) (sym c.is_retold.ensures ∙ c.if-is_retold.false),
-     retold_line told r w is c.in_ok-retold.ensures.next)
+    ∙ ap (λ (vs : List Seen). goes as_told (stacks_in c.args.trees.now) c.args.func (held_of c.args.held) (telling vs)) (sym (visits_are told)) in (
+      only_false (not r.astray && (eqb r.next (length told) && same_code c.args.code r.code)) (running (held_of r.held)) _
+          (as_retold told r c.args.code w is c.in_ok-retold.ensures.next) (sym c.is_retold.ensures ∙ c.if-is_retold.false),
+      retold_line told r w is c.in_ok-retold.ensures.next,
+    )
