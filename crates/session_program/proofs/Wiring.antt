@@ -22,7 +22,7 @@ use Rattle.session_program.specs.Wire.{AnswersBy, IsReadThrough, IsServed, IsWir
 
 -- ---- the ending of a status
 
-ending_of : ℕ → Option (Ending FrameFault)
+abbrev ending_of : ℕ → Option (Ending FrameFault)
 ending_of n =
     if nat_eq n 0 then Some Done else if nat_eq n 5 then Some ReadFault
     else if nat_eq n 13 then Some (Refused BadFrame) else if nat_eq n 14 then Some (Refused TooManyFrames) else None
