@@ -1,11 +1,11 @@
 -- The second pass of a change, step by step.
-use Rattle.std.proofs.Common.{◌≡◌, ℕ, ◌==◌, nat_le, Bool, true, false, List, length, Option, Some, None, Result, Ok, refl, sym, ap, ◌∙◌, subst, arith}
+use Rattle.std.proofs.Common.{◌≡◌, ℕ, ◌==◌, nat_le, Bool, true, false, List, length, Option, Some, None, Result, Ok, refl, sym, ap, ◌∙◌, subst}
 use Rattle.pam_base.specs.declared.code.Code.{Code}
 use Rattle.pam_base.specs.declared.code.Code.TheVariants as returns
 use Rattle.pam_base.specs.declared.fault.ConvErr.{ConvErr}
 use Rattle.pam_base.specs.declared.fault.Refuse.{Refuse}
 use Rattle.pam_base.specs.declared.item.ItemName.{ItemName}
-use Rattle.item_store.specs.Items.{ItemTexts, with_text}
+use Rattle.item_store.specs.Items.{with_text}
 use Rattle.conv_port.specs.Conv.{ConvState}
 use Rattle.pam_outside.specs.Files.{VaultState}
 use Rattle.pam_outside.specs.Time.{ClockState}
@@ -19,7 +19,6 @@ use Rattle.account_files.specs.Accounts.{Known}
 use Rattle.account_files.specs.Act.{Act, Acts, Came, Leads, reads_file, replaces_file, stage_of}
 use Rattle.module_acts.specs.Comes.{Comes, lent}
 use Rattle.module_acts.specs.Steps.{sees_caller}
-use Rattle.module_acts.specs.Talks.{Talks}
 use Rattle.mod_unix.specs.declared.look.Look.{Look}
 use Rattle.mod_unix.specs.declared.look.Look.TheVariants.{Unknown, Unavailable, Plain, Shadowed}
 use Rattle.mod_unix.specs.Change.{by_done}

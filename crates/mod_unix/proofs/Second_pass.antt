@@ -29,7 +29,6 @@ use Rattle.mod_unix.specs.Change.{by_authtok, by_done, by_kept, by_pass, by_text
 use Rattle.mod_unix.specs.Look.{by_field, by_x, field_in, is_x, looks, shadow_among, shadow_in, shadowed}
 use Rattle.mod_unix.specs.NewHash.{hashed_token}
 use Rattle.mod_unix.specs.Stands.{shadow_path}
-use Rattle.mod_unix.proofs.Faultless.{made}
 use Rattle.pam_base.specs.declared.code.Code.TheVariants as returns
 use Rattle.account_files.specs.declared.content.Content.TheVariants as content
 use Rattle.mod_unix.specs.declared.look.Field.TheVariants as field

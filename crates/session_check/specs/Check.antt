@@ -64,6 +64,18 @@ pub record Checks (result : Result Found Stopped) (c : Check) (old new : SinkSta
   pub asked : result ≢ Err NoMemory → vault.calls ≡ c.calls
   pub writes : new.calls ≤ old.calls + length front + 1
 
+-- What is told of a check by the vault alone, whatever became of its text: what was found, and how often the vault was
+-- called by then.
+pub record Finds (result : Result Found Stopped) (c : Check) (vault : VaultState) : Type 0 where
+  pub found : IfOk result (λ found. found ≡ c.found)
+  pub asked : result ≢ Err NoMemory → vault.calls ≡ c.calls
+
+-- some text was written, with at most one call more than it has bytes
+pub record WritesText (old new : SinkState) : Type 0 where
+  pub text : List ℕ
+  pub written : new.written ≡ old.written ++ text
+  pub calls : new.calls ≤ old.calls + length text + 1
+
 -- what was found, and its text, are those of a check
 pub record IsCheck (finding : Finding) (c : Check) (vault : VaultState) : Type 0 where
   pub found : finding.found ≡ c.found

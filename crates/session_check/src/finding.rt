@@ -4,7 +4,7 @@ ghost use Rattle.pam_outside.specs.Counts.{RisesIf};
 ghost use Rattle.service_load.specs.Loading.{OnlyCalls};
 ghost use Rattle.service_print.specs.Printed.{printed, stacks_in};
 ghost use Rattle.item_stream.specs.Turns.{has_write_fault};
-ghost use Rattle.session_check.specs.Check.{Checks, IsCheck, check_of, file_text, files_text};
+ghost use Rattle.session_check.specs.Check.{Checks, Finds, IsCheck, WritesText, check_of, file_text, files_text};
 
 use item_stream::Stop;
 use pam_base::{Failed, NoMemory, Refuse, lowercase};
@@ -45,6 +45,12 @@ pub fn check<K: Sink>(
     ensures told { IsTrue (K.sink_tells out.old) → IsTrue (vault_tells vault.old) →
         Checks result (check_of (vault_holds vault.old) root.now service.now) (K.sink_holds out.old)
         (K.sink_holds out.new) (vault_holds vault.new) }
+    // Where the vault alone tells, and where the sink alone does.
+    ensures found { IsTrue (vault_tells vault.old) →
+        Finds result (check_of (vault_holds vault.old) root.now service.now)
+        (vault_holds vault.new) }
+    ensures writes { IsTrue (K.sink_tells out.old) →
+        WritesText (K.sink_holds out.old) (K.sink_holds out.new) }
     ensures stays { IsTrue (vault_tells vault.old) →
         OnlyCalls (vault_holds vault.old) (vault_holds vault.new) }
     ensures faults { RisesIf (has_write_fault result) (K.sink_faults out.old)

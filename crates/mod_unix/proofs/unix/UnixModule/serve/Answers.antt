@@ -1,5 +1,4 @@
 use Rattle.std.proofs.Common.{Ok, ap, ◌∙◌}
-use Rattle.pam_outside.specs.Time.{ClockState}
 use Rattle.mod_unix.specs.Aging.{day_of}
 use Rattle.pam_base.specs.declared.code.Code.TheVariants.{Success}
 use Rattle.pam_base.specs.declared.call.Func.TheVariants.{Authenticate, SetCred, AcctMgmt, OpenSession, CloseSession, ChAuthTok}
