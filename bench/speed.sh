@@ -1,7 +1,7 @@
 #!/bin/bash
 # How long the built program takes, in seconds of its own (user and system), the least of five runs each:
 # scripts of more and more lines, beside a plain count of their lines and, where its path is given, beside an earlier program;
-# loads of 1,000 and of 4,000 lines; and an authentication for each line that it walks.
+# loads of 1,000 and of 4,000 lines; an authentication for each line that it walks; and a user that a module looks up.
 # `bench/speed.sh [EARLIER]`, from any folder; ./build first.
 set -euo pipefail
 cd "$(dirname "$0")/.."
@@ -52,3 +52,14 @@ short=$(seconds "$room/walks1000" "$program" run "$room")
 long=$(seconds "$room/walks4000" "$program" run "$room")
 each=$(awk -v b="$long" 'BEGIN { printf "%.2f", b * 1e6 / (200 * 4000) }')
 echo "200 authentications over 1,000 lines: $short; over 4,000 lines: $long; $each microseconds for each line walked and reported"
+
+# The last user of a password file of 10,000 lines, looked up by a module; the same calls of a module that reads no file.
+for ((i = 0; i < 10000; i++)); do echo "user$i:x:$((1000 + i)):100:User $i:/home/user$i:/bin/bash"; done >"$room/etc/passwd"
+echo "auth required pam_succeed_if.so uid >= 1000" >"$room/etc/pam.d/account"
+for service in login account; do
+    { echo "start 1 $service user9999"; lines 400 "authenticate 1"; echo "end 1 0"; } >"$room/$service"
+done
+without=$(seconds "$room/login" "$program" run "$room")
+with=$(seconds "$room/account" "$program" run "$room")
+each=$(awk -v a="$without" -v b="$with" 'BEGIN { printf "%.2f", (b - a) * 1000 / 400 }')
+echo "400 users looked up among 10,000: $with, without that $without; $each milliseconds each"

@@ -3,4 +3,7 @@ mod Reading
 mod Trimming
 mod Rows
 mod Placing
+mod Lacking
+mod Faultless
+mod Nine_fields
 mod Renewing

@@ -4,7 +4,8 @@ use Rattle.std.proofs.lemmas.List.{append-nil}
 use Rattle.std.specs.List.{join_with_byte}
 use Rattle.std.proofs.lemmas.List.Splits.{join_with_byte-slice_split}
 use Rattle.pam_base.specs.Parts.{parts_of}
-use Rattle.account_db.specs.Replace.{Placed, changed_line, changed_lines, is_line_of, with_hash}
+use Rattle.account_db.specs.Entries.{is_line_of}
+use Rattle.account_db.specs.Replace.{Placed, changed_line, changed_lines, with_hash}
 
 -- what stands behind a line: nothing, or a newline and the lines that follow
 abbrev tail_of : List (List ℕ) → List ℕ

@@ -15,7 +15,8 @@ has_gid (Some entry) gid = entry.gid == gid
 has_gid None gid = false
 
 abbrev pub is_member : List ℕ → Option Passwd → Group → Bool
-is_member user entry group = has_gid entry group.gid || list_any (λ m. bytes_eq m user) group.members
+is_member user entry group =
+    has_gid entry group.gid || list_any (λ m. bytes_eq m user) group.members
 
 abbrev pub is_member_of : List ℕ → Option Passwd → Option Group → Bool
 is_member_of user entry (Some group) = is_member user entry group

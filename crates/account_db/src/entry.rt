@@ -1,8 +1,10 @@
-ghost use Rattle.std.specs.Prelude.{◌≡◌, ◌≤◌, ℕ, List, Option, IfOk, length};
-ghost use Rattle.account_db.specs.Entries.{AddsEntry, Answers, entries_of, is_passed_over};
+ghost use Rattle.std.specs.Prelude.{◌≡◌, ◌≤◌, ℕ, List, Option, Some, IfOk, is_some, length};
+ghost use Rattle.account_db.specs.Entries.{Checks, entry_if_named, entry_named, is_faulty, is_line_of, is_passed_over, kept};
+ghost use Rattle.account_db.specs.Parts.{field};
 
 use crate::fault::DbFault;
-use pam_base::{Lines, NoMemory, Refuse, Sequence};
+use crate::parts::name_in;
+use pam_base::{Lines, NoMemory, Sequence};
 use std::alloc::Global;
 
 /// An entry of an account file, which stands in a line of its own.
@@ -10,51 +12,96 @@ pub(crate) trait Entry: Drop {
     /// The entry of a line that has the form of one.
     ghost form: { List ℕ → Option Self };
 
+    /// The name that an entry is looked up by.
+    ghost name: { Self → List ℕ };
+
+    /// Whether a line has the form.
+    fn has_form(line: &[u8]) -> bool
+        ensures { result ≡ is_some (form line.now) };
+
     /// The entry of a line; None where it hasn't the form.
     fn read(alloc: Global, line: &[u8]) -> Result<Option<Self>, NoMemory>
         ensures { IfOk result (λ entry. entry ≡ form line.now) };
+
+    // The name is the first field of the line.
+    ghost named: { (line : List ℕ) (entry : Self) → form line ≡ Some entry →
+        name entry ≡ field 0 line };
 }
 
-/// The entries of a text, or the first line that counts and hasn't the form.
-pub(crate) fn entries_in<E: Entry>(
-    alloc: Global,
-    text: &[u8],
-) -> Result<Sequence<E>, Refuse<DbFault>>
+/// Whether each line of a text that counts has the form, else the first that hasn't.
+pub(crate) fn check_lines<E: Entry>(text: &[u8]) -> Result<(), DbFault>
     requires { length text.now ≤ 1048576 }
-    ensures { Answers result (entries_of E.form text.now) }
+    ensures { Checks E.form result text.now }
 {
-    let mut entries = Sequence::new(alloc);
     let mut lines = Lines::new(text);
     let mut number: u32 = 0;
     while let Some(line) = lines.next_line() {
         number += 1;
-        add_entry(alloc, number, line, &mut entries)?;
+        if is_faulty::<E>(line) {
+            return Err(DbFault { line: number });
+        }
+    }
+    Ok(())
+}
+
+fn is_faulty<E: Entry>(line: &[u8]) -> bool
+    ensures { result ≡ is_faulty E.form line.now }
+{
+    !is_passed_over(line) && !E::has_form(line)
+}
+
+/// The entries of a text, in order.
+pub(crate) fn entries_in<E: Entry>(alloc: Global, text: &[u8]) -> Result<Sequence<E>, NoMemory>
+    ensures { IfOk result (λ entries. entries ≡ kept E.form text.now) }
+{
+    let mut entries = Sequence::new(alloc);
+    let mut lines = Lines::new(text);
+    while let Some(line) = lines.next_line() {
+        if !is_passed_over(line) {
+            if let Some(entry) = E::read(alloc, line)? {
+                entries.push(entry)?;
+            }
+        }
     }
     Ok(entries)
 }
 
-// Adds the entry of the line with this number, unless it is passed over.
-fn add_entry<E: Entry>(
+/// The first entry of a text with this name. Of the lines with another name none is read.
+pub(crate) fn entry_named<E: Entry>(
     alloc: Global,
-    number: u32,
-    line: &[u8],
-    entries: &mut Sequence<E>,
-) -> Result<(), Refuse<DbFault>>
-    ensures { AddsEntry E.form result number line.now entries.old entries.new }
+    name: &[u8],
+    text: &[u8],
+) -> Result<Option<E>, NoMemory>
+    ensures { IfOk result (λ entry. entry ≡ entry_named E.form E.name name.now text.now) }
 {
-    if is_passed_over(line) {
-        return Ok(());
-    }
-    match E::read(alloc, line)? {
-        Some(entry) => {
-            entries.push(entry)?;
-            Ok(())
+    let mut lines = Lines::new(text);
+    while let Some(line) = lines.next_line() {
+        let entry = entry_if_named::<E>(alloc, name, line)?;
+        if entry.is_some() {
+            return Ok(entry);
         }
-        None => Err(Refuse::Named(DbFault { line: number })),
+    }
+    Ok(None)
+}
+
+fn entry_if_named<E: Entry>(alloc: Global, name: &[u8], line: &[u8]) -> Result<Option<E>, NoMemory>
+    ensures { IfOk result (λ entry. entry ≡ entry_if_named E.form name.now line.now) }
+{
+    if is_line_of(name, line) {
+        E::read(alloc, line)
+    } else {
+        Ok(None)
     }
 }
 
-// Whether a line counts for nothing.
+/// Whether a line counts, and its first field is this name.
+pub(crate) fn is_line_of(name: &[u8], line: &[u8]) -> bool
+    ensures { result ≡ is_line_of name.now line.now }
+{
+    !is_passed_over(line) && name_in(line) == name
+}
+
+/// Whether a line counts for nothing.
 pub(crate) fn is_passed_over(line: &[u8]) -> bool
     ensures { result ≡ is_passed_over line.now }
 {

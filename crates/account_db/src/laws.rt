@@ -6,16 +6,22 @@ ghost use Rattle.pam_base.specs.Bytes.{has_byte};
 
 /// Does nothing: its contract is that a new hash leaves every other byte of the file.
 pub fn hash_is_put_in_place()
-    ensures { (user hash : List ℕ) (day : ℕ) (text : List ℕ) → (with_hash user hash day text ≡ text) ⊎ Placed user hash day text (with_hash user hash day text) }
+    ensures { (user hash : List ℕ) (day : ℕ) (text : List ℕ) →
+        (with_hash user hash day text ≡ text) ⊎ Placed user hash day text
+        (with_hash user hash day text) }
 {}
 
 /// Does nothing: its contract is that a file with a new hash is read as the entries that it had, of which the first of
 /// the user has this hash and this day (`shadow(5)`). A hash holds no colon and no newline, and a day nine digits.
 pub fn new_hash_is_read()
-    ensures read { (user hash : List ℕ) (day : ℕ) (text : List ℕ) (entries : List Shadow) → has_byte 58 hash ≡ false → has_byte 10 hash ≡ false → day < 10 ^ 9 →
-        shadows_of text ≡ Ok entries → shadows_of (with_hash user hash day text) ≡ Ok (changed_entries user hash day entries) }
-    ensures users { (user hash : List ℕ) (day : ℕ) (entries : List Shadow) (entry : Shadow) → shadow_of user entries ≡ Some entry →
+    ensures read { (user hash : List ℕ) (day : ℕ) (text : List ℕ) (entries : List Shadow) →
+        has_byte 58 hash ≡ false → has_byte 10 hash ≡ false → day < 10 ^ 9 →
+        shadows_of text ≡ Ok entries → shadows_of (with_hash user hash day text)
+        ≡ Ok (changed_entries user hash day entries) }
+    ensures users { (user hash : List ℕ) (day : ℕ) (entries : List Shadow) (entry : Shadow) →
+        shadow_of user entries ≡ Some entry →
         shadow_of user (changed_entries user hash day entries) ≡ Some (renewed hash day entry) }
-    ensures others { (user hash : List ℕ) (day : ℕ) (other : List ℕ) (entries : List Shadow) → other ≢ user →
+    ensures others { (user hash : List ℕ) (day : ℕ) (other : List ℕ) (entries : List Shadow) →
+        other ≢ user →
         shadow_of other (changed_entries user hash day entries) ≡ shadow_of other entries }
 {}

@@ -1,12 +1,12 @@
 ghost use Rattle.std.specs.Prelude.{◌≡◌, ◌≤◌, ◌++◌, length, IfOk, OnOk};
 ghost use Rattle.std.specs.List.{join_with_byte};
-ghost use Rattle.account_db.specs.Entries.{Answers, is_passed_over};
-ghost use Rattle.account_db.specs.Parts.{field};
-ghost use Rattle.account_db.specs.Replace.{changed_line, hash_replaced, is_line_of, with_hash};
+ghost use Rattle.account_db.specs.Entries.{Answers};
+ghost use Rattle.account_db.specs.Replace.{changed_line, hash_replaced, with_hash};
 
-use crate::entry::is_passed_over;
+use crate::entry::{check_lines, is_line_of};
 use crate::fault::DbFault;
-use crate::shadow::shadows;
+use crate::parts::name_in;
+use crate::shadow::Shadow;
 use pam_base::{NoMemory, Parts, Refuse, Text, Texts};
 use std::alloc::Global;
 
@@ -24,8 +24,10 @@ pub fn replace_hash(
     requires { length text.now ≤ 1048576 }
     ensures { Answers result (hash_replaced user.now hash.now day text.now) }
 {
-    let _entries = shadows(alloc, text)?;
-    Ok(with_hash(alloc, text, user, hash, day)?)
+    match check_lines::<Shadow>(text) {
+        Ok(()) => Ok(with_hash(alloc, text, user, hash, day)?),
+        Err(fault) => Err(Refuse::Named(fault)),
+    }
 }
 
 // The text with the first line of the user changed.
@@ -50,23 +52,6 @@ fn with_hash(
         }
     }
     joined(alloc, b'\n', &lines)
-}
-
-// Whether a line is one of the user's.
-fn is_line_of(user: &[u8], line: &[u8]) -> bool
-    ensures { result ≡ is_line_of user.now line.now }
-{
-    !is_passed_over(line) && name_in(line) == user
-}
-
-// The first field of a line.
-fn name_in<'a>(line: &'a [u8]) -> &'a [u8]
-    ensures { result.now ≡ field 0 line.now }
-{
-    match Parts::new(b':', line).next_part() {
-        Some(name) => name,
-        None => b"",
-    }
 }
 
 // A line with this hash and this day of the last change.

@@ -1,14 +1,13 @@
 ghost use Rattle.std.specs.Prelude.{◌≡◌, ◌≤◌, length, IfOk};
-ghost use Rattle.std.specs.Option.{option_copied};
-ghost use Rattle.account_db.specs.Entries.{Answers};
-ghost use Rattle.account_db.specs.Shadow.{are_days, is_days, shadow_in, shadow_of, shadows_of};
+ghost use Rattle.account_db.specs.Shadow.{are_days, is_days, shadow_in, shadow_named, shadow_of, shadows_of};
 ghost use Rattle.account_db.specs.Parts.{fields_of};
 
-use crate::entry::{Entry, entries_in};
+use crate::entry::{Entry, check_lines, entry_named};
 use crate::fault::DbFault;
 use crate::parts::{field, has_fields};
-use pam_base::{NoMemory, Refuse, Sequence, Text, are_digits, number_in};
+use pam_base::{NoMemory, Text, are_digits, number_in};
 use std::alloc::Global;
+use std::marker::Model;
 
 /// An entry of `shadow(5)`. The numbers are days; of an empty field there is none.
 #[derive(Debug, Drop)]
@@ -24,11 +23,33 @@ pub struct Shadow {
     pub reserved: Text,
 }
 
-/// The entries of the file, in order.
-pub type Shadows = Sequence<Shadow>;
+/// The entries of the file, in order. They are kept as its text, and an entry is read where it is looked up.
+#[derive(Debug, Drop)]
+pub struct ShadowFile {
+    text: Text,
+}
+
+impl Model for ShadowFile {
+    ghost use Rattle.std.specs.Prelude.{List};
+    ghost use Rattle.account_db.specs.declared.shadow.Shadow.{Shadow};
+    ghost use Rattle.account_db.specs.Entries.{kept};
+    ghost use Rattle.account_db.specs.Shadow.{shadow_in};
+
+    ghost Value = { List Shadow };
+
+    ghost view = { λ s. kept shadow_in s.text };
+}
 
 impl Entry for Shadow {
     ghost form = { shadow_in };
+
+    ghost name = { λ s. s.name };
+
+    ghost named = { shadow_named };
+
+    fn has_form(line: &[u8]) -> bool {
+        has_fields(9, line) && are_days(line)
+    }
 
     fn read(alloc: Global, line: &[u8]) -> Result<Option<Shadow>, NoMemory> {
         if !has_fields(9, line) || !are_days(line) {
@@ -67,37 +88,25 @@ fn is_days(word: &[u8]) -> bool
     word.len() <= 9 && are_digits(word)
 }
 
-/// The entries of a shadow file (`shadow(5)`), or the first line that hasn't the form of one, as `passwds` does.
-pub fn shadows(alloc: Global, text: &[u8]) -> Result<Shadows, Refuse<DbFault>>
-    requires { length text.now ≤ 1048576 }
-    ensures { Answers result (shadows_of text.now) }
+/// The entries of a shadow file (`shadow(5)`) with this text, or the first line that hasn't the form of one, as
+/// `passwds` does. It takes no memory.
+pub fn shadows(text: Text) -> Result<ShadowFile, DbFault>
+    requires { length text ≤ 1048576 }
+    ensures { result ≡ shadows_of text }
 {
-    entries_in(alloc, text)
+    match check_lines::<Shadow>(text.bytes()) {
+        Ok(()) => Ok(ShadowFile { text }),
+        Err(fault) => Err(fault),
+    }
 }
 
 /// A user's entry: the first of that name.
-pub fn shadow_of<'a>(user: &[u8], entries: &'a Shadows) -> Option<&'a Shadow>
-    ensures { option_copied result ≡ shadow_of user.now entries.now }
+pub fn shadow_of(
+    alloc: Global,
+    user: &[u8],
+    entries: &ShadowFile,
+) -> Result<Option<Shadow>, NoMemory>
+    ensures { IfOk result (λ entry. entry ≡ shadow_of user.now entries.now) }
 {
-    entries
-        .items()
-        .iter()
-        .find(|entry| entry.name.bytes() == user)
-}
-
-/// A copy of an entry.
-pub fn copy_of(alloc: Global, entry: &Shadow) -> Result<Shadow, NoMemory>
-    ensures { IfOk result (λ copy. copy ≡ entry.now) }
-{
-    Ok(Shadow {
-        name: Text::from_bytes(alloc, entry.name.bytes())?,
-        hash: Text::from_bytes(alloc, entry.hash.bytes())?,
-        last_change: entry.last_change,
-        min: entry.min,
-        max: entry.max,
-        warn: entry.warn,
-        inactive: entry.inactive,
-        expire: entry.expire,
-        reserved: Text::from_bytes(alloc, entry.reserved.bytes())?,
-    })
+    entry_named(alloc, user, entries.text.bytes())
 }

@@ -1,20 +1,14 @@
 -- Steps of what a module does, put before what it does from there on.
-use Rattle.std.proofs.Common.{◌≡◌, ℕ, zero, suc, Bool, true, false, cond, List, [], Option, Some, None, codes, unwrap_or, Result, Ok, Err, IfOk, refl, sym, ap, ◌∙◌}
+use Rattle.std.proofs.Common.{◌≡◌, ℕ, zero, suc, Bool, true, false, cond, List, [], Option, Some, None, codes, Result, Ok, Err, IfOk, refl, sym, ap, ◌∙◌}
 use Rattle.std.proofs.lemmas.List.{append-nil}
 use Rattle.pam_base.specs.declared.code.Code.{Code}
-use Rattle.pam_base.specs.declared.code.Code.TheVariants.{ConvErr}
 use Rattle.pam_base.specs.declared.fault.NoMemory.{NoMemory}
-use Rattle.pam_base.specs.declared.style.Style.{Style}
-use Rattle.conv_port.specs.Conv.{ConvState}
 use Rattle.item_store.specs.Items.{ItemTexts}
 use Rattle.pam_outside.specs.Files.{File, VaultState, counted, file_put, is_failing}
 use Rattle.pam_outside.specs.Time.{ClockState}
-use Rattle.pam_room.specs.declared.transaction.Transaction.{Transaction}
-use Rattle.pam_room.specs.Plain.{plain_transaction}
 use Rattle.pam_room.specs.Call.{PlainCall}
-use Rattle.pam_room.specs.State.{PlainProcess, PlainRoom, Scene, room_of, scene_of}
-use Rattle.pam_room.specs.Module.{Played, PlaysIn, after_calls, failing_of, seen_of, sight_of, with_played}
-use Rattle.pam_room.specs.Say.{asked, user_asked}
+use Rattle.pam_room.specs.State.{PlainProcess, PlainRoom, Scene, scene_of}
+use Rattle.pam_room.specs.Module.{Played, PlaysIn, after_calls, failing_of, sight_of, with_played}
 use Rattle.account_db.specs.declared.group.Group.{Group}
 use Rattle.account_db.specs.declared.passwd.Passwd.{Passwd}
 use Rattle.account_files.specs.declared.content.Content.{Content}
@@ -23,8 +17,7 @@ use Rattle.pam_outside.specs.Paths.{path_of}
 use Rattle.account_files.specs.Content.{after_named, content_at, is_rooted, named_content}
 use Rattle.account_files.specs.Accounts.{Known, Looked, groups_looked, account_limit, known_groups, known_passwds, nothing_known, passwds_looked, shells_in}
 use Rattle.account_files.specs.Accounts.{groups_by as known_groups_by, passwds_by as known_by}
-use Rattle.account_files.specs.Act.{Act, Acts, answers, asks_user, called, content_seen, groups_by, later, passwds_by, plays_by, reads_file, reads_groups, reads_if, reads_passwds, reads_shells, replaced, replaces_file, sees_items, sees_moment, shown, shows, stage_of}
-use Rattle.account_files.specs.Speaks.{Speaks}
+use Rattle.account_files.specs.Act.{Act, Acts, answers, called, content_seen, groups_by, later, passwds_by, plays_by, reads_file, reads_groups, reads_if, reads_passwds, reads_shells, replaced, replaces_file, sees_items, sees_moment, stage_of}
 
 -- ---- a step that leaves the vault, and one that calls it once
 
@@ -70,35 +63,6 @@ seeing act known s code new a = carried (sees_items act) (act s.room.transaction
 pub timing : (act : ℕ → Act) (known : Known) (s : Scene) (code : Code) (new : Scene) → Acts (act s.clock.moment) known s code new → Acts (sees_moment act) known s code new
 unfolding sees_moment
 timing act known s code new a = carried (sees_moment act) (act s.clock.moment) known known s s code new refl (λ p. refl) a
-
-abbrev pub scene : Transaction → ConvState → VaultState → ClockState → PlainProcess → Scene
-scene t conv vault clock process = scene_of (room_of (plain_transaction t) conv) vault clock process
-
-module _ (known : Known) (t u : Transaction) (conv conv' : ConvState) (vault : VaultState) (clock : ClockState) (process : PlainProcess) (speaks : Speaks t u) where
-  datums : u.datums ≡ t.datums
-  datums = ap (λ (x : Transaction). x.datums) speaks.others
-
-  same_played : (p : Played) → with_played p (scene u conv' vault clock process) ≡ with_played p (scene t conv vault clock process)
-  same_played p =
-      let trail = ap (λ (x : Transaction). x.trail) speaks.others in
-      let handle = ap (λ (x : Transaction). x.handle) speaks.others in
-      let serving = ap (λ (x : Transaction). x.serving) speaks.others in
-      rw (datums, trail, handle, serving) refl
-
-  pub refused : (act : List ℕ → Act) → user_asked (seen_of (room_of (plain_transaction t) conv)) ≡ asked true (seen_of (room_of (plain_transaction u) conv'))
-      → Acts (asks_user act) known (scene t conv vault clock process) ConvErr (scene u conv' vault clock process)
-  unfolding asks_user answers
-  refused act e = carried (asks_user act) (answers ConvErr) known known _ _ ConvErr _ (rw e refl) same_played (answering ConvErr known _)
-
-  pub knowing : (act : List ℕ → Act) (code : Code) (new : Scene) → user_asked (seen_of (room_of (plain_transaction t) conv)) ≡ asked false (seen_of (room_of (plain_transaction u) conv'))
-      → Acts (act (unwrap_or u.items.user [])) known (scene u conv' vault clock process) code new → Acts (asks_user act) known (scene t conv vault clock process) code new
-  unfolding asks_user
-  knowing act code new e a = carried (asks_user act) (act (unwrap_or u.items.user [])) known known _ _ code new (rw (e, datums) refl) same_played a
-
-  pub showing : (style : Style) (text : List ℕ) (act : Act) (code : Code) (new : Scene) → seen_of (room_of (plain_transaction u) conv') ≡ shown style text (seen_of (room_of (plain_transaction t) conv))
-      → Acts act known (scene u conv' vault clock process) code new → Acts (shows style text act) known (scene t conv vault clock process) code new
-  unfolding shows
-  showing style text act code new e a = carried (shows style text act) act known known _ _ code new (rw (← e, datums) refl) same_played a
 
 -- ---- files
 

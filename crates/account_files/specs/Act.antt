@@ -52,7 +52,8 @@ unless_answered None act = act
 
 -- the user is there, or CONV_ERR is answered at once
 abbrev pub with_user : Asked → (List ℕ → Act) → Act
-with_user asked act stage = if asked.refused then answered ConvErr asked.room stage.sight else act (unwrap_or asked.room.items.user []) (in_room asked.room stage)
+with_user asked act stage = if asked.refused then answered ConvErr asked.room stage.sight
+    else act (unwrap_or asked.room.items.user []) (in_room asked.room stage)
 
 -- the user is asked for, where USER isn't set (pam_get_user(3))
 unfoldable pub asks_user : (List ℕ → Act) → Act
@@ -61,7 +62,8 @@ asks_user act stage = with_user (user_asked stage.room) act stage
 -- the room after a text was shown, of which 512 bytes count; an empty one isn't shown
 abbrev pub shown : Style → List ℕ → SeenRoom → SeenRoom
 shown style [] room = room
-shown style (b ∷ bs) room = (speak (record { style = style; text = take 512 (b ∷ bs) } ∷ []) room).room
+shown style (b ∷ bs) room =
+    (speak (record { style = style; text = take 512 (b ∷ bs) } ∷ []) room).room
 
 -- a text is shown, whatever the conversation makes of it
 unfoldable pub shows : Style → List ℕ → Act → Act
@@ -83,10 +85,12 @@ called played = record played { calls = suc played.calls }
 
 -- what the next call finds, if it reads the file with this name
 abbrev pub content_seen : List ℕ → ℕ → Sight → Content
-content_seen name limit sight = content_of (sight.failing 0) limit (file_at (path_of sight.root name) sight.files)
+content_seen name limit sight =
+    content_of (sight.failing 0) limit (file_at (path_of sight.root name) sight.files)
 
 abbrev pub reads_if : Bool → List ℕ → ℕ → (Content → Act) → Act
-reads_if true name limit act stage = called (act (content_seen name limit stage.sight) (record stage { sight = later stage.sight }))
+reads_if true name limit act stage =
+    called (act (content_seen name limit stage.sight) (record stage { sight = later stage.sight }))
 reads_if false name limit act stage = act Absent stage
 
 -- a file is read by one call of the vault; where its name isn't a path from the root it is absent, without a call
@@ -100,7 +104,10 @@ replaced false path bytes sight = record (later sight) { files = file_put path b
 
 -- the file with this name is set whole by one call of the vault, and stays as it was where that fails
 unfoldable pub replaces_file : List ℕ → List ℕ → (Bool → Act) → Act
-replaces_file name bytes act stage = called (act (not (stage.sight.failing 0)) (record stage { sight = replaced (stage.sight.failing 0) (path_of stage.sight.root name) bytes stage.sight }))
+replaces_file name bytes act stage =
+    let fails = stage.sight.failing 0 in
+    let sight = replaced fails (path_of stage.sight.root name) bytes stage.sight in
+    called (act (not fails) (record stage { sight = sight }))
 
 -- ---- the clock
 
@@ -114,7 +121,10 @@ abbrev pub passwds_by : Option (Option (List Passwd)) → (Option (List Passwd) 
 passwds_by (Some found) act stage = act found stage
 passwds_by None act stage =
     let found = passwds_in (content_seen (codes "/etc/passwd") account_limit stage.sight) in
-    called (act found (record stage { known = record stage.known { passwds = Some found }; sight = later stage.sight }))
+    called (act found (record stage {
+      known = record stage.known { passwds = Some found };
+      sight = later stage.sight;
+    }))
 
 -- /etc/passwd is read here, unless it was read before
 unfoldable pub reads_passwds : (Option (List Passwd) → Act) → Act
@@ -124,7 +134,10 @@ abbrev pub groups_by : Option (Option (List Group)) → (Option (List Group) →
 groups_by (Some found) act stage = act found stage
 groups_by None act stage =
     let found = groups_in (content_seen (codes "/etc/group") account_limit stage.sight) in
-    called (act found (record stage { known = record stage.known { groups = Some found }; sight = later stage.sight }))
+    called (act found (record stage {
+      known = record stage.known { groups = Some found };
+      sight = later stage.sight;
+    }))
 
 -- /etc/group is read here, unless it was read before
 unfoldable pub reads_groups : (Option (List Group) → Act) → Act
@@ -136,34 +149,63 @@ finds_account user act = reads_passwds (λ entries. act (account_in user entries
 
 -- /etc/shells is read here
 unfoldable pub reads_shells : (Option (List (List ℕ)) → Act) → Act
-reads_shells act = reads_file (codes "/etc/shells") account_limit (λ content. act (shells_in content))
+reads_shells act =
+    reads_file (codes "/etc/shells") account_limit (λ content. act (shells_in content))
 
 -- ---- modules
 
 -- the stage at which a module begins
 abbrev pub stage_of : Known → Scene → Stage
-stage_of known s = record { room = seen_of s.room; held = named_data s.room.transaction.datums.live; known = known; sight = sight_of s }
+stage_of known s = record {
+  room = seen_of s.room;
+  held = named_data s.room.transaction.datums.live;
+  known = known;
+  sight = sight_of s;
+}
 
 -- a module plays what it does, from a stage at which nothing is known
 abbrev pub plays_by : (PlainCall → Act) → Plays
-plays_by act call room held sight = act call (record { room = room; held = held; known = nothing_known; sight = sight })
+plays_by act call room held sight = act call (record {
+  room = room;
+  held = held;
+  known = nothing_known;
+  sight = sight;
+})
 
 -- what a module is lent, as a scene: a transaction, and what its conversation, the vault and the clock hold
 abbrev pub standing : Transaction → ConvState → VaultState → ClockState → Process → Scene
-standing transaction conv vault clock process = scene_of (room_of (plain_transaction transaction) conv) vault clock (plain_process process)
+standing transaction conv vault clock process =
+    scene_of (room_of (plain_transaction transaction) conv) vault clock (plain_process process)
 
 -- A code was answered and this was left, as an act has it.
 pub record Acts (act : Act) (known : Known) (old : Scene) (code : Code) (new : Scene) : Type 0 where
   pub code_is : code ≡ (act (stage_of known old)).code
   pub scene_is : new ≡ with_played (act (stage_of known old)) old
 
--- A step over files came to this value, and left the vault so: what is done with the value from there on is what the
--- whole does from here.
-abbrev pub StepsTo : {A : Type 0} → ((A → Act) → Act) → A → Process → VaultState → VaultState → Type 0
-StepsTo {A} step value process old new = (room : PlainRoom) (clock : ClockState) (act : A → Act) (known : Known) (code : Code) (end : Scene)
-    → Acts (act value) known (scene_of room new clock (plain_process process)) code end → Acts (step act) known (scene_of room old clock (plain_process process)) code end
+-- What is done from there on is what the whole does from here, whatever is known of the account files.
+abbrev pub Leads : (Act → Act) → Scene → Scene → Type 0
+Leads step old new =
+    (act : Act) (known : Known) (code : Code) (end : Scene)
+    → Acts act known new code end → Acts (step act) known old code end
+
+-- A step came to this value: what is done with it from there on is what the whole does from here.
+abbrev pub Came : {A : Type 0} → A → ((A → Act) → Act) → Scene → Scene → Type 0
+Came {A} value step old new =
+    (act : A → Act) (known : Known) (code : Code) (end : Scene)
+    → Acts (act value) known new code end → Acts (step act) known old code end
+
+-- A step over files came to this value, and left the vault so.
+abbrev pub StepsTo : {A : Type 0} → ((A → Act) → Act) → A → Process → VaultState → VaultState
+    → Type 0
+StepsTo {A} step value process old new =
+    (room : PlainRoom) (clock : ClockState)
+    → Came value step (scene_of room old clock (plain_process process))
+    (scene_of room new clock (plain_process process))
 
 -- The same of a step that may read account files, by what is known of them before and after it.
-abbrev pub LooksTo : {A : Type 0} → ((A → Act) → Act) → A → Process → Known → VaultState → Known → VaultState → Type 0
-LooksTo {A} step value process known old now new = (room : PlainRoom) (clock : ClockState) (act : A → Act) (code : Code) (end : Scene)
-    → Acts (act value) now (scene_of room new clock (plain_process process)) code end → Acts (step act) known (scene_of room old clock (plain_process process)) code end
+abbrev pub LooksTo : {A : Type 0} → ((A → Act) → Act) → A → Process → Known → VaultState → Known
+    → VaultState → Type 0
+LooksTo {A} step value process known old now new =
+    (room : PlainRoom) (clock : ClockState) (act : A → Act) (code : Code) (end : Scene)
+    → Acts (act value) now (scene_of room new clock (plain_process process)) code end
+    → Acts (step act) known (scene_of room old clock (plain_process process)) code end

@@ -30,8 +30,10 @@ pub fn read_content(
     ensures bound { IfOk result (λ content. IsWithin content limit) }
     ensures tells { vault_tells vault.new ≡ vault_tells vault.old }
     ensures told { IsTrue (vault_tells vault.old) →
-        IfOk result (λ content. content ≡ content_at root.now name.now limit (vault_holds vault.old)) }
-    ensures calls { IsTrue (vault_tells vault.old) → OnOk result (vault_holds vault.new ≡ counted (vault_holds vault.old)) }
+        IfOk result (λ content. content ≡ content_at root.now name.now limit
+        (vault_holds vault.old)) }
+    ensures calls { IsTrue (vault_tells vault.old) →
+        OnOk result (vault_holds vault.new ≡ counted (vault_holds vault.old)) }
     ensures faults { vault_faults vault.old ≤ vault_faults vault.new }
 {
     let path = path_of(alloc, root, name)?;
@@ -56,8 +58,10 @@ pub fn read_named(
     ensures bound { IfOk result (λ content. IsWithin content limit) }
     ensures tells { vault_tells vault.new ≡ vault_tells vault.old }
     ensures told { IsTrue (vault_tells vault.old) →
-        IfOk result (λ content. content ≡ named_content root.now name.now limit (vault_holds vault.old)) }
-    ensures calls { IsTrue (vault_tells vault.old) → OnOk result (vault_holds vault.new ≡ after_named name.now (vault_holds vault.old)) }
+        IfOk result (λ content. content ≡ named_content root.now name.now limit
+        (vault_holds vault.old)) }
+    ensures calls { IsTrue (vault_tells vault.old) →
+        OnOk result (vault_holds vault.new ≡ after_named name.now (vault_holds vault.old)) }
     ensures faults { vault_faults vault.old ≤ vault_faults vault.new }
 {
     if is_rooted(name) {
@@ -78,7 +82,8 @@ pub fn replace_named(
 ) -> Result<bool, NoMemory>
     ensures tells { vault_tells vault.new ≡ vault_tells vault.old }
     ensures told { IsTrue (vault_tells vault.old) →
-        IfOk result (λ done. StepsTo (replaces_file name.now bytes.now) done process.now (vault_holds vault.old) (vault_holds vault.new)) }
+        IfOk result (λ done. StepsTo (replaces_file name.now bytes.now) done process.now
+        (vault_holds vault.old) (vault_holds vault.new)) }
     ensures faults { vault_faults vault.old ≤ vault_faults vault.new }
 {
     laws::act_steps();

@@ -1,5 +1,5 @@
 -- Each text is read as what it spells.
-use Rattle.std.proofs.Common.{◌≡◌, ℕ, zero, suc, ◌+◌, ◌-◌, ◌<◌, ◌≤◌, Bool, true, false, cond, ◌==◌, ◌||◌, ◌&&◌, ◌⊎◌, inl, inr, List, [], ◌∷◌, ◌++◌, length, take, drop, Option, Some, None, refl, sym, ap, ◌∙◌, arith, codes, position, length-append}
+use Rattle.std.proofs.Common.{◌≡◌, ℕ, zero, suc, ◌+◌, ◌<◌, ◌≤◌, Bool, true, false, ◌==◌, ◌||◌, ◌&&◌, ◌⊎◌, inl, inr, List, [], ◌∷◌, ◌++◌, length, drop, Some, None, refl, sym, ap, ◌∙◌, arith, position, length-append}
 use Rattle.std.proofs.Math.Seq.{drop-append_seam, take-append_seam, take-length}
 use Rattle.std.proofs.Math.ListN.{drop_of_length-le}
 use Rattle.std.proofs.lemmas.List.{append-nil}
@@ -17,7 +17,7 @@ use Rattle.mod_env.specs.declared.conf.Key.TheVariants.{Default, Override}
 use Rattle.mod_env.specs.declared.conf.Values.{Values}
 use Rattle.mod_env.specs.declared.conf.Entry.{Entry}
 use Rattle.mod_env.specs.Marks.{begins_with, behind_white, is_byte, is_white_mark, marks_of, text_of}
-use Rattle.mod_env.specs.Value.{at_byte, is_sigil, next_piece, one, pieces_of, pieces_within, place}
+use Rattle.mod_env.specs.Value.{is_sigil, next_piece, one, pieces_of, pieces_within, place}
 use Rattle.mod_env.specs.Conf as conf
 use Rattle.mod_env.specs.Conf.{values_of}
 use Rattle.mod_env.specs.Spelling.{Follows, Given, IsPassedOver, SpellsConf, SpellsEntry, SpellsLines, SpellsPiece, SpellsPlace, SpellsQuoted, SpellsSetting, SpellsSettings, SpellsValue, SpellsWord, is_end, opens, quotes, settled, word_of}

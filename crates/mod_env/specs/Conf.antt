@@ -31,7 +31,8 @@ ends_word (m ∷ ms) = is_white_mark m
 -- a value within quotes may hold white space; it goes to the next quote
 abbrev pub quoted : Key → List Mark → Option ℕ → Setting
 quoted key marks None = broken
-quoted key marks (Some n) = if ends_word (drop (n + 1) marks) then one key (take n marks) (drop (n + 1) marks) else broken
+quoted key marks (Some n) =
+    if ends_word (drop (n + 1) marks) then one key (take n marks) (drop (n + 1) marks) else broken
 
 -- any other value goes to the next white space
 abbrev pub unquoted : Key → List Mark → Option ℕ → Setting
@@ -40,7 +41,8 @@ unquoted key marks None = one key marks []
 
 abbrev pub at_value : Key → List Mark → Setting
 at_value key marks =
-    if begins_with (34 ∷ []) marks then quoted key (drop 1 marks) (position (is_byte 34) (drop 1 marks))
+    if begins_with (34 ∷ []) marks then quoted key (drop 1 marks)
+    (position (is_byte 34) (drop 1 marks))
     else unquoted key marks (position is_white_mark marks)
 
 -- a setting is DEFAULT= or OVERRIDE= with a value
@@ -63,7 +65,8 @@ with_value Default pieces values = record values { default = Some pieces }
 with_value Override pieces values = record values { overriding = Some pieces }
 
 -- by what stands at the front, and what the rest comes to with the values that were found; the last of each holds
-abbrev pub by_pieces : (Values → List Mark → Option Values) → Values → Key → List Mark → Option (List Piece) → Option Values
+abbrev pub by_pieces : (Values → List Mark → Option Values) → Values → Key → List Mark
+    → Option (List Piece) → Option Values
 by_pieces more values key rest (Some pieces) = more (with_value key pieces values) rest
 by_pieces more values key rest None = None
 
@@ -111,7 +114,8 @@ in_front None entries = None
 -- the variables of lines, if each line that counts has the form of one
 abbrev pub entries_of : List (List ℕ) → Option (List Entry)
 entries_of [] = Some []
-entries_of (line ∷ lines) = if counts (without_front line) then in_front (entry_at (without_front line)) (entries_of lines) else entries_of lines
+entries_of (line ∷ lines) = if counts (without_front line)
+    then in_front (entry_at (without_front line)) (entries_of lines) else entries_of lines
 
 -- the variables of a text
 abbrev pub conf_of : List ℕ → Option (List Entry)

@@ -32,7 +32,8 @@ unfoldable pub put_in : List ℕ → List Variable → List Variable
 put_in text env = if is_refused text env then env else after_put text env
 
 unfoldable pub puts_env : List ℕ → Act → Act
-puts_env text act stage = act (in_room (record stage.room { env = put_in text stage.room.env }) stage)
+puts_env text act stage =
+    act (in_room (record stage.room { env = put_in text stage.room.env }) stage)
 
 -- ---- one variable of pam_env.conf
 
@@ -66,7 +67,8 @@ by_outcome (Puts text) act = puts_env text act
 by_outcome TooLong act = answers returns.BufErr
 
 abbrev pub sees_sources : Option Passwd → (Sources → Act) → Act
-sees_sources entry act = sees_items (λ items. sees_env (λ env. act (record { items = items; env = env; entry = entry })))
+sees_sources entry act =
+    sees_items (λ items. sees_env (λ env. act (record { items = items; env = env; entry = entry })))
 
 unfoldable pub sets_by : Entry → Option Passwd → Act → Act
 sets_by entry account act = sees_sources account (λ from. by_outcome (outcome_of entry from) act)
@@ -93,7 +95,8 @@ text_in (Holds text) = Some text
 
 -- a line of pam_env.conf that has no form is SERVICE_ERR, and nothing is set
 abbrev pub by_entries : Option (List Entry) → List (List ℕ) → Act
-by_entries (Some entries) assignments = sets_all entries (puts_all assignments (answers returns.Success))
+by_entries (Some entries) assignments =
+    sets_all entries (puts_all assignments (answers returns.Success))
 by_entries None assignments = answers returns.ServiceErr
 
 abbrev pub by_texts : List ℕ → Option (List ℕ) → Act
@@ -112,14 +115,18 @@ is_zero None = false
 abbrev pub reads_second : Bool → List (List ℕ) → List ℕ → Act
 reads_second true args conf = by_texts conf (Some [])
 reads_second false args conf =
-    reads_file (unwrap_or (value_among (codes "envfile=") args) (codes "/etc/environment")) env_limit (λ content. by_texts conf (text_in content))
+    reads_file (unwrap_or (value_among (codes "envfile=") args) (codes "/etc/environment"))
+    env_limit (λ content. by_texts conf (text_in content))
 
 abbrev pub by_first : List (List ℕ) → Option (List ℕ) → Act
 by_first args (Some conf) = reads_second (is_zero (value_among (codes "readenv=") args)) args conf
 by_first args None = answers returns.ServiceErr
 
 abbrev pub reads_first : List (List ℕ) → Act
-reads_first args = reads_file (unwrap_or (value_among (codes "conffile=") args) (codes "/etc/security/pam_env.conf")) env_limit (λ content. by_first args (text_in content))
+reads_first args =
+    reads_file
+    (unwrap_or (value_among (codes "conffile=") args) (codes "/etc/security/pam_env.conf"))
+    env_limit (λ content. by_first args (text_in content))
 
 -- ---- the module
 
@@ -143,5 +150,6 @@ env_plays = plays_by env_act
 -- Steps without a value were done, and what is done from here on is what the whole does from there; or a value was too
 -- long, and BUF_ERR is the whole's answer.
 abbrev pub GoesOn : Bool → (Act → Act) → Known → Scene → Known → Scene → Type 0
-GoesOn true step known old now new = (act : Act) (code : Code) (end : Scene) → Acts act now new code end → Acts (step act) known old code end
+GoesOn true step known old now new = (act : Act) (code : Code) (end : Scene)
+    → Acts act now new code end → Acts (step act) known old code end
 GoesOn false step known old now new = (act : Act) → Acts (step act) known old returns.BufErr new

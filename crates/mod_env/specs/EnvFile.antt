@@ -16,21 +16,26 @@ is_name text = nat_lt 0 (length text) && list_all is_name_byte text
 
 -- a text without the quotes round it
 abbrev pub without_last : ℕ → List ℕ → List ℕ → List ℕ
-without_last quote inner whole = if ends_with nat_eq inner (quote ∷ []) then take (length inner - 1) inner else whole
+without_last quote inner whole =
+    if ends_with nat_eq inner (quote ∷ []) then take (length inner - 1) inner else whole
 
 abbrev pub without_quotes : ℕ → List ℕ → List ℕ
-without_quotes quote text = if starts_with nat_eq text (quote ∷ []) then without_last quote (drop 1 text) text else text
+without_quotes quote text =
+    if starts_with nat_eq text (quote ∷ []) then without_last quote (drop 1 text) text else text
 
 -- one pair round the whole value is taken off
 abbrev pub unquoted : List ℕ → List ℕ
-unquoted text = if starts_with nat_eq text (34 ∷ []) then without_quotes 34 text else without_quotes 39 text
+unquoted text = if starts_with nat_eq text (34 ∷ []) then without_quotes 34 text
+    else without_quotes 39 text
 
 -- `export` and one space may stand in front
 abbrev pub without_export : List ℕ → List ℕ
 without_export text = if starts_with nat_eq text (codes "export ") then drop 7 text else text
 
 abbrev pub assignment_at : List ℕ → Option (List ℕ)
-assignment_at text = if has_byte 61 text && is_name (name_in text) then Some (name_in text ++ 61 ∷ unquoted (value_in text)) else None
+assignment_at text =
+    if has_byte 61 text && is_name (name_in text)
+    then Some (name_in text ++ 61 ∷ unquoted (value_in text)) else None
 
 -- what a line sets, as pam_putenv(3) is told it; other lines are passed over, comments among them
 abbrev pub assignment_in : List ℕ → Option (List ℕ)

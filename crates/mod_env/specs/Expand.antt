@@ -81,7 +81,8 @@ by_texts name None over = TooLong
 
 -- what becomes of a variable; a value that is too long counts although it isn't taken
 unfoldable pub outcome_of : Entry → Sources → Outcome
-outcome_of entry from = by_texts entry.name (value_text from entry.values.default) (value_text from entry.values.overriding)
+outcome_of entry from = by_texts entry.name (value_text from entry.values.default)
+    (value_text from entry.values.overriding)
 
 -- ---- the account
 
@@ -97,7 +98,8 @@ value_names_account None = false
 
 -- one of the values does, used or not
 abbrev pub asks_account : Entry → Bool
-asks_account entry = value_names_account entry.values.default || value_names_account entry.values.overriding
+asks_account entry =
+    value_names_account entry.values.default || value_names_account entry.values.overriding
 
 -- as the code has them
 abbrev pub plain_sources : LentSources → Sources

@@ -1,6 +1,6 @@
 -- What spells the settings of a file of pam_env.conf(5): the forms of a value, of a line and of a text, each put
 -- together from its parts, and none of them a step of what reads it.
-use Rattle.std.specs.Prelude.{◌≡◌, ℕ, Bool, true, false, ◌==◌, ◌||◌, ◌&&◌, ◌⊎◌, List, [], ◌∷◌, ◌++◌, map, codes}
+use Rattle.std.specs.Prelude.{◌≡◌, ℕ, Bool, true, false, ◌==◌, ◌&&◌, ◌⊎◌, List, [], ◌∷◌, ◌++◌, map, codes}
 use Rattle.std.specs.List.{list_all, list_any}
 use Rattle.pam_base.specs.Bytes.{has_byte}
 use Rattle.pam_base.specs.Lines.{lines_of}
@@ -33,7 +33,9 @@ pub record SpellsPlace (sigil : ℕ) (name : List ℕ) (text behind : List Mark)
 
 -- A byte stands for itself where a backslash made it plain, and else where no place begins with it.
 abbrev pub SpellsByte : ℕ → List Mark → List Mark → Type 0
-SpellsByte b text behind = (text ≡ marks.Plain b ∷ behind) ⊎ ((text ≡ marks.Byte b ∷ behind) × ((is_sigil b && opens behind) ≡ false))
+SpellsByte b text behind =
+    (text ≡ marks.Plain b ∷ behind)
+    ⊎ ((text ≡ marks.Byte b ∷ behind) × ((is_sigil b && opens behind) ≡ false))
 
 -- `$` begins a variable's place, and `@` an item's
 abbrev pub SpellsPiece : Piece → List Mark → List Mark → Type 0
@@ -44,7 +46,8 @@ SpellsPiece (Item name) text behind = SpellsPlace 64 name text behind
 -- a value is its pieces, one behind another
 abbrev pub SpellsValue : List Piece → List Mark → Type 0
 SpellsValue [] text = text ≡ []
-SpellsValue (piece ∷ pieces) text = (behind : List Mark) × SpellsPiece piece text behind × SpellsValue pieces behind
+SpellsValue (piece ∷ pieces) text =
+    (behind : List Mark) × SpellsPiece piece text behind × SpellsValue pieces behind
 
 -- ---- settings
 
@@ -94,7 +97,9 @@ pub record Given : Type 0 where
 -- settings, one behind another, and white space at the end
 abbrev pub SpellsSettings : List Given → List Mark → Type 0
 SpellsSettings [] text = list_all is_white_mark text ≡ true
-SpellsSettings (given ∷ more) text = (behind : List Mark) × SpellsSetting given.key given.value text behind × SpellsSettings more behind
+SpellsSettings (given ∷ more) text =
+    (behind : List Mark) × SpellsSetting given.key given.value text behind
+    × SpellsSettings more behind
 
 -- what settings give, the last of each key, and before them these values
 abbrev pub settled : List Given → Values → Values
@@ -105,7 +110,8 @@ settled (given ∷ more) values = settled more (with_value given.key given.value
 
 -- what stands behind a name: nothing, or white space and what follows it
 abbrev pub Follows : List ℕ → List ℕ → Type 0
-Follows text settings = ((text ≡ []) × (settings ≡ [])) ⊎ ((w : ℕ) × (text ≡ w ∷ settings) × (is_white w ≡ true))
+Follows text settings =
+    ((text ≡ []) × (settings ≡ [])) ⊎ ((w : ℕ) × (text ≡ w ∷ settings) × (is_white w ≡ true))
 
 -- A line for a variable: its name, which has neither white space nor `=` and doesn't begin with `#`, and its settings.
 pub record SpellsEntry (entry : Entry) (line : List ℕ) : Type 0 where
@@ -137,7 +143,8 @@ abbrev pub SpellsLines : List Entry → List (List ℕ) → Type 0
 SpellsLines entries [] = entries ≡ []
 SpellsLines entries (line ∷ lines) =
     (IsPassedOver line × SpellsLines entries lines)
-    ⊎ ((entry : Entry) × (more : List Entry) × (entries ≡ entry ∷ more) × SpellsEntry entry line × SpellsLines more lines)
+    ⊎ ((entry : Entry) × (more : List Entry) × (entries ≡ entry ∷ more) × SpellsEntry entry line
+    × SpellsLines more lines)
 
 -- the variables of a text
 abbrev pub SpellsConf : List Entry → List ℕ → Type 0

@@ -28,7 +28,8 @@ is_sigil b = b == 36 || b == 64
 
 abbrev pub at_byte : ℕ → List Mark → Next
 at_byte b rest =
-    if is_sigil b && begins_with (123 ∷ []) rest then closed b (drop 1 rest) (position (is_byte 125) (drop 1 rest))
+    if is_sigil b && begins_with (123 ∷ []) rest then closed b (drop 1 rest)
+    (position (is_byte 125) (drop 1 rest))
     else one (Byte b) rest
 
 abbrev pub next_piece : List Mark → Next

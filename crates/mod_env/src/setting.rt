@@ -70,8 +70,8 @@ fn set_variable(
     crate::laws::puts_alone();
     let asks = asks_account(entry);
     look(alloc, asks, transaction, accounts, process, vault)?;
-    let account = found_entry(asks, &transaction.items, accounts);
-    let fits = set_by(alloc, entry, account, transaction)?;
+    let account = found_entry(alloc, asks, &transaction.items, accounts)?;
+    let fits = set_by(alloc, entry, account.as_ref(), transaction)?;
     Ok(fits)
 }
 
@@ -132,20 +132,25 @@ fn look_user(
 }
 
 // The user's entry, where it was looked up and is there.
-fn found_entry<'a>(asks: bool, items: &Items, accounts: &'a Accounts) -> Option<&'a Passwd>
+fn found_entry(
+    alloc: Global,
+    asks: bool,
+    items: &Items,
+    accounts: &Accounts,
+) -> Result<Option<Passwd>, NoMemory>
     requires { asks ≡ true → items.now.user ≢ None → accounts.now.passwds ≢ None }
-    ensures { option_copied result ≡ entry_seen asks items.now.user accounts.now }
+    ensures { IfOk result (λ entry. entry ≡ entry_seen asks items.now.user accounts.now) }
 {
     if !asks {
-        return None;
+        return Ok(None);
     }
     match get_item(items, ItemName::User) {
-        Some(user) => match accounts.account(user) {
-            Account::Found(entry) => Some(entry),
-            Account::Missing => None,
-            Account::Unreadable => None,
+        Some(user) => match accounts.account(alloc, user)? {
+            Account::Found(entry) => Ok(Some(entry)),
+            Account::Missing => Ok(None),
+            Account::Unreadable => Ok(None),
         },
-        None => None,
+        None => Ok(None),
     }
 }
 

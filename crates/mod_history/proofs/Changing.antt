@@ -1,11 +1,11 @@
 -- The second pass of a change, step by step.
-use Rattle.std.proofs.Common.{◌≡◌, ℕ, ◌==◌, nat_le, Bool, true, false, List, length, Option, Some, None, Result, Ok, refl, sym, ap, ◌∙◌, subst, arith}
+use Rattle.std.proofs.Common.{◌≡◌, ℕ, ◌==◌, nat_le, Bool, true, false, List, length, Option, Some, None, Result, Ok, refl, sym, ap, ◌∙◌, subst}
 use Rattle.pam_base.specs.declared.code.Code.{Code}
 use Rattle.pam_base.specs.declared.code.Code.TheVariants as returns
 use Rattle.pam_base.specs.declared.fault.ConvErr.{ConvErr}
 use Rattle.pam_base.specs.declared.fault.Refuse.{Refuse}
 use Rattle.pam_base.specs.declared.item.ItemName.{ItemName}
-use Rattle.item_store.specs.Items.{ItemTexts, with_text}
+use Rattle.item_store.specs.Items.{with_text}
 use Rattle.conv_port.specs.Conv.{ConvState}
 use Rattle.pam_outside.specs.Files.{VaultState}
 use Rattle.pam_outside.specs.Time.{ClockState}
@@ -15,12 +15,10 @@ use Rattle.pam_room.specs.State.{PlainProcess, Scene}
 use Rattle.pam_room.specs.declared.transaction.Transaction.{Transaction}
 use Rattle.account_db.specs.declared.shadow.Shadow.{Shadow}
 use Rattle.account_files.specs.declared.content.Content.{Content}
-use Rattle.account_files.specs.Accounts.{nothing_known}
-use Rattle.account_files.specs.Act.{Act, reads_file, replaces_file, stage_of}
-use Rattle.account_files.specs.Speaks.{Speaks}
-use Rattle.module_acts.specs.Comes.{Came, Comes, Goes, Leads, lent}
+use Rattle.account_files.specs.Accounts.{Known}
+use Rattle.account_files.specs.Act.{Act, Acts, Came, Leads, reads_file, replaces_file, stage_of}
+use Rattle.module_acts.specs.Comes.{Comes, lent}
 use Rattle.module_acts.specs.Steps.{sees_caller}
-use Rattle.module_acts.specs.Talks.{Talks}
 use Rattle.mod_unix.specs.declared.look.Look.{Look}
 use Rattle.mod_unix.specs.declared.look.Look.TheVariants.{Unknown, Unavailable, Plain, Shadowed}
 use Rattle.mod_unix.specs.Change.{by_done}
@@ -34,11 +32,11 @@ use Rattle.mod_history.specs.Renewal.{hashes_of, renewed}
 module _ (call : PlainCall) (user : List ℕ) (look : Look) (s : Scene) where
   pub by_unknown : look ≡ Unknown → Comes (Ok returns.UserUnknown) (by_look call user look) s s
   unfolding by_look
-  by_unknown e = subst (λ (l : Look). Comes (Ok returns.UserUnknown) (by_look call user l) s s) (sym e) (λ act c end rest. rest)
+  by_unknown e = subst (λ (l : Look). Comes (Ok returns.UserUnknown) (by_look call user l) s s) (sym e) (λ act known c end rest. rest)
 
   pub by_unavailable : look ≡ Unavailable → Comes (Ok returns.AuthtokErr) (by_look call user look) s s
   unfolding by_look
-  by_unavailable e = subst (λ (l : Look). Comes (Ok returns.AuthtokErr) (by_look call user l) s s) (sym e) (λ act c end rest. rest)
+  by_unavailable e = subst (λ (l : Look). Comes (Ok returns.AuthtokErr) (by_look call user l) s s) (sym e) (λ act known c end rest. rest)
 
   pub by_plain : (hash : List ℕ) (new : Scene) (r : Result Code (Refuse ConvErr)) → look ≡ Plain hash → Comes r (renews call user hash) s new → Comes r (by_look call user look) s new
   unfolding by_look
@@ -53,7 +51,7 @@ module _ (call : PlainCall) (user : List ℕ) (look : Look) (s : Scene) where
 module _ (call : PlainCall) (user hash : List ℕ) (found : Option (List ℕ)) (s : Scene) where
   pub no_token : found ≡ None → Came returns.AuthtokErr (remembers call user hash found) s s
   unfolding remembers
-  no_token e = subst (λ (t : Option (List ℕ)). Came returns.AuthtokErr (remembers call user hash t) s s) (sym e) (λ act c end rest. rest)
+  no_token e = subst (λ (t : Option (List ℕ)). Came returns.AuthtokErr (remembers call user hash t) s s) (sym e) (λ act known c end rest. rest)
 
   module _ (token : List ℕ) (is : found ≡ Some token) where
     by_zero : (code : Code) (new : Scene) (none : Bool) → (remember_of call.args == 0) ≡ none → Came code (by_remember none call (remember_of call.args) user hash token) s new → Came code (remembers call user hash found) s new
@@ -62,27 +60,27 @@ module _ (call : PlainCall) (user hash : List ℕ) (found : Option (List ℕ)) (
         (subst (λ (b : Bool). Came code (by_remember b call (remember_of call.args) user hash token) s new) (sym e) h)
 
     pub not_remembered : (remember_of call.args == 0) ≡ true → Came returns.Success (remembers call user hash found) s s
-    not_remembered e = by_zero returns.Success s true e (λ act c end rest. rest)
+    not_remembered e = by_zero returns.Success s true e (λ act known c end rest. rest)
 
     pub remembered : (content : Content) (history : Option (List Remembered)) (code : Code) (mid new : Scene) → (remember_of call.args == 0) ≡ false → Came content (reads_file history_name history_limit) s mid
         → history ≡ history_in content → Came code (by_history call (remember_of call.args) user hash token history) mid new → Came code (remembers call user hash found) s new
     remembered content history code mid new e read h done = by_zero code new false e
-        (λ act c end rest. read (λ k. by_history call (remember_of call.args) user hash token (history_in k) act) c end
-        (subst (λ (o : Option (List Remembered)). Goes (by_history call (remember_of call.args) user hash token o act) mid c end) h (done act c end rest)))
+        (λ act known c end rest. read (λ k. by_history call (remember_of call.args) user hash token (history_in k) act) known c end
+        (subst (λ (o : Option (List Remembered)). Acts (by_history call (remember_of call.args) user hash token o act) known mid c end) h (done act known c end rest)))
 
 -- ---- with the history
 
-module _ (seeing : (act : ℕ → Act) (s : Scene) (code : Code) (new : Scene) → Goes (act s.process.caller) s code new → Goes (sees_caller act) s code new)
+module _ (seeing : (act : ℕ → Act) (known : Known) (s : Scene) (code : Code) (new : Scene) → Acts (act s.process.caller) known s code new → Acts (sees_caller act) known s code new)
     (call : PlainCall) (remember : ℕ) (user hash token : List ℕ) (found : Option (List Remembered)) (s : Scene) where
   pub no_history : found ≡ None → Came returns.AuthtokErr (by_history call remember user hash token found) s s
-  no_history e = subst (λ (o : Option (List Remembered)). Came returns.AuthtokErr (by_history call remember user hash token o) s s) (sym e) (λ act c end rest. rest)
+  no_history e = subst (λ (o : Option (List Remembered)). Came returns.AuthtokErr (by_history call remember user hash token o) s s) (sym e) (λ act known c end rest. rest)
 
   module _ (history : List Remembered) (is : found ≡ Some history) where
     by_refusal : (code : Code) (new : Scene) (refused : Bool) → refused ≡ is_refused call.args s.process.caller token hash (hashes_of user history) → Came code (by_use refused remember user hash history) s new
         → Came code (by_history call remember user hash token found) s new
     by_refusal code new refused e h = subst (λ (o : Option (List Remembered)). Came code (by_history call remember user hash token o) s new) (sym is)
-        (λ act c end rest. seeing (λ caller. by_use (is_refused call.args caller token hash (hashes_of user history)) remember user hash history act) s c end
-        (subst (λ (b : Bool). Goes (by_use b remember user hash history act) s c end) e (h act c end rest)))
+        (λ act known c end rest. seeing (λ caller. by_use (is_refused call.args caller token hash (hashes_of user history)) remember user hash history act) known s c end
+        (subst (λ (b : Bool). Acts (by_use b remember user hash history act) known s c end) e (h act known c end rest)))
 
     pub used : (new : Scene) → true ≡ is_refused call.args s.process.caller token hash (hashes_of user history) → Came returns.AuthtokErr refuses_token s new → Came returns.AuthtokErr (by_history call remember user hash token found) s new
     used new e h = by_refusal returns.AuthtokErr new true e h
@@ -99,31 +97,20 @@ module _ (text : List ℕ) (s : Scene) where
   by_size code new b e h = subst (λ (x : Bool). Came code (by_length x text) s new) (sym e) h
 
   pub too_long : nat_le (length text) history_limit ≡ false → Came returns.AuthtokErr (stores_text text) s s
-  too_long e = by_size returns.AuthtokErr s false e (λ act c end rest. rest)
+  too_long e = by_size returns.AuthtokErr s false e (λ act known c end rest. rest)
 
   pub short : (done : Bool) (code : Code) (new : Scene) → nat_le (length text) history_limit ≡ true → Came done (replaces_file history_name text) s new → code ≡ by_done done → Came code (stores_text text) s new
-  short done code new e h is = by_size code new true e (λ act c end rest. h (λ d. act (by_done d)) c end (subst (λ (x : Code). Goes (act x) new c end) is rest))
+  short done code new e h is = by_size code new true e (λ act known c end rest. h (λ d. act (by_done d)) known c end (subst (λ (x : Code). Acts (act x) known new c end) is rest))
 
 -- ---- a token that was used before
 
 module _ (t u : Transaction) (conv : ConvState) (vault : VaultState) (clock : ClockState) (process : PlainProcess) where
   pub unsetting : (item : ItemName) → u ≡ record t { items = with_text t.items item None } → Leads (unsets_item item) (lent t conv vault clock process) (lent u conv vault clock process)
   unfolding unsets_item
-  unsetting item n = λ act code end rest.
-      let stage : unsets_item item act (stage_of nothing_known (lent t conv vault clock process)) ≡ act (stage_of nothing_known (lent u conv vault clock process)) = rw n refl in
+  unsetting item n = λ act known code end rest.
+      let stage : unsets_item item act (stage_of known (lent t conv vault clock process)) ≡ act (stage_of known (lent u conv vault clock process)) = rw n refl in
       let scene : (p : Played) → with_played p (lent u conv vault clock process) ≡ with_played p (lent t conv vault clock process) = λ p. rw n refl in
       record {
         code_is = rest.code_is ∙ ap (λ (p : Played). p.code) (sym stage);
-        scene_is = rest.scene_is ∙ scene (act (stage_of nothing_known (lent u conv vault clock process))) ∙ ap (λ (p : Played). with_played p (lent t conv vault clock process)) (sym stage);
+        scene_is = rest.scene_is ∙ scene (act (stage_of known (lent u conv vault clock process))) ∙ ap (λ (p : Played). with_played p (lent t conv vault clock process)) (sym stage);
       }
-
--- who only speaks talks
-pub speaks_talks : (t u : Transaction) → Speaks t u → Talks t u
-speaks_talks t u s =
-    let delay : u.delay ≡ t.delay = ap (λ (x : Transaction). x.delay) s.others in
-    record {
-      service = ap (λ (i : ItemTexts). i.service) s.items;
-      delay = omega (arith, delay);
-      said = s.said;
-      others = s.others ∙ ap (λ (d : ℕ). record t { items = u.items; delay = d; said = u.said; put_off = u.put_off }) (sym delay);
-    }

@@ -22,7 +22,7 @@ use Rattle.account_files.specs.Content.{content_of}
 use Rattle.module_acts.specs.Steps.{exchanges, sees_caller, sets_item, with_replies}
 use Rattle.mod_unix.specs.declared.look.Look.{Look}
 use Rattle.mod_unix.specs.declared.look.Look.TheVariants.{Unknown, Unavailable, Plain, Shadowed}
-use Rattle.mod_unix.specs.Arguments.{has_argument}
+use Rattle.account_files.specs.Arguments.{has_argument}
 use Rattle.mod_unix.specs.Change.{by_authtok, by_done, new_prompts, same_reply, sets_new, takes_token, usable}
 use Rattle.mod_unix.specs.Look.{by_field, by_x as by_password, field_among, field_in, field_or_missing, is_x, looks, shadow_in}
 use Rattle.mod_history.specs.declared.history.Remembered.{Remembered}

@@ -1,5 +1,4 @@
 mod Telling
-mod Serving
 mod Changing
 mod Rereading
 mod Wellformed

@@ -1,4 +1,3 @@
-pub mod Arguments
 pub mod Wheel
 pub mod Securetty
 pub mod History

@@ -24,7 +24,7 @@ use Rattle.mod_unix.specs.declared.look.Look.TheVariants.{Unknown, Unavailable, 
 use Rattle.mod_unix.specs.Change.{by_done, takes_token}
 use Rattle.mod_unix.specs.Look.{looks}
 use Rattle.mod_history.specs.declared.history.Remembered.{Remembered}
-use Rattle.mod_history.specs.Arguments.{has_argument}
+use Rattle.account_files.specs.Arguments.{has_argument}
 use Rattle.mod_history.specs.History.{history_of, history_text}
 use Rattle.mod_history.specs.Renewal.{hashes_of, renewed}
 
@@ -64,11 +64,14 @@ is_enforced args caller = not (caller == 0) || has_argument (codes "enforce_for_
 
 -- an item is unset (pam_set_item(3))
 unfoldable pub unsets_item : ItemName → Act → Act
-unsets_item item act stage = act (in_room (record stage.room { items = with_text stage.room.items item None }) stage)
+unsets_item item act stage =
+    let items = with_text stage.room.items item None in
+    act (in_room (record stage.room { items = items }) stage)
 
 -- AUTHTOK is unset, so that no later module takes it, and the user is told
 unfoldable pub refuses_token : (Code → Act) → Act
-refuses_token act = unsets_item AuthTok (shows ErrorMsg (codes "Password has been already used.") (act AuthtokErr))
+refuses_token act =
+    unsets_item AuthTok (shows ErrorMsg (codes "Password has been already used.") (act AuthtokErr))
 
 -- ---- the file
 
@@ -97,24 +100,30 @@ stores_text text act = by_length (nat_le (length text) history_limit) text act
 
 abbrev pub by_use : Bool → ℕ → List ℕ → List ℕ → List Remembered → (Code → Act) → Act
 by_use true remember user hash history act = refuses_token act
-by_use false remember user hash history act = stores_text (history_text (renewed remember user hash history)) act
+by_use false remember user hash history act =
+    stores_text (history_text (renewed remember user hash history)) act
 
 abbrev pub is_refused : List (List ℕ) → ℕ → List ℕ → List ℕ → List (List ℕ) → Bool
 is_refused args caller token hash hashes = is_enforced args caller && was_used token hash hashes
 
-abbrev pub by_history : PlainCall → ℕ → List ℕ → List ℕ → List ℕ → Option (List Remembered) → (Code → Act) → Act
+abbrev pub by_history : PlainCall → ℕ → List ℕ → List ℕ → List ℕ → Option (List Remembered)
+    → (Code → Act) → Act
 by_history call remember user hash token None act = act AuthtokErr
 by_history call remember user hash token (Some history) act =
-    sees_caller (λ caller. by_use (is_refused call.args caller token hash (hashes_of user history)) remember user hash history act)
+    sees_caller (λ caller. by_use (is_refused call.args caller token hash (hashes_of user history))
+    remember user hash history act)
 
 -- with `remember=0` nothing is remembered, and nothing is looked up
 abbrev pub by_remember : Bool → PlainCall → ℕ → List ℕ → List ℕ → List ℕ → (Code → Act) → Act
 by_remember true call remember user hash token act = act Success
-by_remember false call remember user hash token act = reads_file history_name history_limit (λ content. by_history call remember user hash token (history_in content) act)
+by_remember false call remember user hash token act =
+    reads_file history_name history_limit (λ content. by_history call remember user hash token
+    (history_in content) act)
 
 abbrev pub by_token : PlainCall → List ℕ → List ℕ → Option (List ℕ) → (Code → Act) → Act
 by_token call user hash None act = act AuthtokErr
-by_token call user hash (Some token) act = by_remember (remember_of call.args == 0) call (remember_of call.args) user hash token act
+by_token call user hash (Some token) act =
+    by_remember (remember_of call.args == 0) call (remember_of call.args) user hash token act
 
 unfoldable pub remembers : PlainCall → List ℕ → List ℕ → Option (List ℕ) → (Code → Act) → Act
 remembers call user hash token act = by_token call user hash token act

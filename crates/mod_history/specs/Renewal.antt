@@ -33,7 +33,8 @@ new_line user hash = if is_locked hash then [] else record { name = user; hashes
 abbrev pub renewed : ℕ → List ℕ → List ℕ → List Remembered → List Remembered
 renewed remember user hash [] = new_line user hash
 renewed remember user hash (r ∷ rs) =
-    if bytes_eq r.name user then record { name = r.name; hashes = renewed_hashes remember hash r.hashes } ∷ rs
+    if bytes_eq r.name user
+    then record { name = r.name; hashes = renewed_hashes remember hash r.hashes } ∷ rs
     else r ∷ renewed remember user hash rs
 
 -- ---- a user's line

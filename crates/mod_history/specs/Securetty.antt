@@ -36,7 +36,8 @@ by_list name (Holds text) = if is_secure name text then Success else AuthErr
 
 abbrev pub by_terminal : Option (List ℕ) → Act
 by_terminal None = answers ServiceErr
-by_terminal (Some tty) = reads_file (codes "/etc/securetty") account_limit (λ content. answers (by_list (terminal_name tty) content))
+by_terminal (Some tty) = reads_file (codes "/etc/securetty") account_limit (λ content.
+    answers (by_list (terminal_name tty) content))
 
 abbrev pub checks_root : Act
 checks_root = sees_items (λ items. by_terminal items.tty)

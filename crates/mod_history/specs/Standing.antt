@@ -54,7 +54,9 @@ account_text root name files = text_within account_limit (file_at (path_of root 
 
 -- a user's hash, by passwd and shadow
 abbrev pub present_hash : List ℕ → List File → List ℕ → Option (List ℕ)
-present_hash root files user = passwd_hash user (passwds_in (account_text root (codes "/etc/passwd") files)) (account_text root (codes "/etc/shadow") files)
+present_hash root files user =
+    passwd_hash user (passwds_in (account_text root (codes "/etc/passwd") files))
+    (account_text root (codes "/etc/shadow") files)
 
 -- ---- what one call does
 
@@ -64,17 +66,21 @@ pub data Deed : Type 0 where
   replaced : List ℕ → List ℕ → Deed
 
 -- A call answered SUCCESS, and of the lines that stood in the file the user's is renewed with the hash that the user has.
-pub record Replaces (path : List ℕ) (call : PlainCall) (room : SeenRoom) (root : List ℕ) (before : List File) (code : Code) (after : List File) (user hash : List ℕ) : Type 0 where
+pub record Replaces (path : List ℕ) (call : PlainCall) (room : SeenRoom) (root : List ℕ)
+    (before : List File) (code : Code) (after : List File) (user hash : List ℕ) : Type 0 where
   pub code_is : code ≡ Success
   pub user_is : user ≡ unwrap_or (user_asked room).room.items.user []
   pub hash_is : present_hash root before user ≡ Some hash
   pub standing : List Remembered
   pub stood : standing_in (file_at path before) ≡ Some standing
-  pub stands : file_at path after ≡ Some (history_text (renewed (remember_of call.args) user hash standing))
+  pub stands : file_at path after ≡ Some (history_text (renewed (remember_of call.args) user hash
+      standing))
 
-abbrev pub DoesTo : List ℕ → PlainCall → SeenRoom → List ℕ → List File → Code → List File → Deed → Type 0
+abbrev pub DoesTo : List ℕ → PlainCall → SeenRoom → List ℕ → List File → Code → List File → Deed
+    → Type 0
 DoesTo path call room root before code after left = file_at path after ≡ file_at path before
-DoesTo path call room root before code after (replaced user hash) = Replaces path call room root before code after user hash
+DoesTo path call room root before code after (replaced user hash) =
+    Replaces path call room root before code after user hash
 
 -- what a call did to the file with this path, by what it saw and what it played
 abbrev pub Does : List ℕ → PlainCall → SeenRoom → Sight → Played → Deed → Type 0
@@ -99,7 +105,10 @@ deeds_of calls = map (λ (s : Served). s.deed) calls
 -- Nothing but these calls changed the file with this path: each finds it as the one before left it.
 abbrev pub Follow : List ℕ → Option (List ℕ) → List Served → Option (List ℕ) → Type 0
 Follow path before [] after = after ≡ before
-Follow path before (s ∷ ss) after = (file_at path s.sight.files ≡ before) × Does path s.call s.room s.sight (played s) s.deed × Follow path (file_at path (played s).files) ss after
+Follow path before (s ∷ ss) after =
+    (file_at path s.sight.files ≡ before)
+    × Does path s.call s.room s.sight (played s) s.deed
+    × Follow path (file_at path (played s).files) ss after
 
 -- one `remember` is used
 abbrev pub Remembers : ℕ → Served → Type 0
@@ -111,7 +120,9 @@ Remembers remember s = remember_of s.call.args ≡ remember
 abbrev pub kept_by : ℕ → List ℕ → List Deed → List (List ℕ) → List (List ℕ)
 kept_by remember user [] hashes = hashes
 kept_by remember user (left ∷ ds) hashes = kept_by remember user ds hashes
-kept_by remember user (replaced name hash ∷ ds) hashes = kept_by remember user ds (if bytes_eq name user then renewed_hashes remember hash hashes else hashes)
+kept_by remember user (replaced name hash ∷ ds) hashes =
+    kept_by remember user ds (if bytes_eq name user then renewed_hashes remember hash hashes
+    else hashes)
 
 -- whether a call replaced the file for the user
 abbrev pub is_renewed : List ℕ → List Deed → Bool
@@ -123,12 +134,16 @@ is_renewed user (replaced name hash ∷ ds) = bytes_eq name user || is_renewed u
 abbrev pub added_by : List ℕ → List Deed → List (List ℕ) → List (List ℕ)
 added_by user [] hashes = hashes
 added_by user (left ∷ ds) hashes = added_by user ds hashes
-added_by user (replaced name hash ∷ ds) hashes = added_by user ds (if bytes_eq name user then with_hash hash hashes else hashes)
+added_by user (replaced name hash ∷ ds) hashes =
+    added_by user ds (if bytes_eq name user then with_hash hash hashes else hashes)
 
 -- These lines stand in the file: each user's hashes are those that were kept, and the line of a user for whom the file
 -- wasn't replaced is as it was.
-pub record StandsBy (remember : ℕ) (deeds : List Deed) (before : List Remembered) (after : Option (List ℕ)) : Type 0 where
+pub record StandsBy (remember : ℕ) (deeds : List Deed) (before : List Remembered)
+    (after : Option (List ℕ)) : Type 0 where
   pub standing : List Remembered
   pub stands : standing_in after ≡ Some standing
-  pub hashes : (user : List ℕ) → hashes_of user standing ≡ kept_by remember user deeds (hashes_of user before)
-  pub others : (user : List ℕ) → is_renewed user deeds ≡ false → line_of user standing ≡ line_of user before
+  pub hashes : (user : List ℕ) → hashes_of user standing ≡ kept_by remember user deeds
+      (hashes_of user before)
+  pub others : (user : List ℕ) → is_renewed user deeds ≡ false → line_of user standing
+      ≡ line_of user before

@@ -10,16 +10,12 @@ use Rattle.pam_room.specs.Module.{Plays}
 use Rattle.account_db.specs.declared.passwd.Passwd.{Passwd}
 use Rattle.account_db.specs.declared.group.Group.{Group}
 use Rattle.account_db.specs.Members.{group_of, is_member}
-use Rattle.account_db.specs.Passwd.{entry_of}
+use Rattle.account_db.specs.Passwd.{entry_of, entry_of_uid}
 use Rattle.account_files.specs.Act.{Act, answers, asks_user, plays_by, reads_groups, reads_passwds, unless_answered}
 use Rattle.module_acts.specs.Steps.{sees_caller}
-use Rattle.mod_history.specs.Arguments.{has_argument}
+use Rattle.account_files.specs.Arguments.{has_argument}
 
 -- ---- who is tested
-
--- the first entry with the caller's user id
-abbrev pub entry_of_uid : ℕ → List Passwd → Option Passwd
-entry_of_uid uid entries = find (λ (p : Passwd). p.uid == uid) entries
 
 abbrev pub unknown_if_none : Option Passwd → Option Code
 unknown_if_none None = Some UserUnknown
@@ -31,12 +27,14 @@ is_passed_over args entry = has_argument (codes "root_only") args && not (entry.
 
 abbrev pub by_user : List (List ℕ) → ℕ → List Passwd → Option Passwd → Option Code
 by_user args caller entries None = Some UserUnknown
-by_user args caller entries (Some entry) = if is_passed_over args entry then Some Ignore else unknown_if_none (entry_of_uid caller entries)
+by_user args caller entries (Some entry) = if is_passed_over args entry then Some Ignore
+    else unknown_if_none (entry_of_uid caller entries)
 
 -- the answer by /etc/passwd, where that decides it
 abbrev pub code_by_passwds : List (List ℕ) → ℕ → List ℕ → Option (List Passwd) → Option Code
 code_by_passwds args caller user None = Some ServiceErr
-code_by_passwds args caller user (Some entries) = by_user args caller entries (entry_of user entries)
+code_by_passwds args caller user (Some entries) =
+    by_user args caller entries (entry_of user entries)
 
 -- ---- the group
 
@@ -61,16 +59,21 @@ trusted false = Ignore
 
 -- who isn't in the group is kept out, or with `deny` who is
 abbrev pub by_membership : Bool → Bool → Bool → Code
-by_membership deny trust member = if deny then (if member then PermDenied else trusted trust) else (if member then trusted trust else PermDenied)
+by_membership deny trust member =
+    if deny then (if member then PermDenied else trusted trust)
+    else (if member then trusted trust else PermDenied)
 
 -- where there is no such group, nobody is in it, and with `deny` all are passed over
 abbrev pub by_group : Bool → Bool → Passwd → Option Group → Code
 by_group deny trust entry None = if deny then Ignore else PermDenied
-by_group deny trust entry (Some group) = by_membership deny trust (is_member entry.name (Some entry) group)
+by_group deny trust entry (Some group) =
+    by_membership deny trust (is_member entry.name (Some entry) group)
 
 abbrev pub by_entry : List (List ℕ) → List Group → Option Passwd → Code
 by_entry args groups None = UserUnknown
-by_entry args groups (Some entry) = by_group (has_argument (codes "deny") args) (has_argument (codes "trust") args) entry (wheel_group (value_among (codes "group=") args) groups)
+by_entry args groups (Some entry) =
+    by_group (has_argument (codes "deny") args) (has_argument (codes "trust") args) entry
+    (wheel_group (value_among (codes "group=") args) groups)
 
 abbrev pub by_passwds : List (List ℕ) → ℕ → List Group → Option (List Passwd) → Code
 by_passwds args caller groups None = ServiceErr
@@ -85,7 +88,8 @@ code_by_groups args caller passwds (Some groups) = by_passwds args caller groups
 -- the user is asked for, and looked up; the group file is read where the caller has an entry
 abbrev pub checks_wheel : List (List ℕ) → ℕ → Act
 checks_wheel args caller = asks_user (λ user. reads_passwds (λ passwds.
-    unless_answered (code_by_passwds args caller user passwds) (reads_groups (λ groups. answers (code_by_groups args caller passwds groups)))))
+    unless_answered (code_by_passwds args caller user passwds)
+    (reads_groups (λ groups. answers (code_by_groups args caller passwds groups)))))
 
 -- it offers authenticate, acct_mgmt and setcred, of which the last is SUCCESS at once
 abbrev pub at_once : Func → Option Code

@@ -1,7 +1,8 @@
 ghost use Rattle.std.specs.Prelude.{◌≡◌, ◌≤◌, ◌<◌, IsTrue, IfOk, IfSome, length};
 ghost use Rattle.pam_outside.specs.Time.{ClockState};
 ghost use Rattle.pam_room.specs.Plain.{plain_call, plain_process};
-ghost use Rattle.module_acts.specs.Comes.{Came, Comes, lent};
+ghost use Rattle.account_files.specs.Act.{Came};
+ghost use Rattle.module_acts.specs.Comes.{Comes, lent};
 ghost use Rattle.module_acts.specs.Talks.{Talks};
 ghost use Rattle.mod_history.specs.Pwhistory.{by_history, by_look, checks_token, remember_of, remembers, renews, short_number};
 
@@ -9,10 +10,9 @@ use crate::file::{HISTORY_LIMIT, HISTORY_NAME, history_in, store_text};
 use crate::history::{History, hashes_of};
 use crate::refusal::{is_refused, refuse_token};
 use crate::renewal::renewed_text;
-use account_files::user_of;
 use conv_port::Conv;
 use mod_unix::{Look, look_up, take_token};
-use module_acts::{laws, read_whole, require_user};
+use module_acts::{laws, read_whole, require_user, user_of};
 use pam_base::{Code, ConvErr, NoMemory, Refuse, Text, number_in};
 use pam_outside::Vault;
 use pam_room::{Call, Process, Transaction};
@@ -29,10 +29,13 @@ pub(crate) fn check_token(
 ) -> Result<Code, Refuse<ConvErr>>
     ensures conv_tells { conv_tells conv.new ≡ conv_tells conv.old }
     ensures vault_tells { vault_tells vault.new ≡ vault_tells vault.old }
-    ensures told { IsTrue (conv_tells conv.old) → IsTrue (vault_tells vault.old) → (clock : ClockState) →
+    ensures told { IsTrue (conv_tells conv.old) → IsTrue (vault_tells vault.old) →
+        (clock : ClockState) →
         Comes result (checks_token (plain_call call.now))
-        (lent transaction.old (conv_holds conv.old) (vault_holds vault.old) clock (plain_process process.now))
-        (lent transaction.new (conv_holds conv.new) (vault_holds vault.new) clock (plain_process process.now)) }
+        (lent transaction.old (conv_holds conv.old) (vault_holds vault.old) clock
+        (plain_process process.now))
+        (lent transaction.new (conv_holds conv.new) (vault_holds vault.new) clock
+        (plain_process process.now)) }
     ensures talks { Talks transaction.old transaction.new }
 {
     laws::talking();
@@ -64,10 +67,13 @@ fn by_look(
 ) -> Result<Code, Refuse<ConvErr>>
     ensures conv_tells { conv_tells conv.new ≡ conv_tells conv.old }
     ensures vault_tells { vault_tells vault.new ≡ vault_tells vault.old }
-    ensures told { IsTrue (conv_tells conv.old) → IsTrue (vault_tells vault.old) → (clock : ClockState) →
+    ensures told { IsTrue (conv_tells conv.old) → IsTrue (vault_tells vault.old) →
+        (clock : ClockState) →
         Comes result (by_look (plain_call call.now) user.now look.now)
-        (lent transaction.old (conv_holds conv.old) (vault_holds vault.old) clock (plain_process process.now))
-        (lent transaction.new (conv_holds conv.new) (vault_holds vault.new) clock (plain_process process.now)) }
+        (lent transaction.old (conv_holds conv.old) (vault_holds vault.old) clock
+        (plain_process process.now))
+        (lent transaction.new (conv_holds conv.new) (vault_holds vault.new) clock
+        (plain_process process.now)) }
     ensures talks { Talks transaction.old transaction.new }
 {
     laws::talking();
@@ -110,10 +116,13 @@ fn renew(
 ) -> Result<Code, Refuse<ConvErr>>
     ensures conv_tells { conv_tells conv.new ≡ conv_tells conv.old }
     ensures vault_tells { vault_tells vault.new ≡ vault_tells vault.old }
-    ensures told { IsTrue (conv_tells conv.old) → IsTrue (vault_tells vault.old) → (clock : ClockState) →
+    ensures told { IsTrue (conv_tells conv.old) → IsTrue (vault_tells vault.old) →
+        (clock : ClockState) →
         Comes result (renews (plain_call call.now) user.now hash.now)
-        (lent transaction.old (conv_holds conv.old) (vault_holds vault.old) clock (plain_process process.now))
-        (lent transaction.new (conv_holds conv.new) (vault_holds vault.new) clock (plain_process process.now)) }
+        (lent transaction.old (conv_holds conv.old) (vault_holds vault.old) clock
+        (plain_process process.now))
+        (lent transaction.new (conv_holds conv.new) (vault_holds vault.new) clock
+        (plain_process process.now)) }
     ensures talks { Talks transaction.old transaction.new }
 {
     laws::talking();
@@ -147,10 +156,13 @@ fn remember(
     requires { IfSome token (λ t. length t ≤ 512) }
     ensures conv_tells { conv_tells conv.new ≡ conv_tells conv.old }
     ensures vault_tells { vault_tells vault.new ≡ vault_tells vault.old }
-    ensures told { IsTrue (conv_tells conv.old) → IsTrue (vault_tells vault.old) → (clock : ClockState) →
+    ensures told { IsTrue (conv_tells conv.old) → IsTrue (vault_tells vault.old) →
+        (clock : ClockState) →
         IfOk result (λ code. Came code (remembers (plain_call call.now) user.now hash.now token)
-        (lent transaction.old (conv_holds conv.old) (vault_holds vault.old) clock (plain_process process.now))
-        (lent transaction.new (conv_holds conv.new) (vault_holds vault.new) clock (plain_process process.now))) }
+        (lent transaction.old (conv_holds conv.old) (vault_holds vault.old) clock
+        (plain_process process.now))
+        (lent transaction.new (conv_holds conv.new) (vault_holds vault.new) clock
+        (plain_process process.now))) }
     ensures talks { Talks transaction.old transaction.new }
 {
     laws::talking();
@@ -195,10 +207,14 @@ fn by_history(
     requires remembers { 0 < remember_of call.now.args.now }
     ensures conv_tells { conv_tells conv.new ≡ conv_tells conv.old }
     ensures vault_tells { vault_tells vault.new ≡ vault_tells vault.old }
-    ensures told { IsTrue (conv_tells conv.old) → IsTrue (vault_tells vault.old) → (clock : ClockState) →
-        IfOk result (λ code. Came code (by_history (plain_call call.now) (remember_of call.now.args.now) user.now hash.now token.now history)
-        (lent transaction.old (conv_holds conv.old) (vault_holds vault.old) clock (plain_process process.now))
-        (lent transaction.new (conv_holds conv.new) (vault_holds vault.new) clock (plain_process process.now))) }
+    ensures told { IsTrue (conv_tells conv.old) → IsTrue (vault_tells vault.old) →
+        (clock : ClockState) →
+        IfOk result (λ code. Came code (by_history (plain_call call.now)
+        (remember_of call.now.args.now) user.now hash.now token.now history)
+        (lent transaction.old (conv_holds conv.old) (vault_holds vault.old) clock
+        (plain_process process.now))
+        (lent transaction.new (conv_holds conv.new) (vault_holds vault.new) clock
+        (plain_process process.now))) }
     ensures talks { Talks transaction.old transaction.new }
 {
     laws::acting();

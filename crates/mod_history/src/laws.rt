@@ -12,8 +12,10 @@ ghost use Rattle.mod_history.specs.Standing.{Deed, Does, Follow, Remembers, Serv
 /// Does nothing: its contract is that a history that is written is read as itself, and that one that is read can be
 /// written.
 pub fn written_histories_are_read()
-    ensures written { (history : List Remembered) → IsHistory history → history_of (history_text history) ≡ Some history }
-    ensures read { (text : List ℕ) (history : List Remembered) → history_of text ≡ Some history → IsHistory history }
+    ensures written { (history : List Remembered) → IsHistory history →
+        history_of (history_text history) ≡ Some history }
+    ensures read { (text : List ℕ) (history : List Remembered) → history_of text ≡ Some history →
+        IsHistory history }
 {}
 
 /// Does nothing: its contract is what calls of pam_pwhistory(8) do to the history. Each leaves it, or it answers SUCCESS
@@ -21,12 +23,15 @@ pub fn written_histories_are_read()
 /// many transactions, where nothing else changed the file, each user's hashes are those that stood there and those that
 /// were added, the last so many of them, and the line of a user for whom the file wasn't replaced is as it was.
 pub fn hashes_stand()
-    ensures one { (path : List ℕ) (call : PlainCall) (room : SeenRoom) (held : List NamedData) (sight : Sight) →
+    ensures one { (path : List ℕ) (call : PlainCall) (room : SeenRoom) (held : List NamedData)
+        (sight : Sight) →
         (deed : Deed) × Does path call room sight (pwhistory_plays call room held sight) deed }
-    ensures all { (path : List ℕ) (remember : ℕ) (calls : List Served) (before after : Option (List ℕ)) (history : List Remembered) →
+    ensures all { (path : List ℕ) (remember : ℕ) (calls : List Served)
+        (before after : Option (List ℕ)) (history : List Remembered) →
         0 < remember → Follow path before calls after → AllByRecursion (Remembers remember) calls →
         standing_in before ≡ Some history → StandsBy remember (deeds_of calls) history after }
     // The hashes that are kept, one call after another, are the last so many of those that stood and those that were added.
-    ensures last { (remember : ℕ) (user : List ℕ) (deeds : List Deed) (hashes : List (List ℕ)) → 0 < remember → is_renewed user deeds ≡ true →
+    ensures last { (remember : ℕ) (user : List ℕ) (deeds : List Deed) (hashes : List (List ℕ)) →
+        0 < remember → is_renewed user deeds ≡ true →
         kept_by remember user deeds hashes ≡ last_of remember (added_by user deeds hashes) }
 {}

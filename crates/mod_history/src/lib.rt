@@ -2,7 +2,6 @@
 //! were used before.
 #![tactic(auto)]
 
-mod arguments;
 mod change;
 mod file;
 mod history;

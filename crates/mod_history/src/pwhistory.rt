@@ -2,15 +2,14 @@ ghost use Rattle.std.specs.Prelude.{◌≡◌, IfOk, codes};
 ghost use Rattle.pam_room.specs.Module.{length_note};
 ghost use Rattle.pam_room.specs.Plain.{plain_call};
 ghost use Rattle.pam_room.specs.State.{Scene};
-ghost use Rattle.account_files.specs.Act.{Act, answers};
 ghost use Rattle.module_acts.specs.Comes.{Comes, Goes};
 ghost use Rattle.mod_history.specs.Pwhistory.{at_once, pwhistory_plays};
 
 use crate::change::check_token;
 use conv_port::Conv;
 use data_cleanup::{Datum, Receipt};
-use module_acts::laws;
-use pam_base::{Code, ConvErr, Func, NoMemory, PRELIM_CHECK, Refuse};
+use module_acts::{ended, laws};
+use pam_base::{Code, Func, NoMemory, PRELIM_CHECK};
 use pam_outside::{Clock, Vault};
 use pam_room::{Call, Module, Process, Transaction, spend_by_length};
 use std::alloc::Global;
@@ -76,19 +75,5 @@ fn at_once(call: &Call) -> Option<Code>
         | Func::AcctMgmt
         | Func::OpenSession
         | Func::CloseSession => Some(Code::ModuleUnknown),
-    }
-}
-
-// The answer, which is CONV_ERR where the conversation gave no reply.
-fn ended(answer: Result<Code, Refuse<ConvErr>>) -> Result<Code, NoMemory>
-    ensures told { (step : (Code → Act) → Act) (old new : Scene) → Comes answer step old new → IfOk result (λ code. Goes (step answers) old code new) }
-{
-    laws::acting();
-    match answer {
-        Ok(code) => Ok(code),
-        Err(refused) => match refused {
-            Refuse::NoMemory => Err(NoMemory),
-            Refuse::Named(_) => Ok(Code::ConvErr),
-        },
     }
 }

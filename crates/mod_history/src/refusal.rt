@@ -4,14 +4,15 @@ ghost use Rattle.conv_port.specs.Conv.{ConvState};
 ghost use Rattle.pam_outside.specs.Files.{VaultState};
 ghost use Rattle.pam_outside.specs.Time.{ClockState};
 ghost use Rattle.pam_room.specs.State.{PlainProcess};
-ghost use Rattle.module_acts.specs.Comes.{Came, Leads, lent};
+ghost use Rattle.account_files.specs.Act.{Came, Leads};
+ghost use Rattle.module_acts.specs.Comes.{lent};
 ghost use Rattle.module_acts.specs.Talks.{Talks};
 ghost use Rattle.mod_history.specs.Pwhistory.{has_hash, is_enforced, is_refused, refuses_token, unsets_item, was_used};
 
-use crate::arguments::has_argument;
-use account_files::{laws, show};
+use account_files::has_argument;
 use conv_port::Conv;
 use item_store::Items;
+use module_acts::show;
 use pam_base::{Code, ItemName, NoMemory, Refuse, Style, Text};
 use pam_room::{Call, Transaction};
 use sha_crypt::crypt;
@@ -27,7 +28,8 @@ pub(crate) fn is_refused(
     hashes: &[Text],
 ) -> Result<bool, NoMemory>
     requires { length token.now ≤ 512 }
-    ensures { IfOk result (λ refused. refused ≡ is_refused call.now.args.now caller token.now hash.now hashes.now) }
+    ensures { IfOk result (λ refused. refused ≡ is_refused call.now.args.now caller token.now
+        hash.now hashes.now) }
 {
     if !is_enforced(call, caller) {
         return Ok(false);
@@ -80,12 +82,13 @@ pub(crate) fn refuse_token(
     conv: &mut dyn Conv,
 ) -> Result<(), NoMemory>
     ensures tells { conv_tells conv.new ≡ conv_tells conv.old }
-    ensures told { IsTrue (conv_tells conv.old) → (vault : VaultState) (clock : ClockState) (process : PlainProcess) →
+    ensures told { IsTrue (conv_tells conv.old) →
+        (vault : VaultState) (clock : ClockState) (process : PlainProcess) →
         OnOk result (Came Code.AuthtokErr refuses_token
-        (lent transaction.old (conv_holds conv.old) vault clock process) (lent transaction.new (conv_holds conv.new) vault clock process)) }
+        (lent transaction.old (conv_holds conv.old) vault clock process)
+        (lent transaction.new (conv_holds conv.new) vault clock process)) }
     ensures talks { Talks transaction.old transaction.new }
 {
-    laws::act_steps();
     module_acts::laws::talking();
     unset_token(transaction);
     show(
@@ -100,8 +103,10 @@ pub(crate) fn refuse_token(
 
 // Unsets AUTHTOK (`pam_set_item(3)`).
 fn unset_token(transaction: &mut Transaction)
-    ensures told { (conv : ConvState) (vault : VaultState) (clock : ClockState) (process : PlainProcess) →
-        Leads (unsets_item ItemName.AuthTok) (lent transaction.old conv vault clock process) (lent transaction.new conv vault clock process) }
+    ensures told { (conv : ConvState) (vault : VaultState) (clock : ClockState)
+        (process : PlainProcess) →
+        Leads (unsets_item ItemName.AuthTok) (lent transaction.old conv vault clock process)
+        (lent transaction.new conv vault clock process) }
     ensures talks { Talks transaction.old transaction.new }
 {
     unset(&mut transaction.items);

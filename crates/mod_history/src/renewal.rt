@@ -18,7 +18,8 @@ pub(crate) fn renewed_text(
     history: &History,
 ) -> Result<Text, NoMemory>
     requires { 0 < remember }
-    ensures { IfOk result (λ text. text ≡ history_text (renewed remember user.now hash.now history.now)) }
+    ensures { IfOk result (λ text. text ≡ history_text (renewed remember user.now hash.now
+        history.now)) }
 {
     let mut out = Vec::new(alloc);
     put_renewed(&mut out, remember, user, hash, history.items())?;
@@ -33,7 +34,8 @@ fn put_renewed(
     history: &[Remembered],
 ) -> Result<(), NoMemory>
     requires { 0 < remember }
-    ensures { OnOk result (out.new.items ≡ out.old.items ++ flat_map whole_line (renewed remember user.now hash.now history.now)) }
+    ensures { OnOk result (out.new.items ≡ out.old.items
+        ++ flat_map whole_line (renewed remember user.now hash.now history.now)) }
 {
     let mut rest = history;
     while let [line, after @ ..] = rest {
@@ -49,7 +51,8 @@ fn put_renewed(
 
 // A line for a user who has none, unless the hash is left out.
 fn put_new_line(out: &mut Vec<u8>, user: &[u8], hash: &[u8]) -> Result<(), NoMemory>
-    ensures { OnOk result (out.new.items ≡ out.old.items ++ flat_map whole_line (new_line user.now hash.now)) }
+    ensures { OnOk result (out.new.items ≡ out.old.items
+        ++ flat_map whole_line (new_line user.now hash.now)) }
 {
     if !is_locked(hash) {
         out.extend_from_slice(user)?;
@@ -67,7 +70,9 @@ fn put_renewed_line(
     line: &Remembered,
 ) -> Result<(), NoMemory>
     requires { 0 < remember }
-    ensures { OnOk result (out.new.items ≡ out.old.items ++ whole_line (record { name = line.now.name; hashes = renewed_hashes remember hash.now line.now.hashes })) }
+    ensures { OnOk result (out.new.items ≡ out.old.items
+        ++ (let hashes = renewed_hashes remember hash.now line.now.hashes in
+        whole_line (record { name = line.now.name; hashes = hashes }))) }
 {
     out.extend_from_slice(line.name.bytes())?;
     put_renewed_hashes(out, remember as usize, hash, line.hashes.items())?;
@@ -82,7 +87,8 @@ fn put_renewed_hashes(
     hashes: &[Text],
 ) -> Result<(), NoMemory>
     requires { 0 < remember }
-    ensures { OnOk result (out.new.items ≡ out.old.items ++ flat_map hash_text (renewed_hashes remember hash.now hashes.now)) }
+    ensures { OnOk result (out.new.items ≡ out.old.items
+        ++ flat_map hash_text (renewed_hashes remember hash.now hashes.now)) }
 {
     if is_left_out(hash, hashes) {
         put_hashes(out, last_of(remember, hashes))

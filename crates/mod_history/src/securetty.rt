@@ -5,14 +5,16 @@ ghost use Rattle.pam_outside.specs.Time.{ClockState};
 ghost use Rattle.pam_room.specs.Module.{length_note};
 ghost use Rattle.account_files.specs.Accounts.{Known, nothing_known};
 ghost use Rattle.account_files.specs.Act.{Acts, standing};
-ghost use Rattle.account_files.specs.Speaks.{Speaks};
+ghost use Rattle.module_acts.specs.Comes.{Finishes};
+ghost use Rattle.module_acts.specs.Talks.{Talks};
 ghost use Rattle.mod_history.specs.Securetty.{at_once, by_list, checks_root, checks_terminal, is_secure, is_terminal, securetty_plays, terminal_name};
 
 use account_db::without_end;
-use account_files::{Account, Accounts, Content, has_user, laws, read_named, user_of};
+use account_files::{Account, Accounts, Content, laws, read_named};
 use conv_port::Conv;
 use data_cleanup::{Datum, Receipt};
-use pam_base::{Code, Func, ItemName, Lines, NoMemory};
+use module_acts::{ended, require_user, user_of};
+use pam_base::{Code, ConvErr, Func, ItemName, Lines, NoMemory, Refuse};
 use pam_outside::{Clock, Vault};
 use pam_room::{Call, Module, Process, Transaction, get_item, spend_by_length, value_in};
 use std::alloc::Global;
@@ -53,10 +55,13 @@ impl Module for Securetty {
         _clock: &mut dyn Clock,
     ) -> Result<Code, NoMemory> {
         laws::act_steps();
-        laws::speaking();
+        module_acts::laws::talking();
         match at_once(call.func) {
             Some(code) => Ok(code),
-            None => check_terminal(alloc, transaction, process, conv, vault),
+            None => {
+                let answer = check_terminal(alloc, transaction, process, conv, vault);
+                ended(answer)
+            }
         }
     }
 
@@ -82,22 +87,21 @@ fn check_terminal(
     process: &Process,
     conv: &mut dyn Conv,
     vault: &mut dyn Vault,
-) -> Result<Code, NoMemory>
+) -> Result<Code, Refuse<ConvErr>>
     ensures conv_tells { conv_tells conv.new ≡ conv_tells conv.old }
     ensures vault_tells { vault_tells vault.new ≡ vault_tells vault.old }
-    ensures told { IsTrue (conv_tells conv.old) → IsTrue (vault_tells vault.old) → (clock : ClockState) →
-        IfOk result (λ code. Acts checks_terminal nothing_known
-        (standing transaction.old (conv_holds conv.old) (vault_holds vault.old) clock process.now) code
-        (standing transaction.new (conv_holds conv.new) (vault_holds vault.new) clock process.now)) }
-    ensures speaks { Speaks transaction.old transaction.new }
+    ensures told { IsTrue (conv_tells conv.old) → IsTrue (vault_tells vault.old) →
+        (clock : ClockState) → Finishes result checks_terminal
+        (standing transaction.old (conv_holds conv.old) (vault_holds vault.old) clock process.now)
+        (standing transaction.new (conv_holds conv.new) (vault_holds vault.new) clock process.now) }
+    ensures talks { Talks transaction.old transaction.new }
 {
     laws::act_steps();
-    if !has_user(alloc, transaction, conv)? {
-        return Ok(Code::ConvErr);
-    }
+    require_user(alloc, transaction, conv)?;
     let mut accounts = Accounts::new();
     accounts.read_passwds(alloc, vault, process.root.bytes())?;
-    let entry = match accounts.account(user_of(transaction)) {
+    let account = accounts.account(alloc, user_of(transaction))?;
+    let entry = match account {
         Account::Unreadable => return Ok(Code::ServiceErr),
         Account::Missing => return Ok(Code::UserUnknown),
         Account::Found(entry) => entry,
@@ -117,7 +121,8 @@ fn check_root(
     vault: &mut dyn Vault,
 ) -> Result<Code, NoMemory>
     ensures tells { vault_tells vault.new ≡ vault_tells vault.old }
-    ensures told { IsTrue (vault_tells vault.old) → (conv : ConvState) (clock : ClockState) (known : Known) →
+    ensures told { IsTrue (vault_tells vault.old) →
+        (conv : ConvState) (clock : ClockState) (known : Known) →
         IfOk result (λ code. Acts checks_root known
         (standing transaction.now conv (vault_holds vault.old) clock process.now) code
         (standing transaction.now conv (vault_holds vault.new) clock process.now)) }

@@ -4,15 +4,16 @@ ghost use Rattle.pam_outside.specs.Time.{ClockState};
 ghost use Rattle.pam_room.specs.Module.{length_note};
 ghost use Rattle.account_files.specs.Accounts.{nothing_known};
 ghost use Rattle.account_files.specs.Act.{Acts, standing};
-ghost use Rattle.account_files.specs.Speaks.{Speaks};
-ghost use Rattle.mod_history.specs.Wheel.{at_once, by_group, by_membership, checks_wheel, code_by_groups, code_by_passwds, entry_of_uid, group_of_gid, is_passed_over, trusted, wheel_group, wheel_plays};
+ghost use Rattle.module_acts.specs.Comes.{Finishes};
+ghost use Rattle.module_acts.specs.Talks.{Talks};
+ghost use Rattle.mod_history.specs.Wheel.{at_once, by_group, by_membership, checks_wheel, code_by_groups, code_by_passwds, group_of_gid, is_passed_over, trusted, wheel_group, wheel_plays};
 
-use crate::arguments::has_argument;
-use account_db::{Group, Groups, Passwd, Passwds, entry_of, group_of, is_member};
-use account_files::{Accounts, has_user, laws, user_of};
+use account_db::{Group, Groups, Passwd, PasswdFile, entry_of, entry_of_uid, group_of, is_member};
+use account_files::{Accounts, has_argument, laws};
 use conv_port::Conv;
 use data_cleanup::{Datum, Receipt};
-use pam_base::{Code, Func, NoMemory, Texts};
+use module_acts::{ended, require_user, user_of};
+use pam_base::{Code, ConvErr, Func, NoMemory, Refuse, Texts};
 use pam_outside::{Clock, Vault};
 use pam_room::{Call, Module, Process, Transaction, spend_by_length};
 use std::alloc::Global;
@@ -51,11 +52,14 @@ impl Module for Wheel {
         _clock: &mut dyn Clock,
     ) -> Result<Code, NoMemory> {
         laws::act_steps();
-        laws::speaking();
+        module_acts::laws::talking();
         module_acts::laws::acting();
         match at_once(call.func) {
             Some(code) => Ok(code),
-            None => check_wheel(alloc, call, transaction, process, conv, vault),
+            None => {
+                let answer = check_wheel(alloc, call, transaction, process, conv, vault);
+                ended(answer)
+            }
         }
     }
 
@@ -82,45 +86,57 @@ fn check_wheel(
     process: &Process,
     conv: &mut dyn Conv,
     vault: &mut dyn Vault,
-) -> Result<Code, NoMemory>
+) -> Result<Code, Refuse<ConvErr>>
     ensures conv_tells { conv_tells conv.new ≡ conv_tells conv.old }
     ensures vault_tells { vault_tells vault.new ≡ vault_tells vault.old }
-    ensures told { IsTrue (conv_tells conv.old) → IsTrue (vault_tells vault.old) → (clock : ClockState) →
-        IfOk result (λ code. Acts (checks_wheel call.now.args.now process.now.caller) nothing_known
-        (standing transaction.old (conv_holds conv.old) (vault_holds vault.old) clock process.now) code
-        (standing transaction.new (conv_holds conv.new) (vault_holds vault.new) clock process.now)) }
-    ensures speaks { Speaks transaction.old transaction.new }
+    ensures told { IsTrue (conv_tells conv.old) → IsTrue (vault_tells vault.old) →
+        (clock : ClockState) → Finishes result (checks_wheel call.now.args.now process.now.caller)
+        (standing transaction.old (conv_holds conv.old) (vault_holds vault.old) clock process.now)
+        (standing transaction.new (conv_holds conv.new) (vault_holds vault.new) clock process.now) }
+    ensures talks { Talks transaction.old transaction.new }
 {
     laws::act_steps();
-    if !has_user(alloc, transaction, conv)? {
-        return Ok(Code::ConvErr);
-    }
+    require_user(alloc, transaction, conv)?;
     let caller = process.caller;
     let mut accounts = Accounts::new();
     accounts.read_passwds(alloc, vault, process.root.bytes())?;
-    match code_by_passwds(call, caller, user_of(transaction), accounts.passwds()) {
+    let user = user_of(transaction);
+    let decided = code_by_passwds(alloc, call, caller, user, accounts.passwds())?;
+    match decided {
         Some(code) => Ok(code),
         None => {
             accounts.read_groups(alloc, vault, process.root.bytes())?;
-            Ok(code_by_groups(call, caller, accounts.passwds(), accounts.groups()))
+            let code = code_by_groups(alloc, call, caller, accounts.passwds(), accounts.groups())?;
+            Ok(code)
         }
     }
 }
 
 // The answer by the password file, where that decides it.
-fn code_by_passwds(call: &Call, caller: u32, user: &[u8], passwds: Option<&Passwds>) -> Option<Code>
-    ensures { result ≡ code_by_passwds call.now.args.now caller user.now (option_copied passwds.entry) }
+fn code_by_passwds(
+    alloc: Global,
+    call: &Call,
+    caller: u32,
+    user: &[u8],
+    passwds: Option<&PasswdFile>,
+) -> Result<Option<Code>, NoMemory>
+    ensures { IfOk result (λ code. code ≡ code_by_passwds call.now.args.now caller user.now
+        (option_copied passwds.entry)) }
 {
     let Some(entries) = passwds else {
-        return Some(Code::ServiceErr);
+        return Ok(Some(Code::ServiceErr));
     };
-    match entry_of(user, entries) {
-        None => Some(Code::UserUnknown),
-        Some(entry) if is_passed_over(call.args, entry) => Some(Code::Ignore),
-        Some(_) => match entry_of_uid(caller, entries) {
-            None => Some(Code::UserUnknown),
-            Some(_) => None,
-        },
+    match entry_of(alloc, user, entries)? {
+        None => Ok(Some(Code::UserUnknown)),
+        Some(entry) => {
+            if is_passed_over(call.args, &entry) {
+                return Ok(Some(Code::Ignore));
+            }
+            match entry_of_uid(alloc, caller, entries)? {
+                None => Ok(Some(Code::UserUnknown)),
+                Some(_) => Ok(None),
+            }
+        }
     }
 }
 
@@ -131,36 +147,31 @@ fn is_passed_over(args: &Texts, entry: &Passwd) -> bool
     has_argument(b"root_only", args) && entry.uid != 0
 }
 
-// The first entry with this user id.
-fn entry_of_uid(uid: u32, entries: &Passwds) -> Option<&Passwd>
-    ensures { option_copied result ≡ entry_of_uid uid entries.now }
-{
-    entries.items().iter().find(|entry| entry.uid == uid)
-}
-
 // The answer by both files.
 fn code_by_groups(
+    alloc: Global,
     call: &Call,
     caller: u32,
-    passwds: Option<&Passwds>,
+    passwds: Option<&PasswdFile>,
     groups: Option<&Groups>,
-) -> Code
-    ensures { result ≡ code_by_groups call.now.args.now caller (option_copied passwds.entry) (option_copied groups.entry) }
+) -> Result<Code, NoMemory>
+    ensures { IfOk result (λ code. code ≡ code_by_groups call.now.args.now caller
+        (option_copied passwds.entry) (option_copied groups.entry)) }
 {
     let Some(groups) = groups else {
-        return Code::ServiceErr;
+        return Ok(Code::ServiceErr);
     };
     let Some(entries) = passwds else {
-        return Code::ServiceErr;
+        return Ok(Code::ServiceErr);
     };
-    match entry_of_uid(caller, entries) {
-        None => Code::UserUnknown,
-        Some(entry) => by_group(
+    match entry_of_uid(alloc, caller, entries)? {
+        None => Ok(Code::UserUnknown),
+        Some(entry) => Ok(by_group(
             has_argument(b"deny", call.args),
             has_argument(b"trust", call.args),
-            entry,
+            &entry,
             wheel_group(call.value(b"group="), groups),
-        ),
+        )),
     }
 }
 

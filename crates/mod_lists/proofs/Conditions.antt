@@ -5,8 +5,8 @@ use Rattle.pam_base.specs.declared.code.Code.{Code}
 use Rattle.pam_room.specs.State.{Scene}
 use Rattle.account_files.specs.Accounts.{Known}
 use Rattle.account_files.specs.Act.{Act, Acts, answers}
-use Rattle.mod_lists.specs.declared.condition.Truth.{Truth}
-use Rattle.mod_lists.specs.declared.condition.Truth.TheVariants.{Holds}
+use Rattle.mod_lists.specs.declared.truth.Truth.{Truth}
+use Rattle.mod_lists.specs.declared.truth.Truth.TheVariants.{Holds}
 use Rattle.mod_lists.specs.Condition.{condition_of}
 use Rattle.mod_lists.specs.SucceedIf.{by_truth, meets_all, tries_words}
 

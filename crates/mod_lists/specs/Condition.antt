@@ -1,11 +1,10 @@
 -- The conditions of pam_succeed_if(8): three words each, a field, a test, and a value to test for.
-use Rattle.std.specs.Prelude.{ℕ, Bool, true, false, not, ◌==◌, ◌&&◌, ◌||◌, nat_lt, nat_le, if◌then◌else◌, decimal, List, [], ◌∷◌, length, Option, Some, None, option_map, codes}
+use Rattle.std.specs.Prelude.{ℕ, Bool, true, false, not, ◌==◌, ◌&&◌, ◌||◌, nat_lt, nat_le, if◌then◌else◌, decimal, List, length, Option, Some, None, option_map, codes}
 use Rattle.std.specs.Char.{is_ascii_digit}
 use Rattle.std.specs.List.{list_all, list_any}
 use Rattle.std.specs.Str.{bytes_eq}
 use Rattle.pam_base.specs.Number.{value_of_digits}
 use Rattle.pam_base.specs.Parts.{parts_of}
-use Rattle.mod_lists.specs.declared.condition.AccountField.{AccountField}
 use Rattle.mod_lists.specs.declared.condition.AccountField.TheVariants.{Uid, Gid, Shell, Home}
 use Rattle.mod_lists.specs.declared.condition.ItemField.TheVariants as items
 use Rattle.mod_lists.specs.declared.condition.Field.{Field}
@@ -16,8 +15,8 @@ use Rattle.mod_lists.specs.declared.condition.Test.{Test}
 use Rattle.mod_lists.specs.declared.condition.Test.TheVariants as lent_test
 use Rattle.mod_lists.specs.declared.condition.Condition.{Condition}
 use Rattle.mod_lists.specs.declared.condition.Condition.TheVariants as lent
-use Rattle.mod_lists.specs.declared.condition.Truth.{Truth}
-use Rattle.mod_lists.specs.declared.condition.Truth.TheVariants.{Holds, Fails, NoUser, Faulty}
+use Rattle.mod_lists.specs.declared.truth.Truth.{Truth}
+use Rattle.mod_lists.specs.declared.truth.Truth.TheVariants.{Holds, Fails, Faulty}
 
 -- ---- fields
 
@@ -98,7 +97,8 @@ pub data PlainCondition : Type 0 where
   grouped : Bool → List (List ℕ) → PlainCondition
 
 abbrev pub group_sense : List ℕ → Option Bool
-group_sense word = if bytes_eq word (codes "ingroup") then Some true else if bytes_eq word (codes "notingroup") then Some false else None
+group_sense word = if bytes_eq word (codes "ingroup") then Some true
+    else if bytes_eq word (codes "notingroup") then Some false else None
 
 abbrev pub with_test : Option Field → Option PlainTest → Option PlainCondition
 with_test (Some field) (Some test) = Some (on field test)
@@ -106,7 +106,8 @@ with_test (Some field) None = None
 with_test None test = None
 
 abbrev pub by_sense : Option Bool → List ℕ → List ℕ → List ℕ → Option PlainCondition
-by_sense (Some sense) field word value = if bytes_eq field (codes "user") then Some (grouped sense (items_of value)) else None
+by_sense (Some sense) field word value =
+    if bytes_eq field (codes "user") then Some (grouped sense (items_of value)) else None
 by_sense None field word value = with_test (field_of field) (test_of word value)
 
 -- the condition of three words, if it is one; a test of groups is one of the field `user` alone

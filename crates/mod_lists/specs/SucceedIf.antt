@@ -1,5 +1,5 @@
 -- pam_succeed_if(8): whether all conditions on the user's account, and on items of the transaction, are met.
-use Rattle.std.specs.Prelude.{ℕ, Bool, true, false, not, if◌then◌else◌, List, [], ◌∷◌, filter, Option, Some, None, unwrap_or, codes}
+use Rattle.std.specs.Prelude.{ℕ, Bool, true, false, not, List, [], ◌∷◌, filter, Option, Some, None, unwrap_or, codes}
 use Rattle.std.specs.List.{list_any}
 use Rattle.std.specs.Str.{bytes_eq}
 use Rattle.pam_base.specs.declared.code.Code.{Code}
@@ -21,8 +21,8 @@ use Rattle.mod_lists.specs.declared.condition.ItemField.{ItemField}
 use Rattle.mod_lists.specs.declared.condition.ItemField.TheVariants as item_fields
 use Rattle.mod_lists.specs.declared.condition.Field.{Field}
 use Rattle.mod_lists.specs.declared.condition.Field.TheVariants as fields
-use Rattle.mod_lists.specs.declared.condition.Truth.{Truth}
-use Rattle.mod_lists.specs.declared.condition.Truth.TheVariants.{Holds, Fails, NoUser, Faulty}
+use Rattle.mod_lists.specs.declared.truth.Truth.{Truth}
+use Rattle.mod_lists.specs.declared.truth.Truth.TheVariants.{Holds, Fails, NoUser, Faulty}
 use Rattle.mod_lists.specs.Condition.{PlainCondition, on, grouped, PlainTest, condition_of, in_sense, on_number, on_text}
 
 -- ---- one condition
@@ -44,7 +44,8 @@ abbrev pub is_in_any : List (List ℕ) → List ℕ → Option Passwd → List G
 is_in_any names user entry groups = list_any (λ name. is_in_group name user entry groups) names
 
 abbrev pub by_entry : Bool → List (List ℕ) → List ℕ → Option Passwd → List Group → Truth
-by_entry sense names user (Some entry) groups = in_sense sense (is_in_any names user (Some entry) groups)
+by_entry sense names user (Some entry) groups =
+    in_sense sense (is_in_any names user (Some entry) groups)
 by_entry sense names user None groups = NoUser
 
 abbrev pub by_groups : Bool → List (List ℕ) → List ℕ → Option Passwd → Option (List Group) → Truth
@@ -54,7 +55,8 @@ by_groups sense names user entry None = Faulty
 -- the group file is read although the user has no entry, and not where passwd can't be read
 abbrev pub by_passwds : Bool → List (List ℕ) → List ℕ → (Truth → Act) → Option (List Passwd) → Act
 by_passwds sense names user act None = act Faulty
-by_passwds sense names user act (Some entries) = reads_groups (λ groups. act (by_groups sense names user (entry_of user entries) groups))
+by_passwds sense names user act (Some entries) =
+    reads_groups (λ groups. act (by_groups sense names user (entry_of user entries) groups))
 
 -- an item that is unset reads as the empty text
 abbrev pub item_text : ItemField → ItemTexts → List ℕ
@@ -65,8 +67,10 @@ item_text item_fields.Ruser items = unwrap_or items.ruser []
 item_text item_fields.Service items = unwrap_or items.service []
 
 abbrev pub tests_field : Field → PlainTest → List ℕ → (Truth → Act) → Act
-tests_field (fields.Item item) test user act = sees_items (λ items. act (on_text test (item_text item items)))
-tests_field (fields.Account field) test user act = finds_account user (λ account. act (on_account test field account))
+tests_field (fields.Item item) test user act =
+    sees_items (λ items. act (on_text test (item_text item items)))
+tests_field (fields.Account field) test user act =
+    finds_account user (λ account. act (on_account test field account))
 
 abbrev pub tries : PlainCondition → List ℕ → (Truth → Act) → Act
 tries (on field test) user act = tests_field field test user act
@@ -91,13 +95,15 @@ abbrev pub meets_all : List (List ℕ) → List ℕ → Act
 meets_all [] user = answers returns.Success
 meets_all (field ∷ []) user = answers returns.ServiceErr
 meets_all (field ∷ word ∷ []) user = answers returns.ServiceErr
-meets_all (field ∷ word ∷ value ∷ rest) user = tries_words (condition_of field word value) user (by_truth (meets_all rest user))
+meets_all (field ∷ word ∷ value ∷ rest) user =
+    tries_words (condition_of field word value) user (by_truth (meets_all rest user))
 
 -- ---- the module
 
 -- the arguments that are about messages in the system's log, where nothing is written
 abbrev pub is_about_log : List ℕ → Bool
-is_about_log arg = list_any (λ w. bytes_eq w arg) (codes "debug" ∷ codes "audit" ∷ codes "quiet" ∷ codes "quiet_fail" ∷ codes "quiet_success" ∷ [])
+is_about_log arg = list_any (λ w. bytes_eq w arg) (codes "debug" ∷ codes "audit" ∷ codes "quiet" ∷
+    codes "quiet_fail" ∷ codes "quiet_success" ∷ [])
 
 abbrev pub conditions_in : List (List ℕ) → List (List ℕ)
 conditions_in args = filter (λ arg. not (is_about_log arg)) args

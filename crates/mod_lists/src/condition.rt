@@ -1,11 +1,9 @@
-ghost use Rattle.std.specs.Prelude.{◌≡◌, ◌||◌, ℕ, List, IfOk, decimal, option_map, true};
-ghost use Rattle.std.specs.List.{list_any};
+ghost use Rattle.std.specs.Prelude.{◌≡◌, ◌||◌, option_map, true};
 ghost use Rattle.std.specs.Str.{bytes_eq};
 ghost use Rattle.pam_base.specs.Number.{value_of_digits};
-ghost use Rattle.mod_lists.specs.Condition.{condition_of, count_of, field_of, group_sense, holds_if, in_sense, is_count, is_so, items_of, on_number, on_text, order_of, plain_condition, plain_test, test_of, text_test, compared};
+ghost use Rattle.mod_lists.specs.Condition.{condition_of, count_of, field_of, group_sense, is_count, order_of, plain_condition, plain_test, test_of, text_test};
 
-use pam_base::{NoMemory, Parts, are_digits};
-use std::alloc::Global;
+use pam_base::are_digits;
 
 /// An item of the transaction.
 #[derive(Clone, Copy, Debug, PartialEq, Eq)]
@@ -61,17 +59,6 @@ pub enum Condition<'a> {
     On(Field, Test<'a>),
     /// Whether the user is in one of these groups, whose names colons separate; with `false`, in none of them.
     Grouped(bool, &'a [u8]),
-}
-
-/// Whether a condition holds.
-#[derive(Clone, Copy, Debug, PartialEq, Eq)]
-pub enum Truth {
-    Holds,
-    Fails,
-    /// It asks for the account of a user who has none.
-    NoUser,
-    /// It hasn't the form of a condition, or what it asks for isn't a number or can't be read.
-    Faulty,
 }
 
 /// The condition of three words, if it is one.
@@ -189,8 +176,8 @@ fn text_test<'a>(word: &[u8], value: &'a [u8]) -> Option<Test<'a>>
     }
 }
 
-// The number of 1 to 18 decimal digits that a word is.
-fn count_of(word: &[u8]) -> Option<u64>
+/// The number of 1 to 18 decimal digits that a word is.
+pub(crate) fn count_of(word: &[u8]) -> Option<u64>
     ensures { result ≡ count_of word.now }
 {
     if is_count(word) {
@@ -215,92 +202,4 @@ fn value_of_digits(digits: &[u8]) -> u64
         value = 10 * value + u64::from(*digit - b'0');
     }
     value
-}
-
-impl Test<'_> {
-    /// Whether it holds of a text.
-    pub fn on_text(&self, text: &[u8]) -> Truth
-        ensures { result ≡ on_text (plain_test self.now) text.now }
-    {
-        match self {
-            Test::Compares(order, number) => compared(*order, *number, count_of(text)),
-            Test::Equals(sense, wanted) => in_sense(*sense, is_same(wanted, text)),
-            Test::IsAmong(sense, list) => in_sense(*sense, has_item(list, text)),
-        }
-    }
-
-    /// Whether it holds of a number; as a text that is its decimal digits.
-    pub fn on_number(&self, alloc: Global, number: u32) -> Result<Truth, NoMemory>
-        ensures { IfOk result (λ truth. truth ≡ on_number (plain_test self.now) number) }
-    {
-        match self {
-            Test::Compares(order, other) => Ok(holds_if(is_so(*order, u64::from(number), *other))),
-            Test::Equals(_, _) => {
-                let digits = format!(in alloc; "{number}")?;
-                Ok(self.on_text(digits.as_bytes()))
-            }
-            Test::IsAmong(_, _) => {
-                let digits = format!(in alloc; "{number}")?;
-                Ok(self.on_text(digits.as_bytes()))
-            }
-        }
-    }
-}
-
-fn is_same(one: &[u8], other: &[u8]) -> bool
-    ensures { result ≡ bytes_eq one.now other.now }
-{
-    one == other
-}
-
-// Whether an item of a list is this text.
-fn has_item(list: &[u8], text: &[u8]) -> bool
-    ensures { result ≡ list_any (λ (item : List ℕ). bytes_eq item text.now) (items_of list.now) }
-{
-    let mut items = Parts::new(b':', list);
-    while let Some(item) = items.next_part() {
-        if item == text {
-            return true;
-        }
-    }
-    false
-}
-
-fn compared(order: Order, number: u64, found: Option<u64>) -> Truth
-    ensures { result ≡ compared order number found }
-{
-    match found {
-        Some(found) => holds_if(is_so(order, found, number)),
-        None => Truth::Faulty,
-    }
-}
-
-fn is_so(order: Order, one: u64, other: u64) -> bool
-    ensures { result ≡ is_so order one other }
-{
-    match order {
-        Order::Less => one < other,
-        Order::AtMost => one <= other,
-        Order::Equal => one == other,
-        Order::Unequal => one != other,
-        Order::AtLeast => one >= other,
-        Order::Greater => one > other,
-    }
-}
-
-/// A test's outcome, or that of its opposite.
-pub fn in_sense(sense: bool, holds: bool) -> Truth
-    ensures { result ≡ in_sense sense holds }
-{
-    if sense {
-        holds_if(holds)
-    } else {
-        holds_if(!holds)
-    }
-}
-
-fn holds_if(holds: bool) -> Truth
-    ensures { result ≡ holds_if holds }
-{
-    if holds { Truth::Holds } else { Truth::Fails }
 }

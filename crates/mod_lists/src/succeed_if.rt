@@ -1,32 +1,24 @@
-ghost use Rattle.std.specs.Prelude.{◌≡◌, ◌≢◌, ◌<◌, length, Some, None, IsTrue, IfOk, ℕ, List, codes, unwrap_or, option_map, [], ◌∷◌};
+ghost use Rattle.std.specs.Prelude.{◌≡◌, ◌≢◌, ◌<◌, length, None, IsTrue, IfOk, ℕ, List, codes, unwrap_or, []};
 ghost use Rattle.std.specs.List.{list_any};
-ghost use Rattle.std.specs.Option.{option_copied};
 ghost use Rattle.conv_port.specs.Conv.{ConvState};
 ghost use Rattle.pam_outside.specs.Time.{ClockState};
-ghost use Rattle.pam_base.specs.declared.code.Code.{Code};
 ghost use Rattle.pam_room.specs.Module.{length_note};
-ghost use Rattle.pam_room.specs.State.{Scene};
-ghost use Rattle.account_db.specs.Members.{is_in_group};
-ghost use Rattle.account_files.specs.Accounts.{account_in, known_groups, known_passwds, nothing_known};
-ghost use Rattle.account_files.specs.Act.{Act, Acts, LooksTo, answers, reads_passwds, standing};
-ghost use Rattle.account_files.specs.Found.{plain_account};
-ghost use Rattle.account_files.specs.Speaks.{Speaks};
-ghost use Rattle.mod_lists.specs.declared.condition.Truth.{Truth};
-ghost use Rattle.mod_lists.specs.Condition.{items_of, plain_condition, plain_test};
-ghost use Rattle.mod_lists.specs.Listfile.{entry_known};
-ghost use Rattle.mod_lists.specs.SucceedIf.{at_once, by_groups, by_passwds, by_truth, checks_conditions, conditions_in, is_about_log, is_in_any, item_text, meets_all, on_account, on_entry, succeed_if_plays, tests_field, tries, tries_words, uses_uid};
+ghost use Rattle.account_files.specs.Accounts.{nothing_known};
+ghost use Rattle.account_files.specs.Act.{Acts, answers, standing};
+ghost use Rattle.module_acts.specs.Comes.{Finishes};
+ghost use Rattle.module_acts.specs.Talks.{Talks};
+ghost use Rattle.mod_lists.specs.SucceedIf.{at_once, checks_conditions, conditions_in, is_about_log, meets_all, succeed_if_plays, uses_uid};
 
-use crate::condition::{
-    AccountField, Condition, Field, ItemField, Test, Truth, condition_of, in_sense,
-};
-use account_db::{Groups, Passwd, is_in_group};
-use account_files::{Account, Accounts, has_user, laws, user_of};
+use crate::condition::condition_of;
+use crate::trial::try_words;
+use crate::truth::Truth;
+use account_files::{Accounts, laws};
 use conv_port::Conv;
 use data_cleanup::{Datum, Receipt};
-use item_store::Items;
-use pam_base::{Code, Func, ItemName, NoMemory, Parts, Text, Texts};
+use module_acts::{ended, require_user};
+use pam_base::{Code, ConvErr, Func, NoMemory, Refuse, Text, Texts};
 use pam_outside::{Clock, Vault};
-use pam_room::{Call, Module, Process, Transaction, get_item, spend_by_length};
+use pam_room::{Call, Module, Process, Transaction, spend_by_length};
 use std::alloc::Global;
 
 /// `pam_succeed_if(8)`: SUCCESS where all conditions of the arguments hold, three words each; the first that doesn't
@@ -63,10 +55,13 @@ impl Module for SucceedIf {
         _clock: &mut dyn Clock,
     ) -> Result<Code, NoMemory> {
         laws::act_steps();
-        laws::speaking();
+        module_acts::laws::talking();
         match at_once(call.func) {
             Some(code) => Ok(code),
-            None => check_conditions(alloc, call.args, transaction, process, conv, vault),
+            None => {
+                let answer = check_conditions(alloc, call.args, transaction, process, conv, vault);
+                ended(answer)
+            }
         }
     }
 
@@ -92,23 +87,21 @@ fn check_conditions(
     process: &Process,
     conv: &mut dyn Conv,
     vault: &mut dyn Vault,
-) -> Result<Code, NoMemory>
+) -> Result<Code, Refuse<ConvErr>>
     ensures conv_tells { conv_tells conv.new ≡ conv_tells conv.old }
     ensures vault_tells { vault_tells vault.new ≡ vault_tells vault.old }
-    ensures told { IsTrue (conv_tells conv.old) → IsTrue (vault_tells vault.old) → (clock : ClockState) →
-        IfOk result (λ code. Acts (checks_conditions args.now) nothing_known
-        (standing transaction.old (conv_holds conv.old) (vault_holds vault.old) clock process.now) code
-        (standing transaction.new (conv_holds conv.new) (vault_holds vault.new) clock process.now)) }
-    ensures speaks { Speaks transaction.old transaction.new }
+    ensures told { IsTrue (conv_tells conv.old) → IsTrue (vault_tells vault.old) →
+        (clock : ClockState) → Finishes result (checks_conditions args.now)
+        (standing transaction.old (conv_holds conv.old) (vault_holds vault.old) clock process.now)
+        (standing transaction.new (conv_holds conv.new) (vault_holds vault.new) clock process.now) }
+    ensures talks { Talks transaction.old transaction.new }
 {
     laws::act_steps();
-    laws::speaking();
+    module_acts::laws::talking();
     if uses_uid(args) {
         return Ok(Code::ServiceErr);
     }
-    if !has_user(alloc, transaction, conv)? {
-        return Ok(Code::ConvErr);
-    }
+    require_user(alloc, transaction, conv)?;
     let conditions = conditions_in(alloc, args)?;
     let code = meet_all(alloc, &conditions, transaction, process, vault)?;
     Ok(code)
@@ -158,7 +151,8 @@ fn meet_all(
     requires { transaction.now.items.user ≢ None }
     ensures tells { vault_tells vault.new ≡ vault_tells vault.old }
     ensures told { IsTrue (vault_tells vault.old) → (conv : ConvState) (clock : ClockState) →
-        IfOk result (λ code. Acts (meets_all conditions.now (unwrap_or transaction.now.items.user [])) nothing_known
+        IfOk result (λ code. Acts (meets_all conditions.now (unwrap_or transaction.now.items.user
+        [])) nothing_known
         (standing transaction.now conv (vault_holds vault.old) clock process.now) code
         (standing transaction.now conv (vault_holds vault.new) clock process.now)) }
 {
@@ -186,169 +180,4 @@ fn code_at_end(rest: &[Text]) -> Code
         [] => Code::Success,
         [_, ..] => Code::ServiceErr,
     }
-}
-
-// Tries the condition of three words, if it is one.
-fn try_words(
-    alloc: Global,
-    condition: Option<Condition>,
-    transaction: &Transaction,
-    accounts: &mut Accounts,
-    process: &Process,
-    vault: &mut dyn Vault,
-) -> Result<Truth, NoMemory>
-    requires { transaction.now.items.user ≢ None }
-    ensures tells { vault_tells vault.new ≡ vault_tells vault.old }
-    ensures told { IsTrue (vault_tells vault.old) → (conv : ConvState) (clock : ClockState) (act : Truth → Act) (code : Code) (end : Scene) →
-        IfOk result (λ truth. Acts (act truth) accounts.new (standing transaction.now conv (vault_holds vault.new) clock process.now) code end →
-        Acts (tries_words (option_map plain_condition condition.entry) (unwrap_or transaction.now.items.user []) act) accounts.old (standing transaction.now conv (vault_holds vault.old) clock process.now) code end) }
-{
-    laws::act_steps();
-    let condition = match condition {
-        Some(condition) => condition,
-        None => return Ok(Truth::Faulty),
-    };
-    match condition {
-        Condition::On(field, test) => match field {
-            Field::Item(item) => Ok(test.on_text(item_text(item, &transaction.items))),
-            Field::Account(field) => {
-                let user = user_of(transaction);
-                let truth = try_account(alloc, field, test, user, accounts, process, vault)?;
-                Ok(truth)
-            }
-        },
-        Condition::Grouped(sense, names) => {
-            let user = user_of(transaction);
-            let truth = try_groups(alloc, sense, names, user, accounts, process, vault)?;
-            Ok(truth)
-        }
-    }
-}
-
-// The text of an item; the empty text where it is unset.
-fn item_text(item: ItemField, items: &Items) -> &[u8]
-    ensures { result.now ≡ item_text item items.now }
-{
-    match item {
-        ItemField::User => text_or_empty(get_item(items, ItemName::User)),
-        ItemField::Tty => text_or_empty(get_item(items, ItemName::Tty)),
-        ItemField::Rhost => text_or_empty(get_item(items, ItemName::Rhost)),
-        ItemField::Ruser => text_or_empty(get_item(items, ItemName::Ruser)),
-        ItemField::Service => text_or_empty(get_item(items, ItemName::Service)),
-    }
-}
-
-fn text_or_empty<'a>(text: Option<&'a [u8]>) -> &'a [u8]
-    ensures { result.now ≡ unwrap_or (option_copied text.entry) [] }
-{
-    match text {
-        Some(text) => text,
-        None => b"",
-    }
-}
-
-// Tries a test of a field of the user's account.
-fn try_account(
-    alloc: Global,
-    field: AccountField,
-    test: Test,
-    user: &[u8],
-    accounts: &mut Accounts,
-    process: &Process,
-    vault: &mut dyn Vault,
-) -> Result<Truth, NoMemory>
-    ensures tells { vault_tells vault.new ≡ vault_tells vault.old }
-    ensures told { IsTrue (vault_tells vault.old) →
-        IfOk result (λ truth. LooksTo (tests_field (Field.Account field) (plain_test test.entry) user.now) truth process.now accounts.old (vault_holds vault.old) accounts.new (vault_holds vault.new)) }
-{
-    laws::act_steps();
-    accounts.read_passwds(alloc, vault, process.root.bytes())?;
-    let truth = on_account(alloc, field, test, accounts.account(user))?;
-    Ok(truth)
-}
-
-fn on_account(
-    alloc: Global,
-    field: AccountField,
-    test: Test,
-    account: Account,
-) -> Result<Truth, NoMemory>
-    ensures { IfOk result (λ truth. truth ≡ on_account (plain_test test.entry) field (plain_account account.entry)) }
-{
-    match account {
-        Account::Found(entry) => on_entry(alloc, field, test, entry),
-        Account::Missing => Ok(Truth::NoUser),
-        Account::Unreadable => Ok(Truth::Faulty),
-    }
-}
-
-fn on_entry(
-    alloc: Global,
-    field: AccountField,
-    test: Test,
-    entry: &Passwd,
-) -> Result<Truth, NoMemory>
-    ensures { IfOk result (λ truth. truth ≡ on_entry (plain_test test.entry) field entry.now) }
-{
-    match field {
-        AccountField::Uid => test.on_number(alloc, entry.uid),
-        AccountField::Gid => test.on_number(alloc, entry.gid),
-        AccountField::Shell => Ok(test.on_text(entry.shell.bytes())),
-        AccountField::Home => Ok(test.on_text(entry.home.bytes())),
-    }
-}
-
-// Tries whether the user is in one of some groups.
-fn try_groups(
-    alloc: Global,
-    sense: bool,
-    names: &[u8],
-    user: &[u8],
-    accounts: &mut Accounts,
-    process: &Process,
-    vault: &mut dyn Vault,
-) -> Result<Truth, NoMemory>
-    ensures tells { vault_tells vault.new ≡ vault_tells vault.old }
-    ensures told { IsTrue (vault_tells vault.old) →
-        IfOk result (λ truth. LooksTo (λ act. reads_passwds (by_passwds sense (items_of names.now) user.now act)) truth process.now accounts.old (vault_holds vault.old) accounts.new (vault_holds vault.new)) }
-{
-    laws::act_steps();
-    accounts.read_passwds(alloc, vault, process.root.bytes())?;
-    match accounts.passwds() {
-        None => return Ok(Truth::Faulty),
-        Some(_) => {}
-    }
-    accounts.read_groups(alloc, vault, process.root.bytes())?;
-    Ok(by_groups(sense, names, user, accounts))
-}
-
-// Whether the user is in one of the groups, by files that were read.
-fn by_groups(sense: bool, names: &[u8], user: &[u8], accounts: &Accounts) -> Truth
-    requires passwds { accounts.now.passwds ≢ None }
-    requires groups { accounts.now.groups ≢ None }
-    ensures { result ≡ by_groups sense (items_of names.now) user.now (entry_known user.now (known_passwds accounts.now)) (known_groups accounts.now) }
-{
-    let entry = match accounts.account(user) {
-        Account::Found(entry) => Some(entry),
-        Account::Missing => None,
-        Account::Unreadable => None,
-    };
-    match (accounts.groups(), entry) {
-        (Some(groups), Some(entry)) => in_sense(sense, is_in_any(names, user, entry, groups)),
-        (Some(_), None) => Truth::NoUser,
-        (None, _) => Truth::Faulty,
-    }
-}
-
-// Whether the user is in one of the groups with these names.
-fn is_in_any(names: &[u8], user: &[u8], entry: &Passwd, groups: &Groups) -> bool
-    ensures { result ≡ is_in_any (items_of names.now) user.now (Some entry.now) groups.now }
-{
-    let mut parts = Parts::new(b':', names);
-    while let Some(name) = parts.next_part() {
-        if is_in_group(name, user, Some(entry), groups) {
-            return true;
-        }
-    }
-    false
 }

@@ -1,3 +1,4 @@
+mod Telling
 mod Going
 mod Counting
 mod Doing

@@ -24,7 +24,8 @@ use Rattle.mod_tally.specs.Tally.{counting, failures_of, is_locked, tally_text}
 
 -- a user's name that can't be the name of a file
 abbrev pub is_no_file : List ℕ → Bool
-is_no_file user = length user == 0 || (bytes_eq user (codes ".") || bytes_eq user (codes "..")) || list_any (λ b. b == 47) user
+is_no_file user = length user == 0 || (bytes_eq user (codes ".") || bytes_eq user (codes ".."))
+    || list_any (λ b. b == 47) user
 
 -- the file lies in the folder; where that isn't a path from the root, nor is this
 abbrev pub tally_name : List ℕ → List ℕ → List ℕ
@@ -53,7 +54,8 @@ sets_if false name text code = answers returns.ServiceErr
 
 -- the file is replaced by one with this text, where that isn't too long
 abbrev pub sets_text : List ℕ → List ℕ → Code → Act
-sets_text name text code = sets_if (is_rooted name && nat_le (length text) tally_limit) name text code
+sets_text name text code =
+    sets_if (is_rooted name && nat_le (length text) tally_limit) name text code
 
 -- the file is replaced by one with these failures
 abbrev pub writes_tally : List ℕ → List Failure → Code → Act
@@ -74,12 +76,15 @@ from_host moment [] tty service = from_terminal moment tty service
 from_host moment (b ∷ bs) tty service = from 82 moment (b ∷ bs)
 
 abbrev pub new_failure : ℕ → ItemTexts → Failure
-new_failure moment items = from_host moment (unwrap_or items.rhost []) (unwrap_or items.tty []) (unwrap_or items.service [])
+new_failure moment items = from_host moment (unwrap_or items.rhost []) (unwrap_or items.tty [])
+    (unwrap_or items.service [])
 
 -- a failure is recorded behind those that stand, and those that don't count any more are dropped
 abbrev pub records : PlainSettings → List ℕ → List Failure → Act
 records s name failures =
-    sees_moment (λ now. sees_items (λ items. writes_tally name (counting s.interval (failures ++ new_failure now items ∷ [])) returns.Ignore))
+    sees_moment (λ now. sees_items (λ items.
+    writes_tally name (counting s.interval (failures ++ new_failure now items ∷ []))
+    returns.Ignore))
 
 -- failures are cleared where some stand
 abbrev pub clears : List ℕ → List Failure → Act
@@ -91,7 +96,8 @@ by_lock true act = answers returns.AuthErr
 by_lock false act = act
 
 abbrev pub unless_locked : PlainSettings → List Failure → Act → Act
-unless_locked s failures act = sees_moment (λ now. by_lock (is_locked s.deny s.interval s.unlock now failures) act)
+unless_locked s failures act =
+    sees_moment (λ now. by_lock (is_locked s.deny s.interval s.unlock now failures) act)
 
 abbrev pub by_task : Task → PlainSettings → List ℕ → List Failure → Act
 by_task Preauth s name failures = unless_locked s failures (answers returns.Success)
@@ -112,7 +118,8 @@ spared_answer other = returns.Success
 
 abbrev pub by_spared : Bool → Task → PlainSettings → List ℕ → Act
 by_spared true task s user = answers (spared_answer task)
-by_spared false task s user = reads_tally (tally_name s.folder user) (by_tally task s (tally_name s.folder user))
+by_spared false task s user =
+    reads_tally (tally_name s.folder user) (by_tally task s (tally_name s.folder user))
 
 abbrev pub by_account : Task → PlainSettings → List ℕ → Account → Act
 by_account task s user unreadable = answers returns.ServiceErr

@@ -32,7 +32,9 @@ IsOpen s now failures = is_locked s.deny s.interval s.unlock now failures ≡ fa
 
 -- An authfail answered IGNORE: no lock stood, and behind the failures that stood there is a new one of this moment, with
 -- which only those are left that count.
-pub record Records (path : List ℕ) (call : PlainCall) (now : ℕ) (items : ItemTexts) (before : List File) (code : Code) (after : List File) (interval : ℕ) (failure : Failure) : Type 0 where
+pub record Records (path : List ℕ) (call : PlainCall) (now : ℕ) (items : ItemTexts)
+    (before : List File) (code : Code) (after : List File)
+    (interval : ℕ) (failure : Failure) : Type 0 where
   pub task : task_of call.func (task_among call.args) ≡ Ok AuthFail
   pub code_is : code ≡ Ignore
   pub interval_is : interval ≡ (settings_of call.args).interval
@@ -43,21 +45,27 @@ pub record Records (path : List ℕ) (call : PlainCall) (now : ℕ) (items : Ite
   pub stands : file_at path after ≡ Some (tally_text (counting interval (standing ++ failure ∷ [])))
 
 -- An authsucc, where no lock stood, or an acct_mgmt answered SUCCESS, and no failures are left of those that stood.
-pub record Clears (path : List ℕ) (call : PlainCall) (now : ℕ) (before : List File) (code : Code) (after : List File) : Type 0 where
+pub record Clears (path : List ℕ) (call : PlainCall) (now : ℕ) (before : List File) (code : Code)
+    (after : List File) : Type 0 where
   pub code_is : code ≡ Success
   pub standing : List Failure
   pub stood : standing_in (file_at path before) ≡ Some standing
-  pub allowed : (task_of call.func (task_among call.args) ≡ Ok Clear) ⊎ ((task_of call.func (task_among call.args) ≡ Ok AuthSucc) × IsOpen (settings_of call.args) now standing)
+  pub allowed : (task_of call.func (task_among call.args) ≡ Ok Clear) ⊎
+      ((task_of call.func (task_among call.args) ≡ Ok AuthSucc)
+      × IsOpen (settings_of call.args) now standing)
   pub stands : file_at path after ≡ Some (tally_text [])
 
-abbrev pub DoesTo : List ℕ → PlainCall → ℕ → ItemTexts → List File → Code → List File → Deed → Type 0
+abbrev pub DoesTo : List ℕ → PlainCall → ℕ → ItemTexts → List File → Code → List File → Deed
+    → Type 0
 DoesTo path call now items before code after left = file_at path after ≡ file_at path before
-DoesTo path call now items before code after (recorded interval failure) = Records path call now items before code after interval failure
+DoesTo path call now items before code after (recorded interval failure) =
+    Records path call now items before code after interval failure
 DoesTo path call now items before code after cleared = Clears path call now before code after
 
 -- what a call did to the file with this path, by what it saw and what it played
 abbrev pub Does : List ℕ → PlainCall → Sight → Played → Deed → Type 0
-Does path call sight p deed = DoesTo path call sight.clock.moment p.room.items sight.files p.code p.files deed
+Does path call sight p deed =
+    DoesTo path call sight.clock.moment p.room.items sight.files p.code p.files deed
 
 -- ---- a list of calls
 
@@ -78,7 +86,9 @@ deeds_of calls = map (λ (s : Served). s.deed) calls
 -- Nothing but these calls changed the file with this path: each finds it as the one before left it.
 abbrev pub Follow : List ℕ → Option (List ℕ) → List Served → Option (List ℕ) → Type 0
 Follow path before [] after = after ≡ before
-Follow path before (s ∷ ss) after = (file_at path s.sight.files ≡ before) × Does path s.call s.sight (played s) s.deed × Follow path (file_at path (played s).files) ss after
+Follow path before (s ∷ ss) after =
+    (file_at path s.sight.files ≡ before) × Does path s.call s.sight (played s) s.deed
+    × Follow path (file_at path (played s).files) ss after
 
 -- what stands after it
 abbrev pub left_by : Deed → List Failure → List Failure
@@ -108,7 +118,8 @@ IsWith interval cleared = Unit {0}
 
 -- what stands by the deeds: the failures that stood while nothing was written; else those that count of the recorded
 abbrev pub stands_by : ℕ → List Deed → List Failure → List Failure
-stands_by interval deeds failures = if is_written deeds then counting interval (recorded_by deeds failures) else failures
+stands_by interval deeds failures =
+    if is_written deeds then counting interval (recorded_by deeds failures) else failures
 
 -- ---- no failure is lost otherwise
 

@@ -1,10 +1,11 @@
 -- The arguments of pam_faillock(8).
 use Rattle.std.specs.Prelude.{ℕ, Bool, nat_le, if◌then◌else◌, List, length, codes, Option, Some, None, unwrap_or}
 use Rattle.std.specs.Option.{option_and_then}
-use Rattle.std.specs.List.{filter_map, last_or, list_any}
+use Rattle.std.specs.List.{filter_map, last_or}
 use Rattle.std.specs.Str.{bytes_eq}
 use Rattle.pam_base.specs.Number.{number_of_word}
 use Rattle.pam_room.specs.Call.{value_among}
+use Rattle.account_files.specs.Arguments.{has_argument}
 use Rattle.mod_tally.specs.declared.settings.Task.{Task}
 use Rattle.mod_tally.specs.declared.settings.Task.TheVariants.{Preauth, AuthFail, AuthSucc}
 use Rattle.mod_tally.specs.declared.settings.Settings.{Settings}
@@ -25,17 +26,16 @@ abbrev pub short_number : List ℕ → Option ℕ
 short_number word = if nat_le (length word) 9 then number_of_word word else None
 
 abbrev pub number_among : List ℕ → ℕ → List (List ℕ) → ℕ
-number_among key default args = unwrap_or (option_and_then short_number (value_among key args)) default
+number_among key default args =
+    unwrap_or (option_and_then short_number (value_among key args)) default
 
 -- a lock that never ends by itself counts as 0
 abbrev pub time_word : List ℕ → Option ℕ
 time_word word = if bytes_eq word (codes "never") then Some 0 else short_number word
 
 abbrev pub unlock_among : List (List ℕ) → ℕ
-unlock_among args = unwrap_or (option_and_then time_word (value_among (codes "unlock_time=") args)) 600
-
-abbrev pub has_argument : List ℕ → List (List ℕ) → Bool
-has_argument word args = list_any (λ arg. bytes_eq arg word) args
+unlock_among args =
+    unwrap_or (option_and_then time_word (value_among (codes "unlock_time=") args)) 600
 
 -- how many failures lock, within which time they count, how long a lock lasts, whether root may be locked, and the
 -- folder of the files
@@ -56,4 +56,10 @@ settings_of args = record {
 }
 
 abbrev pub plain_settings : Settings → PlainSettings
-plain_settings s = record { deny = s.deny; interval = s.interval; unlock = s.unlock; locks_root = s.locks_root; folder = s.folder.now }
+plain_settings s = record {
+  deny = s.deny;
+  interval = s.interval;
+  unlock = s.unlock;
+  locks_root = s.locks_root;
+  folder = s.folder.now;
+}

@@ -30,11 +30,13 @@ abbrev pub printed : ℕ → Option ℕ
 printed b = if is_printed b then Some b else None
 
 abbrev pub hex_value : ℕ → Option ℕ
-hex_value b = if nat_le 48 b && nat_le b 57 then Some (b - 48) else if nat_le 97 b && nat_le b 102 then Some (b - 87) else None
+hex_value b = if nat_le 48 b && nat_le b 57 then Some (b - 48) else if nat_le 97 b && nat_le b 102
+    then Some (b - 87) else None
 
 -- a byte that stands for itself isn't spelled by its digits
 abbrev pub by_digits : Option ℕ → Option ℕ → Option ℕ
-by_digits (Some high) (Some low) = if is_printed (16 * high + low) then None else Some (16 * high + low)
+by_digits (Some high) (Some low) = if is_printed (16 * high + low) then None
+    else Some (16 * high + low)
 by_digits (Some high) None = None
 by_digits None low = None
 
@@ -46,7 +48,8 @@ unfoldable mutual
 
   pub behind_backslash : List ℕ → Option (List ℕ)
   behind_backslash [] = None
-  behind_backslash (b ∷ bs) = if b == 92 then in_front (Some 92) (unspelled bs) else if b == 120 then behind_x bs else None
+  behind_backslash (b ∷ bs) = if b == 92 then in_front (Some 92) (unspelled bs)
+      else if b == 120 then behind_x bs else None
 
   pub behind_x : List ℕ → Option (List ℕ)
   behind_x [] = None

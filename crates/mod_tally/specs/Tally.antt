@@ -18,7 +18,8 @@ use Rattle.mod_tally.specs.Source.{in_front, spelled, unspelled}
 
 -- a moment is 1 to 13 decimal digits
 abbrev pub moment_of : List ℕ → Option ℕ
-moment_of word = if nat_lt 0 (length word) && nat_le (length word) 13 && list_all is_ascii_digit word then Some (value_of_digits word) else None
+moment_of word = if nat_lt 0 (length word) && nat_le (length word) 13
+    && list_all is_ascii_digit word then Some (value_of_digits word) else None
 
 -- a failure of which no more is known: U
 abbrev pub unknown_at : ℕ → Failure
@@ -35,14 +36,16 @@ is_kind k = k == 82 || k == 84 || k == 83
 abbrev pub with_source : ℕ → ℕ → Option (List ℕ) → Option Failure
 with_source moment kind None = None
 with_source moment kind (Some []) = None
-with_source moment kind (Some (b ∷ bs)) = Some (record { moment = moment; kind = kind; source = b ∷ bs })
+with_source moment kind (Some (b ∷ bs)) =
+    Some (record { moment = moment; kind = kind; source = b ∷ bs })
 
 -- behind the moment stands U, or the kind and a source, which isn't empty
 abbrev pub with_origin : List ℕ → Option ℕ → Option Failure
 with_origin word None = None
 with_origin [] (Some moment) = None
 with_origin (k ∷ []) (Some moment) = if k == 85 then Some (unknown_at moment) else None
-with_origin (k ∷ s ∷ word) (Some moment) = if is_kind k && s == 32 then with_source moment k (unspelled word) else None
+with_origin (k ∷ s ∷ word) (Some moment) =
+    if is_kind k && s == 32 then with_source moment k (unspelled word) else None
 
 abbrev pub cut_at : Option ℕ → List ℕ → Option Failure
 cut_at None line = None
@@ -61,7 +64,8 @@ all_in form [] = Some []
 all_in form (l ∷ ls) = in_front (form l) (all_in form ls)
 
 abbrev pub version_of : List ℕ → Option Version
-version_of header = if bytes_eq header (codes "faillock 2") then Some Two else if bytes_eq header (codes "faillock 1") then Some One else None
+version_of header = if bytes_eq header (codes "faillock 2") then Some Two
+    else if bytes_eq header (codes "faillock 1") then Some One else None
 
 abbrev pub by_version : Option Version → List (List ℕ) → Option (List Failure)
 by_version None lines = None
@@ -117,7 +121,9 @@ is_soon unlock greatest now = unlock == 0 || nat_lt now (greatest + unlock)
 -- the user is locked where so many count, at least one stands, and the time after which the lock ends, if there is one, hasn't passed
 abbrev pub is_locked : ℕ → ℕ → ℕ → ℕ → List Failure → Bool
 is_locked deny interval unlock now failures =
-    nat_lt 0 (length failures) && nat_le deny (count_by (counts interval (latest failures)) failures) && is_soon unlock (latest failures) now
+    nat_lt 0 (length failures)
+    && nat_le deny (count_by (counts interval (latest failures)) failures)
+    && is_soon unlock (latest failures) now
 
 -- ---- failures that can be written and read
 

@@ -13,14 +13,20 @@ ghost use Rattle.mod_tally.specs.Recorded.{Deed, Does, Follow, IsAmong, IsWith, 
 /// that what is read can be written, that no source is spelled otherwise, and that what the module
 /// records can be written.
 pub fn written_tallies_are_read()
-    ensures tally { (failures : List Failure) → AllByRecursion IsFailure failures → failures_of (tally_text failures) ≡ Some failures }
-    ensures read { (text : List ℕ) (failures : List Failure) → failures_of text ≡ Some failures → AllByRecursion IsFailure failures }
-    ensures spelling { (word source : List ℕ) → unspelled word ≡ Some source → (spelled source ≡ word) × AllByRecursion (λ b. b < 256) source }
-    ensures source { (source : List ℕ) → AllByRecursion (λ b. b < 256) source → unspelled (spelled source) ≡ Some source }
+    ensures tally { (failures : List Failure) → AllByRecursion IsFailure failures →
+        failures_of (tally_text failures) ≡ Some failures }
+    ensures read { (text : List ℕ) (failures : List Failure) → failures_of text ≡ Some failures →
+        AllByRecursion IsFailure failures }
+    ensures spelling { (word source : List ℕ) → unspelled word ≡ Some source →
+        (spelled source ≡ word) × AllByRecursion (λ b. b < 256) source }
+    ensures source { (source : List ℕ) → AllByRecursion (λ b. b < 256) source →
+        unspelled (spelled source) ≡ Some source }
     // A failure that is recorded can be written: of a moment of at most 13 digits, and of items of
     // bytes with a service.
-    ensures new { (moment : ℕ) (items : ItemTexts) → moment < 10 ^ 13 → AllByRecursion (λ b. b < 256) (unwrap_or items.rhost []) →
-        AllByRecursion (λ b. b < 256) (unwrap_or items.tty []) → AllByRecursion (λ b. b < 256) (unwrap_or items.service []) →
+    ensures new { (moment : ℕ) (items : ItemTexts) → moment < 10 ^ 13 →
+        AllByRecursion (λ b. b < 256) (unwrap_or items.rhost []) →
+        AllByRecursion (λ b. b < 256) (unwrap_or items.tty []) →
+        AllByRecursion (λ b. b < 256) (unwrap_or items.service []) →
         unwrap_or items.service [] ≢ [] → IsFailure (new_failure moment items) }
 {}
 
@@ -30,12 +36,17 @@ pub fn written_tallies_are_read()
 /// there: a failure that stood stands on, unless the failures were cleared, or it doesn't count
 /// against the latest that was recorded.
 pub fn recorded_failures_stand()
-    ensures one { (path : List ℕ) (call : PlainCall) (room : SeenRoom) (held : List NamedData) (sight : Sight) →
+    ensures one { (path : List ℕ) (call : PlainCall) (room : SeenRoom) (held : List NamedData)
+        (sight : Sight) →
         (deed : Deed) × Does path call sight (faillock_plays call room held sight) deed }
-    ensures all { (path : List ℕ) (interval : ℕ) (calls : List Served) (before after : Option (List ℕ)) (failures : List Failure) →
+    ensures all { (path : List ℕ) (interval : ℕ) (calls : List Served)
+        (before after : Option (List ℕ)) (failures : List Failure) →
         Follow path before calls after → AllByRecursion (IsWith interval) (deeds_of calls) →
-        standing_in before ≡ Some failures → standing_in after ≡ Some (stands_by interval (deeds_of calls) failures) }
-    ensures kept { (interval : ℕ) (deeds : List Deed) (failure : Failure) (failures : List Failure) →
-        IsAmong failure failures → is_cleared deeds ≡ false → counts interval (latest (recorded_by deeds failures)) failure ≡ true →
+        standing_in before ≡ Some failures → standing_in after
+        ≡ Some (stands_by interval (deeds_of calls) failures) }
+    ensures kept { (interval : ℕ) (deeds : List Deed) (failure : Failure)
+        (failures : List Failure) →
+        IsAmong failure failures → is_cleared deeds ≡ false →
+        counts interval (latest (recorded_by deeds failures)) failure ≡ true →
         IsAmong failure (stands_by interval deeds failures) }
 {}

@@ -3,11 +3,13 @@
 
 mod counted;
 mod faillock;
+mod failure;
 pub mod laws;
 mod settings;
 mod source;
 mod tally;
 mod tally_file;
+mod task;
 
 pub use counted::write_failure;
 pub use faillock::Faillock;

@@ -1,7 +1,8 @@
 ghost use Rattle.std.specs.Prelude.{◌≡◌};
 ghost use Rattle.std.specs.Option.{option_copied};
-ghost use Rattle.mod_tally.specs.Settings.{has_argument, number_among, plain_settings, settings_of, short_number, task_among, task_word, time_word, unlock_among};
+ghost use Rattle.mod_tally.specs.Settings.{number_among, plain_settings, settings_of, short_number, task_among, task_word, time_word, unlock_among};
 
+use account_files::has_argument;
 use pam_base::{Texts, number_in};
 use pam_room::Call;
 
@@ -111,10 +112,4 @@ fn short_number(word: &[u8]) -> Option<u32>
     } else {
         None
     }
-}
-
-fn has_argument(word: &[u8], args: &Texts) -> bool
-    ensures { result ≡ has_argument word.now args.now }
-{
-    args.items().iter().any(|arg| arg.bytes() == word)
 }

@@ -82,7 +82,8 @@ struct Spelled<'a> {
 fn first_spelled(word: &[u8]) -> Option<Spelled<'_>>
     requires { 0 < length word.now }
     ensures shorter { IfSome result (λ s. length s.after.now < length word.now) }
-    ensures some { IfSome result (λ s. unspelled word.now ≡ in_front (Some s.byte) (unspelled s.after.now)) }
+    ensures some { IfSome result (λ s. unspelled word.now
+        ≡ in_front (Some s.byte) (unspelled s.after.now)) }
     ensures none { IfNone result (unspelled word.now ≡ None) }
 {
     match word {

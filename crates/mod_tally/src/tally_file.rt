@@ -60,7 +60,8 @@ pub(crate) fn read_tally(
 ) -> Result<Option<Failures>, NoMemory>
     ensures tells { vault_tells vault.new ≡ vault_tells vault.old }
     ensures told { IsTrue (vault_tells vault.old) →
-        IfOk result (λ found. StepsTo (reads_tally name.now) found process.now (vault_holds vault.old) (vault_holds vault.new)) }
+        IfOk result (λ found. StepsTo (reads_tally name.now) found process.now
+        (vault_holds vault.old) (vault_holds vault.new)) }
 {
     laws::act_steps();
     let content = read_named(alloc, vault, process.root.bytes(), name, TALLY_LIMIT)?;
@@ -93,7 +94,8 @@ pub(crate) fn set_text(
     code: Code,
 ) -> Result<Code, NoMemory>
     ensures tells { vault_tells vault.new ≡ vault_tells vault.old }
-    ensures told { IsTrue (vault_tells vault.old) → (room : PlainRoom) (clock : ClockState) (known : Known) →
+    ensures told { IsTrue (vault_tells vault.old) →
+        (room : PlainRoom) (clock : ClockState) (known : Known) →
         IfOk result (λ answer. Acts (sets_text name.now text.now code) known
         (scene_of room (vault_holds vault.old) clock (plain_process process.now)) answer
         (scene_of room (vault_holds vault.new) clock (plain_process process.now))) }

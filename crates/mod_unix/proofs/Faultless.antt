@@ -1,12 +1,11 @@
 -- A new setting has no fault.
-use Rattle.std.proofs.Common.{◌≡◌, ℕ, ◌≤◌, max, min, Bool, true, false, ◌++◌, List, Option, Some, None, IfSome, Result, Ok, Err, is_ok, codes, if◌then◌else◌, refl, sym, ap, ◌∙◌, arith, rules}
-use Rattle.pam_base.specs.declared.fault.Refuse.{Refuse}
+use Rattle.std.proofs.Common.{◌≡◌, ℕ, ◌≤◌, max, min, Bool, true, false, ◌++◌, List, Option, Some, None, IfSome, Result, Err, is_ok, codes, if◌then◌else◌, refl, sym, ap, ◌∙◌, arith}
 use Rattle.pam_room.specs.Call.{value_among}
 use Rattle.sha_crypt.specs.Characters.{characters}
 use Rattle.sha_crypt.specs.declared.setting.SettingFault.{SettingFault}
 use Rattle.sha_crypt.specs.Hash.{crypted}
 use Rattle.sha_crypt.specs.Setting.{rounds_text}
-use Rattle.mod_unix.specs.Arguments.{has_argument}
+use Rattle.account_files.specs.Arguments.{has_argument}
 use Rattle.mod_unix.specs.NewHash.{new_setting, rounds_in, rounds_of, short_number}
 
 -- the rounds are none, or few enough

@@ -9,4 +9,6 @@ mod Salting
 mod Changing
 mod Storing
 mod Faultless
+mod New_shadow
+mod Second_pass
 mod Standing

@@ -8,14 +8,15 @@ use Rattle.pam_base.specs.declared.fault.Refuse.TheVariants.{NoMemory, Named}
 use Rattle.item_store.specs.Items.{ItemTexts}
 use Rattle.pam_room.specs.Call.{PlainCall}
 use Rattle.pam_room.specs.State.{Scene}
-use Rattle.account_files.specs.Act.{Act, sees_items}
-use Rattle.module_acts.specs.Comes.{Comes, Goes, Leads, then_on}
+use Rattle.account_files.specs.Act.{Act, Acts, Leads, sees_items}
+use Rattle.module_acts.specs.Comes.{Comes, then_on}
 use Rattle.module_acts.specs.Steps.{requests_delay}
 use Rattle.mod_unix.specs.declared.authenticate.Answer.{Answer}
 use Rattle.mod_unix.specs.declared.authenticate.Answer.TheVariants.{Kept, Unkept}
 use Rattle.mod_unix.specs.declared.look.Look.{Look}
-use Rattle.mod_unix.specs.Arguments.{has_argument}
+use Rattle.account_files.specs.Arguments.{has_argument}
 use Rattle.mod_unix.specs.Authenticate.{asks_password, by_look, by_open, by_pass, delays, is_open, is_success, try_first, unless_success, verifies_token, with_first}
+use Rattle.account_files.specs.Accounts.{Known}
 use Rattle.mod_unix.specs.Verify.{verified}
 
 module _ (r : Result Answer (Refuse ConvErr)) (look : Look) (s new : Scene) where
@@ -39,21 +40,21 @@ module _ (r : Result Answer (Refuse ConvErr)) (look : Look) (s new : Scene) wher
 
 module _ (look : Look) (s : Scene) where
   succeeds : (done : Bool) → true ≡ done → Comes (Ok (Kept returns.Success)) (unless_success done look) s s
-  succeeds done e = rw (← e) (λ act code end rest. rest)
+  succeeds done e = rw (← e) (λ act known code end rest. rest)
 
   tried_well : (found : Option (List ℕ)) (token : List ℕ) (answer : Code) → Some token ≡ found → answer ≡ verified look token → true ≡ is_success answer → Comes (Ok (Kept returns.Success)) (try_first look found) s s
   tried_well found token answer e f g = rw (← e) (succeeds (is_success (verified look token)) (g ∙ ap is_success f))
 
   first_there : (found : Option (List ℕ)) (token : List ℕ) (answer : Code) → Some token ≡ found → answer ≡ verified look token → Comes (Ok (Kept answer)) (with_first look found) s s
-  first_there found token answer e f = rw (← e, ← f) (λ act code end rest. rest)
+  first_there found token answer e f = rw (← e, ← f) (λ act known code end rest. rest)
 
   first_missing : (found : Option (List ℕ)) → None ≡ found → Comes (Ok (Unkept returns.AuthErr)) (with_first look found) s s
-  first_missing found e = rw (← e) (λ act code end rest. rest)
+  first_missing found e = rw (← e) (λ act known code end rest. rest)
 
-module _ (seeing : (act : ItemTexts → Act) (s : Scene) (code : Code) (new : Scene) → Goes (act s.room.transaction.items) s code new → Goes (sees_items act) s code new) (call : PlainCall) (look : Look) (s new : Scene) where
+module _ (seeing : (act : ItemTexts → Act) (known : Known) (s : Scene) (code : Code) (new : Scene) → Acts (act s.room.transaction.items) known s code new → Acts (sees_items act) known s code new) (call : PlainCall) (look : Look) (s new : Scene) where
   seen : (r : Result Answer (Refuse ConvErr)) (pick : Option (List ℕ) → (Answer → Act) → Act) → Comes r (pick s.room.transaction.items.auth_tok) s new → Comes r (λ act. sees_items (λ items. pick items.auth_tok act)) s new
-  seen (Ok v) pick h = λ act code end rest. seeing (λ items. pick items.auth_tok act) s code end (h act code end rest)
-  seen (Err (Named e)) pick h = λ act. seeing (λ items. pick items.auth_tok act) s returns.ConvErr new (h act)
+  seen (Ok v) pick h = λ act known code end rest. seeing (λ items. pick items.auth_tok act) known s code end (h act known code end rest)
+  seen (Err (Named e)) pick h = λ act known. seeing (λ items. pick items.auth_tok act) known s returns.ConvErr new (h act known)
   seen (Err NoMemory) pick h = tt
 
   pub uses_token : (token : List ℕ) (answer : Code) → true ≡ has_argument (codes "use_first_pass") call.args → Some token ≡ s.room.transaction.items.auth_tok → answer ≡ verified look token → new ≡ s
@@ -99,7 +100,7 @@ module _ (call : PlainCall) (look : Look) (s new : Scene) where
 
   pub opens : true ≡ is_open call look → new ≡ s → Comes (Ok (Kept returns.Success)) (by_look call look) s new
   unfolding by_look
-  opens e same = rw (← e, same) (λ act code end rest. rest)
+  opens e same = rw (← e, same) (λ act known code end rest. rest)
 
   pub goes_on : (r : Result Answer (Refuse ConvErr)) → false ≡ is_open call look → true ≡ has_argument (codes "nodelay") call.args → Comes r (verifies_token call look) s new → Comes r (by_look call look) s new
   unfolding by_look

@@ -13,14 +13,14 @@ use Rattle.pam_room.specs.Call.{PlainCall, has_flag, prelim_check}
 use Rattle.pam_room.specs.State.{Scene}
 use Rattle.account_db.specs.declared.shadow.Shadow.{Shadow}
 use Rattle.account_files.specs.declared.content.Content.{Content}
-use Rattle.account_files.specs.Accounts.{account_limit}
-use Rattle.account_files.specs.Act.{Act, reads_file, sees_items, replaces_file}
-use Rattle.module_acts.specs.Comes.{Came, Comes, Ends, Goes, Leads, early, then}
+use Rattle.account_files.specs.Accounts.{Known, account_limit}
+use Rattle.account_files.specs.Act.{Act, Acts, Came, Leads, reads_file, replaces_file, sees_items}
+use Rattle.module_acts.specs.Comes.{Comes, Ends, early, then}
 use Rattle.module_acts.specs.Steps.{exchanges, sees_clock, sets_item}
 use Rattle.mod_unix.specs.declared.look.Look.{Look}
 use Rattle.mod_unix.specs.declared.look.Look.TheVariants.{Unknown, Unavailable, Plain, Shadowed}
 use Rattle.mod_unix.specs.Aging.{day_of}
-use Rattle.mod_unix.specs.Arguments.{has_argument}
+use Rattle.account_files.specs.Arguments.{has_argument}
 use Rattle.mod_unix.specs.NewHash.{hashed_token}
 use Rattle.mod_unix.specs.Change.{change_by, by_authtok, by_done, by_kept, by_pass, by_text, changed_shadow, changes_entry, changes_shadow, is_kept, new_prompts, same_reply, sets_new, stores_token, takes_token, tries_change, usable}
 
@@ -31,40 +31,40 @@ module _ (call : PlainCall) (s new : Scene) where
   unfolding takes_token
   by_use r b e h = subst (λ (x : Bool). Comes r (by_authtok x) s new) e h
 
-  pub there : ((act : ItemTexts → Act) (s : Scene) (code : Code) (new : Scene) → Goes (act s.room.transaction.items) s code new → Goes (sees_items act) s code new)
+  pub there : ((act : ItemTexts → Act) (known : Known) (s : Scene) (code : Code) (new : Scene) → Acts (act s.room.transaction.items) known s code new → Acts (sees_items act) known s code new)
       → (token found : Option (List ℕ)) → true ≡ has_argument (codes "use_authtok") call.args → token ≡ usable found → found ≡ s.room.transaction.items.auth_tok → new ≡ s → Comes (Ok token) (takes_token call) s new
   there seeing token found e f g same =
       let is : token ≡ usable s.room.transaction.items.auth_tok = f ∙ ap usable g in
-      by_use (Ok token) true e (rw same (λ act code end rest. seeing (λ items. act (usable items.auth_tok)) s code end (subst (λ (x : Option (List ℕ)). Goes (act x) s code end) is rest)))
+      by_use (Ok token) true e (rw same (λ act known code end rest. seeing (λ items. act (usable items.auth_tok)) known s code end (subst (λ (x : Option (List ℕ)). Acts (act x) known s code end) is rest)))
 
   pub not_replied : (e : Refuse ConvErr) → false ≡ has_argument (codes "use_authtok") call.args → Ends e (exchanges new_prompts) s new → Comes (Err e) (takes_token call) s new
   not_replied e u h = by_use (Err e) false u (early (exchanges new_prompts) (λ replies (act : Option (List ℕ) → Act). sets_new (same_reply replies) act) e s new h)
 
   pub not_same : (replies : List Reply) → false ≡ has_argument (codes "use_authtok") call.args → Came replies (exchanges new_prompts) s new → None ≡ same_reply replies → Comes (Ok None) (takes_token call) s new
-  not_same replies u h e = by_use (Ok None) false u (λ act code end rest.
-      h (λ r. sets_new (same_reply r) act) code end (subst (λ (x : Option (List ℕ)). Goes (sets_new x act) new code end) e rest))
+  not_same replies u h e = by_use (Ok None) false u (λ act known code end rest.
+      h (λ r. sets_new (same_reply r) act) known code end (subst (λ (x : Option (List ℕ)). Acts (sets_new x act) known new code end) e rest))
 
   pub same : (replies : List Reply) (token : List ℕ) (mid : Scene) → false ≡ has_argument (codes "use_authtok") call.args → Came replies (exchanges new_prompts) s mid → Some token ≡ same_reply replies → Leads (sets_item AuthTok token) mid new
       → Comes (Ok (Some token)) (takes_token call) s new
-  same replies token mid u h e d = by_use (Ok (Some token)) false u (λ act code end rest.
-      h (λ r. sets_new (same_reply r) act) code end (subst (λ (x : Option (List ℕ)). Goes (sets_new x act) mid code end) e (d (act (Some token)) code end rest)))
+  same replies token mid u h e d = by_use (Ok (Some token)) false u (λ act known code end rest.
+      h (λ r. sets_new (same_reply r) act) known code end (subst (λ (x : Option (List ℕ)). Acts (sets_new x act) known mid code end) e (d (act (Some token)) known code end rest)))
 
 -- ---- the new hash
 
 module _ (user hash : List ℕ) (today : ℕ) (content : Content) (s mid : Scene) (read : Came content (reads_file (codes "/etc/shadow") account_limit) s mid) where
   pub not_changed : None ≡ changed_shadow user hash today content → Came returns.AuthtokErr (changes_shadow user hash today) s mid
   unfolding changes_shadow
-  not_changed e = λ act code end rest. read (λ c. by_text (changed_shadow user hash today c) act) code end (subst (λ (x : Option (List ℕ)). Goes (by_text x act) mid code end) e rest)
+  not_changed e = λ act known code end rest. read (λ c. by_text (changed_shadow user hash today c) act) known code end (subst (λ (x : Option (List ℕ)). Acts (by_text x act) known mid code end) e rest)
 
   pub changed : (new : Scene) (text : List ℕ) (done : Bool) → Some text ≡ changed_shadow user hash today content → Came done (replaces_file (codes "/etc/shadow") text) mid new → Came (by_done done) (changes_shadow user hash today) s new
   unfolding changes_shadow
-  changed new text done e d = λ act code end rest. read (λ c. by_text (changed_shadow user hash today c) act) code end
-      (subst (λ (x : Option (List ℕ)). Goes (by_text x act) mid code end) e (d (λ b. act (by_done b)) code end rest))
+  changed new text done e d = λ act known code end rest. read (λ c. by_text (changed_shadow user hash today c) act) known code end
+      (subst (λ (x : Option (List ℕ)). Acts (by_text x act) known mid code end) e (d (λ b. act (by_done b)) known code end rest))
 
-module _ (seeing : (act : ClockState → Act) (s : Scene) (code : Code) (new : Scene) → Goes (act s.clock) s code new → Goes (sees_clock act) s code new) (call : PlainCall) (user : List ℕ) (s new : Scene) where
+module _ (seeing : (act : ClockState → Act) (known : Known) (s : Scene) (code : Code) (new : Scene) → Acts (act s.clock) known s code new → Acts (sees_clock act) known s code new) (call : PlainCall) (user : List ℕ) (s new : Scene) where
   pub no_token : new ≡ s → (token : Option (List ℕ)) → token ≡ None → Came returns.AuthtokErr (stores_token call user token) s new
   unfolding stores_token
-  no_token same token e = rw (e, same) (λ act code end rest. rest)
+  no_token same token e = rw (e, same) (λ act known code end rest. rest)
 
   pub with_token : (found : Option (List ℕ)) (token : List ℕ) (code : Code) → found ≡ Some token → Came code (stores_token call user (Some token)) s new → Came code (stores_token call user found) s new
   with_token found token code e h = subst (λ (x : Option (List ℕ)). Came code (stores_token call user x) s new) (sym e) h
@@ -72,24 +72,24 @@ module _ (seeing : (act : ClockState → Act) (s : Scene) (code : Code) (new : S
   module _ (token : List ℕ) (today word : ℕ) (day : today ≡ day_of s.clock.moment) (random : word ≡ s.clock.word) where
     pub made : (hash : List ℕ) (code : Code) → hash ≡ hashed_token call.args word token → Came code (changes_shadow user hash today) s new → Came code (stores_token call user (Some token)) s new
     unfolding stores_token
-    made hash code e h = λ act c end rest.
+    made hash code e h = λ act known c end rest.
         let is : hash ≡ hashed_token call.args s.clock.word token = e ∙ ap (λ w. hashed_token call.args w token) random in
-        seeing (λ clock. changes_shadow user (hashed_token call.args clock.word token) (day_of clock.moment) act) s c end
-        (subst (λ (m : List ℕ). Goes (changes_shadow user m (day_of s.clock.moment) act) s c end) is (subst (λ t. Goes (changes_shadow user hash t act) s c end) day (h act c end rest)))
+        seeing (λ clock. changes_shadow user (hashed_token call.args clock.word token) (day_of clock.moment) act) known s c end
+        (subst (λ (m : List ℕ). Acts (changes_shadow user m (day_of s.clock.moment) act) known s c end) is (subst (λ t. Acts (changes_shadow user hash t act) known s c end) day (h act known c end rest)))
 
   -- ---- both passes
 
   module _ (entry : Shadow) (today : ℕ) (day : today ≡ day_of s.clock.moment) where
     by_day : (r : Result Code (Refuse ConvErr)) (b : Bool) → b ≡ is_kept call today entry → Comes r (by_kept b call user today entry) s new → Comes r (changes_entry call user entry) s new
     unfolding changes_entry
-    by_day (Ok v) b e h = λ act c end rest. seeing (λ clock. by_kept (is_kept call (day_of clock.moment) entry) call user (day_of clock.moment) entry act) s c end
-        (subst (λ t. Goes (by_kept (is_kept call t entry) call user t entry act) s c end) day (subst (λ (x : Bool). Goes (by_kept x call user today entry act) s c end) e (h act c end rest)))
-    by_day (Err (Named n)) b e h = λ act. seeing (λ clock. by_kept (is_kept call (day_of clock.moment) entry) call user (day_of clock.moment) entry act) s returns.ConvErr new
-        (subst (λ t. Goes (by_kept (is_kept call t entry) call user t entry act) s returns.ConvErr new) day (subst (λ (x : Bool). Goes (by_kept x call user today entry act) s returns.ConvErr new) e (h act)))
+    by_day (Ok v) b e h = λ act known c end rest. seeing (λ clock. by_kept (is_kept call (day_of clock.moment) entry) call user (day_of clock.moment) entry act) known s c end
+        (subst (λ t. Acts (by_kept (is_kept call t entry) call user t entry act) known s c end) day (subst (λ (x : Bool). Acts (by_kept x call user today entry act) known s c end) e (h act known c end rest)))
+    by_day (Err (Named n)) b e h = λ act known. seeing (λ clock. by_kept (is_kept call (day_of clock.moment) entry) call user (day_of clock.moment) entry act) known s returns.ConvErr new
+        (subst (λ t. Acts (by_kept (is_kept call t entry) call user t entry act) known s returns.ConvErr new) day (subst (λ (x : Bool). Acts (by_kept x call user today entry act) known s returns.ConvErr new) e (h act known)))
     by_day (Err NoMemory) b e h = tt
 
     pub kept : true ≡ is_kept call today entry → new ≡ s → Comes (Ok returns.Success) (changes_entry call user entry) s new
-    kept e same = by_day (Ok returns.Success) true e (rw same (λ act c end rest. rest))
+    kept e same = by_day (Ok returns.Success) true e (rw same (λ act known c end rest. rest))
 
     by_flag : (r : Result Code (Refuse ConvErr)) (b : Bool) → b ≡ has_flag call.flags prelim_check → Comes r (by_pass b call user today entry) s new → Comes r (by_kept false call user today entry) s new
     by_flag r b e h = subst (λ (x : Bool). Comes r (by_pass x call user today entry) s new) e h
@@ -109,15 +109,15 @@ module _ (seeing : (act : ClockState → Act) (s : Scene) (code : Code) (new : S
 module _ (call : PlainCall) (user : List ℕ) (look : Look) (s : Scene) where
   pub by_unknown : look ≡ Unknown → Comes (Ok returns.UserUnknown) (change_by call user look) s s
   unfolding change_by
-  by_unknown e = subst (λ (l : Look). Comes (Ok returns.UserUnknown) (change_by call user l) s s) (sym e) (λ act c end rest. rest)
+  by_unknown e = subst (λ (l : Look). Comes (Ok returns.UserUnknown) (change_by call user l) s s) (sym e) (λ act known c end rest. rest)
 
   pub by_unavailable : look ≡ Unavailable → Comes (Ok returns.AuthinfoUnavail) (change_by call user look) s s
   unfolding change_by
-  by_unavailable e = subst (λ (l : Look). Comes (Ok returns.AuthinfoUnavail) (change_by call user l) s s) (sym e) (λ act c end rest. rest)
+  by_unavailable e = subst (λ (l : Look). Comes (Ok returns.AuthinfoUnavail) (change_by call user l) s s) (sym e) (λ act known c end rest. rest)
 
   pub by_plain : (hash : List ℕ) → look ≡ Plain hash → Comes (Ok returns.AuthtokErr) (change_by call user look) s s
   unfolding change_by
-  by_plain hash e = subst (λ (l : Look). Comes (Ok returns.AuthtokErr) (change_by call user l) s s) (sym e) (λ act c end rest. rest)
+  by_plain hash e = subst (λ (l : Look). Comes (Ok returns.AuthtokErr) (change_by call user l) s s) (sym e) (λ act known c end rest. rest)
 
   pub by_shadow : (entry : Shadow) (new : Scene) (r : Result Code (Refuse ConvErr)) → look ≡ Shadowed entry → Comes r (changes_entry call user entry) s new → Comes r (change_by call user look) s new
   unfolding change_by

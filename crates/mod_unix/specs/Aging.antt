@@ -18,13 +18,16 @@ is_past age max None = false
 
 -- by the age of the password
 abbrev pub by_age : ℕ → Option ℕ → Option ℕ → Code
-by_age age (Some max) inactive = if is_past age max inactive then returns.AuthtokExpired else if nat_lt max age then returns.NewAuthtokReqd else returns.Success
+by_age age (Some max) inactive = if is_past age max inactive then returns.AuthtokExpired
+    else if nat_lt max age then returns.NewAuthtokReqd else returns.Success
 by_age age None inactive = returns.Success
 
 -- by the day of its last change; the day 0 asks for a new one
 abbrev pub by_change : ℕ → Option ℕ → Option ℕ → Option ℕ → Code
-by_change today (Some last) max inactive = if last == 0 then returns.NewAuthtokReqd else if nat_lt today last then returns.Success else by_age (today - last) max inactive
+by_change today (Some last) max inactive = if last == 0 then returns.NewAuthtokReqd
+    else if nat_lt today last then returns.Success else by_age (today - last) max inactive
 by_change today None max inactive = returns.Success
 
 unfoldable pub aged : ℕ → Shadow → Code
-aged today entry = if is_reached entry.expire today then returns.AcctExpired else by_change today entry.last_change entry.max entry.inactive
+aged today entry = if is_reached entry.expire today then returns.AcctExpired
+    else by_change today entry.last_change entry.max entry.inactive

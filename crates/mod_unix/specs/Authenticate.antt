@@ -10,7 +10,8 @@ use Rattle.mod_unix.specs.declared.authenticate.Answer.{Answer}
 use Rattle.mod_unix.specs.declared.authenticate.Answer.TheVariants.{Kept, Unkept}
 use Rattle.mod_unix.specs.declared.look.Look.{Look}
 use Rattle.mod_unix.specs.declared.look.Look.TheVariants.{Unknown, Unavailable, Plain, Shadowed}
-use Rattle.mod_unix.specs.Arguments.{disallow_null_authtok, has_argument}
+use Rattle.account_files.specs.Arguments.{has_argument}
+use Rattle.mod_unix.specs.Flags.{disallow_null_authtok}
 use Rattle.mod_unix.specs.Look.{looks}
 use Rattle.mod_unix.specs.Verify.{verified}
 
@@ -27,14 +28,16 @@ has_empty_hash Unavailable = false
 
 -- with `nullok` a user without a password is let in, unless the application disallows it
 abbrev pub is_open : PlainCall → Look → Bool
-is_open call look = has_empty_hash look && has_argument (codes "nullok") call.args && not (has_flag call.flags disallow_null_authtok)
+is_open call look = has_empty_hash look && has_argument (codes "nullok") call.args
+    && not (has_flag call.flags disallow_null_authtok)
 
 abbrev pub is_success : Code → Bool
 is_success code = number_of code == 0
 
 -- a token is asked for, and verified
 unfoldable pub asks_password : Look → (Answer → Act) → Act
-asks_password look act = asks_token false (codes "Password: ") (λ token. act (Kept (verified look token)))
+asks_password look act =
+    asks_token false (codes "Password: ") (λ token. act (Kept (verified look token)))
 
 -- `use_first_pass`: the token that an earlier module asked for, and no other
 abbrev pub with_first : Look → Option (List ℕ) → (Answer → Act) → Act
@@ -56,7 +59,8 @@ by_pass false true look act = sees_items (λ items. try_first look items.auth_to
 by_pass false false look act = asks_password look act
 
 unfoldable pub verifies_token : PlainCall → Look → (Answer → Act) → Act
-verifies_token call look act = by_pass (has_argument (codes "use_first_pass") call.args) (has_argument (codes "try_first_pass") call.args) look act
+verifies_token call look act = by_pass (has_argument (codes "use_first_pass") call.args)
+    (has_argument (codes "try_first_pass") call.args) look act
 
 -- unless `nodelay` is given, a delay of two seconds is requested
 abbrev pub delays : Bool → Act → Act
@@ -65,7 +69,8 @@ delays false act = requests_delay 2000000 act
 
 abbrev pub by_open : Bool → PlainCall → Look → (Answer → Act) → Act
 by_open true call look act = act (Kept returns.Success)
-by_open false call look act = delays (has_argument (codes "nodelay") call.args) (verifies_token call look act)
+by_open false call look act =
+    delays (has_argument (codes "nodelay") call.args) (verifies_token call look act)
 
 unfoldable pub by_look : PlainCall → Look → (Answer → Act) → Act
 by_look call look act = by_open (is_open call look) call look act
@@ -79,5 +84,6 @@ setcred_return = codes "unix_setcred_return"
 
 -- the answer is kept for setcred, but that of `use_first_pass` without a token
 unfoldable pub settles : Answer → Act
-settles (Kept code) = answers_keeping (record { name = setcred_return; payload = number_of code ∷ [] }) code
+settles (Kept code) =
+    answers_keeping (record { name = setcred_return; payload = number_of code ∷ [] }) code
 settles (Unkept code) = answers code

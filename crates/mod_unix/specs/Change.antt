@@ -20,7 +20,8 @@ use Rattle.module_acts.specs.Steps.{asks_token, exchanges, sees_caller, sees_clo
 use Rattle.mod_unix.specs.declared.look.Look.{Look}
 use Rattle.mod_unix.specs.declared.look.Look.TheVariants.{Unknown, Unavailable, Plain, Shadowed}
 use Rattle.mod_unix.specs.Aging.{aged, day_of}
-use Rattle.mod_unix.specs.Arguments.{change_expired_authtok, has_argument}
+use Rattle.account_files.specs.Arguments.{has_argument}
+use Rattle.mod_unix.specs.Flags.{change_expired_authtok}
 use Rattle.mod_unix.specs.Authenticate.{is_empty}
 use Rattle.mod_unix.specs.Look.{looks, shadow_in}
 use Rattle.mod_unix.specs.NewHash.{hashed_token}
@@ -34,7 +35,8 @@ is_too_early today (Some last) None = false
 is_too_early today (Some last) (Some min) = nat_lt today (last + min)
 
 unfoldable pub asks_old : Shadow → (Code → Act) → Act
-asks_old entry act = asks_token true (codes "Password: ") (λ token. act (hash_verified entry.hash token))
+asks_old entry act =
+    asks_token true (codes "Password: ") (λ token. act (hash_verified entry.hash token))
 
 -- a user without a password need not give the old one
 abbrev pub by_empty : Bool → Shadow → (Code → Act) → Act
@@ -61,7 +63,9 @@ usable None = None
 usable (Some token) = if length token == 0 || nat_lt 512 (length token) then None else Some token
 
 abbrev pub new_prompts : List Message
-new_prompts = record { style = EchoOff; text = codes "New password: " } ∷ record { style = EchoOff; text = codes "Retype new password: " } ∷ []
+new_prompts =
+    record { style = EchoOff; text = codes "New password: " }
+    ∷ record { style = EchoOff; text = codes "Retype new password: " } ∷ []
 
 -- two replies that differ aren't taken either
 abbrev pub same_reply : List Reply → Option (List ℕ)
@@ -95,7 +99,8 @@ changed_by (Plain hash) text = None
 unfoldable pub changed_shadow : List ℕ → List ℕ → ℕ → Content → Option (List ℕ)
 changed_shadow user hash today content.Absent = None
 changed_shadow user hash today content.Unreadable = None
-changed_shadow user hash today (content.Holds text) = changed_by (shadow_in user (content.Holds text)) (hash_replaced user hash today text)
+changed_shadow user hash today (content.Holds text) =
+    changed_by (shadow_in user (content.Holds text)) (hash_replaced user hash today text)
 
 abbrev pub by_done : Bool → Code
 by_done true = returns.Success
@@ -107,10 +112,12 @@ by_text None act = act returns.AuthtokErr
 
 -- shadow is read again, and replaced
 unfoldable pub changes_shadow : List ℕ → List ℕ → ℕ → (Code → Act) → Act
-changes_shadow user hash today act = reads_file (codes "/etc/shadow") account_limit (λ c. by_text (changed_shadow user hash today c) act)
+changes_shadow user hash today act = reads_file (codes "/etc/shadow") account_limit (λ c.
+    by_text (changed_shadow user hash today c) act)
 
 abbrev pub by_token : PlainCall → List ℕ → Option (List ℕ) → (Code → Act) → Act
-by_token call user (Some token) act = sees_clock (λ clock. changes_shadow user (hashed_token call.args clock.word token) (day_of clock.moment) act)
+by_token call user (Some token) act = sees_clock (λ clock.
+    changes_shadow user (hashed_token call.args clock.word token) (day_of clock.moment) act)
 by_token call user None act = act returns.AuthtokErr
 
 unfoldable pub stores_token : PlainCall → List ℕ → Option (List ℕ) → (Code → Act) → Act
@@ -120,18 +127,22 @@ stores_token call user token act = by_token call user token act
 
 -- with CHANGE_EXPIRED_AUTHTOK a token that need not be changed stays
 abbrev pub is_kept : PlainCall → ℕ → Shadow → Bool
-is_kept call today entry = has_flag call.flags change_expired_authtok && not (number_of (aged today entry) == number_of returns.NewAuthtokReqd)
+is_kept call today entry = has_flag call.flags change_expired_authtok
+    && not (number_of (aged today entry) == number_of returns.NewAuthtokReqd)
 
 abbrev pub by_pass : Bool → PlainCall → List ℕ → ℕ → Shadow → (Code → Act) → Act
 by_pass true call user today entry act = tries_change today entry act
-by_pass false call user today entry act = takes_token call (λ token. stores_token call user token act)
+by_pass false call user today entry act =
+    takes_token call (λ token. stores_token call user token act)
 
 abbrev pub by_kept : Bool → PlainCall → List ℕ → ℕ → Shadow → (Code → Act) → Act
 by_kept true call user today entry act = act returns.Success
-by_kept false call user today entry act = by_pass (has_flag call.flags prelim_check) call user today entry act
+by_kept false call user today entry act =
+    by_pass (has_flag call.flags prelim_check) call user today entry act
 
 unfoldable pub changes_entry : PlainCall → List ℕ → Shadow → (Code → Act) → Act
-changes_entry call user entry act = sees_clock (λ clock. by_kept (is_kept call (day_of clock.moment) entry) call user (day_of clock.moment) entry act)
+changes_entry call user entry act = sees_clock (λ clock.
+    by_kept (is_kept call (day_of clock.moment) entry) call user (day_of clock.moment) entry act)
 
 unfoldable pub change_by : PlainCall → List ℕ → Look → (Code → Act) → Act
 change_by call user Unknown act = act returns.UserUnknown

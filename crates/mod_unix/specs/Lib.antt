@@ -1,4 +1,4 @@
-pub mod Arguments
+pub mod Flags
 pub mod Look
 pub mod Verify
 pub mod Aging

@@ -45,7 +45,8 @@ shadow_in user content.Unreadable = Unavailable
 
 -- a password field `x` stands for the entry in shadow, any other is the hash
 abbrev pub by_x : Bool → List ℕ → List ℕ → (Look → Act) → Act
-by_x true user hash act = reads_file (codes "/etc/shadow") account_limit (λ c. act (shadow_in user c))
+by_x true user hash act =
+    reads_file (codes "/etc/shadow") account_limit (λ c. act (shadow_in user c))
 by_x false user hash act = act (Plain hash)
 
 abbrev pub is_x : List ℕ → Bool
@@ -58,4 +59,5 @@ by_field user (field.Holds hash) act = by_x (is_x hash) user hash act
 
 -- what is known of a user's password is looked up
 unfoldable pub looks : List ℕ → (Look → Act) → Act
-looks user act = reads_file (codes "/etc/passwd") account_limit (λ c. by_field user (field_in user c) act)
+looks user act =
+    reads_file (codes "/etc/passwd") account_limit (λ c. by_field user (field_in user c) act)

@@ -5,7 +5,7 @@ use Rattle.pam_room.specs.Call.{value_among}
 use Rattle.sha_crypt.specs.Characters.{characters}
 use Rattle.sha_crypt.specs.Hash.{crypted}
 use Rattle.sha_crypt.specs.declared.setting.SettingFault.{SettingFault}
-use Rattle.mod_unix.specs.Arguments.{has_argument}
+use Rattle.account_files.specs.Arguments.{has_argument}
 
 -- SHA-256 with `sha256`, else SHA-512
 abbrev pub method_text : List (List ℕ) → List ℕ
@@ -25,7 +25,8 @@ rounds_in None = []
 
 -- the salt is eight characters of a random word
 unfoldable pub new_setting : List (List ℕ) → ℕ → List ℕ
-new_setting args word = method_text args ++ rounds_in (value_among (codes "rounds=") args) ++ characters 8 word
+new_setting args word =
+    method_text args ++ rounds_in (value_among (codes "rounds=") args) ++ characters 8 word
 
 -- the hash that was made; a new setting has no fault, so there is one
 abbrev pub made_hash : Result (List ℕ) SettingFault → List ℕ

@@ -7,7 +7,7 @@ use Rattle.pam_room.specs.Module.{Played, SeenRoom, Sight}
 use Rattle.account_db.specs.declared.shadow.Shadow.{Shadow}
 use Rattle.account_db.specs.Shadow.{shadow_of, shadows_of}
 use Rattle.pam_outside.specs.Paths.{path_of}
-use Rattle.mod_unix.specs.Arguments.{change_expired_authtok}
+use Rattle.mod_unix.specs.Flags.{change_expired_authtok}
 use Rattle.mod_unix.specs.Verify.{hash_verified}
 
 -- the path of shadow
@@ -15,7 +15,8 @@ abbrev pub shadow_path : List ℕ → List ℕ
 shadow_path root = path_of root (codes "/etc/shadow")
 
 -- AUTHTOK is a token that the user's entry in shadow takes; the entries of all others, and all other files, are as they were.
-pub record TokenStands (root user : List ℕ) (before : List File) (room : SeenRoom) (after : List File) : Type 0 where
+pub record TokenStands (root user : List ℕ) (before : List File) (room : SeenRoom)
+    (after : List File) : Type 0 where
   pub token : List ℕ
   pub token_is : room.items.auth_tok ≡ Some token
   pub old : List ℕ
@@ -35,4 +36,6 @@ pub record TokenStands (root user : List ℕ) (before : List File) (room : SeenR
 -- The files are as before, by the flag under which a token that need not be changed stays; or the token was changed.
 abbrev pub StaysOrStands : PlainCall → Sight → Played → Type 0
 StaysOrStands call sight played =
-    ((has_flag call.flags change_expired_authtok ≡ true) × (played.files ≡ sight.files)) ⊎ TokenStands sight.root (unwrap_or played.room.items.user []) sight.files played.room played.files
+    ((has_flag call.flags change_expired_authtok ≡ true) × (played.files ≡ sight.files)) ⊎
+    TokenStands sight.root (unwrap_or played.room.items.user []) sight.files played.room
+    played.files

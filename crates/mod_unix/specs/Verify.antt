@@ -19,7 +19,8 @@ by_hash hash (Err fault) = returns.AuthinfoUnavail
 
 -- a token is the user's where its hash, under the user's as the setting, is the user's; of more than 512 bytes it isn't
 unfoldable pub hash_verified : List ℕ → List ℕ → Code
-hash_verified hash token = if is_locked hash || nat_lt 512 (length token) then returns.AuthErr else by_hash hash (crypted hash token)
+hash_verified hash token = if is_locked hash || nat_lt 512 (length token) then returns.AuthErr
+    else by_hash hash (crypted hash token)
 
 abbrev pub verified : Look → List ℕ → Code
 verified Unknown token = returns.UserUnknown

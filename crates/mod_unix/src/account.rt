@@ -2,15 +2,15 @@ ghost use Rattle.std.specs.Prelude.{◌≡◌, IsTrue};
 ghost use Rattle.pam_outside.specs.Files.{VaultState};
 ghost use Rattle.pam_room.specs.Plain.{plain_process};
 ghost use Rattle.pam_room.specs.State.{PlainProcess, PlainRoom, scene_of};
-ghost use Rattle.module_acts.specs.Comes.{Came, Comes, lent};
+ghost use Rattle.account_files.specs.Act.{Came};
+ghost use Rattle.module_acts.specs.Comes.{Comes, lent};
 ghost use Rattle.module_acts.specs.Talks.{Talks};
 ghost use Rattle.mod_unix.specs.Account.{account_by, checks_account};
 
 use crate::aging::{aged, day_of};
 use crate::look::{Look, look_up};
-use account_files::user_of;
 use conv_port::Conv;
-use module_acts::{laws, require_user};
+use module_acts::{laws, require_user, user_of};
 use pam_base::{Code, ConvErr, Refuse};
 use pam_outside::{Clock, Vault, current_moment};
 use pam_room::{Process, Transaction};
@@ -27,10 +27,13 @@ pub(crate) fn check_account(
 ) -> Result<Code, Refuse<ConvErr>>
     ensures conv_tells { conv_tells conv.new ≡ conv_tells conv.old }
     ensures vault_tells { vault_tells vault.new ≡ vault_tells vault.old }
-    ensures told { IsTrue (conv_tells conv.old) → IsTrue (vault_tells vault.old) → IsTrue (clock_tells clock.now) →
+    ensures told { IsTrue (conv_tells conv.old) → IsTrue (vault_tells vault.old) →
+        IsTrue (clock_tells clock.now) →
         Comes result checks_account
-        (lent transaction.old (conv_holds conv.old) (vault_holds vault.old) (clock_holds clock.now) (plain_process process.now))
-        (lent transaction.new (conv_holds conv.new) (vault_holds vault.new) (clock_holds clock.now) (plain_process process.now)) }
+        (lent transaction.old (conv_holds conv.old) (vault_holds vault.old) (clock_holds clock.now)
+        (plain_process process.now))
+        (lent transaction.new (conv_holds conv.new) (vault_holds vault.new) (clock_holds clock.now)
+        (plain_process process.now)) }
     ensures talks { Talks transaction.old transaction.new }
 {
     require_user(alloc, transaction, conv)?;
@@ -41,8 +44,10 @@ pub(crate) fn check_account(
 
 // By what is known of the user's password.
 fn account_by(look: &Look, clock: &dyn Clock) -> Code
-    ensures told { IsTrue (clock_tells clock.now) → (room : PlainRoom) (vault : VaultState) (process : PlainProcess) →
-        Came result (account_by look.now) (scene_of room vault (clock_holds clock.now) process) (scene_of room vault (clock_holds clock.now) process) }
+    ensures told { IsTrue (clock_tells clock.now) →
+        (room : PlainRoom) (vault : VaultState) (process : PlainProcess) →
+        Came result (account_by look.now) (scene_of room vault (clock_holds clock.now) process)
+        (scene_of room vault (clock_holds clock.now) process) }
 {
     laws::acting();
     match look {

@@ -7,12 +7,11 @@ ghost use Rattle.module_acts.specs.Comes.{Comes, lent};
 ghost use Rattle.module_acts.specs.Talks.{Talks};
 ghost use Rattle.mod_unix.specs.Authenticate.{asks_password, authenticates, by_look, has_empty_hash, is_open, is_success, verifies_token};
 
-use crate::arguments::has_argument;
 use crate::look::{Look, look_up};
 use crate::verify::verify;
-use account_files::user_of;
+use account_files::has_argument;
 use conv_port::Conv;
-use module_acts::{laws, request_delay, require_token, require_user};
+use module_acts::{laws, request_delay, require_token, require_user, user_of};
 use pam_base::{Code, ConvErr, DISALLOW_NULL_AUTHTOK, ItemName, Refuse};
 use pam_outside::Vault;
 use pam_room::{Call, Process, Transaction, get_item};
@@ -37,10 +36,13 @@ pub(crate) fn authenticate(
 ) -> Result<Answer, Refuse<ConvErr>>
     ensures conv_tells { conv_tells conv.new ≡ conv_tells conv.old }
     ensures vault_tells { vault_tells vault.new ≡ vault_tells vault.old }
-    ensures told { IsTrue (conv_tells conv.old) → IsTrue (vault_tells vault.old) → (clock : ClockState) →
+    ensures told { IsTrue (conv_tells conv.old) → IsTrue (vault_tells vault.old) →
+        (clock : ClockState) →
         Comes result (authenticates (plain_call call.now))
-        (lent transaction.old (conv_holds conv.old) (vault_holds vault.old) clock (plain_process process.now))
-        (lent transaction.new (conv_holds conv.new) (vault_holds vault.new) clock (plain_process process.now)) }
+        (lent transaction.old (conv_holds conv.old) (vault_holds vault.old) clock
+        (plain_process process.now))
+        (lent transaction.new (conv_holds conv.new) (vault_holds vault.new) clock
+        (plain_process process.now)) }
     ensures talks { Talks transaction.old transaction.new }
 {
     laws::talking();
@@ -58,9 +60,11 @@ fn by_look(
     conv: &mut dyn Conv,
 ) -> Result<Answer, Refuse<ConvErr>>
     ensures tells { conv_tells conv.new ≡ conv_tells conv.old }
-    ensures told { IsTrue (conv_tells conv.old) → (vault : VaultState) (clock : ClockState) (process : PlainProcess) →
+    ensures told { IsTrue (conv_tells conv.old) →
+        (vault : VaultState) (clock : ClockState) (process : PlainProcess) →
         Comes result (by_look (plain_call call.now) look.now)
-        (lent transaction.old (conv_holds conv.old) vault clock process) (lent transaction.new (conv_holds conv.new) vault clock process) }
+        (lent transaction.old (conv_holds conv.old) vault clock process)
+        (lent transaction.new (conv_holds conv.new) vault clock process) }
     ensures talks { Talks transaction.old transaction.new }
 {
     laws::talking();
@@ -102,9 +106,11 @@ fn verify_token(
     conv: &mut dyn Conv,
 ) -> Result<Answer, Refuse<ConvErr>>
     ensures tells { conv_tells conv.new ≡ conv_tells conv.old }
-    ensures told { IsTrue (conv_tells conv.old) → (vault : VaultState) (clock : ClockState) (process : PlainProcess) →
+    ensures told { IsTrue (conv_tells conv.old) →
+        (vault : VaultState) (clock : ClockState) (process : PlainProcess) →
         Comes result (verifies_token (plain_call call.now) look.now)
-        (lent transaction.old (conv_holds conv.old) vault clock process) (lent transaction.new (conv_holds conv.new) vault clock process) }
+        (lent transaction.old (conv_holds conv.old) vault clock process)
+        (lent transaction.new (conv_holds conv.new) vault clock process) }
     ensures talks { Talks transaction.old transaction.new }
 {
     laws::acting();
@@ -142,9 +148,11 @@ fn ask_password(
     conv: &mut dyn Conv,
 ) -> Result<Answer, Refuse<ConvErr>>
     ensures tells { conv_tells conv.new ≡ conv_tells conv.old }
-    ensures told { IsTrue (conv_tells conv.old) → (vault : VaultState) (clock : ClockState) (process : PlainProcess) →
+    ensures told { IsTrue (conv_tells conv.old) →
+        (vault : VaultState) (clock : ClockState) (process : PlainProcess) →
         Comes result (asks_password look.now)
-        (lent transaction.old (conv_holds conv.old) vault clock process) (lent transaction.new (conv_holds conv.new) vault clock process) }
+        (lent transaction.old (conv_holds conv.old) vault clock process)
+        (lent transaction.new (conv_holds conv.new) vault clock process) }
     ensures talks { Talks transaction.old transaction.new }
 {
     require_token(alloc, transaction, conv, false, b"Password: ")?;

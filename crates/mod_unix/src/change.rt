@@ -4,21 +4,21 @@ ghost use Rattle.pam_outside.specs.Files.{VaultState};
 ghost use Rattle.pam_outside.specs.Time.{ClockState};
 ghost use Rattle.pam_room.specs.Plain.{plain_call, plain_process};
 ghost use Rattle.pam_room.specs.State.{PlainProcess, PlainRoom, scene_of};
-ghost use Rattle.module_acts.specs.Comes.{Came, Comes, lent};
+ghost use Rattle.account_files.specs.Act.{Came};
+ghost use Rattle.module_acts.specs.Comes.{Comes, lent};
 ghost use Rattle.module_acts.specs.Talks.{Talks};
 ghost use Rattle.mod_unix.specs.Aging.{day_of};
 ghost use Rattle.mod_unix.specs.Change.{asks_old, change_by, changes_entry, changes_token, is_kept, is_too_early, takes_token, tries_change};
 
 use crate::aging::aged;
-use crate::arguments::has_argument;
 use crate::look::{Look, look_up};
 use crate::new_token::take_token;
 use crate::store::store_token;
 use crate::verify::verify_hash;
 use account_db::Shadow;
-use account_files::user_of;
+use account_files::has_argument;
 use conv_port::Conv;
-use module_acts::{laws, require_token, require_user};
+use module_acts::{laws, require_token, require_user, user_of};
 use pam_base::{CHANGE_EXPIRED_AUTHTOK, Code, ConvErr, ItemName, PRELIM_CHECK, Refuse, Text};
 use pam_outside::{Clock, Vault};
 use pam_room::{Call, Process, Transaction, get_item};
@@ -39,11 +39,15 @@ pub(crate) fn change_token(
     ensures conv_tells { conv_tells conv.new ≡ conv_tells conv.old }
     ensures vault_tells { vault_tells vault.new ≡ vault_tells vault.old }
     ensures clock_tells { clock_tells clock.new ≡ clock_tells clock.old }
-    ensures clock_stays { IsTrue (clock_tells clock.old) → clock_holds clock.new ≡ clock_holds clock.old }
-    ensures told { IsTrue (conv_tells conv.old) → IsTrue (vault_tells vault.old) → IsTrue (clock_tells clock.old) → today ≡ day_of (clock_holds clock.old).moment →
+    ensures clock_stays { IsTrue (clock_tells clock.old) → clock_holds clock.new
+        ≡ clock_holds clock.old }
+    ensures told { IsTrue (conv_tells conv.old) → IsTrue (vault_tells vault.old) →
+        IsTrue (clock_tells clock.old) → today ≡ day_of (clock_holds clock.old).moment →
         Comes result (changes_token (plain_call call.now))
-        (lent transaction.old (conv_holds conv.old) (vault_holds vault.old) (clock_holds clock.old) (plain_process process.now))
-        (lent transaction.new (conv_holds conv.new) (vault_holds vault.new) (clock_holds clock.old) (plain_process process.now)) }
+        (lent transaction.old (conv_holds conv.old) (vault_holds vault.old) (clock_holds clock.old)
+        (plain_process process.now))
+        (lent transaction.new (conv_holds conv.new) (vault_holds vault.new) (clock_holds clock.old)
+        (plain_process process.now)) }
     ensures talks { Talks transaction.old transaction.new }
 {
     laws::talking();
@@ -80,11 +84,15 @@ fn change_by(
     ensures conv_tells { conv_tells conv.new ≡ conv_tells conv.old }
     ensures vault_tells { vault_tells vault.new ≡ vault_tells vault.old }
     ensures clock_tells { clock_tells clock.new ≡ clock_tells clock.old }
-    ensures clock_stays { IsTrue (clock_tells clock.old) → clock_holds clock.new ≡ clock_holds clock.old }
-    ensures told { IsTrue (conv_tells conv.old) → IsTrue (vault_tells vault.old) → IsTrue (clock_tells clock.old) → today ≡ day_of (clock_holds clock.old).moment →
+    ensures clock_stays { IsTrue (clock_tells clock.old) → clock_holds clock.new
+        ≡ clock_holds clock.old }
+    ensures told { IsTrue (conv_tells conv.old) → IsTrue (vault_tells vault.old) →
+        IsTrue (clock_tells clock.old) → today ≡ day_of (clock_holds clock.old).moment →
         Comes result (change_by (plain_call call.now) user.now look.now)
-        (lent transaction.old (conv_holds conv.old) (vault_holds vault.old) (clock_holds clock.old) (plain_process process.now))
-        (lent transaction.new (conv_holds conv.new) (vault_holds vault.new) (clock_holds clock.old) (plain_process process.now)) }
+        (lent transaction.old (conv_holds conv.old) (vault_holds vault.old) (clock_holds clock.old)
+        (plain_process process.now))
+        (lent transaction.new (conv_holds conv.new) (vault_holds vault.new) (clock_holds clock.old)
+        (plain_process process.now)) }
     ensures talks { Talks transaction.old transaction.new }
 {
     laws::talking();
@@ -123,11 +131,15 @@ fn change_entry(
     ensures conv_tells { conv_tells conv.new ≡ conv_tells conv.old }
     ensures vault_tells { vault_tells vault.new ≡ vault_tells vault.old }
     ensures clock_tells { clock_tells clock.new ≡ clock_tells clock.old }
-    ensures clock_stays { IsTrue (clock_tells clock.old) → clock_holds clock.new ≡ clock_holds clock.old }
-    ensures told { IsTrue (conv_tells conv.old) → IsTrue (vault_tells vault.old) → IsTrue (clock_tells clock.old) → today ≡ day_of (clock_holds clock.old).moment →
+    ensures clock_stays { IsTrue (clock_tells clock.old) → clock_holds clock.new
+        ≡ clock_holds clock.old }
+    ensures told { IsTrue (conv_tells conv.old) → IsTrue (vault_tells vault.old) →
+        IsTrue (clock_tells clock.old) → today ≡ day_of (clock_holds clock.old).moment →
         Comes result (changes_entry (plain_call call.now) user.now entry.now)
-        (lent transaction.old (conv_holds conv.old) (vault_holds vault.old) (clock_holds clock.old) (plain_process process.now))
-        (lent transaction.new (conv_holds conv.new) (vault_holds vault.new) (clock_holds clock.old) (plain_process process.now)) }
+        (lent transaction.old (conv_holds conv.old) (vault_holds vault.old) (clock_holds clock.old)
+        (plain_process process.now))
+        (lent transaction.new (conv_holds conv.new) (vault_holds vault.new) (clock_holds clock.old)
+        (plain_process process.now)) }
     ensures talks { Talks transaction.old transaction.new }
 {
     laws::acting();
@@ -163,7 +175,8 @@ fn try_change(
     ensures tells { conv_tells conv.new ≡ conv_tells conv.old }
     ensures told { IsTrue (conv_tells conv.old) → (vault : VaultState) (clock : ClockState) →
         Comes result (tries_change today entry.now)
-        (lent transaction.old (conv_holds conv.old) vault clock (plain_process process.now)) (lent transaction.new (conv_holds conv.new) vault clock (plain_process process.now)) }
+        (lent transaction.old (conv_holds conv.old) vault clock (plain_process process.now))
+        (lent transaction.new (conv_holds conv.new) vault clock (plain_process process.now)) }
     ensures talks { Talks transaction.old transaction.new }
 {
     laws::acting();
@@ -200,9 +213,11 @@ fn ask_old(
     conv: &mut dyn Conv,
 ) -> Result<Code, Refuse<ConvErr>>
     ensures tells { conv_tells conv.new ≡ conv_tells conv.old }
-    ensures told { IsTrue (conv_tells conv.old) → (vault : VaultState) (clock : ClockState) (process : PlainProcess) →
+    ensures told { IsTrue (conv_tells conv.old) →
+        (vault : VaultState) (clock : ClockState) (process : PlainProcess) →
         Comes result (asks_old entry.now)
-        (lent transaction.old (conv_holds conv.old) vault clock process) (lent transaction.new (conv_holds conv.new) vault clock process) }
+        (lent transaction.old (conv_holds conv.old) vault clock process)
+        (lent transaction.new (conv_holds conv.new) vault clock process) }
     ensures talks { Talks transaction.old transaction.new }
 {
     require_token(alloc, transaction, conv, true, b"Password: ")?;

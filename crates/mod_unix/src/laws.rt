@@ -13,8 +13,11 @@ use pam_base::{Code, Func};
 /// the user's, and every other user's entry is as it was, as is every other file. Under CHANGE_EXPIRED_AUTHTOK all may
 /// be as before. The moment is one that a clock gives.
 pub fn changed_token_is_taken()
-    ensures { (call : PlainCall) (room : SeenRoom) (held : List NamedData) (sight : Sight) → call.func ≡ Func.ChAuthTok → has_flag call.flags prelim_check ≡ false → sight.clock.moment ≤ 1000000000000 →
-        (unix_plays call room held sight).code ≡ Code.Success → StaysOrStands call sight (unix_plays call room held sight) }
+    ensures { (call : PlainCall) (room : SeenRoom) (held : List NamedData) (sight : Sight) →
+        call.func ≡ Func.ChAuthTok → has_flag call.flags prelim_check ≡ false →
+        sight.clock.moment ≤ 1000000000000 →
+        (unix_plays call room held sight).code ≡ Code.Success →
+        StaysOrStands call sight (unix_plays call room held sight) }
 {
     account_db::laws::new_hash_is_read();
     sha_crypt::laws::hash_is_a_setting();

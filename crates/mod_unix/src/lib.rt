@@ -3,7 +3,6 @@
 
 mod account;
 mod aging;
-mod arguments;
 mod authenticate;
 mod change;
 pub mod laws;

@@ -4,13 +4,13 @@ ghost use Rattle.pam_room.specs.Plain.{plain_process};
 ghost use Rattle.pam_room.specs.State.{PlainRoom, scene_of};
 ghost use Rattle.account_files.specs.Accounts.{account_limit};
 ghost use Rattle.account_files.specs.Content.{IsWithin};
-ghost use Rattle.module_acts.specs.Comes.{Came};
+ghost use Rattle.account_files.specs.Act.{Came};
 ghost use Rattle.mod_unix.specs.Look.{field_in, is_x, looks, shadow_in};
 
-use account_db::{Shadow, copy_of, entry_of, passwds, shadow_of, shadows};
+use account_db::{Shadow, entry_of, passwds, shadow_of, shadows};
 use account_files::Content;
 use module_acts::read_whole;
-use pam_base::{NoMemory, Refuse, Text};
+use pam_base::{NoMemory, Text};
 use pam_outside::Vault;
 use pam_room::Process;
 use std::alloc::Global;
@@ -49,7 +49,8 @@ pub fn look_up(
     ensures tells { vault_tells vault.new ≡ vault_tells vault.old }
     ensures told { IsTrue (vault_tells vault.old) → (room : PlainRoom) (clock : ClockState) →
         IfOk result (λ look. Came look (looks user.now)
-        (scene_of room (vault_holds vault.old) clock (plain_process process.now)) (scene_of room (vault_holds vault.new) clock (plain_process process.now))) }
+        (scene_of room (vault_holds vault.old) clock (plain_process process.now))
+        (scene_of room (vault_holds vault.new) clock (plain_process process.now))) }
 {
     let content = read_whole(alloc, vault, process, b"/etc/passwd", ACCOUNT_LIMIT)?;
     let hash = match field_in(alloc, user, content)? {
@@ -80,13 +81,12 @@ fn field_in(alloc: Global, user: &[u8], content: Content) -> Result<Field, NoMem
         Content::Unreadable => return Ok(Field::Unreadable),
         Content::Holds(text) => text,
     };
-    match passwds(alloc, text.bytes()) {
-        Ok(entries) => match entry_of(user, &entries) {
-            Some(entry) => Ok(Field::Holds(Text::from_bytes(alloc, entry.password.bytes())?)),
+    match passwds(text) {
+        Ok(entries) => match entry_of(alloc, user, &entries)? {
+            Some(entry) => Ok(Field::Holds(entry.password)),
             None => Ok(Field::Missing),
         },
-        Err(Refuse::NoMemory) => Err(NoMemory),
-        Err(Refuse::Named(_)) => Ok(Field::Unreadable),
+        Err(_) => Ok(Field::Unreadable),
     }
 }
 
@@ -99,12 +99,11 @@ fn shadow_in(alloc: Global, user: &[u8], content: Content) -> Result<Look, NoMem
         Content::Unreadable => return Ok(Look::Unavailable),
         Content::Holds(text) => text,
     };
-    match shadows(alloc, text.bytes()) {
-        Ok(entries) => match shadow_of(user, &entries) {
-            Some(entry) => Ok(Look::Shadowed(copy_of(alloc, entry)?)),
+    match shadows(text) {
+        Ok(entries) => match shadow_of(alloc, user, &entries)? {
+            Some(entry) => Ok(Look::Shadowed(entry)),
             None => Ok(Look::Unavailable),
         },
-        Err(Refuse::NoMemory) => Err(NoMemory),
-        Err(Refuse::Named(_)) => Ok(Look::Unavailable),
+        Err(_) => Ok(Look::Unavailable),
     }
 }

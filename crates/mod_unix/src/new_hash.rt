@@ -3,7 +3,7 @@ ghost use Rattle.std.specs.Option.{option_copied};
 ghost use Rattle.sha_crypt.specs.Characters.{characters};
 ghost use Rattle.mod_unix.specs.NewHash.{hashed_token, method_text, new_setting, rounds_in, rounds_of, short_number};
 
-use crate::arguments::has_argument;
+use account_files::has_argument;
 use pam_base::{NoMemory, Refuse, Text, number_in};
 use pam_room::Call;
 use sha_crypt::{crypt, laws};
@@ -50,7 +50,8 @@ fn new_setting(alloc: Global, call: &Call, word: u64) -> Result<Text, NoMemory>
 }
 
 fn put_rounds(text: &mut Vec<u8>, alloc: Global, word: Option<&[u8]>) -> Result<(), NoMemory>
-    ensures { OnOk result (text.new.items ≡ text.old.items ++ rounds_in (option_copied word.entry)) }
+    ensures { OnOk result (text.new.items ≡ text.old.items
+        ++ rounds_in (option_copied word.entry)) }
 {
     let Some(word) = word else {
         return Ok(());

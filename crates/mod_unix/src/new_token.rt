@@ -8,7 +8,7 @@ ghost use Rattle.module_acts.specs.Comes.{Comes, lent};
 ghost use Rattle.module_acts.specs.Talks.{Talks};
 ghost use Rattle.mod_unix.specs.Change.{new_prompts, same_reply, takes_token, usable};
 
-use crate::arguments::has_argument;
+use account_files::has_argument;
 use conv_port::{Conv, Message, Messages, Replies};
 use module_acts::{exchange, laws, set_token};
 use pam_base::{ConvErr, ItemName, NoMemory, Refuse, Style, Text};
@@ -24,9 +24,11 @@ pub fn take_token(
     conv: &mut dyn Conv,
 ) -> Result<Option<Text>, Refuse<ConvErr>>
     ensures tells { conv_tells conv.new ≡ conv_tells conv.old }
-    ensures told { IsTrue (conv_tells conv.old) → (vault : VaultState) (clock : ClockState) (process : PlainProcess) →
+    ensures told { IsTrue (conv_tells conv.old) →
+        (vault : VaultState) (clock : ClockState) (process : PlainProcess) →
         Comes result (takes_token (plain_call call.now))
-        (lent transaction.old (conv_holds conv.old) vault clock process) (lent transaction.new (conv_holds conv.new) vault clock process) }
+        (lent transaction.old (conv_holds conv.old) vault clock process)
+        (lent transaction.new (conv_holds conv.new) vault clock process) }
     ensures short { IfOk result (λ token. IfSome token (λ t. length t ≤ 512)) }
     ensures talks { Talks transaction.old transaction.new }
 {

@@ -4,7 +4,7 @@ ghost use Rattle.pam_room.specs.Plain.{plain_call, plain_process};
 ghost use Rattle.pam_room.specs.State.{PlainRoom, scene_of};
 ghost use Rattle.account_files.specs.Accounts.{account_limit};
 ghost use Rattle.account_files.specs.Content.{IsWithin};
-ghost use Rattle.module_acts.specs.Comes.{Came};
+ghost use Rattle.account_files.specs.Act.{Came};
 ghost use Rattle.mod_unix.specs.Aging.{day_of};
 ghost use Rattle.mod_unix.specs.Change.{by_done, changed_shadow, changes_shadow, stores_token};
 
@@ -32,10 +32,14 @@ pub(crate) fn store_token(
     requires { IfSome token (λ t. length t ≤ 512) }
     ensures vault_tells { vault_tells vault.new ≡ vault_tells vault.old }
     ensures clock_tells { clock_tells clock.new ≡ clock_tells clock.old }
-    ensures clock_stays { IsTrue (clock_tells clock.old) → clock_holds clock.new ≡ clock_holds clock.old }
-    ensures told { IsTrue (vault_tells vault.old) → IsTrue (clock_tells clock.old) → (room : PlainRoom) → today ≡ day_of (clock_holds clock.old).moment →
+    ensures clock_stays { IsTrue (clock_tells clock.old) → clock_holds clock.new
+        ≡ clock_holds clock.old }
+    ensures told { IsTrue (vault_tells vault.old) → IsTrue (clock_tells clock.old) →
+        (room : PlainRoom) → today ≡ day_of (clock_holds clock.old).moment →
         IfOk result (λ code. Came code (stores_token (plain_call call.now) user.now token)
-        (scene_of room (vault_holds vault.old) (clock_holds clock.old) (plain_process process.now)) (scene_of room (vault_holds vault.new) (clock_holds clock.old) (plain_process process.now))) }
+        (scene_of room (vault_holds vault.old) (clock_holds clock.old) (plain_process process.now))
+        (scene_of room (vault_holds vault.new) (clock_holds clock.old)
+        (plain_process process.now))) }
 {
     laws::acting();
     let token = match token {
@@ -59,7 +63,8 @@ fn change_shadow(
     ensures tells { vault_tells vault.new ≡ vault_tells vault.old }
     ensures told { IsTrue (vault_tells vault.old) → (room : PlainRoom) (clock : ClockState) →
         IfOk result (λ code. Came code (changes_shadow user.now hash.now today)
-        (scene_of room (vault_holds vault.old) clock (plain_process process.now)) (scene_of room (vault_holds vault.new) clock (plain_process process.now))) }
+        (scene_of room (vault_holds vault.old) clock (plain_process process.now))
+        (scene_of room (vault_holds vault.new) clock (plain_process process.now))) }
 {
     let content = read_whole(alloc, vault, process, b"/etc/shadow", ACCOUNT_LIMIT)?;
     let text = match changed_shadow(alloc, today, user, hash, content)? {
@@ -97,22 +102,18 @@ fn changed_shadow(
         Content::Unreadable => return Ok(None),
         Content::Holds(text) => text,
     };
-    match shadows(alloc, text.bytes()) {
-        Ok(entries) => {
-            if shadow_of(user, &entries).is_none() {
-                return Ok(None);
-            }
-        }
+    let changed = match replace_hash(alloc, text.bytes(), user, hash, today) {
+        Ok(changed) => changed,
         Err(refused) => match refused {
             Refuse::NoMemory => return Err(NoMemory),
             Refuse::Named(_) => return Ok(None),
         },
-    }
-    match replace_hash(alloc, text.bytes(), user, hash, today) {
-        Ok(changed) => Ok(Some(changed)),
-        Err(refused) => match refused {
-            Refuse::NoMemory => Err(NoMemory),
-            Refuse::Named(_) => Ok(None),
+    };
+    match shadows(text) {
+        Ok(entries) => match shadow_of(alloc, user, &entries)? {
+            Some(_) => Ok(Some(changed)),
+            None => Ok(None),
         },
+        Err(_) => Ok(None),
     }
 }

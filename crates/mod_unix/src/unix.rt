@@ -6,7 +6,7 @@ ghost use Rattle.pam_outside.specs.Time.{ClockState};
 ghost use Rattle.pam_room.specs.Module.{length_note, named_data};
 ghost use Rattle.pam_room.specs.Plain.{plain_process};
 ghost use Rattle.pam_room.specs.State.{Scene};
-ghost use Rattle.account_files.specs.Act.{Act, answers};
+ghost use Rattle.account_files.specs.Act.{Act};
 ghost use Rattle.module_acts.specs.Comes.{Comes, Goes, lent};
 ghost use Rattle.mod_unix.specs.declared.authenticate.Answer.{Answer};
 ghost use Rattle.mod_unix.specs.Authenticate.{settles};
@@ -18,7 +18,7 @@ use crate::authenticate::{Answer, authenticate};
 use crate::change::change_token;
 use conv_port::Conv;
 use data_cleanup::{DataList, Datum, Receipt};
-use module_acts::{answer_and_keep, laws};
+use module_acts::{answer_and_keep, ended, laws};
 use pam_base::{Code, ConvErr, Func, NoMemory, Refuse, code_number, code_of};
 use pam_outside::{Clock, Vault, current_moment};
 use pam_room::{Call, Module, Process, Transaction, spend_by_length};
@@ -103,10 +103,13 @@ fn settle(
     answer: Result<Answer, Refuse<ConvErr>>,
 ) -> Result<Code, NoMemory>
     requires { transaction.old.datums.handle ≡ transaction.old.handle }
-    ensures told { (step : (Answer → Act) → Act) (s : Scene) (conv : ConvState) (vault : VaultState) (clock : ClockState) →
+    ensures told { (step : (Answer → Act) → Act) (s : Scene) (conv : ConvState) (vault : VaultState)
+        (clock : ClockState) →
         Comes answer step s (lent transaction.old conv vault clock (plain_process process.old)) →
-        IfOk result (λ code. Goes (step settles) s code (lent transaction.new conv vault clock (plain_process process.new))) }
-    ensures sets { Sets transaction.old.serving transaction.old.datums process.old.ledger transaction.new.datums process.new.ledger }
+        IfOk result (λ code. Goes (step settles) s code (lent transaction.new conv vault clock
+        (plain_process process.new))) }
+    ensures sets { Sets transaction.old.serving transaction.old.datums process.old.ledger
+        transaction.new.datums process.new.ledger }
     ensures data_handle { transaction.new.datums.handle ≡ transaction.old.datums.handle }
     ensures others { transaction.new ≡ record transaction.old { datums = transaction.new.datums } }
     ensures process { process.new ≡ record process.old { ledger = process.new.ledger } }
@@ -121,20 +124,6 @@ fn settle(
             }
             Answer::Unkept(code) => Ok(code),
         },
-        Err(refused) => match refused {
-            Refuse::NoMemory => Err(NoMemory),
-            Refuse::Named(_) => Ok(Code::ConvErr),
-        },
-    }
-}
-
-// The answer, which is CONV_ERR where the conversation gave no reply.
-fn ended(answer: Result<Code, Refuse<ConvErr>>) -> Result<Code, NoMemory>
-    ensures told { (step : (Code → Act) → Act) (old new : Scene) → Comes answer step old new → IfOk result (λ code. Goes (step answers) old code new) }
-{
-    laws::acting();
-    match answer {
-        Ok(code) => Ok(code),
         Err(refused) => match refused {
             Refuse::NoMemory => Err(NoMemory),
             Refuse::Named(_) => Ok(Code::ConvErr),

@@ -1,2 +1,3 @@
 mod Carrying
+mod Refusing
 mod Talks_on

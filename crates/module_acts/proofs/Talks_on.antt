@@ -1,7 +1,8 @@
 -- A module that talks.
-use Rattle.std.proofs.Common.{◌≡◌, List, [], ◌++◌, refl, sym, ap, ◌∙◌, append_assoc, arith}
+use Rattle.std.proofs.Common.{◌≡◌, ℕ, List, [], ◌++◌, refl, sym, ap, ◌∙◌, append_assoc, arith}
 use Rattle.std.proofs.lemmas.List.{append-nil}
 use Rattle.conv_port.specs.declared.message.Message.{Message}
+use Rattle.item_store.specs.Items.{ItemTexts}
 use Rattle.data_cleanup.specs.Ledger.{PlainLedger}
 use Rattle.data_cleanup.specs.Sets.{Sets}
 use Rattle.pam_room.specs.declared.transaction.Transaction.{Transaction}
@@ -43,3 +44,16 @@ talking_sets t u ledger s = record {
   list = ap (λ (x : Transaction). x.datums) s.others;
   filed = refl;
 }
+
+-- what was shown was said
+pub spoken : (t u : Transaction) → (more : List Message) × (u.said ≡ t.said ++ more) → u ≡ record t { said = u.said; put_off = u.put_off } → Talks t u
+spoken t u said others =
+    let items : u.items ≡ t.items = ap (λ (x : Transaction). x.items) others in
+    let delay : u.delay ≡ t.delay = ap (λ (x : Transaction). x.delay) others in
+    record {
+      service = ap (λ (i : ItemTexts). i.service) items;
+      delay = omega (arith, delay);
+      said = said;
+      others = others ∙ ap (λ (i : ItemTexts). record t { items = i; said = u.said; put_off = u.put_off }) (sym items)
+          ∙ ap (λ (d : ℕ). record t { items = u.items; delay = d; said = u.said; put_off = u.put_off }) (sym delay);
+    }

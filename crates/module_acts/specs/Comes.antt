@@ -11,58 +11,80 @@ use Rattle.pam_outside.specs.Time.{ClockState}
 use Rattle.pam_room.specs.State.{PlainProcess, Scene, room_of, scene_of}
 use Rattle.pam_room.specs.Plain.{plain_transaction}
 use Rattle.pam_room.specs.declared.transaction.Transaction.{Transaction}
-use Rattle.account_files.specs.Accounts.{nothing_known}
-use Rattle.account_files.specs.Act.{Act, Acts}
+use Rattle.account_files.specs.Accounts.{Known, nothing_known}
+use Rattle.account_files.specs.Act.{Act, Acts, Came, Leads}
 
 -- what a module is lent, as a scene
 abbrev pub lent : Transaction → ConvState → VaultState → ClockState → PlainProcess → Scene
-lent transaction conv vault clock process = scene_of (room_of (plain_transaction transaction) conv) vault clock process
+lent transaction conv vault clock process =
+    scene_of (room_of (plain_transaction transaction) conv) vault clock process
 
 -- a code was answered and this was left, as an act has it
 abbrev pub Goes : Act → Scene → Code → Scene → Type 0
 Goes act old code new = Acts act nothing_known old code new
 
--- what is done from here on is what the whole does from there
-abbrev pub Leads : (Act → Act) → Scene → Scene → Type 0
-Leads step old new = (act : Act) (code : Code) (end : Scene) → Goes act new code end → Goes (step act) old code end
-
--- what is done with the value from here on is what the whole does from there
-abbrev pub Came : {A : Type 0} → A → ((A → Act) → Act) → Scene → Scene → Type 0
-Came {A} value step old new = (act : A → Act) (code : Code) (end : Scene) → Goes (act value) new code end → Goes (step act) old code end
-
 -- The conversation gave no reply, and CONV_ERR is the whole's answer, whatever was to be done with the value. Without
 -- memory nothing is said of it.
 abbrev pub Ends : {A : Type 0} → Refuse ConvErr → ((A → Act) → Act) → Scene → Scene → Type 0
-Ends {A} (Named e) step old new = (act : A → Act) → Goes (step act) old codes.ConvErr new
+Ends {A} (Named e) step old new =
+    (act : A → Act) (known : Known) → Acts (step act) known old codes.ConvErr new
 Ends {A} NoMemory step old new = Unit {0}
 
 -- a step came to its result's value, or it ended the whole
-abbrev pub Comes : {A : Type 0} → Result A (Refuse ConvErr) → ((A → Act) → Act) → Scene → Scene → Type 0
+abbrev pub Comes : {A : Type 0} → Result A (Refuse ConvErr) → ((A → Act) → Act) → Scene → Scene
+    → Type 0
 Comes {A} (Ok value) step old new = Came value step old new
 Comes {A} (Err e) step old new = Ends e step old new
 
 -- the same of a step whose value stands elsewhere
-abbrev pub ComesTo : {T A : Type 0} → Result T (Refuse ConvErr) → A → ((A → Act) → Act) → Scene → Scene → Type 0
+abbrev pub ComesTo : {T A : Type 0} → Result T (Refuse ConvErr) → A → ((A → Act) → Act) → Scene
+    → Scene → Type 0
 ComesTo {T} {A} (Ok done) value step old new = Came value step old new
 ComesTo {T} {A} (Err e) value step old new = Ends e step old new
+
+-- An act was finished: it answered a code, or CONV_ERR, where the conversation gave no reply.
+abbrev pub Finishes : Result Code (Refuse ConvErr) → Act → Scene → Scene → Type 0
+Finishes (Ok code) act old new = Goes act old code new
+Finishes (Err (Named e)) act old new = Goes act old codes.ConvErr new
+Finishes (Err NoMemory) act old new = Unit {0}
 
 -- ---- laws
 
 module _ {A B : Type 0} (first : (A → Act) → Act) (next : A → (B → Act) → Act) where
   -- one step, and another behind it
-  pub then : (r : Result B (Refuse ConvErr)) (x : A) (a b c : Scene) → Came x first a b → Comes r (next x) b c → Comes r (λ act. first (λ y. next y act)) a c
-  then (Ok v) x a b c f n = λ act code end rest. f (λ y. next y act) code end (n act code end rest)
-  then (Err (Named e)) x a b c f n = λ act. f (λ y. next y act) codes.ConvErr c (n act)
+  pub then : (r : Result B (Refuse ConvErr)) (x : A) (a b c : Scene) → Came x first a b
+      → Comes r (next x) b c → Comes r (λ act. first (λ y. next y act)) a c
+  then (Ok v) x a b c f n = λ act known code end rest. f (λ y. next y act) known code end
+      (n act known code end rest)
+  then (Err (Named e)) x a b c f n = λ act known. f (λ y. next y act) known codes.ConvErr c
+      (n act known)
   then (Err NoMemory) x a b c f n = tt
 
   -- the first step ended it
-  pub early : (e : Refuse ConvErr) (a b : Scene) → Ends e first a b → Ends e (λ act. first (λ y. next y act)) a b
-  early (Named e) a b f = λ act. f (λ y. next y act)
+  pub early : (e : Refuse ConvErr) (a b : Scene) → Ends e first a b
+      → Ends e (λ act. first (λ y. next y act)) a b
+  early (Named e) a b f = λ act known. f (λ y. next y act) known
   early NoMemory a b f = tt
 
 module _ {B : Type 0} (step : Act → Act) (next : (B → Act) → Act) where
   -- a step without a value, and another behind it
-  pub then_on : (r : Result B (Refuse ConvErr)) (a b c : Scene) → Leads step a b → Comes r next b c → Comes r (λ act. step (next act)) a c
-  then_on (Ok v) a b c f n = λ act code end rest. f (next act) code end (n act code end rest)
-  then_on (Err (Named e)) a b c f n = λ act. f (next act) codes.ConvErr c (n act)
+  pub then_on : (r : Result B (Refuse ConvErr)) (a b c : Scene) → Leads step a b → Comes r next b c
+      → Comes r (λ act. step (next act)) a c
+  then_on (Ok v) a b c f n = λ act known code end rest. f (next act) known code end
+      (n act known code end rest)
+  then_on (Err (Named e)) a b c f n = λ act known. f (next act) known codes.ConvErr c (n act known)
   then_on (Err NoMemory) a b c f n = tt
+
+module _ {A : Type 0} (first : (A → Act) → Act) (next : A → Act) where
+  -- one step, and what finishes the act after it
+  pub finished : (r : Result Code (Refuse ConvErr)) (x : A) (a b c : Scene) → Came x first a b
+      → Finishes r (next x) b c → Finishes r (first next) a c
+  finished (Ok code) x a b c f n = f next nothing_known code c n
+  finished (Err (Named e)) x a b c f n = f next nothing_known codes.ConvErr c n
+  finished (Err NoMemory) x a b c f n = tt
+
+  -- the first step ended it
+  pub finished_early : (e : Refuse ConvErr) (a b : Scene) → Ends e first a b
+      → Finishes (Err e) (first next) a b
+  finished_early (Named e) a b f = f next nothing_known
+  finished_early NoMemory a b f = tt

@@ -17,11 +17,13 @@ use Rattle.account_files.specs.Act.{Act, in_room}
 
 -- the item is there, or CONV_ERR is answered at once
 abbrev pub with_asked : ItemName → Asked → (List ℕ → Act) → Act
-with_asked item asked act stage = if asked.refused then answered ConvErr asked.room stage.sight else act (unwrap_or (text_of asked.room.items item) []) (in_room asked.room stage)
+with_asked item asked act stage = if asked.refused then answered ConvErr asked.room stage.sight
+    else act (unwrap_or (text_of asked.room.items item) []) (in_room asked.room stage)
 
 -- a token is asked for, and set
 unfoldable pub asks_token : Bool → List ℕ → (List ℕ → Act) → Act
-asks_token old prompt act stage = with_asked (token_of old) (token_asked old prompt stage.room) act stage
+asks_token old prompt act stage =
+    with_asked (token_of old) (token_asked old prompt stage.room) act stage
 
 abbrev pub with_replies : Result (List Reply) ConvFault → SeenRoom → (List Reply → Act) → Act
 with_replies (Ok replies) room act stage = act replies (in_room room stage)
@@ -29,7 +31,8 @@ with_replies (Err fault) room act stage = answered ConvErr room stage.sight
 
 -- messages are handed to the user at once, for as many replies (pam_conv(3)), or CONV_ERR is answered
 unfoldable pub exchanges : List Message → (List Reply → Act) → Act
-exchanges messages act stage = with_replies (speak messages stage.room).answer (speak messages stage.room).room act stage
+exchanges messages act stage =
+    with_replies (speak messages stage.room).answer (speak messages stage.room).room act stage
 
 -- ---- seeing
 
@@ -49,12 +52,17 @@ sees_caller act stage = act stage.sight.caller stage
 
 -- a delay is requested, in microseconds (pam_fail_delay(3))
 unfoldable pub requests_delay : ℕ → Act → Act
-requests_delay micros act stage = act (in_room (record stage.room { delay = max (counted_request micros) stage.room.delay }) stage)
+requests_delay micros act stage =
+    let delay = max (counted_request micros) stage.room.delay in
+    act (in_room (record stage.room { delay = delay }) stage)
 
 -- an item is set (pam_set_item(3))
 unfoldable pub sets_item : ItemName → List ℕ → Act → Act
-sets_item item text act stage = act (in_room (record stage.room { items = with_text stage.room.items item (Some text) }) stage)
+sets_item item text act stage =
+    let items = with_text stage.room.items item (Some text) in
+    act (in_room (record stage.room { items = items }) stage)
 
 -- a datum is set (pam_set_data(3)), and a code answered
 unfoldable pub answers_keeping : NamedData → Code → Act
-answers_keeping datum code stage = record (answered code stage.room stage.sight) { births = datum ∷ [] }
+answers_keeping datum code stage =
+    record (answered code stage.room stage.sight) { births = datum ∷ [] }

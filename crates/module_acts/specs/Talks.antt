@@ -9,4 +9,9 @@ pub record Talks (old new : Transaction) : Type 0 where
   pub service : new.items.service ≡ old.items.service
   pub delay : old.delay ≤ new.delay
   pub said : (more : List Message) × (new.said ≡ old.said ++ more)
-  pub others : new ≡ record old { items = new.items; delay = new.delay; said = new.said; put_off = new.put_off }
+  pub others : new ≡ record old {
+    items = new.items;
+    delay = new.delay;
+    said = new.said;
+    put_off = new.put_off;
+  }

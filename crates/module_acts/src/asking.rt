@@ -22,9 +22,11 @@ pub fn require_user(
     conv: &mut dyn Conv,
 ) -> Result<(), Refuse<ConvErr>>
     ensures tells { conv_tells conv.new ≡ conv_tells conv.old }
-    ensures told { IsTrue (conv_tells conv.old) → (vault : VaultState) (clock : ClockState) (process : PlainProcess) →
+    ensures told { IsTrue (conv_tells conv.old) →
+        (vault : VaultState) (clock : ClockState) (process : PlainProcess) →
         ComesTo result (unwrap_or transaction.new.items.user []) asks_user
-        (lent transaction.old (conv_holds conv.old) vault clock process) (lent transaction.new (conv_holds conv.new) vault clock process) }
+        (lent transaction.old (conv_holds conv.old) vault clock process)
+        (lent transaction.new (conv_holds conv.new) vault clock process) }
     ensures set { OnOk result (transaction.new.items.user ≢ None) }
     ensures talks { Talks transaction.old transaction.new }
 {
@@ -41,9 +43,12 @@ pub fn require_token(
 ) -> Result<(), Refuse<ConvErr>>
     requires { length prompt.now ≤ MAX_TEXT }
     ensures tells { conv_tells conv.new ≡ conv_tells conv.old }
-    ensures told { IsTrue (conv_tells conv.old) → (vault : VaultState) (clock : ClockState) (process : PlainProcess) →
-        ComesTo result (unwrap_or (text_of transaction.new.items (token_of old)) []) (asks_token old prompt.now)
-        (lent transaction.old (conv_holds conv.old) vault clock process) (lent transaction.new (conv_holds conv.new) vault clock process) }
+    ensures told { IsTrue (conv_tells conv.old) →
+        (vault : VaultState) (clock : ClockState) (process : PlainProcess) →
+        ComesTo result (unwrap_or (text_of transaction.new.items (token_of old)) [])
+        (asks_token old prompt.now)
+        (lent transaction.old (conv_holds conv.old) vault clock process)
+        (lent transaction.new (conv_holds conv.new) vault clock process) }
     ensures set { OnOk result (text_of transaction.new.items (token_of old) ≢ None) }
     ensures talks { Talks transaction.old transaction.new }
 {
@@ -59,9 +64,11 @@ pub fn exchange(
 ) -> Result<Replies, Refuse<ConvErr>>
     requires { IsExchange messages.now }
     ensures tells { conv_tells conv.new ≡ conv_tells conv.old }
-    ensures told { IsTrue (conv_tells conv.old) → (vault : VaultState) (clock : ClockState) (process : PlainProcess) →
+    ensures told { IsTrue (conv_tells conv.old) →
+        (vault : VaultState) (clock : ClockState) (process : PlainProcess) →
         Comes result (exchanges messages.now)
-        (lent transaction.old (conv_holds conv.old) vault clock process) (lent transaction.new (conv_holds conv.new) vault clock process) }
+        (lent transaction.old (conv_holds conv.old) vault clock process)
+        (lent transaction.new (conv_holds conv.new) vault clock process) }
     ensures replies { IfOk result (λ replies. AreReplies messages.now replies) }
     ensures talks { Talks transaction.old transaction.new }
 {

@@ -5,7 +5,8 @@ ghost use Rattle.pam_outside.specs.Files.{VaultState};
 ghost use Rattle.pam_outside.specs.Time.{ClockState};
 ghost use Rattle.pam_room.specs.State.{PlainProcess};
 ghost use Rattle.pam_room.specs.Plain.{plain_process};
-ghost use Rattle.module_acts.specs.Comes.{Goes, Leads, lent};
+ghost use Rattle.account_files.specs.Act.{Leads};
+ghost use Rattle.module_acts.specs.Comes.{Goes, lent};
 ghost use Rattle.module_acts.specs.Steps.{answers_keeping, requests_delay, sets_item};
 ghost use Rattle.module_acts.specs.Talks.{Talks};
 
@@ -15,8 +16,10 @@ use std::alloc::Global;
 
 /// Requests a delay, in microseconds (`pam_fail_delay(3)`).
 pub fn request_delay(transaction: &mut Transaction, micros: u32)
-    ensures told { (conv : ConvState) (vault : VaultState) (clock : ClockState) (process : PlainProcess) →
-        Leads (requests_delay micros) (lent transaction.old conv vault clock process) (lent transaction.new conv vault clock process) }
+    ensures told { (conv : ConvState) (vault : VaultState) (clock : ClockState)
+        (process : PlainProcess) →
+        Leads (requests_delay micros) (lent transaction.old conv vault clock process)
+        (lent transaction.new conv vault clock process) }
     ensures talks { Talks transaction.old transaction.new }
     ensures items { transaction.new.items ≡ transaction.old.items }
 {
@@ -25,9 +28,12 @@ pub fn request_delay(transaction: &mut Transaction, micros: u32)
 
 /// Sets AUTHTOK (`pam_set_item(3)`).
 pub fn set_token(transaction: &mut Transaction, token: &[u8]) -> Result<(), NoMemory>
-    ensures told { (conv : ConvState) (vault : VaultState) (clock : ClockState) (process : PlainProcess) →
-        OnOk result (Leads (sets_item ItemName.AuthTok token.now) (lent transaction.old conv vault clock process) (lent transaction.new conv vault clock process)) }
-    ensures items { OnOk result (transaction.new.items ≡ record transaction.old.items { auth_tok = Some token.now }) }
+    ensures told { (conv : ConvState) (vault : VaultState) (clock : ClockState)
+        (process : PlainProcess) →
+        OnOk result (Leads (sets_item ItemName.AuthTok token.now) (lent transaction.old conv vault
+        clock process) (lent transaction.new conv vault clock process)) }
+    ensures items { OnOk result (transaction.new.items
+        ≡ record transaction.old.items { auth_tok = Some token.now }) }
     ensures talks { Talks transaction.old transaction.new }
 {
     set_item(&mut transaction.items, ItemName::AuthTok, token)?;
@@ -45,9 +51,12 @@ pub fn answer_and_keep(
 ) -> Result<Code, NoMemory>
     requires { transaction.old.datums.handle ≡ transaction.old.handle }
     ensures told { (conv : ConvState) (vault : VaultState) (clock : ClockState) →
-        IfOk result (λ answer. Goes (answers_keeping (record { name = name.now; payload = payload.now }) code)
-        (lent transaction.old conv vault clock (plain_process process.old)) answer (lent transaction.new conv vault clock (plain_process process.new))) }
-    ensures sets { Sets transaction.old.serving transaction.old.datums process.old.ledger transaction.new.datums process.new.ledger }
+        IfOk result (λ answer. Goes (answers_keeping
+        (record { name = name.now; payload = payload.now }) code)
+        (lent transaction.old conv vault clock (plain_process process.old)) answer
+        (lent transaction.new conv vault clock (plain_process process.new))) }
+    ensures sets { Sets transaction.old.serving transaction.old.datums process.old.ledger
+        transaction.new.datums process.new.ledger }
     ensures data_handle { transaction.new.datums.handle ≡ transaction.old.datums.handle }
     ensures others { transaction.new ≡ record transaction.old { datums = transaction.new.datums } }
     ensures process { process.new ≡ record process.old { ledger = process.new.ledger } }

@@ -2,9 +2,8 @@ ghost use Rattle.std.specs.Prelude.{◌≡◌, ◌≤◌, IsTrue, IfOk, OnOk};
 ghost use Rattle.pam_outside.specs.Time.{ClockState};
 ghost use Rattle.pam_room.specs.Plain.{plain_process};
 ghost use Rattle.pam_room.specs.State.{PlainRoom, scene_of};
-ghost use Rattle.account_files.specs.Act.{reads_file, replaces_file};
+ghost use Rattle.account_files.specs.Act.{Came, reads_file, replaces_file};
 ghost use Rattle.account_files.specs.Content.{IsWithin};
-ghost use Rattle.module_acts.specs.Comes.{Came};
 
 use account_files::{Content, laws, read_named, replace_named};
 use pam_base::NoMemory;
@@ -24,7 +23,8 @@ pub fn read_whole(
     ensures tells { vault_tells vault.new ≡ vault_tells vault.old }
     ensures told { IsTrue (vault_tells vault.old) → (room : PlainRoom) (clock : ClockState) →
         IfOk result (λ content. Came content (reads_file name.now limit)
-        (scene_of room (vault_holds vault.old) clock (plain_process process.now)) (scene_of room (vault_holds vault.new) clock (plain_process process.now))) }
+        (scene_of room (vault_holds vault.old) clock (plain_process process.now))
+        (scene_of room (vault_holds vault.new) clock (plain_process process.now))) }
 {
     laws::act_steps();
     let content = read_named(alloc, vault, process.root.bytes(), name, limit)?;
@@ -43,7 +43,8 @@ pub fn replace_whole(
     ensures tells { vault_tells vault.new ≡ vault_tells vault.old }
     ensures told { IsTrue (vault_tells vault.old) → (room : PlainRoom) (clock : ClockState) →
         IfOk result (λ done. Came done (replaces_file name.now bytes.now)
-        (scene_of room (vault_holds vault.old) clock (plain_process process.now)) (scene_of room (vault_holds vault.new) clock (plain_process process.now))) }
+        (scene_of room (vault_holds vault.old) clock (plain_process process.now))
+        (scene_of room (vault_holds vault.new) clock (plain_process process.now))) }
 {
     let done = replace_named(alloc, vault, process, name, bytes)?;
     Ok(done)

@@ -11,27 +11,43 @@ ghost use Rattle.pam_room.specs.Module.{NamedData, PlaysIn, named_data};
 ghost use Rattle.pam_room.specs.Plain.{plain_transaction};
 ghost use Rattle.pam_room.specs.State.{PlainProcess, Scene};
 ghost use Rattle.pam_room.specs.Stays.{Stays};
-ghost use Rattle.account_files.specs.Act.{Act, answers, plays_by, sees_items};
+ghost use Rattle.account_files.specs.Accounts.{Known};
+ghost use Rattle.account_files.specs.Act.{Act, Acts, answers, plays_by, sees_items};
 ghost use Rattle.module_acts.specs.Comes.{Goes};
 ghost use Rattle.module_acts.specs.Steps.{sees_caller, sees_clock, sees_data};
 ghost use Rattle.module_acts.specs.Talks.{Talks};
 
 /// Does nothing: its contract is the laws of the steps that make no call.
 pub fn acting()
-    ensures answers { (code : Code) (s : Scene) → Goes (answers code) s code s }
-    ensures items { (act : ItemTexts → Act) (s : Scene) (code : Code) (new : Scene) → Goes (act s.room.transaction.items) s code new → Goes (sees_items act) s code new }
-    ensures data { (act : List NamedData → Act) (s : Scene) (code : Code) (new : Scene) → Goes (act (named_data s.room.transaction.datums.live)) s code new → Goes (sees_data act) s code new }
-    ensures clock { (act : ClockState → Act) (s : Scene) (code : Code) (new : Scene) → Goes (act s.clock) s code new → Goes (sees_clock act) s code new }
-    ensures caller { (act : ℕ → Act) (s : Scene) (code : Code) (new : Scene) → Goes (act s.process.caller) s code new → Goes (sees_caller act) s code new }
-    ensures playing { (act : PlainCall → Act) (call : PlainCall) (old new : Scene) (result : Result Code NoMemory) →
-        IfOk result (λ code. Goes (act call) old code new) → IfOk result (λ code. PlaysIn (plays_by act) call old code new) }
+    ensures answers { (code : Code) (known : Known) (s : Scene) →
+        Acts (answers code) known s code s }
+    ensures items { (act : ItemTexts → Act) (known : Known) (s : Scene) (code : Code)
+        (new : Scene) →
+        Acts (act s.room.transaction.items) known s code new →
+        Acts (sees_items act) known s code new }
+    ensures data { (act : List NamedData → Act) (known : Known) (s : Scene) (code : Code)
+        (new : Scene) →
+        Acts (act (named_data s.room.transaction.datums.live)) known s code new →
+        Acts (sees_data act) known s code new }
+    ensures clock { (act : ClockState → Act) (known : Known) (s : Scene) (code : Code)
+        (new : Scene) →
+        Acts (act s.clock) known s code new → Acts (sees_clock act) known s code new }
+    ensures caller { (act : ℕ → Act) (known : Known) (s : Scene) (code : Code) (new : Scene) →
+        Acts (act s.process.caller) known s code new → Acts (sees_caller act) known s code new }
+    ensures playing { (act : PlainCall → Act) (call : PlainCall) (old new : Scene)
+        (result : Result Code NoMemory) →
+        IfOk result (λ code. Goes (act call) old code new) →
+        IfOk result (λ code. PlaysIn (plays_by act) call old code new) }
 {}
 
 /// Does nothing: its contract is what holds of a module that talks, in any world.
 pub fn talking()
     ensures none { (t : Transaction) → Talks t t }
     ensures again { (t u v : Transaction) → Talks t u → Talks u v → Talks t v }
-    ensures stays { (t u : Transaction) (process : PlainProcess) → Talks t u → Stays (plain_transaction t) (plain_transaction u) process process }
-    ensures others { (t u : Transaction) → Talks t u → (u.serving ≡ t.serving) × (u.trail ≡ t.trail) × (u.handle ≡ t.handle) × (u.datums ≡ t.datums) }
-    ensures sets { (t u : Transaction) (ledger : PlainLedger) → Talks t u → Sets t.serving t.datums ledger u.datums ledger }
+    ensures stays { (t u : Transaction) (process : PlainProcess) → Talks t u →
+        Stays (plain_transaction t) (plain_transaction u) process process }
+    ensures others { (t u : Transaction) → Talks t u → (u.serving ≡ t.serving) × (u.trail ≡ t.trail)
+        × (u.handle ≡ t.handle) × (u.datums ≡ t.datums) }
+    ensures sets { (t u : Transaction) (ledger : PlainLedger) → Talks t u →
+        Sets t.serving t.datums ledger u.datums ledger }
 {}

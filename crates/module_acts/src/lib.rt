@@ -4,9 +4,13 @@
 
 mod asking;
 mod changing;
+mod ending;
 mod files;
 pub mod laws;
+mod speech;
 
 pub use asking::{exchange, require_token, require_user};
 pub use changing::{answer_and_keep, request_delay, set_token};
+pub use ending::ended;
 pub use files::{read_whole, replace_whole};
+pub use speech::{show, user_of};

@@ -8,3 +8,4 @@ pub mod Printing
 pub mod Commands
 pub mod Padding
 pub mod Tested
+mod Rows

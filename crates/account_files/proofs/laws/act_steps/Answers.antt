@@ -1,17 +1,8 @@
-use Rattle.account_files.proofs.Acting.{answering, knowing, playing, reading, reading_groups, reading_passwds, reading_shells, refused, replacing, not_replacing, seeing, showing, timing}
+use Rattle.account_files.proofs.Acting.{answering, playing, reading, reading_groups, reading_passwds, reading_shells, replacing, not_replacing, seeing, timing}
 use Rattle.account_files.proofs.laws.act_steps.Goals as goal
 
 pub returns-clause-answers : goal.returns-clause-answers
 returns-clause-answers c = answering
-
-pub returns-clause-refused : goal.returns-clause-refused
-returns-clause-refused c = λ known t u conv conv' vault clock process act speaks e. refused known t u conv conv' vault clock process speaks act e
-
-pub returns-clause-knowing : goal.returns-clause-knowing
-returns-clause-knowing c = λ known t u conv conv' vault clock process act code new speaks e a. knowing known t u conv conv' vault clock process speaks act code new e a
-
-pub returns-clause-showing : goal.returns-clause-showing
-returns-clause-showing c = λ known t u conv conv' vault clock process style text act code new speaks e a. showing known t u conv conv' vault clock process speaks style text act code new e a
 
 pub returns-clause-reading : goal.returns-clause-reading
 returns-clause-reading c = λ room vault after clock process name limit act known content code new e n a. reading room vault clock process name limit act known content after code new e n a

@@ -17,6 +17,6 @@ returns-in_err-require_token-clause-told g c = λ talks vault clock process.
 
 pub returns-clause-told : goal.returns-clause-told
 unfolding asks_password
-returns-clause-told g c = λ talks vault clock process act code end rest.
-    c.in_ok-require_token.ensures.told talks vault clock process (λ token. act (Kept (verified c.args.look.now token))) code end
-    (kept c.args.look.now _ c.in-Some.token.now _ act _ _ _ c.in-Some.ensures c.in_ok-verify-in-Some.ensures rest)
+returns-clause-told g c = λ talks vault clock process act known code end rest.
+    c.in_ok-require_token.ensures.told talks vault clock process (λ token. act (Kept (verified c.args.look.now token))) known code end
+    (kept c.args.look.now _ c.in-Some.token.now _ act known _ _ _ c.in-Some.ensures c.in_ok-verify-in-Some.ensures rest)

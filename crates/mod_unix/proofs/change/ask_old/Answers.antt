@@ -16,6 +16,6 @@ returns-in_err-require_token-clause-told g c = λ talks vault clock process.
 
 pub returns-clause-told : goal.returns-clause-told
 unfolding asks_old
-returns-clause-told g c = λ talks vault clock process act code end rest.
-    c.in_ok-require_token.ensures.told talks vault clock process (λ token. act (hash_verified c.args.entry.now.hash token)) code end
-    (verified_so _ _ c.in-Some.token.now _ act _ _ _ c.in-Some.ensures (rw c.bytes.ensures at c.in_ok-verify_hash-in-Some.ensures) rest)
+returns-clause-told g c = λ talks vault clock process act known code end rest.
+    c.in_ok-require_token.ensures.told talks vault clock process (λ token. act (hash_verified c.args.entry.now.hash token)) known code end
+    (verified_so _ _ c.in-Some.token.now _ act known _ _ _ c.in-Some.ensures (rw c.bytes.ensures at c.in_ok-verify_hash-in-Some.ensures) rest)

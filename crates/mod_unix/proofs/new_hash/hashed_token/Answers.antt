@@ -1,5 +1,4 @@
 use Rattle.std.proofs.Common.{Err, ap, ◌∙◌}
-use Rattle.mod_unix.specs.NewHash.{hashed_token}
 use Rattle.mod_unix.proofs.Faultless.{no_fault}
 use Rattle.mod_unix.proofs.new_hash.hashed_token.Goals as goal
 

@@ -6,7 +6,7 @@ use Rattle.mod_history.proofs.pwhistory.PwhistoryModule.serve.Goals as goal
 
 pub returns-in-Some-clause-told : goal.returns-in-Some-clause-told
 returns-in-Some-clause-told g c = λ told.
-    c.acting.ensures.playing pwhistory_act _ _ _ (Ok c.in-Some.code) (rw (← c.in-Some.ensures) (c.acting.ensures.answers _ _))
+    c.acting.ensures.playing pwhistory_act _ _ _ (Ok c.in-Some.code) (rw (← c.in-Some.ensures) (c.acting.ensures.answers _ _ _))
 
 pub returns-in-None-clause-told : goal.returns-in-None-clause-told
 returns-in-None-clause-told g c = λ told.

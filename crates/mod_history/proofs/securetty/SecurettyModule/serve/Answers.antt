@@ -13,4 +13,5 @@ returns-in-None-clause-told g c = λ told.
     let clock = c.args._clock.now in
     let vault_tells = (goal.Vault-dyn g vault).vault_tells vault.1 in
     let clock_tells = (goal.Clock-dyn g clock).clock_tells clock.1 in
-    c.act_steps.ensures.playing securetty_act _ _ _ _ (rw (← c.in-None.ensures) (c.check_terminal.ensures.told (first _ vault_tells clock_tells told) (second _ vault_tells clock_tells told) _))
+    c.act_steps.ensures.playing securetty_act _ _ _ c.ended.result (rw (← c.in-None.ensures)
+    (c.ended.ensures.finished _ _ _ (c.check_terminal-answer.ensures.told (first _ vault_tells clock_tells told) (second _ vault_tells clock_tells told) _)))

@@ -1,5 +1,4 @@
 use Rattle.std.proofs.Common.{Ok, ap, ◌∙◌}
-use Rattle.pam_outside.specs.Time.{ClockState}
 use Rattle.mod_unix.specs.Aging.{day_of}
 use Rattle.pam_base.specs.declared.code.Code.TheVariants.{Success}
 use Rattle.pam_base.specs.declared.call.Func.TheVariants.{Authenticate, SetCred, AcctMgmt, OpenSession, CloseSession, ChAuthTok}
@@ -66,9 +65,9 @@ returns-in-ChAuthTok-clause-told g c = λ told.
 pub returns-in-OpenSession-clause-told : goal.returns-in-OpenSession-clause-told
 returns-in-OpenSession-clause-told g c = λ told.
     let call = plain_call c.args.call.now in
-    c.acting.ensures.playing unix_act call _ _ (Ok Success) (by_this _ OpenSession call (Ok Success) _ _ c.in-OpenSession.is (c.acting.ensures.answers Success _))
+    c.acting.ensures.playing unix_act call _ _ (Ok Success) (by_this _ OpenSession call (Ok Success) _ _ c.in-OpenSession.is (c.acting.ensures.answers Success _ _))
 
 pub returns-in-CloseSession-clause-told : goal.returns-in-CloseSession-clause-told
 returns-in-CloseSession-clause-told g c = λ told.
     let call = plain_call c.args.call.now in
-    c.acting.ensures.playing unix_act call _ _ (Ok Success) (by_this _ CloseSession call (Ok Success) _ _ c.in-CloseSession.is (c.acting.ensures.answers Success _))
+    c.acting.ensures.playing unix_act call _ _ (Ok Success) (by_this _ CloseSession call (Ok Success) _ _ c.in-CloseSession.is (c.acting.ensures.answers Success _ _))

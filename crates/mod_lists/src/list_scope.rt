@@ -1,0 +1,84 @@
+ghost use Rattle.std.specs.Prelude.{◌≡◌, ◌≢◌, None, IsTrue, IfOk};
+ghost use Rattle.std.specs.Str.{bytes_eq};
+ghost use Rattle.account_files.specs.Accounts.{entry_known, known_groups, known_passwds};
+ghost use Rattle.account_files.specs.Act.{LooksTo};
+ghost use Rattle.mod_lists.specs.ListSettings.{plain_apply};
+ghost use Rattle.mod_lists.specs.Listfile.{applies, by_groups, yes_or_no};
+
+use crate::list_settings::Apply;
+use account_db::is_in_group;
+use account_files::{Accounts, laws};
+use pam_base::NoMemory;
+use pam_outside::Vault;
+use pam_room::Process;
+use std::alloc::Global;
+
+/// Whether a list applies to the user, as far as that can be read.
+#[derive(Clone, Copy, Debug)]
+pub enum Applies {
+    Yes,
+    No,
+    Unknown,
+}
+
+/// Whether the list applies to the user.
+pub(crate) fn list_applies(
+    alloc: Global,
+    apply: Apply,
+    user: &[u8],
+    accounts: &mut Accounts,
+    process: &Process,
+    vault: &mut dyn Vault,
+) -> Result<Applies, NoMemory>
+    ensures tells { vault_tells vault.new ≡ vault_tells vault.old }
+    ensures told { IsTrue (vault_tells vault.old) →
+        IfOk result (λ value. LooksTo (applies (plain_apply apply.entry) user.now) value process.now
+        accounts.old (vault_holds vault.old) accounts.new (vault_holds vault.new)) }
+{
+    laws::act_steps();
+    match apply {
+        Apply::Everyone => Ok(Applies::Yes),
+        Apply::One(name) => Ok(yes_or_no(is_same(name, user))),
+        Apply::Members(name) => {
+            accounts.read_passwds(alloc, vault, process.root.bytes())?;
+            match accounts.passwds() {
+                None => return Ok(Applies::Unknown),
+                Some(_) => {}
+            }
+            accounts.read_groups(alloc, vault, process.root.bytes())?;
+            let applies = by_groups(alloc, name, user, accounts)?;
+            Ok(applies)
+        }
+    }
+}
+
+fn is_same(one: &[u8], other: &[u8]) -> bool
+    ensures { result ≡ bytes_eq one.now other.now }
+{
+    one == other
+}
+
+fn yes_or_no(holds: bool) -> Applies
+    ensures { result ≡ yes_or_no holds }
+{
+    if holds { Applies::Yes } else { Applies::No }
+}
+
+// Whether the user is in the group, by files that were read.
+fn by_groups(
+    alloc: Global,
+    name: &[u8],
+    user: &[u8],
+    accounts: &Accounts,
+) -> Result<Applies, NoMemory>
+    requires passwds { accounts.now.passwds ≢ None }
+    requires groups { accounts.now.groups ≢ None }
+    ensures { IfOk result (λ applies. applies ≡ by_groups name.now user.now
+        (entry_known user.now (known_passwds accounts.now)) (known_groups accounts.now)) }
+{
+    let entry = accounts.entry(alloc, user)?;
+    match accounts.groups() {
+        Some(groups) => Ok(yes_or_no(is_in_group(name, user, entry.as_ref(), groups))),
+        None => Ok(Applies::Unknown),
+    }
+}

@@ -1,0 +1,189 @@
+ghost use Rattle.std.specs.Prelude.{◌≡◌, ◌≢◌, [], ◌∷◌, None, IsTrue, IfOk, unwrap_or};
+ghost use Rattle.std.specs.Option.{option_copied};
+ghost use Rattle.conv_port.specs.Conv.{ConvState};
+ghost use Rattle.pam_outside.specs.Time.{ClockState};
+ghost use Rattle.pam_base.specs.declared.code.Code.{Code};
+ghost use Rattle.pam_room.specs.State.{Scene};
+ghost use Rattle.account_files.specs.Accounts.{account_in, known_groups, known_passwds};
+ghost use Rattle.account_files.specs.Act.{Act, Acts, LooksTo, standing};
+ghost use Rattle.mod_lists.specs.Listfile.{group_values, reads_values, text_value, text_values, without_dev};
+
+use crate::list_settings::ListItem;
+use account_db::group_names;
+use account_files::{Account, Accounts, laws};
+use module_acts::user_of;
+use pam_base::{ItemName, NoMemory, Text, Texts};
+use pam_outside::Vault;
+use pam_room::{Process, Transaction, get_item};
+use std::alloc::Global;
+
+/// The values that are looked for in the list.
+#[derive(Debug, Drop)]
+pub enum Values {
+    /// The item is unset or empty.
+    Unset,
+    /// There is no such user, or a file can't be read.
+    Unknown,
+    These(Texts),
+}
+
+/// The values that the list is searched for.
+pub(crate) fn values_of(
+    alloc: Global,
+    item: ListItem,
+    transaction: &Transaction,
+    accounts: &mut Accounts,
+    process: &Process,
+    vault: &mut dyn Vault,
+) -> Result<Values, NoMemory>
+    requires { transaction.now.items.user ≢ None }
+    ensures tells { vault_tells vault.new ≡ vault_tells vault.old }
+    ensures told { IsTrue (vault_tells vault.old) →
+        (conv : ConvState) (clock : ClockState) (act : Values → Act) (code : Code) (end : Scene) →
+        IfOk result (λ values. Acts (act values) accounts.new (standing transaction.now conv
+        (vault_holds vault.new) clock process.now) code end →
+        Acts (reads_values item (unwrap_or transaction.now.items.user []) act) accounts.old
+        (standing transaction.now conv (vault_holds vault.old) clock process.now) code end) }
+{
+    laws::act_steps();
+    let texts = &transaction.items;
+    match item {
+        ListItem::Tty => {
+            let tty = text_values(alloc, item, get_item(texts, ItemName::Tty))?;
+            Ok(tty)
+        }
+        ListItem::User => {
+            let user = text_values(alloc, item, get_item(texts, ItemName::User))?;
+            Ok(user)
+        }
+        ListItem::Rhost => {
+            let rhost = text_values(alloc, item, get_item(texts, ItemName::Rhost))?;
+            Ok(rhost)
+        }
+        ListItem::Ruser => {
+            let ruser = text_values(alloc, item, get_item(texts, ItemName::Ruser))?;
+            Ok(ruser)
+        }
+        ListItem::Shell => {
+            let user = user_of(transaction);
+            let shell = shell_values(alloc, user, accounts, process, vault)?;
+            Ok(shell)
+        }
+        ListItem::Group => {
+            let user = user_of(transaction);
+            let groups = group_values(alloc, user, accounts, process, vault)?;
+            Ok(groups)
+        }
+    }
+}
+
+// The value of an item, if it has one.
+fn text_values(alloc: Global, item: ListItem, text: Option<&[u8]>) -> Result<Values, NoMemory>
+    ensures { IfOk result (λ values. values ≡ text_values item (option_copied text.entry)) }
+{
+    match text {
+        None => Ok(Values::Unset),
+        Some([]) => Ok(Values::Unset),
+        Some(text) => {
+            let values = one_value(alloc, text_value(item, text))?;
+            Ok(values)
+        }
+    }
+}
+
+fn one_value(alloc: Global, text: &[u8]) -> Result<Values, NoMemory>
+    ensures { IfOk result (λ values. values ≡ Values.These (text.now ∷ [])) }
+{
+    let mut texts = Texts::new(alloc);
+    texts.push(Text::from_bytes(alloc, text)?)?;
+    Ok(Values::These(texts))
+}
+
+fn text_value(item: ListItem, text: &[u8]) -> &[u8]
+    ensures { result.now ≡ text_value item text.now }
+{
+    match item {
+        ListItem::Tty => without_dev(text),
+        _ => text,
+    }
+}
+
+// A terminal without the folder of devices in front.
+fn without_dev(text: &[u8]) -> &[u8]
+    ensures { result.now ≡ without_dev text.now }
+{
+    if text.starts_with(b"/dev/") {
+        &text[5..]
+    } else {
+        text
+    }
+}
+
+// The user's shell.
+fn shell_values(
+    alloc: Global,
+    user: &[u8],
+    accounts: &mut Accounts,
+    process: &Process,
+    vault: &mut dyn Vault,
+) -> Result<Values, NoMemory>
+    ensures tells { vault_tells vault.new ≡ vault_tells vault.old }
+    ensures told { IsTrue (vault_tells vault.old) →
+        IfOk result (λ values. LooksTo (reads_values ListItem.Shell user.now) values process.now
+        accounts.old (vault_holds vault.old) accounts.new (vault_holds vault.new)) }
+{
+    laws::act_steps();
+    accounts.read_passwds(alloc, vault, process.root.bytes())?;
+    let account = accounts.account(alloc, user)?;
+    match account {
+        Account::Missing => Ok(Values::Unknown),
+        Account::Unreadable => Ok(Values::Unknown),
+        Account::Found(entry) => {
+            let values = one_value(alloc, entry.shell.bytes())?;
+            Ok(values)
+        }
+    }
+}
+
+// The names of the user's groups.
+fn group_values(
+    alloc: Global,
+    user: &[u8],
+    accounts: &mut Accounts,
+    process: &Process,
+    vault: &mut dyn Vault,
+) -> Result<Values, NoMemory>
+    ensures tells { vault_tells vault.new ≡ vault_tells vault.old }
+    ensures told { IsTrue (vault_tells vault.old) →
+        IfOk result (λ values. LooksTo (reads_values ListItem.Group user.now) values process.now
+        accounts.old (vault_holds vault.old) accounts.new (vault_holds vault.new)) }
+{
+    laws::act_steps();
+    accounts.read_passwds(alloc, vault, process.root.bytes())?;
+    let account = accounts.account(alloc, user)?;
+    match account {
+        Account::Missing => return Ok(Values::Unknown),
+        Account::Unreadable => return Ok(Values::Unknown),
+        Account::Found(_) => {}
+    }
+    accounts.read_groups(alloc, vault, process.root.bytes())?;
+    let values = values_of_groups(alloc, user, accounts)?;
+    Ok(values)
+}
+
+// The same, by files that were read.
+fn values_of_groups(alloc: Global, user: &[u8], accounts: &Accounts) -> Result<Values, NoMemory>
+    requires passwds { accounts.now.passwds ≢ None }
+    requires groups { accounts.now.groups ≢ None }
+    ensures { IfOk result (λ values. values ≡ group_values user.now
+        (account_in user.now (known_passwds accounts.now)) (known_groups accounts.now)) }
+{
+    let account = accounts.account(alloc, user)?;
+    match (account, accounts.groups()) {
+        (Account::Found(entry), Some(groups)) => {
+            let names = group_names(alloc, user, &entry, groups)?;
+            Ok(Values::These(names))
+        }
+        _ => Ok(Values::Unknown),
+    }
+}

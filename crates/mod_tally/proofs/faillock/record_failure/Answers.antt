@@ -1,5 +1,0 @@
-use Rattle.mod_tally.proofs.faillock.record_failure.Goals as goal
-
-pub returns-clause-told : goal.returns-clause-told
-returns-clause-told g c = λ tells room clock known.
-    rw (← c.in_ok-failure.ensures, ← c.in_ok-text.ensures, ← c.bytes.ensures) (c.in_ok-code.ensures.told tells room clock known)

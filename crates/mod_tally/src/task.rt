@@ -1,0 +1,157 @@
+ghost use Rattle.std.specs.Prelude.{◌≡◌, IsTrue, IfOk, ◌∷◌, [], ◌++◌};
+ghost use Rattle.conv_port.specs.Conv.{ConvState};
+ghost use Rattle.pam_outside.specs.Time.{ClockState};
+ghost use Rattle.pam_room.specs.Plain.{plain_process};
+ghost use Rattle.pam_room.specs.State.{PlainRoom, scene_of};
+ghost use Rattle.account_files.specs.Accounts.{Known};
+ghost use Rattle.account_files.specs.Act.{Acts, standing};
+ghost use Rattle.mod_tally.specs.Settings.{plain_settings};
+ghost use Rattle.mod_tally.specs.Tally.{counting, tally_text};
+ghost use Rattle.mod_tally.specs.Faillock.{by_task, clears, new_failure, writes_tally};
+
+use crate::counted::{counting_text, is_locked};
+use crate::failure::new_failure;
+use crate::settings::{Settings, Task};
+use crate::tally::{Failure, Failures};
+use crate::tally_file::set_text;
+use account_files::laws;
+use pam_base::{Code, NoMemory, Text};
+use pam_outside::{Clock, Vault, current_moment};
+use pam_room::{Process, Transaction};
+use std::alloc::Global;
+
+/// Does what is to be done with the failures that stand.
+pub(crate) fn by_task(
+    alloc: Global,
+    task: Task,
+    settings: &Settings<'_>,
+    name: &[u8],
+    failures: Failures,
+    transaction: &Transaction,
+    process: &Process,
+    vault: &mut dyn Vault,
+    clock: &dyn Clock,
+) -> Result<Code, NoMemory>
+    ensures tells { vault_tells vault.new ≡ vault_tells vault.old }
+    ensures told { IsTrue (vault_tells vault.old) → IsTrue (clock_tells clock.now) →
+        (conv : ConvState) (known : Known) →
+        IfOk result (λ code. Acts (by_task task (plain_settings settings.now) name.now failures)
+        known
+        (standing transaction.now conv (vault_holds vault.old) (clock_holds clock.now) process.now)
+        code
+        (standing transaction.now conv (vault_holds vault.new) (clock_holds clock.now)
+        process.now)) }
+{
+    laws::act_steps();
+    let moment = current_moment(clock);
+    let locked = is_locked(
+        settings.deny,
+        settings.interval,
+        settings.unlock,
+        moment,
+        failures.items(),
+    );
+    match task {
+        Task::Clear => {
+            let code = clear(alloc, name, failures.items(), process, vault)?;
+            Ok(code)
+        }
+        Task::Preauth => {
+            if locked {
+                return Ok(Code::AuthErr);
+            }
+            Ok(Code::Success)
+        }
+        Task::AuthSucc => {
+            if locked {
+                return Ok(Code::AuthErr);
+            }
+            let code = clear(alloc, name, failures.items(), process, vault)?;
+            Ok(code)
+        }
+        Task::AuthFail => {
+            if locked {
+                return Ok(Code::AuthErr);
+            }
+            let code = record_failure(
+                alloc,
+                settings.interval,
+                moment,
+                name,
+                failures,
+                transaction,
+                process,
+                vault,
+            )?;
+            Ok(code)
+        }
+    }
+}
+
+// Clears the failures, where some stand.
+fn clear(
+    alloc: Global,
+    name: &[u8],
+    failures: &[Failure],
+    process: &Process,
+    vault: &mut dyn Vault,
+) -> Result<Code, NoMemory>
+    ensures tells { vault_tells vault.new ≡ vault_tells vault.old }
+    ensures told { IsTrue (vault_tells vault.old) →
+        (room : PlainRoom) (clock : ClockState) (known : Known) →
+        IfOk result (λ code. Acts (clears name.now failures.now) known
+        (scene_of room (vault_holds vault.old) clock (plain_process process.now)) code
+        (scene_of room (vault_holds vault.new) clock (plain_process process.now))) }
+{
+    laws::act_steps();
+    match failures {
+        [] => Ok(Code::Success),
+        [_, ..] => {
+            let text = counting_text(alloc, 0, &[])?;
+            let code = set_text(alloc, process, vault, name, text.bytes(), Code::Success)?;
+            Ok(code)
+        }
+    }
+}
+
+// Records a failure behind those that stand, and drops those that don't count any more.
+fn record_failure(
+    alloc: Global,
+    interval: u32,
+    moment: u64,
+    name: &[u8],
+    failures: Failures,
+    transaction: &Transaction,
+    process: &Process,
+    vault: &mut dyn Vault,
+) -> Result<Code, NoMemory>
+    ensures tells { vault_tells vault.new ≡ vault_tells vault.old }
+    ensures told { IsTrue (vault_tells vault.old) →
+        (room : PlainRoom) (clock : ClockState) (known : Known) →
+        IfOk result (λ code.
+        Acts (writes_tally name.now (counting interval (failures ++ new_failure moment
+        transaction.now.items ∷ [])) Code.Ignore) known
+        (scene_of room (vault_holds vault.old) clock (plain_process process.now)) code
+        (scene_of room (vault_holds vault.new) clock (plain_process process.now))) }
+{
+    let failure = new_failure(alloc, moment, &transaction.items)?;
+    let text = text_with(alloc, interval, failures, failure)?;
+    let code = set_text(alloc, process, vault, name, text.bytes(), Code::Ignore)?;
+    Ok(code)
+}
+
+// The text of the failures that count, once this one is behind those that stand.
+fn text_with(
+    alloc: Global,
+    interval: u32,
+    failures: Failures,
+    failure: Failure,
+) -> Result<Text, NoMemory>
+    ensures { IfOk result (λ text. text ≡ tally_text
+        (counting interval (failures ++ failure ∷ []))) }
+{
+    let mut all = failures;
+    all.push(failure)?;
+    let text = counting_text(alloc, interval, all.items())?;
+    Ok(text)
+}

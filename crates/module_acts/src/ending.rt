@@ -1,0 +1,26 @@
+ghost use Rattle.std.specs.Prelude.{◌≡◌, Err, IfOk, OnErr};
+ghost use Rattle.pam_base.specs.declared.code.Code.{Code};
+ghost use Rattle.pam_room.specs.State.{Scene};
+ghost use Rattle.account_files.specs.Act.{Act, answers};
+ghost use Rattle.module_acts.specs.Comes.{Comes, Finishes, Goes};
+
+use crate::laws;
+use pam_base::{Code, ConvErr, NoMemory, Refuse};
+
+/// The answer, which is CONV_ERR where the conversation gave no reply.
+pub fn ended(answer: Result<Code, Refuse<ConvErr>>) -> Result<Code, NoMemory>
+    ensures told { (step : (Code → Act) → Act) (old new : Scene) → Comes answer step old new →
+        IfOk result (λ code. Goes (step answers) old code new) }
+    ensures finished { (act : Act) (old new : Scene) → Finishes answer act old new →
+        IfOk result (λ code. Goes act old code new) }
+    ensures memory { OnErr result (answer ≡ Err Refuse.NoMemory) }
+{
+    laws::acting();
+    match answer {
+        Ok(code) => Ok(code),
+        Err(refused) => match refused {
+            Refuse::NoMemory => Err(NoMemory),
+            Refuse::Named(_) => Ok(Code::ConvErr),
+        },
+    }
+}

@@ -1,0 +1,75 @@
+ghost use Rattle.std.specs.Prelude.{◌≡◌, ◌≢◌, ◌++◌, None, IsTrue, OnOk, List, unwrap_or, []};
+ghost use Rattle.conv_port.specs.declared.message.Message.{Message};
+ghost use Rattle.pam_outside.specs.Files.{VaultState};
+ghost use Rattle.pam_outside.specs.Time.{ClockState};
+ghost use Rattle.pam_room.specs.State.{PlainProcess, room_of};
+ghost use Rattle.pam_room.specs.Module.{seen_of};
+ghost use Rattle.pam_room.specs.Plain.{plain_transaction};
+ghost use Rattle.account_files.specs.Act.{Leads, shown, shows};
+ghost use Rattle.module_acts.specs.Comes.{lent};
+ghost use Rattle.module_acts.specs.Talks.{Talks};
+
+use conv_port::Conv;
+use pam_base::{ItemName, NoMemory, Refuse, Style, Text};
+use pam_room::{Transaction, first_bytes, get_item, send};
+use std::alloc::Global;
+
+/// The user, who is set.
+pub fn user_of(transaction: &Transaction) -> &[u8]
+    requires { transaction.now.items.user ≢ None }
+    ensures { result.now ≡ unwrap_or transaction.now.items.user [] }
+{
+    match get_item(&transaction.items, ItemName::User) {
+        Some(user) => user,
+        None => unreachable!(),
+    }
+}
+
+/// Shows a text, of which 512 bytes count, whatever the conversation makes of it. An empty one isn't shown.
+pub fn show(
+    alloc: Global,
+    transaction: &mut Transaction,
+    conv: &mut dyn Conv,
+    style: Style,
+    text: &[u8],
+) -> Result<(), NoMemory>
+    ensures tells { conv_tells conv.new ≡ conv_tells conv.old }
+    ensures told { IsTrue (conv_tells conv.old) →
+        (vault : VaultState) (clock : ClockState) (process : PlainProcess) →
+        OnOk result (Leads (shows style text.now)
+        (lent transaction.old (conv_holds conv.old) vault clock process)
+        (lent transaction.new (conv_holds conv.new) vault clock process)) }
+    ensures talks { Talks transaction.old transaction.new }
+{
+    put_forward(alloc, transaction, conv, style, text)
+}
+
+// The same, as the conversation has it.
+fn put_forward(
+    alloc: Global,
+    transaction: &mut Transaction,
+    conv: &mut dyn Conv,
+    style: Style,
+    text: &[u8],
+) -> Result<(), NoMemory>
+    ensures tells { conv_tells conv.new ≡ conv_tells conv.old }
+    ensures told { IsTrue (conv_tells conv.old) →
+        OnOk result (seen_of (room_of (plain_transaction transaction.new) (conv_holds conv.new))
+        ≡ shown style text.now (seen_of (room_of (plain_transaction transaction.old)
+        (conv_holds conv.old)))) }
+    ensures said { (more : List Message) × (transaction.new.said ≡ transaction.old.said ++ more) }
+    ensures others { transaction.new ≡ record transaction.old {
+      said = transaction.new.said;
+      put_off = transaction.new.put_off;
+    } }
+{
+    if text.is_empty() {
+        return Ok(());
+    }
+    let text = Text::from_bytes(alloc, first_bytes(text, 512))?;
+    match send(alloc, transaction, conv, style, text) {
+        Ok(_) => Ok(()),
+        Err(Refuse::NoMemory) => Err(NoMemory),
+        Err(Refuse::Named(_)) => Ok(()),
+    }
+}
