@@ -1,9 +1,11 @@
 -- What a run of frames says by its status.
 use Rattle.std.proofs.Common.{◌≡◌, ◌⊎◌, inl, inr, ℕ, ◌+◌, ◌<◌, ◌≤◌, true, false, if◌then◌else◌, List, [], ◌∷◌, ◌++◌, length, Option, Some, None, Result, Ok, Err, refl, sym, ap, ◌∙◌, subst, arith}
+use Rattle.std.specs.Int.{w16, to_be_bytes}
 use Rattle.std.specs.Prelude.{nat_eq}
 use Rattle.pam_outside.specs.Streams.{SourceState, SinkState}
 use Rattle.pam_room.specs.State.{PlainWorld}
 use Rattle.pam_library.specs.Slots.{PlainSlot}
+use Rattle.pam_wire.specs.Frame.{sized}
 use Rattle.pam_wire.specs.Stream.{IsOpen}
 use Rattle.item_stream.specs.declared.ending.Ending.{Ending}
 use Rattle.item_stream.specs.declared.ending.Ending.TheVariants.{Done, ReadFault, Refused}
@@ -124,9 +126,9 @@ some_behind (x ∷ xs) ys some = omega arith
 nothing_is_open : IsOpen []
 nothing_is_open = record {
   body = 0 ∷ 0 ∷ [];
-  more = _;
+  more = sized (0 ∷ 0 ∷ []);
   body_is = (omega arith, omega arith);
-  some = some_behind _ (0 ∷ 0 ∷ []) (omega arith);
+  some = some_behind (to_be_bytes w16 2) (0 ∷ 0 ∷ []) (omega arith);
   parts = refl;
 }
 

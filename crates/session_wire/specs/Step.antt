@@ -23,7 +23,7 @@ answers setting s step =
     answered (called setting step (stepped setting.players setting.delay s.slots s.world step))
 
 -- The states that a frame may leave whose call found no memory: what the call says of its
--- transaction, with every other as it was, and of the data and the world.
+-- transaction, with every other as it was, and of the data and the world. Nothing was waited.
 pub record Fails (setting : Setting) (s : RunState) (frame : List ℕ) (t : RunState) : Type 0 where
   pub step : Step
   pub asked : step_of frame ≡ Some step
@@ -37,6 +37,7 @@ pub record Fails (setting : Setting) (s : RunState) (frame : List ℕ) (t : RunS
   pub root : t.world.process.root ≡ s.world.process.root
   pub caller : t.world.process.caller ≡ s.world.process.caller
   pub world : leaves_world (slot_at s.slots step.number) step.call ≡ true → t.world ≡ s.world
+  pub nap : t.world.nap ≡ s.world.nap
 
 -- a frame that was not refused
 abbrev pub served : Result (Unit {0}) Stop → Result (Option FrameFault) Stop

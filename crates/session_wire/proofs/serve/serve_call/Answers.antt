@@ -15,6 +15,7 @@ returns-in-Err-clause-told g c = λ delay is told sink frames frame few asked.
       root = c.apply.ensures.root;
       caller = c.apply.ensures.caller;
       world = λ h. rw (c.apply.ensures.world h) refl;
+      nap = rw c.in-Err.ensures.no_nap refl;
     }))
 
 pub returns-in-Err-step_report-clause-told : goal.returns-in-Err-step_report-clause-told
