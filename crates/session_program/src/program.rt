@@ -38,8 +38,8 @@ use pam_outside::{Sink, Source};
 use pam_room::{World, WorldTold};
 use session_check::check;
 use session_tally::list_failures;
-use transcript_audit::audit_transcript;
 use std::alloc::Global;
+use transcript_audit::audit_transcript;
 
 /// The program `pamsess`. `words` are those of the command line, without the program's name:
 ///
@@ -369,8 +369,7 @@ pub fn pamsess<S: Source, K: Sink>(
             status_of_tally(tallied)
         }
         Some(Request::Audit(root, service)) => {
-            let audited =
-                audit_transcript(alloc, root, service, script, out, &mut *world.vault);
+            let audited = audit_transcript(alloc, root, service, script, out, &mut *world.vault);
             status_of_audit(audited)
         }
         Some(Request::Wire(root)) => answer_frames(alloc, root, script, out, world, desk),
