@@ -48,9 +48,25 @@ def share_of(process):
     return crate, "tests" if "--test" in words else "proof"
 
 
-def measure(command):
-    """Runs a command; the seconds of each crate's shares, and the command's status."""
-    shares, seconds = {}, {}
+def costs_of(shares, seconds):
+    costs = {}
+    for key, share in shares.items():
+        if share:
+            crate, kind = share
+            costs.setdefault(crate, dict.fromkeys(SHARES, 0))[kind] += seconds[key]
+    return costs
+
+
+def keep(costs, save):
+    if save:
+        with open(save, "w", encoding="utf-8") as file:
+            json.dump(costs, file)
+
+
+def measure(command, save):
+    """Runs a command; the seconds of each crate's shares, and the command's status. What was measured is saved twice a minute, for a
+    run that is cut off."""
+    shares, seconds, kept = {}, {}, time.monotonic()
     run = subprocess.Popen(command, cwd=TOP)
     while run.poll() is None:
         found = processes()
@@ -62,12 +78,12 @@ def measure(command):
                 except OSError:
                     continue
                 seconds[key] = used
+        if time.monotonic() - kept > 30:
+            keep(costs_of(shares, seconds), save)
+            kept = time.monotonic()
         time.sleep(0.5)
-    costs = {}
-    for key, share in shares.items():
-        if share:
-            crate, kind = share
-            costs.setdefault(crate, dict.fromkeys(SHARES, 0))[kind] += seconds[key]
+    costs = costs_of(shares, seconds)
+    keep(costs, save)
     return costs, run.returncode
 
 
@@ -110,10 +126,7 @@ def main(words):
     save = None
     if words[:1] == ["--save"]:
         save, words = words[1], words[2:]
-    costs, status = measure(["rt", "ci", *words])
-    if save:
-        with open(save, "w", encoding="utf-8") as file:
-            json.dump(costs, file)
+    costs, status = measure(["rt", "ci", *words], save)
     print("\n".join(table(costs)))
     return status
 

@@ -1,5 +1,5 @@
 -- What source or sink tells alone of a run, by its status.
-use Rattle.std.proofs.Common.{◌≡◌, ℕ, ◌+◌, List, [], length, None, Some, Result, Ok, Err, refl, sym, ◌∙◌, append-nil, arith}
+use Rattle.std.proofs.Common.{◌≡◌, ℕ, [], Result, Ok, Err, refl, sym, append-nil, arith}
 use Rattle.pam_outside.specs.Streams.{SourceState, SinkState}
 use Rattle.script_stream.specs.Turns.{Ending}
 use Rattle.item_stream.specs.declared.ending.Ending.TheVariants.{Done, ReadFault, Refused}

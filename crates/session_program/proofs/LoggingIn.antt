@@ -1,5 +1,5 @@
 -- What a login and a generation say by their status.
-use Rattle.std.proofs.Common.{◌≡◌, ℕ, ◌+◌, ◌≤◌, List, [], length, Option, Some, Result, Ok, Err, refl, sym, ap, ◌∙◌, subst, append-nil, arith}
+use Rattle.std.proofs.Common.{◌≡◌, ℕ, List, [], Option, Some, Result, Err, refl, sym, ◌∙◌, subst, append-nil, arith}
 use Rattle.pam_outside.specs.Streams.{SinkState}
 use Rattle.pam_room.specs.State.{PlainWorld}
 use Rattle.pam_library.specs.Slots.{PlainSlot}
@@ -8,7 +8,7 @@ use Rattle.session_login.specs.declared.attempt.Verdict.{Verdict}
 use Rattle.session_login.specs.Login.{login_of}
 use Rattle.item_stream.specs.declared.ending.Stop.TheVariants.{NoMemory}
 use Rattle.session_login.specs.Told.{LogsIn}
-use Rattle.session_run.specs.State.{RunState, Setting, state_of}
+use Rattle.session_run.specs.State.{Setting, state_of}
 use Rattle.session_program.specs.Command.{Request, generates, logs_in}
 use Rattle.session_program.specs.Generate.{GeneratesBy}
 use Rattle.session_program.specs.Login.{IsAtRoot, IsLogin, LogsInBy, ShowsLogin, entry, login_status}

@@ -1,5 +1,5 @@
 -- What a run of frames says by its status.
-use Rattle.std.proofs.Common.{◌≡◌, ◌⊎◌, inl, inr, ℕ, ◌+◌, ◌<◌, ◌≤◌, true, false, if◌then◌else◌, List, [], ◌∷◌, ◌++◌, length, Option, Some, None, Result, Ok, Err, refl, sym, ap, ◌∙◌, subst, arith}
+use Rattle.std.proofs.Common.{◌≡◌, ◌⊎◌, inl, inr, ℕ, ◌<◌, if◌then◌else◌, List, [], ◌∷◌, ◌++◌, length, Option, Some, None, Result, Ok, Err, refl, sym, ap, ◌∙◌, subst, arith}
 use Rattle.std.specs.Int.{w16, to_be_bytes}
 use Rattle.std.specs.Prelude.{nat_eq}
 use Rattle.pam_outside.specs.Streams.{SourceState, SinkState}
@@ -13,16 +13,16 @@ use Rattle.item_stream.specs.declared.ending.Stop.{Stop}
 use Rattle.item_stream.specs.declared.ending.Stop.TheVariants.{NoMemory, WriteFault}
 use Rattle.frame_stream.specs.declared.fault.FrameFault.{FrameFault}
 use Rattle.frame_stream.specs.declared.fault.FrameFault.TheVariants.{BadFrame, TooManyFrames}
-use Rattle.session_run.specs.State.{RunState, Setting, state_of}
-use Rattle.session_wire.specs.Reading.{EndsAtBytes, ReadsFrames, SpellsTo}
-use Rattle.session_wire.specs.Whole.{Answers, AnswersAll, Completes}
+use Rattle.session_run.specs.State.{Setting, state_of}
+use Rattle.session_wire.specs.Reading.{EndsAtBytes, ReadsFrames}
+use Rattle.session_wire.specs.Whole.{Answers, Completes}
 use Rattle.session_program.specs.Command.{Request, wires}
 use Rattle.session_program.specs.Run.{IsUnder, opening}
 use Rattle.session_program.specs.Wire.{AnswersBy, IsReadThrough, IsServed, IsWireStatus, ReadsFramesBy, Serves, WireCompletes, wire_status}
 
 -- ---- the ending of a status
 
-ending_of : ℕ → Option (Ending FrameFault)
+abbrev ending_of : ℕ → Option (Ending FrameFault)
 ending_of n =
     if nat_eq n 0 then Some Done else if nat_eq n 5 then Some ReadFault
     else if nat_eq n 13 then Some (Refused BadFrame) else if nat_eq n 14 then Some (Refused TooManyFrames) else None

@@ -1,6 +1,6 @@
 -- Module data when the program has ended (pam_set_data(3), pam_end(3); which ends there are is this
 -- project's own).
-use Rattle.std.specs.Prelude.{◌≡◌, ℕ, nat_lt, if◌then◌else◌, Bool, List, length, Option, Some, None, Result}
+use Rattle.std.specs.Prelude.{◌≡◌, ℕ, nat_lt, if◌then◌else◌, Bool, List, length, Option, Some, Result}
 use Rattle.data_cleanup.specs.Cleanup.{Notes}
 use Rattle.data_cleanup.specs.Due.{Event, due}
 use Rattle.data_cleanup.specs.Ledger.{PlainLedger}

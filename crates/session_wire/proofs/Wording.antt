@@ -1,13 +1,11 @@
 -- A run by the steps that the bytes taken spell.
-use Rattle.std.proofs.Common.{◌≡◌, ℕ, suc, ◌+◌, ◌≤◌, ◌<◌, ◌⊎◌, inl, inr, Bool, true, false, List, [], ◌∷◌, ◌++◌, length, take, drop, map, Option, Some, None, Result, Ok, Err, refl, sym, ap, subst, ◌∙◌, append_assoc, append-nil, arith}
+use Rattle.std.proofs.Common.{◌≡◌, ℕ, ◌+◌, ◌≤◌, ◌<◌, ◌⊎◌, inl, inr, Bool, true, false, List, [], ◌∷◌, ◌++◌, length, take, drop, map, Option, Some, None, Result, Ok, Err, refl, sym, ap, subst, ◌∙◌, append_assoc, append-nil, arith}
 use Rattle.std.proofs.lemmas.List.{append_cancel_right}
 use Rattle.std.proofs.lemmas.List.Elements.{All-drop, All-same, All-take}
 use Rattle.std.proofs.Math.Seq.{drop-append_seam, take-append_seam}
 use Rattle.pam_base.specs.declared.call.Step.{Step}
-use Rattle.pam_base.specs.declared.code.Code.{Code}
 use Rattle.pam_outside.specs.Counts.{RisesIf, Rose}
 use Rattle.pam_outside.specs.Streams.{SourceState, SinkState}
-use Rattle.pam_room.specs.Module.{Player}
 use Rattle.pam_wire.specs.Frame.{AreBytes, frame_of, frames_of}
 use Rattle.pam_wire.specs.Stream.{AreFramesOf}
 use Rattle.item_stream.specs.declared.ending.Ending.{Ending}
@@ -15,10 +13,10 @@ use Rattle.item_stream.specs.declared.ending.Ending.TheVariants.{Done, ReadFault
 use Rattle.item_stream.specs.declared.ending.Stop.{Stop}
 use Rattle.item_stream.specs.declared.ending.Stop.TheVariants.{NoMemory, WriteFault}
 use Rattle.item_stream.specs.Run.{Run, after, come_to, run_items, run_of}
-use Rattle.item_stream.specs.Turns.{EndsBy, IsBegun, IsCutShort, StopsAt, StopsBy, begun_items, has_read_fault, has_write_fault, refusal_of}
+use Rattle.item_stream.specs.Turns.{EndsBy, StopsAt, begun_items, has_read_fault, has_write_fault, refusal_of}
 use Rattle.item_stream.specs.Whole.{Reports, Runs}
 use Rattle.frame_stream.specs.declared.fault.FrameFault.{FrameFault}
-use Rattle.frame_stream.specs.Laws.{BytesSpell, FrontIsOfSteps, RunIsOfSteps, ServedAreSteps}
+use Rattle.frame_stream.specs.Laws.{BytesSpell, RunIsOfSteps, ServedAreSteps}
 use Rattle.frame_stream.specs.Looked.{looked}
 use Rattle.frame_stream.specs.Run.{CallStep, step_at}
 use Rattle.frame_stream.specs.Spelled.{Spells, answers_to, state_behind}

@@ -2,7 +2,7 @@
 -- project's own).
 use Rattle.std.specs.Prelude.{◌≡◌, ℕ, ◌+◌, ◌≤◌, Bool, true, false, List, [], ◌++◌, length, Option, None, Result, Ok, Err}
 use Rattle.pam_base.specs.declared.call.Step.{Step}
-use Rattle.pam_outside.specs.Streams.{SourceState, SinkState}
+use Rattle.pam_outside.specs.Streams.{SourceState}
 use Rattle.pam_wire.specs.Frame.{AreBytes}
 use Rattle.item_stream.specs.declared.ending.Ending.{Ending}
 use Rattle.item_stream.specs.declared.ending.Stop.{Stop}

@@ -1,4 +1,4 @@
-use Rattle.std.proofs.Common.{◌∙◌, Ok, Err, inl, inr, refl}
+use Rattle.std.proofs.Common.{◌∙◌, Ok, Err, inl, inr}
 use Rattle.item_stream.specs.declared.ending.Ending.{Ending}
 use Rattle.frame_stream.specs.declared.fault.FrameFault.{FrameFault}
 use Rattle.session_wire.proofs.Asking.{by_ending, by_frame, by_stop}
