@@ -7,7 +7,7 @@ use Rattle.item_stream.specs.declared.ending.Stop.{Stop}
 use Rattle.item_stream.specs.declared.ending.Stop.TheVariants.{NoMemory, WriteFault}
 use Rattle.session_check.specs.declared.finding.Found.{Found}
 use Rattle.session_check.specs.declared.finding.Found.TheVariants.{Configured, Refused}
-use Rattle.session_check.specs.Check.{Check, Checks}
+use Rattle.session_check.specs.Check.{Check, Checks, Finds}
 use Rattle.session_tally.specs.declared.finding.Tallied.{Tallied}
 use Rattle.session_tally.specs.declared.finding.Tallied.TheVariants.{Listed, Damaged, Unread}
 use Rattle.session_tally.specs.Tally.{Lists, PlainTally}
@@ -26,6 +26,12 @@ pub record ChecksBy (status : ℕ) (c : Check) (old new : SinkState) (vault : Va
   pub result : Result Found Stop
   pub is : status ≡ check_status result
   pub checks : Checks result c old new vault
+
+-- a check of a told vault, by its status, whatever the sink does
+pub record FindsBy (status : ℕ) (c : Check) (vault : VaultState) : Type 0 where
+  pub result : Result Found Stop
+  pub is : status ≡ check_status result
+  pub finds : Finds result c vault
 
 abbrev pub IsCheckStatus : ℕ → Type 0
 IsCheckStatus n = (result : Result Found Stop) × (n ≡ check_status result)

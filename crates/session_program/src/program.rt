@@ -11,7 +11,7 @@ ghost use Rattle.pam_handle.specs.Plain.{in_box};
 ghost use Rattle.pam_library.specs.Plain.{gear_in};
 ghost use Rattle.pam_library.specs.Sound.{IsSoundFor};
 ghost use Rattle.service_load.specs.Loading.{OnlyCalls};
-ghost use Rattle.session_check.specs.Check.{check_of};
+ghost use Rattle.session_check.specs.Check.{WritesText, check_of};
 ghost use Rattle.session_program.specs.Command.{request_of, runs, checks, logs_in, generates, tallies, audits, wires};
 ghost use Rattle.transcript_audit.specs.Audit.{audit_of};
 ghost use Rattle.transcript_audit.specs.Transcript.{Takes};
@@ -20,7 +20,7 @@ ghost use Rattle.session_program.specs.CleanedUp.{IsCleanedUp, MayEnd};
 ghost use Rattle.session_program.specs.Generate.{GeneratesBy, IsGenerateStatus};
 ghost use Rattle.session_program.specs.Login.{IsLoginStatus, LogsInBy, ShowsLogin};
 ghost use Rattle.session_program.specs.Run.{Completes, HasRefused, IsAccepted, IsDone, IsRefused, IsStatus, IsUnread, ReadsBy, Runs, opening};
-ghost use Rattle.session_program.specs.Status.{CallsOnce, ChecksBy, CountsUnread, IsCheckStatus, IsTallyStatus, TalliesBy, WritesUsage};
+ghost use Rattle.session_program.specs.Status.{CallsOnce, ChecksBy, CountsUnread, FindsBy, IsCheckStatus, IsTallyStatus, TalliesBy, WritesUsage};
 ghost use Rattle.session_program.specs.Wire.{AnswersBy, IsReadThrough, IsWireStatus, ReadsFramesBy, Serves, WireCompletes};
 ghost use Rattle.session_tally.specs.Tally.{tally_of};
 
@@ -175,6 +175,16 @@ pub fn pamsess<S: Source, K: Sink>(
         IsTrue (K.sink_tells out.old) → IsTrue (vault_tells (in_box world.old.vault)) →
         ChecksBy result (check_of (vault_holds (in_box world.old.vault)) root service)
         (K.sink_holds out.old) (K.sink_holds out.new) (vault_holds (in_box world.new.vault)) }
+    // Where the vault alone tells, the status is that of what was found; where the sink alone does: at most as many
+    // writes as bytes written, and one more.
+    ensures check_found { (root service : List ℕ) →
+        request_of words.now ≡ Some (checks root service) →
+        IsTrue (vault_tells (in_box world.old.vault)) →
+        FindsBy result (check_of (vault_holds (in_box world.old.vault)) root service)
+        (vault_holds (in_box world.new.vault)) }
+    ensures check_writes { (root service : List ℕ) →
+        request_of words.now ≡ Some (checks root service) → IsTrue (K.sink_tells out.old) →
+        WritesText (K.sink_holds out.old) (K.sink_holds out.new) }
     ensures check_statuses { (root service : List ℕ) →
         request_of words.now ≡ Some (checks root service) → IsCheckStatus result }
     ensures check_stays { (root service : List ℕ) →

@@ -8,10 +8,10 @@ use Rattle.library_bench.proofs.authenticate.Given as goal
 abbrev pub invariant-loop : goal.invariant-loop
 invariant-loop g l =
     let players : List Player =
-        map
-        (player_of (λ b. (goal.Module-dyn g (b.vtable, b.value)).label b.value)
-        (λ b. (goal.Module-dyn g (b.vtable, b.value)).plays b.value)
-        (λ b. (goal.Module-dyn g (b.vtable, b.value)).note b.value)) l.gear.mods.items in
+    map
+    (player_of (λ b. (goal.Module-dyn g (b.vtable, b.value)).label b.value)
+    (λ b. (goal.Module-dyn g (b.vtable, b.value)).plays b.value)
+    (λ b. (goal.Module-dyn g (b.vtable, b.value)).note b.value)) l.gear.mods.items in
     IsReadyFor players
     (plain_handle (plain_room (λ b. (goal.Conv-dyn g (b.vtable, b.value)).conv_holds b.value))
     l.handle) (plain_process l.world.process)
