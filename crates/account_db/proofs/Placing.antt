@@ -7,7 +7,7 @@ use Rattle.pam_base.specs.Parts.{parts_of}
 use Rattle.account_db.specs.Entries.{is_line_of}
 use Rattle.account_db.specs.Replace.{Placed, changed_line, changed_lines, with_hash}
 
--- what stands behind a line: nothing, or a newline and the lines that follow
+-- what follows a line: nothing, or a newline and the lines that follow
 abbrev tail_of : List (List ℕ) → List ℕ
 tail_of [] = []
 tail_of (l ∷ ls) = 10 ∷ join_with_byte 10 (l ∷ ls)
@@ -38,7 +38,7 @@ module _ (user hash : List ℕ) (day : ℕ) where
     new_is = ap (λ (x : List ℕ). front ++ x) p.new_is ∙ further front p.front (changed_line hash day p.line) p.back;
   })
 
-  -- the lines behind an unchanged one
+  -- the lines after an unchanged one
   tails_by : (b : Bool) (m : List ℕ) (ms : List (List ℕ)) → Is (join_with_byte 10 (m ∷ ms)) (join_with_byte 10 (cond b (changed_line hash day m ∷ ms) (m ∷ changed ms)))
       → Is (tail_of (m ∷ ms)) (tail_of (cond b (changed_line hash day m ∷ ms) (m ∷ changed ms)))
   tails_by true m ms h = behind (10 ∷ []) _ _ h

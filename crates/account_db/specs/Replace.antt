@@ -45,7 +45,7 @@ changed_entries user hash day (entry ∷ entries) =
     if bytes_eq entry.name user then renewed hash day entry ∷ entries
     else entry ∷ changed_entries user hash day entries
 
--- A line of the user was changed, and what stands before and behind it stayed.
+-- A line of the user was changed, and what stands before and after it stayed.
 pub record Placed (user hash : List ℕ) (day : ℕ) (old new : List ℕ) : Type 0 where
   pub front : List ℕ
   pub line : List ℕ

@@ -14,7 +14,7 @@ use Rattle.account_db.specs.Entries.{entries_of}
 abbrev pub is_days : List ℕ → Bool
 is_days word = nat_le (length word) 9 && list_all is_ascii_digit word
 
--- whether the six fields behind the hash are numbers of days
+-- whether the six fields after the hash are numbers of days
 abbrev pub are_days : List ℕ → Bool
 are_days line = is_days (field 2 line) && is_days (field 3 line) && is_days (field 4 line)
     && is_days (field 5 line) && is_days (field 6 line) && is_days (field 7 line)

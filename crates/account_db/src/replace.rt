@@ -81,7 +81,7 @@ fn put_parts(alloc: Global, parts: &mut Parts, texts: &mut Texts) -> Result<(), 
     Ok(())
 }
 
-// The texts one behind another, with a byte between each two.
+// The texts one after another, with a byte between each two.
 fn joined(alloc: Global, byte: u8, texts: &Texts) -> Result<Text, NoMemory>
     ensures { IfOk result (λ text. text ≡ join_with_byte byte texts.now) }
 {

@@ -69,7 +69,7 @@ impl Entry for Shadow {
     }
 }
 
-// Whether the six fields behind the hash are numbers of days.
+// Whether the six fields after the hash are numbers of days.
 fn are_days(line: &[u8]) -> bool
     requires { length (fields_of line.now) ≡ 9 }
     ensures { result ≡ are_days line.now }

@@ -97,7 +97,7 @@ reads_if false name limit act stage = act Absent stage
 unfoldable pub reads_file : List ℕ → ℕ → (Content → Act) → Act
 reads_file name limit act stage = reads_if (is_rooted name) name limit act stage
 
--- what is seen behind a call that is to set a file
+-- what is seen after a call that is to set a file
 abbrev pub replaced : Bool → List ℕ → List ℕ → Sight → Sight
 replaced true path bytes sight = later sight
 replaced false path bytes sight = record (later sight) { files = file_put path bytes sight.files }

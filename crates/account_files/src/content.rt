@@ -19,7 +19,7 @@ pub enum Content {
     Holds(Text),
 }
 
-/// Reads the file with this name under a root, of which so many bytes may be read, by one call of the vault.
+/// Reads the file with this name under a root, of which n bytes may be read, by one call of the vault.
 pub fn read_content(
     alloc: Global,
     vault: &mut dyn Vault,

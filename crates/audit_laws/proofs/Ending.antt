@@ -39,7 +39,7 @@ use Rattle.audit_laws.proofs.Forming.{blocks_whole, both_formed, run_formed, clo
 use Rattle.audit_laws.proofs.Having.{starts_have}
 use Rattle.audit_laws.proofs.Running.{fold-append, LinesFit, lines_fit}
 
--- ---- the place behind some others
+-- ---- the place after some others
 
 get_behind : (front : List PlainSlot) (x : PlainSlot) (slots : List PlainSlot) → slice_get (front ++ x ∷ slots) (length front) ≡ Some x
 get_behind [] x slots = refl

@@ -54,7 +54,7 @@ module _ (setting : Setting) where
   run_blocks n s [] = []
   run_blocks n s (l ∷ ls) = line_blocks n s l ++ blocks_on (step_at (line_step setting) n s l) (λ t. run_blocks (n + 1) t ls)
 
-  -- behind a line that wasn't refused
+  -- after a line that wasn't refused
   abbrev pub OnState : Result (RunState × List ℕ) ScriptKind → (RunState → Type 0) → Type 0
   OnState (Ok x) P = P x.0
   OnState (Err kind) P = Unit {0}
@@ -73,7 +73,7 @@ module _ (setting : Setting) where
   StartsFind stacks n s [] = Unit {0}
   StartsFind stacks n s (l ∷ ls) = OnState (step_at (line_step setting) n s l) (λ t. AskedFinds stacks s (parsed l) × StartsFind stacks (n + 1) t ls)
 
-  -- behind each line of a run, the open transactions have these stacks
+  -- after each line of a run, the open transactions have these stacks
   abbrev pub HaveAlong : Stacks → ℕ → RunState → List (List ℕ) → Type 0
   HaveAlong stacks n s [] = Unit {0}
   HaveAlong stacks n s (l ∷ ls) = OnState (step_at (line_step setting) n s l) (λ t. HaveStacks stacks t.slots × HaveAlong stacks (n + 1) t ls)
@@ -83,7 +83,7 @@ module _ (setting : Setting) where
   lines_looked ReadFault input taken = looked 0 taken false
   lines_looked ending input taken = looked 0 input true
 
--- the blocks of the transactions that the program ends, behind some places that are closed
+-- the blocks of the transactions that the program ends, after some places that are closed
 abbrev pub closing_blocks : List Player → Code → List PlainSlot → List PlainSlot → PlainWorld → List Block
 closing_blocks players status front [] w = []
 closing_blocks players status front (closed conv ∷ slots) w = closing_blocks players status (front ++ closed conv ∷ []) slots w
@@ -96,7 +96,7 @@ last_of Done n = None
 last_of ReadFault n = Some unread
 last_of (Refused kind) n = Some (refused_at (long_of (n + 1)) kind)
 
--- all blocks of a run that came to its end behind some lines
+-- all blocks of a run that came to its end after some lines
 abbrev pub blocks_of_run : Setting → Ending → RunState → RunState → List ℕ → List ℕ → List Block
 blocks_of_run setting ending start last input taken =
     run_blocks setting 0 start (lines_looked setting ending input taken) ++ closing_blocks setting.players (ending_status ending) [] last.slots last.world

@@ -17,7 +17,7 @@ use Rattle.mod_env.specs.Value.{pieces_of}
 
 -- ---- the settings of a line
 
--- what stands at the front of the settings of a line: their end, a setting with what stands behind it, or what has no form
+-- what stands at the front of the settings of a line: their end, a setting with what follows it, or what has no form
 pub data Setting : Type 0 where
   ended : Setting
   broken : Setting
@@ -75,12 +75,12 @@ by_setting more values ended = Some values
 by_setting more values broken = None
 by_setting more values (one key value rest) = by_pieces more values key rest (pieces_of value)
 
--- the values of at most so many settings, and those that were found before
+-- the values of at most n settings, and those that were found before
 abbrev pub values_within : ℕ → Values → List Mark → Option Values
 values_within zero values marks = if length (behind_white marks) == 0 then Some values else None
 values_within (suc n) values marks = by_setting (values_within n) values (next_setting marks)
 
--- the values of what stands behind a name, if it has their form; there are at most as many settings as bytes
+-- the values of what follows a name, if it has their form; there are at most as many settings as bytes
 unfoldable pub values_of : List Mark → Option Values
 values_of marks = values_within (length marks) no_values marks
 

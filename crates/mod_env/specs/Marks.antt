@@ -32,7 +32,7 @@ begins_with [] marks = true
 begins_with (c ∷ cs) [] = false
 begins_with (c ∷ cs) (m ∷ ms) = is_byte c m && begins_with cs ms
 
--- what stands behind the white space in front
+-- what follows the white space in front
 abbrev pub behind_white : List Mark → List Mark
 behind_white [] = []
 behind_white (m ∷ ms) = if is_white_mark m then behind_white ms else m ∷ ms

@@ -24,7 +24,7 @@ abbrev pub opens : List Mark → Bool
 opens [] = false
 opens (m ∷ ms) = is_byte 123 m
 
--- A place, with something behind it: a sigil, a brace, a name, and the brace that closes it. In the name none does.
+-- A place, with something after it: a sigil, a brace, a name, and the brace that closes it. In the name none does.
 pub record SpellsPlace (sigil : ℕ) (name : List ℕ) (text behind : List Mark) : Type 0 where
   pub inner : List Mark
   pub text_is : text ≡ marks.Byte sigil ∷ marks.Byte 123 ∷ (inner ++ marks.Byte 125 ∷ behind)
@@ -43,7 +43,7 @@ SpellsPiece (Byte b) text behind = SpellsByte b text behind
 SpellsPiece (Variable name) text behind = SpellsPlace 36 name text behind
 SpellsPiece (Item name) text behind = SpellsPlace 64 name text behind
 
--- a value is its pieces, one behind another
+-- a value is its pieces, one after another
 abbrev pub SpellsValue : List Piece → List Mark → Type 0
 SpellsValue [] text = text ≡ []
 SpellsValue (piece ∷ pieces) text =
@@ -80,7 +80,7 @@ abbrev pub word_of : Key → List Mark
 word_of Default = map (λ b. marks.Byte b) (codes "DEFAULT=")
 word_of Override = map (λ b. marks.Byte b) (codes "OVERRIDE=")
 
--- A setting: its key and its value, behind white space, and up to the end of a word.
+-- A setting: its key and its value, after white space, and up to the end of a word.
 pub record SpellsSetting (key : Key) (value : List Piece) (text behind : List Mark) : Type 0 where
   pub white : List Mark
   pub at : List Mark
@@ -94,7 +94,7 @@ pub record Given : Type 0 where
   pub key : Key
   pub value : List Piece
 
--- settings, one behind another, and white space at the end
+-- settings, one after another, and white space at the end
 abbrev pub SpellsSettings : List Given → List Mark → Type 0
 SpellsSettings [] text = list_all is_white_mark text ≡ true
 SpellsSettings (given ∷ more) text =
@@ -108,7 +108,7 @@ settled (given ∷ more) values = settled more (with_value given.key given.value
 
 -- ---- lines
 
--- what stands behind a name: nothing, or white space and what follows it
+-- what follows a name: nothing, or white space and what follows it
 abbrev pub Follows : List ℕ → List ℕ → Type 0
 Follows text settings =
     ((text ≡ []) × (settings ≡ [])) ⊎ ((w : ℕ) × (text ≡ w ∷ settings) × (is_white w ≡ true))
@@ -130,7 +130,7 @@ pub record SpellsEntry (entry : Entry) (line : List ℕ) : Type 0 where
   pub spelled : SpellsSettings given (marks_of settings)
   pub entry_is : entry ≡ record { name = first ∷ others; values = settled given no_values }
 
--- A line that is passed over: all white space, or a comment behind some.
+-- A line that is passed over: all white space, or a comment after some.
 pub record IsPassedOver (line : List ℕ) : Type 0 where
   pub white : List ℕ
   pub comment : List ℕ

@@ -8,7 +8,7 @@ use Rattle.mod_env.specs.declared.value.Next.{Next as LentNext}
 use Rattle.mod_env.specs.declared.value.Next.TheVariants as lent
 use Rattle.mod_env.specs.Marks.{begins_with, is_byte, text_of}
 
--- what stands at the front of a value: its end, a piece with what stands behind it, or what has no form
+-- what stands at the front of a value: its end, a piece with what follows it, or what has no form
 pub data Next : Type 0 where
   ended : Next
   broken : Next
@@ -49,7 +49,7 @@ by_next more ended = Some []
 by_next more broken = None
 by_next more (one piece rest) = in_front piece (more rest)
 
--- the pieces of a value, at most so many
+-- the pieces of a value, at most n
 abbrev pub pieces_within : ℕ → List Mark → Option (List Piece)
 pieces_within zero value = if length value == 0 then Some [] else None
 pieces_within (suc n) value = by_next (pieces_within n) (next_piece value)

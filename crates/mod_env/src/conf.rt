@@ -39,7 +39,7 @@ enum Setting<'a> {
     Ended,
     /// It has no form.
     Broken,
-    /// A key, its value, and what stands behind it.
+    /// A key, its value, and what follows it.
     One(Key, &'a [Mark], &'a [Mark]),
 }
 
@@ -126,7 +126,7 @@ fn white_place(text: &[u8]) -> Option<usize>
     text.iter().position(|byte| is_white(*byte))
 }
 
-// The values of what stands behind a name, if it has their form.
+// The values of what follows a name, if it has their form.
 fn values_of(alloc: Global, marks: &[Mark]) -> Result<Option<Values>, NoMemory>
     ensures { IfOk result (λ values. values ≡ values_of marks.now) }
 {
@@ -192,7 +192,7 @@ fn at_key(marks: &[Mark]) -> Setting<'_>
     }
 }
 
-// Behind `DEFAULT=`.
+// After `DEFAULT=`.
 fn at_default(marks: &[Mark]) -> Setting<'_>
     requires { 8 ≤ length marks.now }
     ensures { plain_setting result ≡ at_value Key.Default (drop 8 marks.now) }
@@ -200,7 +200,7 @@ fn at_default(marks: &[Mark]) -> Setting<'_>
     at_value(Key::Default, &marks[8..])
 }
 
-// Behind `OVERRIDE=`.
+// After `OVERRIDE=`.
 fn at_override(marks: &[Mark]) -> Setting<'_>
     requires { 9 ≤ length marks.now }
     ensures { plain_setting result ≡ at_value Key.Override (drop 9 marks.now) }

@@ -73,7 +73,7 @@ fn name_in(text: &[u8]) -> &[u8]
     }
 }
 
-// What stands behind the first `=`.
+// What follows the first `=`.
 fn value_in(text: &[u8]) -> &[u8]
     ensures { result.now ≡ value_in text.now }
 {

@@ -10,7 +10,7 @@ pub enum Mark {
     Byte(u8),
     /// A backslash stood before it.
     Plain(u8),
-    /// A backslash without a byte behind it.
+    /// A backslash without a byte after it.
     Stray,
 }
 
@@ -81,7 +81,7 @@ pub fn begins_with(word: &[u8], marks: &[Mark]) -> bool
     true
 }
 
-/// What stands behind the white space in front.
+/// What follows the white space in front.
 pub fn behind_white(marks: &[Mark]) -> &[Mark]
     ensures { result.now ≡ behind_white marks.now }
 {

@@ -1,4 +1,4 @@
--- The last so many of the hashes that were added, one by one or at the end.
+-- The last n of the hashes that were added, one by one or at the end.
 use Rattle.std.proofs.Common.{◌≡◌, ℕ, zero, suc, ◌+◌, ◌-◌, ◌<◌, Bool, true, false, ◌||◌, cond, List, [], ◌∷◌, ◌++◌, length, drop, Option, Some, None, refl, sym, ap, ◌∙◌, arith, length-append, length-drop}
 use Rattle.std.proofs.lemmas.List.{drop-append-le, drop-drop}
 use Rattle.std.specs.List.{last_or}
@@ -21,14 +21,14 @@ module _ (n : ℕ) (some : 0 < n) where
   same_last [] = let none : 0 - n ≡ 0 = omega arith in ap (λ (k : ℕ). last_or None (drop {A = List ℕ} k [])) none
   same_last (x ∷ xs) = last_drop (length (x ∷ xs) - n) (x ∷ xs) (omega arith) None
 
-  -- the last so many again
+  -- the last n again
   again : (xs : List (List ℕ)) → last_of n (last_of n xs) ≡ last_of n xs
   again xs =
       let few = length-drop (length xs - n) xs in
       let none : length (drop (length xs - n) xs) - n ≡ 0 = omega (arith, few) in
       ap (λ (k : ℕ). drop k (drop (length xs - n) xs)) none
 
-  -- with one more behind them
+  -- with one more after them
   more : (xs : List (List ℕ)) (hash : List ℕ) → last_of n (last_of n xs ++ hash ∷ []) ≡ last_of n (xs ++ hash ∷ [])
   more xs hash =
       let k = length xs - n in

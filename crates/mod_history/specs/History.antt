@@ -38,7 +38,7 @@ abbrev pub with_parts : List (List ℕ) → Option Remembered
 with_parts [] = None
 with_parts (name ∷ hashes) = with_hashes (part_in name) (all_in part_in hashes)
 
--- a line is a name, and any number of hashes, each behind a colon
+-- a line is a name, and any number of hashes, each after a colon
 abbrev pub remembered_in : List ℕ → Option Remembered
 remembered_in line = with_parts (parts_of 58 line)
 

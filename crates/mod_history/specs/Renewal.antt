@@ -5,7 +5,7 @@ use Rattle.std.specs.Str.{bytes_eq}
 use Rattle.mod_unix.specs.Verify.{is_locked}
 use Rattle.mod_history.specs.declared.history.Remembered.{Remembered}
 
--- the last so many of a list
+-- the last n of a list
 abbrev pub last_of : ℕ → List (List ℕ) → List (List ℕ)
 last_of count hashes = drop (length hashes - count) hashes
 
@@ -21,7 +21,7 @@ is_left_out hash hashes = is_locked hash || is_text hash (last_or None hashes)
 abbrev pub with_hash : List ℕ → List (List ℕ) → List (List ℕ)
 with_hash hash hashes = if is_left_out hash hashes then hashes else hashes ++ hash ∷ []
 
--- the same, of which the last so many are kept
+-- the same, of which the last n are kept
 abbrev pub renewed_hashes : ℕ → List ℕ → List (List ℕ) → List (List ℕ)
 renewed_hashes remember hash hashes = last_of remember (with_hash hash hashes)
 

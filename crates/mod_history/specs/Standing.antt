@@ -1,5 +1,5 @@
 -- What stands in the history after a list of calls of pam_pwhistory(8), which may be of many transactions (this project's
--- own): of each user the hashes that stood there and those that were added, and of these the last so many.
+-- own): of each user the hashes that stood there and those that were added, and of these the last n.
 use Rattle.std.specs.Prelude.{◌≡◌, ℕ, Bool, true, false, ◌||◌, if◌then◌else◌, List, [], ◌∷◌, map, Option, Some, None, codes, unwrap_or}
 use Rattle.std.specs.Str.{bytes_eq}
 use Rattle.pam_base.specs.declared.code.Code.{Code}
@@ -116,7 +116,7 @@ Remembers remember s = remember_of s.call.args ≡ remember
 
 -- ---- what stands after it
 
--- a user's hashes: each pass that replaced the file for the user adds the present one, and keeps the last so many
+-- a user's hashes: each pass that replaced the file for the user adds the present one, and keeps the last n
 abbrev pub kept_by : ℕ → List ℕ → List Deed → List (List ℕ) → List (List ℕ)
 kept_by remember user [] hashes = hashes
 kept_by remember user (left ∷ ds) hashes = kept_by remember user ds hashes

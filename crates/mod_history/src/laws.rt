@@ -21,7 +21,7 @@ pub fn written_histories_are_read()
 /// Does nothing: its contract is what calls of pam_pwhistory(8) do to the history. Each leaves it, or it answers SUCCESS
 /// and renews the user's line with the hash that the user has. After a list of calls with one `remember`, which may be of
 /// many transactions, where nothing else changed the file, each user's hashes are those that stood there and those that
-/// were added, the last so many of them, and the line of a user for whom the file wasn't replaced is as it was.
+/// were added, the last n of them, and the line of a user for whom the file wasn't replaced is as it was.
 pub fn hashes_stand()
     ensures one { (path : List ℕ) (call : PlainCall) (room : SeenRoom) (held : List NamedData)
         (sight : Sight) →
@@ -30,7 +30,7 @@ pub fn hashes_stand()
         (before after : Option (List ℕ)) (history : List Remembered) →
         0 < remember → Follow path before calls after → AllByRecursion (Remembers remember) calls →
         standing_in before ≡ Some history → StandsBy remember (deeds_of calls) history after }
-    // The hashes that are kept, one call after another, are the last so many of those that stood and those that were added.
+    // The hashes that are kept, one call after another, are the last n of those that stood and those that were added.
     ensures last { (remember : ℕ) (user : List ℕ) (deeds : List Deed) (hashes : List (List ℕ)) →
         0 < remember → is_renewed user deeds ≡ true →
         kept_by remember user deeds hashes ≡ last_of remember (added_by user deeds hashes) }

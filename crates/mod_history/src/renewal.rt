@@ -9,7 +9,7 @@ use pam_base::{NoMemory, Text};
 use std::alloc::Global;
 
 #[tactic(auto, unfolding(crate::specs::History::history_text))]
-/// The text of the history with the user's line renewed: with this hash behind it, and of all the last so many.
+/// The text of the history with the user's line renewed: with this hash after it, and of all the last n.
 pub(crate) fn renewed_text(
     alloc: Global,
     remember: u32,
@@ -114,7 +114,7 @@ fn is_last(hash: &[u8], hashes: &[Text]) -> bool
     }
 }
 
-// The last so many.
+// The last n.
 fn last_of(count: usize, hashes: &[Text]) -> &[Text]
     ensures { result.now ≡ last_of count hashes.now }
 {

@@ -3,7 +3,7 @@ use Rattle.std.proofs.Common.{◌≡◌, List, [], ◌∷◌, ◌++◌, Option, 
 use Rattle.std.specs.Option.{option_map}
 use Rattle.mod_tally.specs.Source.{in_front}
 
--- what is read from here on, behind what was read
+-- what is read from here on, after what was read
 abbrev pub behind : {A : Type 0} → List A → Option (List A) → Option (List A)
 behind front rest = option_map (λ more. front ++ more) rest
 

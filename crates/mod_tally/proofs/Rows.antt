@@ -49,7 +49,7 @@ digits_of_a = refl
 space_and_slash : spelled (codes "a b\\") ≡ codes "a\\x20b\\\\"
 space_and_slash = refl
 
--- ---- three failures lock until 600 seconds behind the latest
+-- ---- three failures lock until 600 seconds after the latest
 
 three : List Failure
 three = unknown_at 100 ∷ unknown_at 110 ∷ unknown_at 120 ∷ []

@@ -54,7 +54,7 @@ digits_back h l x (Some high) (Some low) a b e =
     let other : eqb x 92 ≡ false = ne_eqb x 92 (λ same. let differ : ◌≡◌ {A = Bool} true false = sym (ap is_printed same) ∙ whole.1 in cc) in
     (rw (other, whole.1, top, rest, first.0, second.0) refl, omega (arith, whole.0, first.1, second.1))
 
--- ---- a byte, and what stands behind it
+-- ---- a byte, and what follows it
 
 by_rest : (x : ℕ) (front rest source : List ℕ) (o : Option (List ℕ)) → spelled_byte x ≡ front → x < 256 → ((more : List ℕ) → o ≡ Some more → Spells more rest) → in_front (Some x) o ≡ Some source → Spells source (front ++ rest)
 by_rest x front rest source None s few more e = absurd cc

@@ -79,7 +79,7 @@ abbrev pub new_failure : ℕ → ItemTexts → Failure
 new_failure moment items = from_host moment (unwrap_or items.rhost []) (unwrap_or items.tty [])
     (unwrap_or items.service [])
 
--- a failure is recorded behind those that stand, and those that don't count any more are dropped
+-- a failure is recorded after those that stand, and those that don't count any more are dropped
 abbrev pub records : PlainSettings → List ℕ → List Failure → Act
 records s name failures =
     sees_moment (λ now. sees_items (λ items.

@@ -30,7 +30,7 @@ pub data Deed : Type 0 where
 abbrev pub IsOpen : PlainSettings → ℕ → List Failure → Type 0
 IsOpen s now failures = is_locked s.deny s.interval s.unlock now failures ≡ false
 
--- An authfail answered IGNORE: no lock stood, and behind the failures that stood there is a new one of this moment, with
+-- An authfail answered IGNORE: no lock stood, and after the failures that stood there is a new one of this moment, with
 -- which only those are left that count.
 pub record Records (path : List ℕ) (call : PlainCall) (now : ℕ) (items : ItemTexts)
     (before : List File) (code : Code) (after : List File)

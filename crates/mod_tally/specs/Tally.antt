@@ -39,7 +39,7 @@ with_source moment kind (Some []) = None
 with_source moment kind (Some (b ∷ bs)) =
     Some (record { moment = moment; kind = kind; source = b ∷ bs })
 
--- behind the moment stands U, or the kind and a source, which isn't empty
+-- after the moment stands U, or the kind and a source, which isn't empty
 abbrev pub with_origin : List ℕ → Option ℕ → Option Failure
 with_origin word None = None
 with_origin [] (Some moment) = None
@@ -111,14 +111,14 @@ latest (f ∷ fs) = max f.moment (latest fs)
 abbrev pub counts : ℕ → ℕ → Failure → Bool
 counts interval greatest f = nat_lt (greatest - f.moment) interval
 
--- the failures that lie less than so many seconds before the latest of them
+-- the failures that lie less than n seconds before the latest of them
 abbrev pub counting : ℕ → List Failure → List Failure
 counting interval failures = filter (counts interval (latest failures)) failures
 
 abbrev pub is_soon : ℕ → ℕ → ℕ → Bool
 is_soon unlock greatest now = unlock == 0 || nat_lt now (greatest + unlock)
 
--- the user is locked where so many count, at least one stands, and the time after which the lock ends, if there is one, hasn't passed
+-- the user is locked where n count, at least one stands, and the time after which the lock ends, if there is one, hasn't passed
 abbrev pub is_locked : ℕ → ℕ → ℕ → ℕ → List Failure → Bool
 is_locked deny interval unlock now failures =
     nat_lt 0 (length failures)

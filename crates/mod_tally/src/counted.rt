@@ -6,7 +6,7 @@ use crate::tally::Failure;
 use pam_base::{NoMemory, Text};
 use std::alloc::Global;
 
-/// Whether a user with these failures is locked now: at least one stands, so many count, and the lock hasn't ended.
+/// Whether a user with these failures is locked now: at least one stands, n count, and the lock hasn't ended.
 pub(crate) fn is_locked(
     deny: u32,
     interval: u32,

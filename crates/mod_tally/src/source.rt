@@ -70,7 +70,7 @@ pub(crate) fn unspelled(alloc: Global, word: &[u8]) -> Result<Option<Text>, NoMe
     Ok(Some(source))
 }
 
-// A byte that was spelled, and what stands behind its spelling.
+// A byte that was spelled, and what follows its spelling.
 #[derive(Clone, Copy)]
 struct Spelled<'a> {
     byte: u8,

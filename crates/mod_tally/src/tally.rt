@@ -132,7 +132,7 @@ fn unknown_at(alloc: Global, moment: u64) -> Failure
     }
 }
 
-// What stands behind the moment: U, or the kind and the source.
+// What follows the moment: U, or the kind and the source.
 fn read_origin(alloc: Global, word: &[u8], moment: Option<u64>) -> Result<Option<Failure>, NoMemory>
     ensures { IfOk result (λ failure. failure ≡ with_origin word.now moment) }
 {

@@ -114,7 +114,7 @@ fn clear(
     }
 }
 
-// Records a failure behind those that stand, and drops those that don't count any more.
+// Records a failure after those that stand, and drops those that don't count any more.
 fn record_failure(
     alloc: Global,
     interval: u32,
@@ -140,7 +140,7 @@ fn record_failure(
     Ok(code)
 }
 
-// The text of the failures that count, once this one is behind those that stand.
+// The text of the failures that count, once this one is after those that stand.
 fn text_with(
     alloc: Global,
     interval: u32,

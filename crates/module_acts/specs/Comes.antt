@@ -51,7 +51,7 @@ Finishes (Err NoMemory) act old new = Unit {0}
 -- ---- laws
 
 module _ {A B : Type 0} (first : (A → Act) → Act) (next : A → (B → Act) → Act) where
-  -- one step, and another behind it
+  -- one step, and another after it
   pub then : (r : Result B (Refuse ConvErr)) (x : A) (a b c : Scene) → Came x first a b
       → Comes r (next x) b c → Comes r (λ act. first (λ y. next y act)) a c
   then (Ok v) x a b c f n = λ act known code end rest. f (λ y. next y act) known code end
@@ -67,7 +67,7 @@ module _ {A B : Type 0} (first : (A → Act) → Act) (next : A → (B → Act) 
   early NoMemory a b f = tt
 
 module _ {B : Type 0} (step : Act → Act) (next : (B → Act) → Act) where
-  -- a step without a value, and another behind it
+  -- a step without a value, and another after it
   pub then_on : (r : Result B (Refuse ConvErr)) (a b c : Scene) → Leads step a b → Comes r next b c
       → Comes r (λ act. step (next act)) a c
   then_on (Ok v) a b c f n = λ act known code end rest. f (next act) known code end

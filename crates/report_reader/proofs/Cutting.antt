@@ -95,7 +95,7 @@ before_last-all word none = ap reverse (behind_space-all (reverse word) (has-rev
 pub rest_is : (xs : List ℕ) (k : ℕ) → take (length xs - k) (drop k xs) ≡ drop k xs
 rest_is xs k = grind (arith, common_steps)
 
--- at the place behind the last space
+-- at the place after the last space
 round : (text : List ℕ) (n : ℕ) → suc n ≤ length text → slice_index text n ≡ 32 → text ≡ take n text ++ 32 ∷ drop (suc n) text
 round text n le here =
     let lt : n < length text = omega arith in

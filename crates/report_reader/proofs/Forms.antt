@@ -26,7 +26,7 @@ use Rattle.report_reader.proofs.Known.{KnownCode, known_code, KnownFault, known_
 
 -- ---- the words of a form
 
--- of a line before a result, its own word and those behind it
+-- of a line before a result, its own word and those after it
 abbrev pub told_word : Told → List ℕ
 told_word (told_message style text) = codes "say"
 told_word (told_visit v) = codes "line"
@@ -189,7 +189,7 @@ told_is number (told_variable variable) is = record {
 
 -- ---- results
 
--- a result's word, and those behind it
+-- a result's word, and those after it
 abbrev pub result_word : Result → List ℕ
 result_word (answered command shown) = command_word command
 result_word (closed_by_program code) = codes "closed"

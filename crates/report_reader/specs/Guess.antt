@@ -12,14 +12,14 @@ use Rattle.report_lines.specs.Line.{Cleanup, Told, told_message, told_visit, tol
 use Rattle.report_reader.specs.Says.{Says, tells, results, lasts, says_text}
 use Rattle.report_reader.specs.Words.{before_space, behind_space, last_word, before_last, guessed_number, guessed_status, unquoted, guessed_code, guessed_style, guessed_fault, guessed_script_fault, guessed_func, guessed_command}
 
--- ---- what is told before a result, behind H and the line's word
+-- ---- what is told before a result, after H and the line's word
 
 -- STYLE TEXT
 abbrev pub guessed_message : List ℕ → Told
 guessed_message words = told_message (guessed_style (guessed_number (before_space words)))
     (unquoted (behind_space words))
 
--- PLACE MODULE NAME NUMBER; the module's name may hold spaces, so what stands behind it is cut off from the end
+-- PLACE MODULE NAME NUMBER; the module's name may hold spaces, so what follows it is cut off from the end
 abbrev pub guessed_seen : List ℕ → Seen
 guessed_seen words =
     let named = before_last (behind_space words) in
@@ -58,7 +58,7 @@ guessed_told word words =
     else if bytes_eq word (codes "env") then Some (told_variable (unquoted words))
     else None
 
--- ---- results, behind H and the command
+-- ---- results, after H and the command
 
 -- refused FILE LINE NAME NUMBER, its first word left out
 abbrev pub guessed_refusal : List ℕ → LoadFault

@@ -1,5 +1,5 @@
 -- The words of a line (this project's own): where they are cut, and which number, bytes, code or command each may stand
--- for. Each gives something for any bytes; whether a line is so printed is tested behind it.
+-- for. Each gives something for any bytes; whether a line is so printed is tested after it.
 use Rattle.std.specs.Prelude.{ℕ, ◌+◌, ◌-◌, ◌*◌, ◌%◌, ◌^◌, nat_eq, if◌then◌else◌, List, [], ◌∷◌, fold, reverse, unwrap_or}
 use Rattle.std.specs.Char.{digit_value}
 use Rattle.std.specs.List.{find}
@@ -20,7 +20,7 @@ use Rattle.pam_base.specs.Style.{style_number}
 use Rattle.script_lang.specs.Command.{word_of_func}
 use Rattle.report_lines.specs.Line.{Command, starts, ends, runs, sets_item, gets_item, puts_env, gets_env, lists_env, asks_delay, switches_delay, replies, command_word}
 
--- what stands before the first space, and behind it
+-- what stands before the first space, and after it
 abbrev pub before_space : List ℕ → List ℕ
 before_space [] = []
 before_space (b ∷ bs) = if nat_eq b 32 then [] else b ∷ before_space bs
@@ -29,7 +29,7 @@ abbrev pub behind_space : List ℕ → List ℕ
 behind_space [] = []
 behind_space (b ∷ bs) = if nat_eq b 32 then bs else behind_space bs
 
--- what stands behind the last space, and before it
+-- what follows the last space, and before it
 abbrev pub last_word : List ℕ → List ℕ
 last_word text = reverse (before_space (reverse text))
 
@@ -44,7 +44,7 @@ abbrev pub guessed_status : List ℕ → ℕ
 guessed_status digits =
     fold (λ value digit. (value * 16 % 2 ^ 32 + digit_value digit) % 2 ^ 32) 0 digits
 
--- within a quoted text: between two bytes, behind a backslash, behind \x, behind \x and a digit
+-- within a quoted text: between two bytes, after a backslash, after \x, after \x and a digit
 pub data Unquoting : Type 0 where
   between : Unquoting
   escaped : Unquoting

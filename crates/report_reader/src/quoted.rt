@@ -6,7 +6,7 @@ use crate::words::digit_value;
 use pam_base::{NoMemory, Text};
 use std::alloc::Global;
 
-// Where a quoted text is read: between two bytes, behind a backslash, behind \x, behind \x and a digit.
+// Where a quoted text is read: between two bytes, after a backslash, after \x, after \x and a digit.
 #[derive(Clone, Copy)]
 pub enum Reading {
     Between,

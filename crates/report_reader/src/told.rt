@@ -15,7 +15,7 @@ use report_lines::{write_missing, write_said, write_variable};
 use stack_walk::Seen;
 use std::alloc::Global;
 
-/// Reads the line of a message, behind its word: `STYLE TEXT`.
+/// Reads the line of a message, after its word: `STYLE TEXT`.
 pub fn read_message(
     alloc: Global,
     line: &[u8],

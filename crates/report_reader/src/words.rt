@@ -15,7 +15,7 @@ pub fn before_space(text: &[u8]) -> &[u8]
     }
 }
 
-/// What stands behind the first space; nothing where there is none.
+/// What follows the first space; nothing where there is none.
 pub fn behind_space(text: &[u8]) -> &[u8]
     ensures { result.now ≡ behind_space text.now }
 {
@@ -25,7 +25,7 @@ pub fn behind_space(text: &[u8]) -> &[u8]
     }
 }
 
-/// What stands behind the last space; all where there is none.
+/// What follows the last space; all where there is none.
 pub fn last_word(text: &[u8]) -> &[u8]
     ensures { result.now ≡ last_word text.now }
 {
@@ -41,7 +41,7 @@ pub fn before_last(text: &[u8]) -> &[u8]
     if n > 0 { &text[..n - 1] } else { &[] }
 }
 
-// The place behind the last space; 0 where there is none.
+// The place after the last space; 0 where there is none.
 fn last_place(text: &[u8]) -> usize
     ensures within { result ≤ length text.now }
     ensures none { has_byte 32 (drop result text.now) ≡ false }

@@ -59,7 +59,7 @@ skips : (i : ℕ) (told : List (Option Seen)) → lines_before i (None ∷ told)
 skips zero told = refl
 skips (suc i) told = refl
 
--- all lines stand before a visit behind the last
+-- all lines stand before a visit after the last
 all_before : (told : List (Option Seen)) → lines_before (length (visits_in told)) told ≡ length told
 all_before [] = refl
 all_before (None ∷ told) = omega (arith, skips (length (visits_in told)) told, all_before told)

@@ -57,7 +57,7 @@ IsCall None result =
 
 -- ---- what a block was found to come to
 
--- it is the place behind it, or else which line doesn't fit
+-- it is the place after it, or else which line doesn't fit
 abbrev pub IsJudged : Judged → Option Place → ℕ → Type 0
 IsJudged (judged.Fits place) behind bad = behind ≡ Some (place_of place)
 IsJudged (judged.Differs line) behind bad = (behind ≡ None) × (line ≡ bad)

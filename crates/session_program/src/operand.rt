@@ -1,7 +1,7 @@
 ghost use Rattle.std.specs.Prelude.{◌≤◌, IsTrue};
 ghost use Rattle.pam_base.specs.ServiceName.{is_service_name};
 
-/// So many lines that are to be drawn from a seed: at most `drawn_files::MAX_DRAWN`.
+/// n lines that are to be drawn from a seed: at most `drawn_files::MAX_DRAWN`.
 #[derive(Clone, Copy)]
 pub struct Draw {
     pub seed: u32,
