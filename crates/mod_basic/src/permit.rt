@@ -1,6 +1,6 @@
 ghost use Rattle.std.specs.Prelude.{◌≡◌, Some, OnOk, OnErr, codes};
 ghost use Rattle.std.specs.Option.{option_or};
-ghost use Rattle.pam_room.specs.Module.{length_note};
+ghost use Rattle.pam_room.specs.Module.{leaves_anything, length_note};
 ghost use Rattle.mod_basic.specs.Permit.{permit_plays};
 
 use conv_port::Conv;
@@ -28,6 +28,8 @@ impl Module for Permit {
     ghost plays = { λ _. permit_plays };
 
     ghost note = { λ _. length_note };
+
+    ghost breaks = { λ _. leaves_anything };
 
     fn name(&self) -> &[u8] {
         b"pam_permit"

@@ -2,7 +2,7 @@ ghost use Rattle.std.specs.Prelude.{◌≡◌, ◌≤◌, ◌++◌, false, List,
 ghost use Rattle.conv_port.specs.declared.message.Message.{Message};
 ghost use Rattle.data_cleanup.specs.Sets.{Sets};
 ghost use Rattle.pam_room.specs.State.{room_of};
-ghost use Rattle.pam_room.specs.Module.{HasSet, seen_of};
+ghost use Rattle.pam_room.specs.Module.{HasSet, leaves_anything, seen_of};
 ghost use Rattle.pam_room.specs.Plain.{plain_transaction};
 ghost use Rattle.mod_basic.specs.Request.{plain_request};
 ghost use Rattle.mod_basic.specs.Probe.{Probes, ProbesAll, births_in, code_in, fixed_answer, probe_note, probe_plays, probed_all, probing};
@@ -36,6 +36,8 @@ impl Module for Probe {
     ghost plays = { λ _. probe_plays };
 
     ghost note = { λ _. probe_note };
+
+    ghost breaks = { λ _. leaves_anything };
 
     fn name(&self) -> &[u8] {
         b"pam_probe"

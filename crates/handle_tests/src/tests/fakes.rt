@@ -1,6 +1,6 @@
 ghost use Rattle.std.specs.Prelude.{codes};
 ghost use Rattle.handle_tests.specs.Fakes.{establisher_plays};
-ghost use Rattle.pam_room.specs.Module.{answered, length_note};
+ghost use Rattle.pam_room.specs.Module.{answered, leaves_anything, length_note, never_breaks};
 
 use conv_port::Conv;
 use data_cleanup::{Datum, Receipt};
@@ -20,6 +20,8 @@ impl Module for Establisher {
     ghost plays = { λ _. establisher_plays };
 
     ghost note = { λ _. length_note };
+
+    ghost breaks = { λ _. never_breaks };
 
     fn name(&self) -> &[u8] {
         b"establisher"
@@ -59,6 +61,8 @@ impl Module for Forgetful {
     ghost plays = { λ _. λ call room held sight. answered BufErr room sight };
 
     ghost note = { λ _. length_note };
+
+    ghost breaks = { λ _. leaves_anything };
 
     fn name(&self) -> &[u8] {
         b"forgetful"
