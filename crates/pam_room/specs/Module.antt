@@ -146,8 +146,8 @@ played_in plays call s =
 -- a call that found no memory left what its module may leave then
 abbrev pub BreaksIn : Breaks → PlainCall → Scene → Scene → Type 0
 BreaksIn breaks call old new =
-    IsTrue (breaks call (seen_of old.room) (named_data old.room.transaction.datums.live) (sight_of old)
-    (seen_of new.room) new.vault.files)
+    IsTrue (breaks call (seen_of old.room) (named_data old.room.transaction.datums.live)
+    (sight_of old) (seen_of new.room) new.vault.files)
 
 -- the births of data that are set one after another, with their ids, their transaction and their owner
 abbrev pub births_of : ℕ → ℕ → ℕ → List NamedData → List Birth

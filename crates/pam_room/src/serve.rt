@@ -64,8 +64,8 @@ pub fn serve_line(
         (⟦<World as WorldTold>⟧.plain world.new))) }
     ensures broken { IsTrue (⟦<Room as RoomTold>⟧.tells room.old
         && ⟦<World as WorldTold>⟧.tells world.old) →
-        OnErr result (LineBreaks (map (player_of label plays note breaks) mods.now) line.module_number
-        (plain_call call.now)
+        OnErr result (LineBreaks (map (player_of label plays note breaks) mods.now)
+        line.module_number (plain_call call.now)
         (state_of (⟦<Room as RoomTold>⟧.plain room.old) (⟦<World as WorldTold>⟧.plain world.old))
         (state_of (⟦<Room as RoomTold>⟧.plain room.new)
         (⟦<World as WorldTold>⟧.plain world.new))) }
@@ -84,7 +84,8 @@ pub fn serve_line(
     ensures stays { Stays (plain_transaction room.old.transaction)
         (plain_transaction room.new.transaction) (plain_process world.old.process)
         (plain_process world.new.process) }
-    ensures grows { Grows (notes_of (map (player_of label plays note breaks) mods.now)) (length mods.now)
+    ensures grows { Grows (notes_of (map (player_of label plays note breaks) mods.now))
+        (length mods.now)
         room.old.transaction.datums world.old.process.ledger room.new.transaction.datums
         world.new.process.ledger }
     ensures ready { IsReady (length mods.now) (plain_transaction room.new.transaction)
@@ -123,7 +124,8 @@ fn serve_by(
     ensures told { IsTrue (⟦<Room as RoomTold>⟧.tells room.old
         && ⟦<World as WorldTold>⟧.tells world.old) →
         IfOk result (λ code. AnswersAs
-        (served (map (player_of label plays note breaks) mods.now) (Some number) (plain_call call.now)
+        (served (map (player_of label plays note breaks) mods.now) (Some number)
+        (plain_call call.now)
         (state_of (⟦<Room as RoomTold>⟧.plain room.old) (⟦<World as WorldTold>⟧.plain world.old)))
         code (state_of (⟦<Room as RoomTold>⟧.plain room.new)
         (⟦<World as WorldTold>⟧.plain world.new))) }
@@ -140,7 +142,8 @@ fn serve_by(
     ensures stays { Stays (plain_transaction room.old.transaction)
         (plain_transaction room.new.transaction) (plain_process world.old.process)
         (plain_process world.new.process) }
-    ensures grows { Grows (notes_of (map (player_of label plays note breaks) mods.now)) (length mods.now)
+    ensures grows { Grows (notes_of (map (player_of label plays note breaks) mods.now))
+        (length mods.now)
         room.old.transaction.datums world.old.process.ledger room.new.transaction.datums
         world.new.process.ledger }
     ensures ready { IsReady (length mods.now) (plain_transaction room.new.transaction)
