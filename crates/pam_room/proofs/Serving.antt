@@ -40,12 +40,12 @@ served_so player mods number m call s mid code datums ledger within is p nap d l
       state_is = rw (d, l, room, vault, clock, process, nap) refl;
     })
 
--- what a module left without memory, it left after the sweep too
-pub broken_so : {M : Type 0} (player : M → Player) (mods : List M) (number : ℕ) (m : M) (call : PlainCall) (s mid : State) (datums : PlainDataList) (ledger : PlainLedger)
+-- what a module left without memory, the line left
+pub broken_so : {M : Type 0} (player : M → Player) (mods : List M) (number : ℕ) (m : M) (call : PlainCall) (s end : State)
     → number < length mods → m ≡ get_or mods number m
-    → BreaksIn (player m).breaks call (scene_in (at_work number s)) (scene_in mid)
-    → LineBreaks (map player mods) (Some number) call s (with_data datums ledger mid)
-broken_so player mods number m call s mid datums ledger within is left =
+    → BreaksIn (player m).breaks call (scene_in (at_work number s)) (scene_in end)
+    → LineBreaks (map player mods) (Some number) call s end
+broken_so player mods number m call s end within is left =
     let at : slice_get (map player mods) number ≡ Some (player m) = player_at player mods number m within is in
     rw at left
 

@@ -1,4 +1,4 @@
-use Rattle.std.proofs.Common.{◌&&◌}
+use Rattle.std.proofs.Common.{◌≡◌, ◌&&◌, Err, rules}
 use Rattle.pam_room.proofs.Serving.{all_await, broken_so, served_so}
 use Rattle.pam_room.proofs.Telling.{all_but_last}
 use Rattle.pam_room.proofs.serve.serve_by.Goals as goal
@@ -39,5 +39,5 @@ returns-in_err-code-clause-broken g c = λ told.
     ((goal.Conv-dyn g (conv.vtable, conv.value)).conv_tells conv.value)
     ((goal.Vault-dyn g (vault.vtable, vault.value)).vault_tells vault.value && (goal.Clock-dyn g (clock.vtable, clock.value)).clock_tells clock.value)
     ((goal.Nap-dyn g (nap.vtable, nap.value)).nap_tells nap.value) told) in
-    broken_so _ c.args.mods.now c.args.number c.index-mods-number.result _ _ _ c.sweep.new.datums c.sweep.new.ledger
-    c.requires.there c.index-mods-number.is broken
+    let answered : c.from_residual.result ≡ Err c.in_err-code.field-0.0 = search rules in
+    rw answered (broken_so _ c.args.mods.now c.args.number c.index-mods-number.result _ _ _ c.requires.there c.index-mods-number.is broken)
