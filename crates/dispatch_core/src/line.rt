@@ -68,7 +68,7 @@ pub fn ask_line(
     let _few = chain.len();
     let line = StackLine {
         place: i as u32 + 1,
-        path: paths.take(alloc, i),
+        path: paths.take(i),
         module_number: chain.module(i),
     };
     let call = Call {
