@@ -70,6 +70,7 @@ impl Chain {
     pub fn len(&self) -> usize
         ensures counted { result ≡ lines_in self.now.nodes }
         ensures bounded { result ≤ 4096 }
+        ensures numbered { length self.now.names < 2 ^ 32 }
     {
         self.lines.len()
     }
