@@ -39,6 +39,11 @@ module_is stack names i within =
     at_line-stands None (λ (l : FlatLine). module_of names l.rule) stack i at.line _ at.stands
     ∙ ap (module_of names) (sym (at_line-stands no_rule (λ (l : FlatLine). l.rule) stack i at.line _ at.stands))
 
+-- there are as many modules as names of them
+pub few_modules : {M : Type 0} (label : M → List ℕ) (mods : List M) (names : List (List ℕ)) (limit : ℕ)
+    → names ≡ map label mods → length names < limit → length mods < limit
+few_modules label mods names limit is few = omega (arith, ap length is, length-map mods label, few)
+
 -- the module of a line is one of those that are there
 pub module_there : {M : Type 0} (label : M → List ℕ) (mods : List M) (stack : Stack) (names : List (List ℕ)) (i : ℕ) (number : Option ℕ)
     → i < lines_in stack → names ≡ map label mods → number ≡ module_at stack names i → IfSome number (λ n. n < length mods)

@@ -1,4 +1,4 @@
-ghost use Rattle.std.specs.Prelude.{◌≡◌, ◌<◌, ◌≤◌, ◌^◌, ◌+◌, ◌&&◌, ◌∷◌, ◌++◌, [], length, map, IfOk, OnOk, OnErr, IsTrue};
+ghost use Rattle.std.specs.Prelude.{◌≡◌, ◌<◌, ◌≤◌, ◌+◌, ◌&&◌, ◌∷◌, ◌++◌, [], length, map, IfOk, OnOk, OnErr, IsTrue};
 ghost use Rattle.control_words.specs.Stack.{lines_in};
 ghost use Rattle.handler_chain.specs.FlatLines.{rule_at};
 ghost use Rattle.pam_room.specs.State.{state_of};
@@ -31,7 +31,6 @@ pub fn ask_line(
 ) -> Result<Code, NoMemory>
     requires within { i < lines_in chain.now.nodes }
     requires names { chain.now.names ≡ map label mods.now }
-    requires few { length mods.now < 2 ^ 32 }
     requires paths { HasPaths chain.now.nodes i paths.old }
     requires spare { 0 < room.old.transaction.trail.spare }
     requires ready { IsReady (length mods.now) (plain_transaction room.old.transaction)
@@ -71,11 +70,12 @@ pub fn ask_line(
     ensures ready { IsReady (length mods.now) (plain_transaction room.new.transaction)
         (plain_process world.new.process) }
 {
-    // It does nothing at run time: its contract says that a stack has fewer than 4,097 lines.
+    // It does nothing at run time: its contract says that a stack has fewer than 4,097 lines, and that a chain is made
+    // for fewer than 2^32 modules.
     let _few = chain.len();
     let line = StackLine {
         place: i as u32 + 1,
-        path: paths.take(alloc, i),
+        path: paths.take(i),
         module_number: chain.module(i),
     };
     let call = Call {

@@ -1,4 +1,4 @@
-ghost use Rattle.std.specs.Prelude.{◌≡◌, ◌<◌, ◌≤◌, ◌^◌, ◌+◌, ◌*◌, ◌&&◌, ◌⊎◌, [], None, Some, true, is_some, length, map, IfOk, OnOk, OnErr, IsNone, IsTrue};
+ghost use Rattle.std.specs.Prelude.{◌≡◌, ◌<◌, ◌≤◌, ◌+◌, ◌*◌, ◌&&◌, ◌⊎◌, [], None, Some, true, is_some, length, map, IfOk, OnOk, OnErr, IsNone, IsTrue};
 ghost use Rattle.control_words.specs.Stack.{lines_in};
 ghost use Rattle.frozen_chain.specs.Kept.{empty_cells, lines_kept};
 ghost use Rattle.pam_room.specs.State.{state_of};
@@ -39,7 +39,6 @@ fn walk(
     world: &mut World,
 ) -> Result<Option<Code>, NoMemory>
     requires names { chain.old.names ≡ map label mods.now }
-    requires few { length mods.now < 2 ^ 32 }
     requires taken { supplies.old.given.taken ≡ [] }
     requires answers { lines_in chain.old.nodes ≤ supplies.old.given.room }
     requires paths { HasPaths chain.old.nodes 0 supplies.old.paths }
@@ -118,7 +117,6 @@ fn walk_all(
     world: &mut World,
 ) -> Result<Code, NoMemory>
     requires names { chain.old.names ≡ map label mods.now }
-    requires few { length mods.now < 2 ^ 32 }
     requires cells { keeps.old ≡ None }
     requires ready { IsReady (length mods.now) (plain_transaction room.old.transaction)
         (plain_process world.old.process) }
@@ -215,7 +213,6 @@ pub fn dispatch(
     world: &mut World,
 ) -> Result<Code, NoMemory>
     requires names { chain.old.names ≡ map label mods.now }
-    requires few { length mods.now < 2 ^ 32 }
     requires ready { IsReady (length mods.now) (plain_transaction room.old.transaction)
         (plain_process world.old.process) }
     ensures room_tells { ⟦<Room as RoomTold>⟧.tells room.new ≡ ⟦<Room as RoomTold>⟧.tells room.old }

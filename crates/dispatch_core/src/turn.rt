@@ -1,4 +1,4 @@
-ghost use Rattle.std.specs.Prelude.{◌≡◌, ◌<◌, ◌≤◌, ◌^◌, ◌+◌, ◌*◌, ◌&&◌, ℕ, List, [], None, is_none, is_some, true, length, map, IfOk, OnOk, OnErr, IfSome, IsNone, IsTrue};
+ghost use Rattle.std.specs.Prelude.{◌≡◌, ◌<◌, ◌≤◌, ◌+◌, ◌*◌, ◌&&◌, ℕ, List, [], None, is_none, is_some, true, length, map, IfOk, OnOk, OnErr, IfSome, IsNone, IsTrue};
 ghost use Rattle.control_words.specs.Stack.{lines_in};
 ghost use Rattle.handler_chain.specs.FlatLines.{rule_at};
 ghost use Rattle.frozen_chain.specs.Kept.{lines_kept};
@@ -61,7 +61,6 @@ pub fn next_answer(
 ) -> Result<Option<Code>, NoMemory>
     requires within { i < lines_in chain.now.nodes }
     requires names { chain.now.names ≡ map label mods.now }
-    requires few { length mods.now < 2 ^ 32 }
     requires answers { supplies.old.given.past ≡ [] → 0 < supplies.old.given.room }
     requires paths { HasPaths chain.now.nodes i supplies.old.paths }
     requires spare { 0 < room.old.transaction.trail.spare }
@@ -158,7 +157,6 @@ pub fn walk_line(
 ) -> Result<Option<Code>, NoMemory>
     requires within { walker.old.at < lines_in chain.old.nodes }
     requires names { chain.old.names ≡ map label mods.now }
-    requires few { length mods.now < 2 ^ 32 }
     requires answers { supplies.old.given.past ≡ [] → 0 < supplies.old.given.room }
     requires paths { HasPaths chain.old.nodes walker.old.at supplies.old.paths }
     requires spare { 0 < room.old.transaction.trail.spare }

@@ -5,7 +5,7 @@ ghost use Rattle.pam_room.specs.Stays.{IsReady};
 
 use conv_port::{Conv, QueueConv};
 use data_cleanup::{Datum, Ledger, Receipt};
-use pam_base::{Code, Func, NoMemory, Numbers, Text, Texts};
+use pam_base::{Code, Func, NoMemory, Numbers, SharedText, Text, Texts};
 use pam_outside::{
     Clock, FixedClock, MemVault, NapSum, Vault, current_moment, read_file, replace_file,
 };
@@ -112,7 +112,7 @@ fn serve_first(
     room.transaction.trail.reserve(1)?;
     let line = StackLine {
         place: 1,
-        path: Text::new(alloc),
+        path: SharedText::new(),
         module_number: Some(0),
     };
     serve_line(alloc, mods, line, call, room, world)

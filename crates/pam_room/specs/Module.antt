@@ -1,6 +1,7 @@
 -- What a module is to contracts: what its calls do to a transaction and a world that tell, and what its cleanup
 -- of a datum comes to (Linux-PAM Module Writers' Guide; the form is this project's own).
-use Rattle.std.specs.Prelude.{◌≡◌, ℕ, zero, suc, ◌+◌, ◌%◌, ◌^◌, Bool, true, false, IsTrue, List, [], ◌∷◌, ◌++◌, length, map}
+use Rattle.std.specs.Prelude.{◌≡◌, ℕ, zero, suc, ◌+◌, ◌%◌, ◌^◌, Bool, true, false, ◌&&◌, IsTrue, List, [], ◌∷◌, ◌++◌, length, map}
+use Rattle.std.specs.Str.{bytes_eq}
 use Rattle.pam_base.specs.declared.code.Code.{Code}
 use Rattle.item_store.specs.Items.{ItemTexts}
 use Rattle.env_list.specs.Environment.{Variable}
@@ -81,6 +82,18 @@ leaves_anything call room held sight left files = true
 -- those of a module that takes no memory
 abbrev pub never_breaks : Breaks
 never_breaks call room held sight left files = false
+
+-- whether two lists have the same files
+abbrev pub same_files : List File → List File → Bool
+same_files [] [] = true
+same_files [] (g ∷ gs) = false
+same_files (f ∷ fs) [] = false
+same_files (f ∷ fs) (g ∷ gs) =
+    bytes_eq f.path g.path && (bytes_eq f.bytes g.bytes && same_files fs gs)
+
+-- those of a module that replaces no file
+abbrev pub keeps_files : Breaks
+keeps_files call room held sight left files = same_files files sight.files
 
 -- a module: its name and its three meanings
 pub record Player : Type 0 where

@@ -14,7 +14,7 @@ use crate::sweep::sweep;
 use crate::visits::Visit;
 use crate::world::{World, WorldTold};
 use data_cleanup::laws;
-use pam_base::{Code, NoMemory, Text};
+use pam_base::{Code, NoMemory, SharedText};
 use std::alloc::Global;
 
 /// A line of a stack, as it is visited.
@@ -23,7 +23,7 @@ pub struct StackLine {
     /// Its place among the stack's lines, from 1.
     pub place: u32,
     /// The path of its module.
-    pub path: Text,
+    pub path: SharedText,
     /// The number of its module, from 0; None where it isn't there.
     pub module_number: Option<u32>,
 }

@@ -1,6 +1,6 @@
 ghost use Rattle.std.specs.Prelude.{codes};
 ghost use Rattle.handle_tests.specs.Fakes.{establisher_plays};
-ghost use Rattle.pam_room.specs.Module.{answered, leaves_anything, length_note, never_breaks};
+ghost use Rattle.pam_room.specs.Module.{answered, keeps_files, length_note, never_breaks};
 
 use conv_port::Conv;
 use data_cleanup::{Datum, Receipt};
@@ -62,7 +62,7 @@ impl Module for Forgetful {
 
     ghost note = { λ _. length_note };
 
-    ghost breaks = { λ _. leaves_anything };
+    ghost breaks = { λ _. keeps_files };
 
     fn name(&self) -> &[u8] {
         b"forgetful"
@@ -80,6 +80,7 @@ impl Module for Forgetful {
     ) -> Result<Code, NoMemory> {
         laws::nothing_is_set();
         laws::set_data_are_sets();
+        laws::files_stay();
         transaction.set_data(alloc, &mut process.ledger, b"a", b"xyz")?;
         Err(NoMemory)
     }

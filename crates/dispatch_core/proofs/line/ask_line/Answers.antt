@@ -1,12 +1,16 @@
 use Rattle.std.proofs.Common.{◌+◌, refl, ◌∙◌, arith}
 use Rattle.pam_room.specs.State.{State, state_of}
 use Rattle.pam_room.specs.Plain.{plain_room, plain_transaction, plain_world}
-use Rattle.dispatch_core.proofs.Lining.{line_asked, line_at_work, line_broken, line_visited, module_there}
+use Rattle.dispatch_core.proofs.Lining.{few_modules, line_asked, line_at_work, line_broken, line_visited, module_there}
 use Rattle.dispatch_core.proofs.line.ask_line.Goals as goal
 
 pub serve_line-requires-clause-there : goal.serve_line-requires-clause-there
 serve_line-requires-clause-there g c =
     module_there (λ b. (goal.Module-dyn g (b.vtable, b.value)).label b.value) c.args.mods.now c.args.chain.now.nodes c.args.chain.now.names c.args.i c.module.result c.requires.within c.requires.names c.module.ensures
+
+pub serve_line-requires-clause-few : goal.serve_line-requires-clause-few
+serve_line-requires-clause-few g c =
+    few_modules (λ b. (goal.Module-dyn g (b.vtable, b.value)).label b.value) c.args.mods.now c.args.chain.now.names _ c.requires.names c.len.ensures.numbered
 
 pub returns-clause-told : goal.returns-clause-told
 returns-clause-told g c = λ told.
