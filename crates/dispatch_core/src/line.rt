@@ -7,7 +7,7 @@ ghost use Rattle.pam_room.specs.Module.{notes_of, player_of};
 ghost use Rattle.pam_room.specs.Plain.{plain_process, plain_transaction};
 ghost use Rattle.stack_walk.specs.Pass.{AnswersAs};
 ghost use Rattle.dispatch_core.specs.AnyWorld.{GoesSoundly};
-ghost use Rattle.dispatch_core.specs.Failing.{IsAtWork, visited_at};
+ghost use Rattle.dispatch_core.specs.Failing.{BreaksAt, IsAtWork, visited_at};
 ghost use Rattle.dispatch_core.specs.Lines.{answers_by};
 ghost use Rattle.dispatch_core.specs.Paths.{HasPaths};
 
@@ -42,21 +42,28 @@ pub fn ask_line(
     ensures told { IsTrue (⟦<Room as RoomTold>⟧.tells room.old
         && ⟦<World as WorldTold>⟧.tells world.old) →
         IfOk result (λ answer. AnswersAs
-        (answers_by (map (player_of label plays note) mods.now) request.func request.flags
+        (answers_by (map (player_of label plays note breaks) mods.now) request.func request.flags
         (rule_at chain.now.nodes i) (i + 1)
         (state_of (⟦<Room as RoomTold>⟧.plain room.old) (⟦<World as WorldTold>⟧.plain world.old)))
         answer (state_of (⟦<Room as RoomTold>⟧.plain room.new)
+        (⟦<World as WorldTold>⟧.plain world.new))) }
+    ensures broken { IsTrue (⟦<Room as RoomTold>⟧.tells room.old
+        && ⟦<World as WorldTold>⟧.tells world.old) →
+        OnErr result (BreaksAt (map (player_of label plays note breaks) mods.now) request.func
+        request.flags chain.now.nodes i
+        (state_of (⟦<Room as RoomTold>⟧.plain room.old) (⟦<World as WorldTold>⟧.plain world.old))
+        (state_of (⟦<Room as RoomTold>⟧.plain room.new)
         (⟦<World as WorldTold>⟧.plain world.new))) }
     ensures visits { OnOk result (length room.new.transaction.trail.visits
         ≡ length room.old.transaction.trail.visits + 1) }
     ensures visited { IfOk result (λ answer. room.new.transaction.trail.visits
         ≡ room.old.transaction.trail.visits ++ visited_at chain.now.nodes i answer ∷ []) }
-    ensures at_work { OnErr result (IsAtWork (map (player_of label plays note) mods.now)
+    ensures at_work { OnErr result (IsAtWork (map (player_of label plays note breaks) mods.now)
         (rule_at chain.now.nodes i) (plain_transaction room.old.transaction)
         (plain_transaction room.new.transaction)) }
     ensures spare { room.old.transaction.trail.spare ≤ room.new.transaction.trail.spare + 1 }
     ensures paths { HasPaths chain.now.nodes (i + 1) paths.new }
-    ensures sound { GoesSoundly (notes_of (map (player_of label plays note) mods.now))
+    ensures sound { GoesSoundly (notes_of (map (player_of label plays note breaks) mods.now))
         (length mods.now)
         (plain_transaction room.old.transaction) (plain_transaction room.new.transaction)
         (plain_process world.old.process) (plain_process world.new.process) }

@@ -1,5 +1,5 @@
 ghost use Rattle.std.specs.Prelude.{◌≡◌, ◌<◌, ◌^◌, [], codes, length};
-ghost use Rattle.pam_room.specs.Module.{answered, length_note};
+ghost use Rattle.pam_room.specs.Module.{answered, leaves_anything, length_note};
 ghost use Rattle.pam_room.specs.Plain.{plain_process, plain_transaction};
 ghost use Rattle.pam_room.specs.Stays.{IsReady};
 
@@ -29,6 +29,8 @@ impl Module for Forgetful {
     ghost plays = { λ _. λ call room held sight. answered BufErr room sight };
 
     ghost note = { λ _. length_note };
+
+    ghost breaks = { λ _. leaves_anything };
 
     fn name(&self) -> &[u8] {
         b"pam_forgetful"
