@@ -2,7 +2,7 @@ ghost use Rattle.std.specs.Prelude.{◌≡◌, ◌==◌, length, OnOk, OnErr};
 ghost use Rattle.control_words.specs.Stack.{joined, node_on, none, stack_of, count};
 
 use crate::control::Control;
-use pam_base::{NoMemory, Text, Texts};
+use pam_base::{NoMemory, SharedText, Texts};
 use std::alloc::Global;
 
 /// What a line of a service names: its module, with the module's arguments, and its control.
@@ -12,7 +12,7 @@ pub struct Rule {
     pub silent: bool,
     pub control: Control,
     /// The module's path, as it is written.
-    pub path: Text,
+    pub path: SharedText,
     pub args: Texts,
 }
 

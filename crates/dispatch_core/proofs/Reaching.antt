@@ -15,7 +15,7 @@ use Rattle.stack_walk.specs.Route.{KeptAnswers}
 use Rattle.dispatch_core.specs.declared.walker.Walker.{Walker}
 use Rattle.dispatch_core.specs.AnyWorld.{GoesSoundly}
 use Rattle.dispatch_core.specs.EntryStates.{entry_at}
-use Rattle.dispatch_core.specs.Failing.{GoesBy, IsAsked, IsAtWork, IsBroken, PlayOn, StopsAt, Takes, unasked, visited_at, visits_in}
+use Rattle.dispatch_core.specs.Failing.{BreaksAt, GoesBy, IsAsked, IsAtWork, IsBroken, PlayOn, StopsAt, Takes, unasked, visited_at, visits_in}
 use Rattle.dispatch_core.specs.Index.{GoesOn, Stands, walk_on}
 use Rattle.dispatch_core.specs.Lines.{answers_by}
 use Rattle.dispatch_core.proofs.Taking.{put_off, taken}
@@ -127,8 +127,9 @@ module _ (players : List Player) (func : Func) (flags : ℕ) (stack : Stack) whe
     pub far_stops : (walker : Walker) (past : List Code) (now end : State) → Far walker past now → past ≡ [] → walker.at < lines_in stack
         → IsAtWork players (rule_at stack walker.at) now.room.transaction end.room.transaction
         → GoesSoundly (notes_of players) (length players) now.room.transaction end.room.transaction now.world.process end.world.process → end.world.nap ≡ now.world.nap
+        → (IsTrue tells → BreaksAt players func flags stack walker.at now end)
         → StopsAt players func flags stack kind kept given tells start end
-    far_stops walker past now end far none within work sound nap = record {
+    far_stops walker past now end far none within work sound nap left = record {
       more = far.more;
       trail = work.1 ∙ far.trail;
       early = far.early;
@@ -141,7 +142,7 @@ module _ (players : List Player) (func : Func) (flags : ℕ) (stack : Stack) whe
           ∙ put_off kind (serving kind kept unasked) stack walker (pass_state [] (far.early ++ visits_in far.more) None) [] (far.early ++ visits_in far.more) (Some (walker.at + 1)) None (decides kind kept (walker.at + 1) codes.Incomplete) within
           (record { answer_is = refl; deciding_is = refl; stopped_is = refl; state_is = refl }) refl;
       at_work = work.0;
-      played = λ told. (now, far.played told, record { sound = sound; trail = work.1; nap = nap });
+      played = λ told. (now, far.played told, record { left = left told; sound = sound; trail = work.1; nap = nap });
     }
 
     -- the same of a chain whose stack stayed, by the turn's result
@@ -154,11 +155,13 @@ module _ (players : List Player) (func : Func) (flags : ℕ) (stack : Stack) whe
         (takes_told still walker.at code past left now later tell
         (subst (λ (t : Stack). Takes players func flags t still walker.at code past left now later) same (subst (λ (o : Option Code). IfSome o (λ (k : Code). Takes players func flags nodes still walker.at k past left now later)) is takes)))
 
-    pub stops_later : (nodes : Stack) (walker : Walker) (past : List Code) (now end : State) (modules : ℕ) → nodes ≡ stack → Far walker past now → past ≡ [] → walker.at < lines_in nodes
+    pub stops_later : (nodes : Stack) (walker : Walker) (past : List Code) (now end : State) (modules : ℕ) → nodes ≡ stack → (still : Bool) → (IsTrue tells → IsTrue still) → Far walker past now → past ≡ [] → walker.at < lines_in nodes
         → IsAtWork players (rule_at nodes walker.at) now.room.transaction end.room.transaction → length players ≡ modules
         → GoesSoundly (notes_of players) modules now.room.transaction end.room.transaction now.world.process end.world.process → end.world.nap ≡ now.world.nap
+        → (IsTrue still → BreaksAt players func flags nodes walker.at now end)
         → StopsAt players func flags stack kind kept given tells start end
-    stops_later nodes walker past now end modules same far none within work count sound nap =
+    stops_later nodes walker past now end modules same still tell far none within work count sound nap left =
         far_stops walker past now end far none (omega (arith, within, ap lines_in same))
         (subst (λ (t : Stack). IsAtWork players (rule_at t walker.at) now.room.transaction end.room.transaction) same work)
         (subst (λ n. GoesSoundly (notes_of players) n now.room.transaction end.room.transaction now.world.process end.world.process) (sym count) sound) nap
+        (λ told. subst (λ (t : Stack). BreaksAt players func flags t walker.at now end) same (left (tell told)))

@@ -8,6 +8,7 @@ use Rattle.control_words.specs.Stack.{Stack}
 use Rattle.handler_chain.specs.FlatLines.{module_of, rule_at}
 use Rattle.pam_room.specs.declared.visits.Visit.{Visit as Visited}
 use Rattle.pam_room.specs.Module.{Player, notes_of}
+use Rattle.pam_room.specs.Serve.{LineBreaks}
 use Rattle.pam_room.specs.State.{PlainRoom, PlainTransaction, State}
 use Rattle.stack_walk.specs.declared.opinion.Opinion.{Opinion}
 use Rattle.stack_walk.specs.declared.pass_kind.PassKind.{PassKind}
@@ -17,7 +18,7 @@ use Rattle.stack_walk.specs.Pass.{Answering, AnswersAs, Visit, answers_of, pass_
 use Rattle.dispatch_core.specs.AnyWorld.{GoesSoundly}
 use Rattle.dispatch_core.specs.declared.walker.Walker.{Walker}
 use Rattle.dispatch_core.specs.Index.{walk_on}
-use Rattle.dispatch_core.specs.Lines.{answers_by, names_of}
+use Rattle.dispatch_core.specs.Lines.{answers_by, call_of, names_of}
 
 -- a line that isn't asked: it puts the pass off there, and its place is noted
 abbrev pub unasked : Answering (Option ℕ)
@@ -72,9 +73,17 @@ module _ (players : List Player) (func : Func) (flags : ℕ) (stack : Stack) whe
   Takes tells i code past left s t = ((past ≡ code ∷ left) × (t ≡ s))
       ⊎ IsAsked tells i code past left s t
 
-  -- Since a state, nothing was done but what a module may do that is at work: it kept what modules keep. No line was
-  -- visited, and nobody waited.
-  pub record IsBroken (middle end : State) : Type 0 where
+  -- the line of an index was asked and found no memory: what is seen then of the room, and the files, are what its
+  -- module may leave
+  abbrev pub BreaksAt : ℕ → State → State → Type 0
+  BreaksAt i old new =
+      LineBreaks players (module_of (names_of players) (rule_at stack i))
+      (call_of func flags (rule_at stack i)) old new
+
+  -- Since a state, nothing was done but what the module of this line may do that finds no memory: it left what it may
+  -- leave then, and kept what modules keep. No line was visited, and nobody waited.
+  pub record IsBroken (i : ℕ) (middle end : State) : Type 0 where
+    pub left : BreaksAt i middle end
     pub sound : GoesSoundly (notes_of players) (length players) middle.room.transaction
         end.room.transaction middle.world.process end.world.process
     pub trail : end.room.transaction.trail ≡ middle.room.transaction.trail
@@ -83,7 +92,7 @@ module _ (players : List Player) (func : Func) (flags : ℕ) (stack : Stack) whe
   -- Where a pass stopped, after the answers that its earlier calls were given. The lines that it visited are those
   -- that its stack leads to by their answers, one after another, and the next that it leads to is the line of this
   -- index, whose module was at work. Where all tells, each visited line answered as its module plays, and all that
-  -- was done since is that module's.
+  -- was done since is that module's, which left what it may leave without memory.
   pub record StopsAt (kind : PassKind) (kept : KeptAnswers) (past : List Code) (tells : Bool)
       (start end : State) : Type 0 where
     pub more : List Visited
@@ -96,7 +105,8 @@ module _ (players : List Player) (func : Func) (flags : ℕ) (stack : Stack) whe
         ≡ halted opinion (pass_state [] (early ++ visits_in more) (Some (index + 1)))
     pub at_work : module_of (names_of players) (rule_at stack index)
         ≡ Some end.room.transaction.serving
-    pub played : IsTrue tells → (middle : State) × PlayOn more start middle × IsBroken middle end
+    pub played : IsTrue tells → (middle : State) × PlayOn more start middle
+        × IsBroken index middle end
 
 -- nothing happened at all
 pub record IsUntouched {Conv World : Type 0} (old new : PlainRoom) (first last : Conv)

@@ -1,4 +1,4 @@
-ghost use Rattle.std.specs.Prelude.{◌≡◌, ◌<◌, ◌≤◌, ◌^◌, ◌+◌, ◌&&◌, ◌∷◌, ◌++◌, [], length, map, IfOk, OnOk, OnErr, IsTrue};
+ghost use Rattle.std.specs.Prelude.{◌≡◌, ◌<◌, ◌≤◌, ◌+◌, ◌&&◌, ◌∷◌, ◌++◌, [], length, map, IfOk, OnOk, OnErr, IsTrue};
 ghost use Rattle.control_words.specs.Stack.{lines_in};
 ghost use Rattle.handler_chain.specs.FlatLines.{rule_at};
 ghost use Rattle.pam_room.specs.State.{state_of};
@@ -7,7 +7,7 @@ ghost use Rattle.pam_room.specs.Module.{notes_of, player_of};
 ghost use Rattle.pam_room.specs.Plain.{plain_process, plain_transaction};
 ghost use Rattle.stack_walk.specs.Pass.{AnswersAs};
 ghost use Rattle.dispatch_core.specs.AnyWorld.{GoesSoundly};
-ghost use Rattle.dispatch_core.specs.Failing.{IsAtWork, visited_at};
+ghost use Rattle.dispatch_core.specs.Failing.{BreaksAt, IsAtWork, visited_at};
 ghost use Rattle.dispatch_core.specs.Lines.{answers_by};
 ghost use Rattle.dispatch_core.specs.Paths.{HasPaths};
 
@@ -31,7 +31,6 @@ pub fn ask_line(
 ) -> Result<Code, NoMemory>
     requires within { i < lines_in chain.now.nodes }
     requires names { chain.now.names ≡ map label mods.now }
-    requires few { length mods.now < 2 ^ 32 }
     requires paths { HasPaths chain.now.nodes i paths.old }
     requires spare { 0 < room.old.transaction.trail.spare }
     requires ready { IsReady (length mods.now) (plain_transaction room.old.transaction)
@@ -43,32 +42,40 @@ pub fn ask_line(
     ensures told { IsTrue (⟦<Room as RoomTold>⟧.tells room.old
         && ⟦<World as WorldTold>⟧.tells world.old) →
         IfOk result (λ answer. AnswersAs
-        (answers_by (map (player_of label plays note) mods.now) request.func request.flags
+        (answers_by (map (player_of label plays note breaks) mods.now) request.func request.flags
         (rule_at chain.now.nodes i) (i + 1)
         (state_of (⟦<Room as RoomTold>⟧.plain room.old) (⟦<World as WorldTold>⟧.plain world.old)))
         answer (state_of (⟦<Room as RoomTold>⟧.plain room.new)
+        (⟦<World as WorldTold>⟧.plain world.new))) }
+    ensures broken { IsTrue (⟦<Room as RoomTold>⟧.tells room.old
+        && ⟦<World as WorldTold>⟧.tells world.old) →
+        OnErr result (BreaksAt (map (player_of label plays note breaks) mods.now) request.func
+        request.flags chain.now.nodes i
+        (state_of (⟦<Room as RoomTold>⟧.plain room.old) (⟦<World as WorldTold>⟧.plain world.old))
+        (state_of (⟦<Room as RoomTold>⟧.plain room.new)
         (⟦<World as WorldTold>⟧.plain world.new))) }
     ensures visits { OnOk result (length room.new.transaction.trail.visits
         ≡ length room.old.transaction.trail.visits + 1) }
     ensures visited { IfOk result (λ answer. room.new.transaction.trail.visits
         ≡ room.old.transaction.trail.visits ++ visited_at chain.now.nodes i answer ∷ []) }
-    ensures at_work { OnErr result (IsAtWork (map (player_of label plays note) mods.now)
+    ensures at_work { OnErr result (IsAtWork (map (player_of label plays note breaks) mods.now)
         (rule_at chain.now.nodes i) (plain_transaction room.old.transaction)
         (plain_transaction room.new.transaction)) }
     ensures spare { room.old.transaction.trail.spare ≤ room.new.transaction.trail.spare + 1 }
     ensures paths { HasPaths chain.now.nodes (i + 1) paths.new }
-    ensures sound { GoesSoundly (notes_of (map (player_of label plays note) mods.now))
+    ensures sound { GoesSoundly (notes_of (map (player_of label plays note breaks) mods.now))
         (length mods.now)
         (plain_transaction room.old.transaction) (plain_transaction room.new.transaction)
         (plain_process world.old.process) (plain_process world.new.process) }
     ensures ready { IsReady (length mods.now) (plain_transaction room.new.transaction)
         (plain_process world.new.process) }
 {
-    // It does nothing at run time: its contract says that a stack has fewer than 4,097 lines.
+    // It does nothing at run time: its contract says that a stack has fewer than 4,097 lines, and that a chain is made
+    // for fewer than 2^32 modules.
     let _few = chain.len();
     let line = StackLine {
         place: i as u32 + 1,
-        path: paths.take(alloc, i),
+        path: paths.take(i),
         module_number: chain.module(i),
     };
     let call = Call {

@@ -1,4 +1,4 @@
-ghost use Rattle.std.specs.Prelude.{◌≡◌, ◌<◌, ◌≤◌, ◌^◌, ◌+◌, ◌*◌, ◌&&◌, ◌⊎◌, [], None, Some, true, is_some, length, map, IfOk, OnOk, OnErr, IsNone, IsTrue};
+ghost use Rattle.std.specs.Prelude.{◌≡◌, ◌<◌, ◌≤◌, ◌+◌, ◌*◌, ◌&&◌, ◌⊎◌, [], None, Some, true, is_some, length, map, IfOk, OnOk, OnErr, IsNone, IsTrue};
 ghost use Rattle.control_words.specs.Stack.{lines_in};
 ghost use Rattle.frozen_chain.specs.Kept.{empty_cells, lines_kept};
 ghost use Rattle.pam_room.specs.State.{state_of};
@@ -39,7 +39,6 @@ fn walk(
     world: &mut World,
 ) -> Result<Option<Code>, NoMemory>
     requires names { chain.old.names ≡ map label mods.now }
-    requires few { length mods.now < 2 ^ 32 }
     requires taken { supplies.old.given.taken ≡ [] }
     requires answers { lines_in chain.old.nodes ≤ supplies.old.given.room }
     requires paths { HasPaths chain.old.nodes 0 supplies.old.paths }
@@ -56,7 +55,7 @@ fn walk(
         && ⟦<World as WorldTold>⟧.tells world.old) →
         IfOk result (λ end. WalksAs
         (pass_after request.kind (by_place follows.now)
-        (answers_by (map (player_of label plays note) mods.now) request.func request.flags)
+        (answers_by (map (player_of label plays note breaks) mods.now) request.func request.flags)
         chain.old.nodes supplies.old.given.past
         (state_of (⟦<Room as RoomTold>⟧.plain room.old) (⟦<World as WorldTold>⟧.plain world.old)))
         end keeps.new supplies.new.given
@@ -69,13 +68,13 @@ fn walk(
         ≤ chain.old.looks + 4 *
         (length room.new.transaction.trail.visits + length supplies.old.given.past)) }
     ensures stopped { OnErr result
-        (StopsAt (map (player_of label plays note) mods.now) request.func request.flags
+        (StopsAt (map (player_of label plays note breaks) mods.now) request.func request.flags
         chain.old.nodes request.kind (by_place follows.now) supplies.old.given.past
         (⟦<Room as RoomTold>⟧.tells room.old && ⟦<World as WorldTold>⟧.tells world.old)
         (state_of (⟦<Room as RoomTold>⟧.plain room.old) (⟦<World as WorldTold>⟧.plain world.old))
         (state_of (⟦<Room as RoomTold>⟧.plain room.new)
         (⟦<World as WorldTold>⟧.plain world.new))) }
-    ensures sound { GoesSoundly (notes_of (map (player_of label plays note) mods.now))
+    ensures sound { GoesSoundly (notes_of (map (player_of label plays note breaks) mods.now))
         (length mods.now)
         (plain_transaction room.old.transaction) (plain_transaction room.new.transaction)
         (plain_process world.old.process) (plain_process world.new.process) }
@@ -118,7 +117,6 @@ fn walk_all(
     world: &mut World,
 ) -> Result<Code, NoMemory>
     requires names { chain.old.names ≡ map label mods.now }
-    requires few { length mods.now < 2 ^ 32 }
     requires cells { keeps.old ≡ None }
     requires ready { IsReady (length mods.now) (plain_transaction room.old.transaction)
         (plain_process world.old.process) }
@@ -130,7 +128,7 @@ fn walk_all(
         && ⟦<World as WorldTold>⟧.tells world.old) →
         IfOk result (λ code. PassesAs request.kind
         (pass_after request.kind (by_place follows.now)
-        (answers_by (map (player_of label plays note) mods.now) request.func request.flags)
+        (answers_by (map (player_of label plays note breaks) mods.now) request.func request.flags)
         chain.old.nodes (past_of paused.old)
         (state_of (⟦<Room as RoomTold>⟧.plain room.old) (⟦<World as WorldTold>⟧.plain world.old)))
         code keeps.new paused.new
@@ -145,13 +143,13 @@ fn walk_all(
     ensures stopped { OnErr result
         (IsUntouched (⟦<Room as RoomTold>⟧.plain room.old) (⟦<Room as RoomTold>⟧.plain room.new)
         room.old.conv room.new.conv world.old world.new
-        ⊎ StopsAt (map (player_of label plays note) mods.now) request.func request.flags
+        ⊎ StopsAt (map (player_of label plays note breaks) mods.now) request.func request.flags
         chain.old.nodes request.kind (by_place follows.now) (past_of paused.old)
         (⟦<Room as RoomTold>⟧.tells room.old && ⟦<World as WorldTold>⟧.tells world.old)
         (state_of (⟦<Room as RoomTold>⟧.plain room.old) (⟦<World as WorldTold>⟧.plain world.old))
         (state_of (⟦<Room as RoomTold>⟧.plain room.new)
         (⟦<World as WorldTold>⟧.plain world.new))) }
-    ensures sound { GoesSoundly (notes_of (map (player_of label plays note) mods.now))
+    ensures sound { GoesSoundly (notes_of (map (player_of label plays note breaks) mods.now))
         (length mods.now)
         (plain_transaction room.old.transaction) (plain_transaction room.new.transaction)
         (plain_process world.old.process) (plain_process world.new.process) }
@@ -201,8 +199,9 @@ fn keep_answers(kind: PassKind, kept: &mut Kept, keeps: Kept, answered: bool)
 /// After a pass that keeps, its answers are kept; after a loose one none are.
 ///
 /// It takes all memory of its own before the first module serves. So after want of memory either nothing happened at
-/// all, or lines were visited as the stack leads to them, and the module of the next one found none. A pass that keeps
-/// has nothing kept then, any other leaves what was kept, nothing is paused, and no datum waits for its cleanup.
+/// all, or lines were visited as the stack leads to them, and the module of the next one found none: where all tells,
+/// items, environment, conversation, files and the like are then what that module may leave. A pass that keeps has
+/// nothing kept then, any other leaves what was kept, nothing is paused, and no datum waits for its cleanup.
 pub fn dispatch(
     alloc: Global,
     chain: &mut Chain,
@@ -214,7 +213,6 @@ pub fn dispatch(
     world: &mut World,
 ) -> Result<Code, NoMemory>
     requires names { chain.old.names ≡ map label mods.now }
-    requires few { length mods.now < 2 ^ 32 }
     requires ready { IsReady (length mods.now) (plain_transaction room.old.transaction)
         (plain_process world.old.process) }
     ensures room_tells { ⟦<Room as RoomTold>⟧.tells room.new ≡ ⟦<Room as RoomTold>⟧.tells room.old }
@@ -225,7 +223,7 @@ pub fn dispatch(
         && ⟦<World as WorldTold>⟧.tells world.old) →
         IfOk result (λ code. LeavesAs request.kind
         (pass_after request.kind (by_place kept.old)
-        (answers_by (map (player_of label plays note) mods.now) request.func request.flags)
+        (answers_by (map (player_of label plays note breaks) mods.now) request.func request.flags)
         chain.old.nodes (past_of paused.old)
         (state_of (⟦<Room as RoomTold>⟧.plain room.old) (⟦<World as WorldTold>⟧.plain world.old)))
         kept.old code kept.new paused.new
@@ -241,13 +239,13 @@ pub fn dispatch(
     ensures stopped { OnErr result
         (IsUntouched (⟦<Room as RoomTold>⟧.plain room.old) (⟦<Room as RoomTold>⟧.plain room.new)
         room.old.conv room.new.conv world.old world.new
-        ⊎ StopsAt (map (player_of label plays note) mods.now) request.func request.flags
+        ⊎ StopsAt (map (player_of label plays note breaks) mods.now) request.func request.flags
         chain.old.nodes request.kind (by_place kept.old) (past_of paused.old)
         (⟦<Room as RoomTold>⟧.tells room.old && ⟦<World as WorldTold>⟧.tells world.old)
         (state_of (⟦<Room as RoomTold>⟧.plain room.old) (⟦<World as WorldTold>⟧.plain world.old))
         (state_of (⟦<Room as RoomTold>⟧.plain room.new)
         (⟦<World as WorldTold>⟧.plain world.new))) }
-    ensures sound { GoesSoundly (notes_of (map (player_of label plays note) mods.now))
+    ensures sound { GoesSoundly (notes_of (map (player_of label plays note breaks) mods.now))
         (length mods.now)
         (plain_transaction room.old.transaction) (plain_transaction room.new.transaction)
         (plain_process world.old.process) (plain_process world.new.process) }

@@ -3,15 +3,15 @@ ghost use Rattle.control_words.specs.Stack.{Stack};
 ghost use Rattle.dispatch_core.specs.Paths.{HasPaths, path_in};
 
 use handler_chain::Chain;
-use pam_base::{NoMemory, Text};
+use pam_base::{NoMemory, SharedText};
 use std::alloc::Global;
 use std::marker::Model;
 use std::mem;
 
-/// Copies of the paths of a chain's lines, by their indices, so that a visit takes no memory for its path.
+/// Shares of the paths of a chain's lines, by their indices, so that a visit takes no memory for its path.
 #[derive(Drop)]
 pub struct Paths {
-    texts: Vec<Text>,
+    texts: Vec<SharedText>,
 }
 
 impl Model for Paths {
@@ -28,18 +28,18 @@ impl Paths {
     {
         let mut texts = Vec::new(alloc);
         for i in 0..chain.len() {
-            texts.push(Text::from_bytes(alloc, chain.path(i).bytes())?)?;
+            texts.push(chain.path(i).share()?)?;
         }
         Ok(Paths { texts })
     }
 
     /// Takes the path of line i, and leaves an empty one in its place. It takes no memory.
-    pub fn take(&mut self, alloc: Global, i: usize) -> Text
+    pub fn take(&mut self, i: usize) -> SharedText
         requires { i < length self.old }
         ensures path { result ≡ path_in self.old i }
         ensures others { (stack : Stack) → HasPaths stack i self.old →
             HasPaths stack (i + 1) self.new }
     {
-        mem::replace(&mut self.texts[i], Text::new(alloc))
+        mem::replace(&mut self.texts[i], SharedText::new())
     }
 }

@@ -1,4 +1,4 @@
-ghost use Rattle.std.specs.Prelude.{◌≡◌, ◌<◌, ◌≤◌, ◌^◌, ◌+◌, ◌*◌, ◌&&◌, ℕ, List, [], None, is_none, is_some, true, length, map, IfOk, OnOk, OnErr, IfSome, IsNone, IsTrue};
+ghost use Rattle.std.specs.Prelude.{◌≡◌, ◌<◌, ◌≤◌, ◌+◌, ◌*◌, ◌&&◌, ℕ, List, [], None, is_none, is_some, true, length, map, IfOk, OnOk, OnErr, IfSome, IsNone, IsTrue};
 ghost use Rattle.control_words.specs.Stack.{lines_in};
 ghost use Rattle.handler_chain.specs.FlatLines.{rule_at};
 ghost use Rattle.frozen_chain.specs.Kept.{lines_kept};
@@ -11,7 +11,7 @@ ghost use Rattle.stack_walk.specs.Route.{KeptAnswers};
 ghost use Rattle.stack_walk.specs.Pass.{Visit, decides, is_incomplete, pass_state, serving};
 ghost use Rattle.stack_walk.specs.Walk.{ServedAs};
 ghost use Rattle.dispatch_core.specs.AnyWorld.{GoesSoundly};
-ghost use Rattle.dispatch_core.specs.Failing.{GoesBy, IsAtWork, Takes};
+ghost use Rattle.dispatch_core.specs.Failing.{BreaksAt, GoesBy, IsAtWork, Takes};
 ghost use Rattle.dispatch_core.specs.Index.{walk_on};
 ghost use Rattle.dispatch_core.specs.Lines.{answers_by};
 ghost use Rattle.dispatch_core.specs.Paths.{HasPaths};
@@ -61,7 +61,6 @@ pub fn next_answer(
 ) -> Result<Option<Code>, NoMemory>
     requires within { i < lines_in chain.now.nodes }
     requires names { chain.now.names ≡ map label mods.now }
-    requires few { length mods.now < 2 ^ 32 }
     requires answers { supplies.old.given.past ≡ [] → 0 < supplies.old.given.room }
     requires paths { HasPaths chain.now.nodes i supplies.old.paths }
     requires spare { 0 < room.old.transaction.trail.spare }
@@ -76,7 +75,7 @@ pub fn next_answer(
         IfOk result (λ answer. (kind : PassKind) (kept : KeptAnswers) (visits : List Visit) →
         ServedAs
         (serving kind kept
-        (answers_by (map (player_of label plays note) mods.now) request.func request.flags)
+        (answers_by (map (player_of label plays note breaks) mods.now) request.func request.flags)
         (rule_at chain.now.nodes i) (i + 1)
         (pass_state supplies.old.given.past visits
         (state_of (⟦<Room as RoomTold>⟧.plain room.old) (⟦<World as WorldTold>⟧.plain world.old))))
@@ -84,18 +83,26 @@ pub fn next_answer(
         (pass_state supplies.new.given.past (visits_with visits (i + 1) answer)
         (state_of (⟦<Room as RoomTold>⟧.plain room.new)
         (⟦<World as WorldTold>⟧.plain world.new)))) }
+    ensures broken { IsTrue (⟦<Room as RoomTold>⟧.tells room.old
+        && ⟦<World as WorldTold>⟧.tells world.old) →
+        OnErr result (BreaksAt (map (player_of label plays note breaks) mods.now) request.func
+        request.flags chain.now.nodes i
+        (state_of (⟦<Room as RoomTold>⟧.plain room.old) (⟦<World as WorldTold>⟧.plain world.old))
+        (state_of (⟦<Room as RoomTold>⟧.plain room.new)
+        (⟦<World as WorldTold>⟧.plain world.new))) }
     ensures taken { IfOk result (λ answer. supplies.new.given.taken
         ≡ taken_with supplies.old.given.taken answer) }
     ensures none { IfOk result (λ answer. IsNone answer → supplies.new.given.past ≡ []) }
     ensures took { IfOk result (λ answer. IfSome answer (λ code. Takes
-        (map (player_of label plays note) mods.now) request.func request.flags chain.now.nodes
+        (map (player_of label plays note breaks) mods.now) request.func request.flags
+        chain.now.nodes
         (⟦<Room as RoomTold>⟧.tells room.old && ⟦<World as WorldTold>⟧.tells world.old) i code
         supplies.old.given.past supplies.new.given.past
         (state_of (⟦<Room as RoomTold>⟧.plain room.old) (⟦<World as WorldTold>⟧.plain world.old))
         (state_of (⟦<Room as RoomTold>⟧.plain room.new)
         (⟦<World as WorldTold>⟧.plain world.new)))) }
     ensures at_work { OnErr result ((supplies.old.given.past ≡ [])
-        × IsAtWork (map (player_of label plays note) mods.now) (rule_at chain.now.nodes i)
+        × IsAtWork (map (player_of label plays note breaks) mods.now) (rule_at chain.now.nodes i)
         (plain_transaction room.old.transaction) (plain_transaction room.new.transaction)) }
     ensures answers { OnOk result (length supplies.old.given.taken + length supplies.old.given.past
         + supplies.old.given.room
@@ -106,7 +113,7 @@ pub fn next_answer(
         ≡ length room.old.transaction.trail.visits + length supplies.new.given.past + 1) }
     ensures spare { room.old.transaction.trail.spare ≤ room.new.transaction.trail.spare + 1 }
     ensures paths { HasPaths chain.now.nodes (i + 1) supplies.new.paths }
-    ensures sound { GoesSoundly (notes_of (map (player_of label plays note) mods.now))
+    ensures sound { GoesSoundly (notes_of (map (player_of label plays note breaks) mods.now))
         (length mods.now)
         (plain_transaction room.old.transaction) (plain_transaction room.new.transaction)
         (plain_process world.old.process) (plain_process world.new.process) }
@@ -150,7 +157,6 @@ pub fn walk_line(
 ) -> Result<Option<Code>, NoMemory>
     requires within { walker.old.at < lines_in chain.old.nodes }
     requires names { chain.old.names ≡ map label mods.now }
-    requires few { length mods.now < 2 ^ 32 }
     requires answers { supplies.old.given.past ≡ [] → 0 < supplies.old.given.room }
     requires paths { HasPaths chain.old.nodes walker.old.at supplies.old.paths }
     requires spare { 0 < room.old.transaction.trail.spare }
@@ -165,24 +171,32 @@ pub fn walk_line(
         && ⟦<World as WorldTold>⟧.tells world.old) → IfOk result (λ answer. (visits : List Visit) →
         walk_on request.kind
         (serving request.kind (by_place follows.now)
-        (answers_by (map (player_of label plays note) mods.now) request.func request.flags))
+        (answers_by (map (player_of label plays note breaks) mods.now) request.func request.flags))
         chain.old.nodes walker.old
         (pass_state supplies.old.given.past visits
         (state_of (⟦<Room as RoomTold>⟧.plain room.old) (⟦<World as WorldTold>⟧.plain world.old)))
         ≡ turned request.kind
         (serving request.kind (by_place follows.now)
-        (answers_by (map (player_of label plays note) mods.now) request.func request.flags))
+        (answers_by (map (player_of label plays note breaks) mods.now) request.func request.flags))
         chain.old.nodes answer walker.old.opinion walker.new
         (pass_state supplies.new.given.past (visits_with visits (walker.old.at + 1) answer)
         (state_of (⟦<Room as RoomTold>⟧.plain room.new)
         (⟦<World as WorldTold>⟧.plain world.new)))) }
+    ensures broken { IsTrue (⟦<Room as RoomTold>⟧.tells room.old
+        && ⟦<World as WorldTold>⟧.tells world.old) →
+        OnErr result (BreaksAt (map (player_of label plays note breaks) mods.now) request.func
+        request.flags chain.old.nodes walker.old.at
+        (state_of (⟦<Room as RoomTold>⟧.plain room.old) (⟦<World as WorldTold>⟧.plain world.old))
+        (state_of (⟦<Room as RoomTold>⟧.plain room.new)
+        (⟦<World as WorldTold>⟧.plain world.new))) }
     ensures ahead { IfOk result (λ answer. IsAhead answer walker.old walker.new) }
     ensures keeps { IfOk result (λ answer. keeps.new ≡ kept_with keeps.old walker.old.at answer) }
     ensures taken { IfOk result (λ answer. supplies.new.given.taken
         ≡ taken_with supplies.old.given.taken answer) }
     ensures none { IfOk result (λ answer. IsNone answer → supplies.new.given.past ≡ []) }
     ensures took { IfOk result (λ answer. IfSome answer (λ code. Takes
-        (map (player_of label plays note) mods.now) request.func request.flags chain.old.nodes
+        (map (player_of label plays note breaks) mods.now) request.func request.flags
+        chain.old.nodes
         (⟦<Room as RoomTold>⟧.tells room.old && ⟦<World as WorldTold>⟧.tells world.old)
         walker.old.at code supplies.old.given.past supplies.new.given.past
         (state_of (⟦<Room as RoomTold>⟧.plain room.old) (⟦<World as WorldTold>⟧.plain world.old))
@@ -192,7 +206,7 @@ pub fn walk_line(
         GoesBy request.kind (by_place follows.now) chain.old.nodes code walker.old
         walker.new)) }
     ensures at_work { OnErr result ((supplies.old.given.past ≡ [])
-        × IsAtWork (map (player_of label plays note) mods.now)
+        × IsAtWork (map (player_of label plays note breaks) mods.now)
         (rule_at chain.old.nodes walker.old.at)
         (plain_transaction room.old.transaction) (plain_transaction room.new.transaction)) }
     ensures answers { OnOk result (length supplies.old.given.taken + length supplies.old.given.past
@@ -207,7 +221,7 @@ pub fn walk_line(
         (length room.old.transaction.trail.visits + length supplies.new.given.past)
         ≤ chain.old.looks + 4 *
         (length room.new.transaction.trail.visits + length supplies.old.given.past)) }
-    ensures sound { GoesSoundly (notes_of (map (player_of label plays note) mods.now))
+    ensures sound { GoesSoundly (notes_of (map (player_of label plays note breaks) mods.now))
         (length mods.now)
         (plain_transaction room.old.transaction) (plain_transaction room.new.transaction)
         (plain_process world.old.process) (plain_process world.new.process) }

@@ -1,6 +1,6 @@
 ghost use Rattle.std.specs.Prelude.{◌≡◌, codes};
 ghost use Rattle.std.specs.Option.{option_copied};
-ghost use Rattle.pam_room.specs.Module.{length_note};
+ghost use Rattle.pam_room.specs.Module.{length_note, never_breaks};
 ghost use Rattle.example_login.specs.Guest.{guest_code, guest_plays, is_guest};
 
 use conv_port::Conv;
@@ -20,6 +20,8 @@ impl Module for Guest {
     ghost plays = { λ _. guest_plays };
 
     ghost note = { λ _. length_note };
+
+    ghost breaks = { λ _. never_breaks };
 
     fn name(&self) -> &[u8] {
         b"pam_guest"

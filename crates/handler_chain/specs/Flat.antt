@@ -1,5 +1,5 @@
 -- Lines and positions of a chain that stand for the lines of a stack.
-use Rattle.std.specs.Prelude.{◌≡◌, ℕ, ◌+◌, ◌<◌, ◌≤◌, List, [], ◌∷◌, ◌++◌, length, get_or}
+use Rattle.std.specs.Prelude.{◌≡◌, ℕ, ◌+◌, ◌^◌, ◌<◌, ◌≤◌, List, [], ◌∷◌, ◌++◌, length, get_or}
 use Rattle.control_words.specs.Stack.{Stack, none, line, sub, count, lines_in, depth}
 use Rattle.handler_chain.specs.declared.chain_line.ChainLine.{ChainLine}
 use Rattle.handler_chain.specs.FlatLines.{FlatLine, module_of, flat_lines, lines_in_first}
@@ -33,6 +33,7 @@ pub record IsFlat (stack : Stack) (names : List (List ℕ)) (lines : List ChainL
   pub are : AreLines names positions 0 (flat_lines 0 0 stack) lines
   pub few : lines_in stack ≤ 4096
   pub shallow : depth stack ≤ 16
+  pub numbered : length names < 2 ^ 32
 
 -- the positions after each node of a list whose first line has the index `first`
 abbrev pub positions_behind : ℕ → Stack → List ℕ

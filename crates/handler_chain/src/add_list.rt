@@ -25,7 +25,7 @@ fn copy_of(alloc: Global, rule: &Rule) -> Result<Rule, NoMemory>
     Ok(Rule {
         silent: rule.silent,
         control: rule.control,
-        path: Text::from_bytes(alloc, rule.path.bytes())?,
+        path: rule.path.share()?,
         args: copy_of_texts(alloc, &rule.args)?,
     })
 }

@@ -6,7 +6,7 @@ ghost use Rattle.handler_chain.specs.Chain.{fresh_chain, looked};
 use crate::add_list::add_list;
 use crate::chain_line::ChainLine;
 use control_words::{Control, Nodes};
-use pam_base::{NoMemory, Text, Texts};
+use pam_base::{NoMemory, SharedText, Texts};
 use std::alloc::Global;
 use std::marker::Model;
 use std::snapshot::Snapshot;
@@ -70,6 +70,7 @@ impl Chain {
     pub fn len(&self) -> usize
         ensures counted { result ≡ lines_in self.now.nodes }
         ensures bounded { result ≤ 4096 }
+        ensures numbered { length self.now.names < 2 ^ 32 }
     {
         self.lines.len()
     }
@@ -98,7 +99,7 @@ impl Chain {
     }
 
     /// The path of the line's module, as it is written.
-    pub fn path(&self, i: usize) -> &Text
+    pub fn path(&self, i: usize) -> &SharedText
         requires { i < lines_in self.now.nodes }
         ensures { result.now ≡ (rule_at self.now.nodes i).path }
     {

@@ -6,7 +6,7 @@ use conv_port::QueueConv;
 use data_cleanup::Ledger;
 use mod_env::Env;
 use mod_lists::{Listfile, Nologin, Shells, SucceedIf};
-use pam_base::{Code, Func, ItemName, NoMemory, Numbers, Text, Texts};
+use pam_base::{Code, Func, ItemName, NoMemory, Numbers, SharedText, Text, Texts};
 use pam_outside::{FixedClock, MemVault, NapSum};
 use pam_room::{
     Call, Module, Process, Room, StackLine, Transaction, World, end_room, serve_line, set_item,
@@ -71,7 +71,7 @@ fn serve_first(
     room.transaction.trail.reserve(1)?;
     let line = StackLine {
         place: 1,
-        path: Text::new(alloc),
+        path: SharedText::new(),
         module_number: Some(0),
     };
     serve_line(alloc, mods, line, call, room, world)

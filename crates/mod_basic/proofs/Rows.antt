@@ -8,7 +8,7 @@ use Rattle.conv_port.specs.declared.offer.Offer.{Offer}
 use Rattle.conv_port.specs.declared.offer.Offer.TheVariants.{Answer}
 use Rattle.pam_room.specs.State.{State, new_transaction, room_of, state_of, world_of}
 use Rattle.pam_room.specs.Call.{PlainCall}
-use Rattle.pam_room.specs.Module.{Player, Played, Plays, seen_of, sight_of}
+use Rattle.pam_room.specs.Module.{Player, Played, Plays, keeps_files, seen_of, sight_of}
 use Rattle.pam_room.specs.State.{scene_in}
 use Rattle.pam_room.specs.Serve.{Answered, serve_line}
 use Rattle.mod_basic.specs.Permit.{permit_plays}
@@ -68,7 +68,7 @@ probe_said = refl
 
 -- pam_probe `set=a:x set=a:yy`, served as a line: the first datum has its receipt at once, and the visit is added
 abbrev probe : Player
-probe = record { name = codes "pam_probe"; plays = probe_plays; note = probe_note }
+probe = record { name = codes "pam_probe"; plays = probe_plays; note = probe_note; breaks = keeps_files }
 
 abbrev sets : Answered
 sets = serve_line (probe ∷ []) (Some 0) 1 (codes "pam_probe.so") (call_of Authenticate 0 (codes "set=a:x" ∷ codes "set=a:yy" ∷ [])) (start [] 0)

@@ -1,7 +1,7 @@
 ghost use Rattle.std.specs.Prelude.{◌≡◌, codes};
 ghost use Rattle.std.specs.Option.{option_copied};
 ghost use Rattle.pam_room.specs.Call.{has_flag, prelim_check};
-ghost use Rattle.pam_room.specs.Module.{length_note};
+ghost use Rattle.pam_room.specs.Module.{length_note, never_breaks};
 ghost use Rattle.mod_basic.specs.Debug.{code_or_success, debug_key, debug_plays};
 
 use conv_port::Conv;
@@ -29,6 +29,8 @@ impl Module for Debug {
     ghost plays = { λ _. debug_plays };
 
     ghost note = { λ _. length_note };
+
+    ghost breaks = { λ _. never_breaks };
 
     fn name(&self) -> &[u8] {
         b"pam_debug"

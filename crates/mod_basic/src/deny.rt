@@ -1,5 +1,5 @@
 ghost use Rattle.std.specs.Prelude.{◌≡◌, codes};
-ghost use Rattle.pam_room.specs.Module.{length_note};
+ghost use Rattle.pam_room.specs.Module.{length_note, never_breaks};
 ghost use Rattle.mod_basic.specs.Deny.{denial, deny_plays};
 
 use conv_port::Conv;
@@ -26,6 +26,8 @@ impl Module for Deny {
     ghost plays = { λ _. deny_plays };
 
     ghost note = { λ _. length_note };
+
+    ghost breaks = { λ _. never_breaks };
 
     fn name(&self) -> &[u8] {
         b"pam_deny"

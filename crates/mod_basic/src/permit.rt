@@ -1,6 +1,6 @@
 ghost use Rattle.std.specs.Prelude.{◌≡◌, Some, OnOk, OnErr, codes};
 ghost use Rattle.std.specs.Option.{option_or};
-ghost use Rattle.pam_room.specs.Module.{length_note};
+ghost use Rattle.pam_room.specs.Module.{keeps_files, length_note};
 ghost use Rattle.mod_basic.specs.Permit.{permit_plays};
 
 use conv_port::Conv;
@@ -8,7 +8,7 @@ use data_cleanup::{Datum, Receipt};
 use item_store::Items;
 use pam_base::{Code, Func, ItemName, NoMemory};
 use pam_outside::{Clock, Vault};
-use pam_room::{Call, Module, Process, Transaction, get_item, set_item, spend_by_length};
+use pam_room::{Call, Module, Process, Transaction, get_item, laws, set_item, spend_by_length};
 use std::alloc::Global;
 
 /// `pam_permit(8)`: SUCCESS for all six functions. authenticate sets USER to `nobody` where it is unset.
@@ -29,6 +29,8 @@ impl Module for Permit {
 
     ghost note = { λ _. length_note };
 
+    ghost breaks = { λ _. keeps_files };
+
     fn name(&self) -> &[u8] {
         b"pam_permit"
     }
@@ -43,6 +45,7 @@ impl Module for Permit {
         _vault: &mut dyn Vault,
         _clock: &mut dyn Clock,
     ) -> Result<Code, NoMemory> {
+        laws::files_stay();
         if call.func == Func::Authenticate {
             set_nobody(&mut transaction.items)?;
         }

@@ -2,7 +2,7 @@ ghost use Rattle.std.specs.Prelude.{◌≡◌, ◌≤◌, ◌++◌, false, List,
 ghost use Rattle.conv_port.specs.declared.message.Message.{Message};
 ghost use Rattle.data_cleanup.specs.Sets.{Sets};
 ghost use Rattle.pam_room.specs.State.{room_of};
-ghost use Rattle.pam_room.specs.Module.{HasSet, seen_of};
+ghost use Rattle.pam_room.specs.Module.{HasSet, keeps_files, seen_of};
 ghost use Rattle.pam_room.specs.Plain.{plain_transaction};
 ghost use Rattle.mod_basic.specs.Request.{plain_request};
 ghost use Rattle.mod_basic.specs.Probe.{Probes, ProbesAll, births_in, code_in, fixed_answer, probe_note, probe_plays, probed_all, probing};
@@ -37,6 +37,8 @@ impl Module for Probe {
 
     ghost note = { λ _. probe_note };
 
+    ghost breaks = { λ _. keeps_files };
+
     fn name(&self) -> &[u8] {
         b"pam_probe"
     }
@@ -53,6 +55,7 @@ impl Module for Probe {
     ) -> Result<Code, NoMemory> {
         laws::set_data_are_sets();
         laws::parts_are_played();
+        laws::files_stay();
         match do_all(alloc, call.args, transaction, &mut process.ledger, conv) {
             Ok(()) => Ok(fixed_answer(call.args)),
             Err(Refuse::NoMemory) => Err(NoMemory),

@@ -1,5 +1,5 @@
 ghost use Rattle.std.specs.Prelude.{◌≡◌, codes};
-ghost use Rattle.pam_room.specs.Module.{length_note};
+ghost use Rattle.pam_room.specs.Module.{length_note, never_breaks};
 ghost use Rattle.mod_basic.specs.Rootok.{rootok_code, rootok_plays};
 
 use conv_port::Conv;
@@ -26,6 +26,8 @@ impl Module for Rootok {
     ghost plays = { λ _. rootok_plays };
 
     ghost note = { λ _. length_note };
+
+    ghost breaks = { λ _. never_breaks };
 
     fn name(&self) -> &[u8] {
         b"pam_rootok"

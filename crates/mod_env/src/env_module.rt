@@ -3,7 +3,7 @@ ghost use Rattle.std.specs.Option.{option_copied};
 ghost use Rattle.conv_port.specs.Conv.{ConvState};
 ghost use Rattle.pam_outside.specs.Time.{ClockState};
 ghost use Rattle.pam_base.specs.declared.code.Code.{Code};
-ghost use Rattle.pam_room.specs.Module.{length_note};
+ghost use Rattle.pam_room.specs.Module.{leaves_anything, length_note};
 ghost use Rattle.account_files.specs.Accounts.{nothing_known};
 ghost use Rattle.account_files.specs.Act.{Acts, answers, standing};
 ghost use Rattle.mod_env.specs.Env.{at_once, by_entries, by_first, by_texts, env_plays, is_zero, puts_all, reads_first, reads_second, sets_all, text_in};
@@ -44,6 +44,8 @@ impl Module for Env {
     ghost plays = { λ _. env_plays };
 
     ghost note = { λ _. length_note };
+
+    ghost breaks = { λ _. leaves_anything };
 
     fn name(&self) -> &[u8] {
         b"pam_env"

@@ -1,5 +1,5 @@
 ghost use Rattle.std.specs.Prelude.{◌≡◌, IfOk, codes};
-ghost use Rattle.pam_room.specs.Module.{length_note};
+ghost use Rattle.pam_room.specs.Module.{leaves_anything, length_note};
 ghost use Rattle.pam_room.specs.Plain.{plain_call};
 ghost use Rattle.pam_room.specs.State.{Scene};
 ghost use Rattle.module_acts.specs.Comes.{Comes, Goes};
@@ -32,6 +32,8 @@ impl Module for Pwhistory {
     ghost plays = { λ _. pwhistory_plays };
 
     ghost note = { λ _. length_note };
+
+    ghost breaks = { λ _. leaves_anything };
 
     fn name(&self) -> &[u8] {
         b"pam_pwhistory"

@@ -1,7 +1,7 @@
 ghost use Rattle.std.specs.Prelude.{◌≡◌, IsTrue, IfOk, codes};
 ghost use Rattle.std.specs.Option.{option_copied};
 ghost use Rattle.pam_outside.specs.Time.{ClockState};
-ghost use Rattle.pam_room.specs.Module.{length_note};
+ghost use Rattle.pam_room.specs.Module.{leaves_anything, length_note};
 ghost use Rattle.account_files.specs.Accounts.{nothing_known};
 ghost use Rattle.account_files.specs.Act.{Acts, standing};
 ghost use Rattle.module_acts.specs.Comes.{Finishes};
@@ -36,6 +36,8 @@ impl Module for Wheel {
     ghost plays = { λ _. wheel_plays };
 
     ghost note = { λ _. length_note };
+
+    ghost breaks = { λ _. leaves_anything };
 
     fn name(&self) -> &[u8] {
         b"pam_wheel"

@@ -2,7 +2,7 @@ ghost use Rattle.std.specs.Prelude.{◌≡◌, ◌≢◌, ◌<◌, length, None,
 ghost use Rattle.std.specs.List.{list_any};
 ghost use Rattle.conv_port.specs.Conv.{ConvState};
 ghost use Rattle.pam_outside.specs.Time.{ClockState};
-ghost use Rattle.pam_room.specs.Module.{length_note};
+ghost use Rattle.pam_room.specs.Module.{leaves_anything, length_note};
 ghost use Rattle.account_files.specs.Accounts.{nothing_known};
 ghost use Rattle.account_files.specs.Act.{Acts, answers, standing};
 ghost use Rattle.module_acts.specs.Comes.{Finishes};
@@ -39,6 +39,8 @@ impl Module for SucceedIf {
     ghost plays = { λ _. succeed_if_plays };
 
     ghost note = { λ _. length_note };
+
+    ghost breaks = { λ _. leaves_anything };
 
     fn name(&self) -> &[u8] {
         b"pam_succeed_if"

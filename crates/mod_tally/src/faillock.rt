@@ -1,6 +1,6 @@
 ghost use Rattle.std.specs.Prelude.{◌≡◌, ◌≢◌, ◌==◌, ◌&&◌, not, None, IsTrue, IfOk, codes, unwrap_or, []};
 ghost use Rattle.conv_port.specs.Conv.{ConvState};
-ghost use Rattle.pam_room.specs.Module.{length_note};
+ghost use Rattle.pam_room.specs.Module.{leaves_anything, length_note};
 ghost use Rattle.account_files.specs.Accounts.{Known, nothing_known};
 ghost use Rattle.account_files.specs.Act.{Acts, standing};
 ghost use Rattle.module_acts.specs.Comes.{Finishes};
@@ -37,6 +37,8 @@ impl Module for Faillock {
     ghost plays = { λ _. faillock_plays };
 
     ghost note = { λ _. length_note };
+
+    ghost breaks = { λ _. leaves_anything };
 
     fn name(&self) -> &[u8] {
         b"pam_faillock"

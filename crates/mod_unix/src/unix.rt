@@ -3,7 +3,7 @@ ghost use Rattle.conv_port.specs.Conv.{ConvState};
 ghost use Rattle.data_cleanup.specs.Sets.{Sets};
 ghost use Rattle.pam_outside.specs.Files.{VaultState};
 ghost use Rattle.pam_outside.specs.Time.{ClockState};
-ghost use Rattle.pam_room.specs.Module.{length_note, named_data};
+ghost use Rattle.pam_room.specs.Module.{leaves_anything, length_note, named_data};
 ghost use Rattle.pam_room.specs.Plain.{plain_process};
 ghost use Rattle.pam_room.specs.State.{Scene};
 ghost use Rattle.account_files.specs.Act.{Act};
@@ -44,6 +44,8 @@ impl Module for Unix {
     ghost plays = { λ _. unix_plays };
 
     ghost note = { λ _. length_note };
+
+    ghost breaks = { λ _. leaves_anything };
 
     fn name(&self) -> &[u8] {
         b"pam_unix"

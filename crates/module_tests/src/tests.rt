@@ -1,11 +1,11 @@
 ghost use Rattle.std.specs.Prelude.{◌≡◌, ◌<◌, ◌^◌, [], codes, length};
-ghost use Rattle.pam_room.specs.Module.{answered, length_note};
+ghost use Rattle.pam_room.specs.Module.{answered, leaves_anything, length_note};
 ghost use Rattle.pam_room.specs.Plain.{plain_process, plain_transaction};
 ghost use Rattle.pam_room.specs.Stays.{IsReady};
 
 use conv_port::{Conv, QueueConv};
 use data_cleanup::{Datum, Ledger, Receipt};
-use pam_base::{Code, Func, NoMemory, Numbers, Text, Texts};
+use pam_base::{Code, Func, NoMemory, Numbers, SharedText, Text, Texts};
 use pam_outside::{
     Clock, FixedClock, MemVault, NapSum, Vault, current_moment, read_file, replace_file,
 };
@@ -29,6 +29,8 @@ impl Module for Forgetful {
     ghost plays = { λ _. λ call room held sight. answered BufErr room sight };
 
     ghost note = { λ _. length_note };
+
+    ghost breaks = { λ _. leaves_anything };
 
     fn name(&self) -> &[u8] {
         b"pam_forgetful"
@@ -110,7 +112,7 @@ fn serve_first(
     room.transaction.trail.reserve(1)?;
     let line = StackLine {
         place: 1,
-        path: Text::new(alloc),
+        path: SharedText::new(),
         module_number: Some(0),
     };
     serve_line(alloc, mods, line, call, room, world)

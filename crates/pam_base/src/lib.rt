@@ -14,6 +14,7 @@ mod parts;
 mod quote;
 mod sequence;
 mod service_name;
+mod shared_text;
 mod style;
 mod white;
 
@@ -32,5 +33,6 @@ pub use parts::Parts;
 pub use quote::{push_quoted, quoted};
 pub use sequence::{Numbers, Sequence, Text, Texts};
 pub use service_name::is_service_name;
+pub use shared_text::SharedText;
 pub use style::Style;
 pub use white::is_white;

@@ -15,7 +15,7 @@ use Rattle.dispatch_core.specs.Failing.{StopsAt}
 use Rattle.dispatch_core.specs.Lines.{answers_by, names_of}
 use Rattle.dispatch_core.specs.Passes.{by_place, paused_after, KeepsAfter, KeepsAll, LeavesAs}
 use Rattle.pam_room.specs.State.{State}
-use Rattle.pam_room.specs.Module.{Player, Plays, Note, player_of}
+use Rattle.pam_room.specs.Module.{Breaks, Player, Plays, Note, player_of}
 use Rattle.dispatch_core.specs.Calls.{answers_held, kept_behind}
 use Rattle.pam_handle.specs.Pass.{PassesTo, kept_answers, passed}
 
@@ -58,10 +58,10 @@ passes_to players func flags kind old new stack past s code paused state l = rec
 }
 
 -- the names of modules, as players
-pub names_of_players : {M : Type 0} (label : M → List ℕ) (plays : M → Plays) (note : M → Note) (mods : List M)
-    → names_of (map (player_of label plays note) mods) ≡ map label mods
-names_of_players label plays note [] = refl
-names_of_players label plays note (m ∷ mods) = ap (λ (names : List (List ℕ)). label m ∷ names) (names_of_players label plays note mods)
+pub names_of_players : {M : Type 0} (label : M → List ℕ) (plays : M → Plays) (note : M → Note) (breaks : M → Breaks) (mods : List M)
+    → names_of (map (player_of label plays note breaks) mods) ≡ map label mods
+names_of_players label plays note breaks [] = refl
+names_of_players label plays note breaks (m ∷ mods) = ap (λ (names : List (List ℕ)). label m ∷ names) (names_of_players label plays note breaks mods)
 
 pub pass_told : (result : Result Code NoMemory) (found players : List Player) (func : Func) (flags : ℕ) (kind : PassKind) (old new : Answers) (stack : Stack) (past : List Code) (s : State)
     (paused : Option (List Code)) (state : State) → found ≡ players
@@ -80,8 +80,8 @@ pass_stopped (Err none) found players func flags kind old stack past tells s t U
     subst (λ (ps : List Player). U ⊎ StopsAt ps func flags stack kind (answers_held (kept_answers old)) past tells s t) e
     (subst (λ (kept : KeptAnswers). U ⊎ StopsAt found func flags stack kind kept past tells s t) (held_by_place old) stops)
 
-pub names_given : {M : Type 0} (result : Result (List (List ℕ)) NoMemory) (label : M → List ℕ) (plays : M → Plays) (note : M → Note) (found mods : List M)
+pub names_given : {M : Type 0} (result : Result (List (List ℕ)) NoMemory) (label : M → List ℕ) (plays : M → Plays) (note : M → Note) (breaks : M → Breaks) (found mods : List M)
     → found ≡ mods
-    → IfOk result (λ names. names ≡ map label found) → IfOk result (λ names. names ≡ names_of (map (player_of label plays note) mods))
-names_given (Ok names) label plays note found mods e n = n ∙ ap (map label) e ∙ sym (names_of_players label plays note mods)
-names_given (Err none) label plays note found mods e n = tt
+    → IfOk result (λ names. names ≡ map label found) → IfOk result (λ names. names ≡ names_of (map (player_of label plays note breaks) mods))
+names_given (Ok names) label plays note breaks found mods e n = n ∙ ap (map label) e ∙ sym (names_of_players label plays note breaks mods)
+names_given (Err none) label plays note breaks found mods e n = tt

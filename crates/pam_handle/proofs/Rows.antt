@@ -20,7 +20,7 @@ use Rattle.pam_base.specs.declared.style.Style.TheVariants.{EchoOn}
 use Rattle.data_cleanup.specs.declared.receipt.Filed.{Filed}
 use Rattle.data_cleanup.specs.declared.receipt.Receipt.{Receipt}
 use Rattle.pam_room.specs.Call.{has_flag, prelim_check}
-use Rattle.pam_room.specs.Module.{NamedData, Note, Played, Player, Plays, Sight, answered, notes_of}
+use Rattle.pam_room.specs.Module.{NamedData, Note, Played, Player, Plays, Sight, answered, never_breaks, notes_of}
 use Rattle.pam_room.specs.Say.{Spoken, speak}
 use Rattle.pam_room.specs.State.{PlainWorld, world_of}
 use Rattle.pam_room.specs.declared.visits.Visit.{Visit}
@@ -59,7 +59,7 @@ abbrev noted : Note
 noted payload status = 256 * length payload + status % 256
 
 abbrev player : List ℕ → Plays → Player
-player name plays = record { name = name; plays = plays; note = noted }
+player name plays = record { name = name; plays = plays; note = noted; breaks = never_breaks }
 
 -- ---- transactions
 

@@ -26,5 +26,6 @@ impl GearTold for Gear {
     ghost use Rattle.pam_room.specs.Module.{player_of};
 
     ghost players = { λ g. map (player_of (λ b. (Module-box b).label b.value) (λ b.
-        (Module-box b).plays b.value) (λ b. (Module-box b).note b.value)) g.mods.items };
+        (Module-box b).plays b.value) (λ b. (Module-box b).note b.value) (λ b.
+        (Module-box b).breaks b.value)) g.mods.items };
 }

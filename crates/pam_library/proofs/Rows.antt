@@ -13,7 +13,7 @@ use Rattle.conv_port.specs.Conv.{ConvState}
 use Rattle.conv_port.specs.declared.offer.Offer.TheVariants.{Answer}
 use Rattle.control_words.specs.Keyword.{required}
 use Rattle.control_words.specs.Stack.{Stack, none, line}
-use Rattle.pam_room.specs.Module.{Player, SeenRoom, NamedData, Sight, length_note, notes_of}
+use Rattle.pam_room.specs.Module.{Player, SeenRoom, NamedData, Sight, length_note, never_breaks, notes_of}
 use Rattle.pam_room.specs.Call.{PlainCall}
 use Rattle.pam_room.specs.State.{PlainWorld}
 use Rattle.conf_lex.specs.Reading.{first_piece, pieces_behind}
@@ -41,6 +41,7 @@ sets_datum = record {
   name = codes "p";
   plays = λ (call : PlainCall) (room : SeenRoom) (datums : List NamedData) (sight : Sight). record { code = codes.Success; room = room; births = record { name = codes "a"; payload = codes "x" } ∷ []; files = sight.files; calls = 0 };
   note = length_note;
+  breaks = never_breaks;
 }
 
 abbrev is_put_off : Player
@@ -48,6 +49,7 @@ is_put_off = record {
   name = codes "q";
   plays = λ (call : PlainCall) (room : SeenRoom) (datums : List NamedData) (sight : Sight). record { code = codes.Success; room = record room { put_off = true }; births = []; files = sight.files; calls = 0 };
   note = length_note;
+  breaks = never_breaks;
 }
 
 abbrev players : List Player

@@ -4,3 +4,4 @@ mod Serving
 mod Prompts
 mod Setting
 mod Parts
+mod Staying

@@ -6,8 +6,8 @@ use Rattle.data_cleanup.specs.Ledger.{PlainLedger}
 use Rattle.data_cleanup.specs.Cleanup.{AwaitCleanup, swept_list, swept_ledger}
 use Rattle.pam_room.specs.Call.{PlainCall}
 use Rattle.pam_room.specs.State.{Scene, State, scene_in}
-use Rattle.pam_room.specs.Module.{Player, PlaysIn, notes_of}
-use Rattle.pam_room.specs.Serve.{AnswersAs, answer_or_incomplete, at_work, served}
+use Rattle.pam_room.specs.Module.{BreaksIn, Player, PlaysIn, notes_of}
+use Rattle.pam_room.specs.Serve.{AnswersAs, LineBreaks, answer_or_incomplete, at_work, served}
 
 pub player_at : {M : Type 0} (player : M → Player) (mods : List M) (i : ℕ) (m : M) → i < length mods → m ≡ get_or mods i m
     → slice_get (map player mods) i ≡ Some (player m)
@@ -39,6 +39,15 @@ served_so player mods number m call s mid code datums ledger within is p nap d l
       answer_is = rw (p.code_is, room) refl;
       state_is = rw (d, l, room, vault, clock, process, nap) refl;
     })
+
+-- what a module left without memory, the line left
+pub broken_so : {M : Type 0} (player : M → Player) (mods : List M) (number : ℕ) (m : M) (call : PlainCall) (s end : State)
+    → number < length mods → m ≡ get_or mods number m
+    → BreaksIn (player m).breaks call (scene_in (at_work number s)) (scene_in end)
+    → LineBreaks (map player mods) (Some number) call s end
+broken_so player mods number m call s end within is left =
+    let at : slice_get (map player mods) number ≡ Some (player m) = player_at player mods number m within is in
+    rw at left
 
 -- nothing waits among the replaced, so all that awaits its cleanup is set
 pub all_await : (modules : ℕ) (ledger : PlainLedger) (list : PlainDataList) → list.gone ≡ [] → AwaitCleanup modules ledger list.live

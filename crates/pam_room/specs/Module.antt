@@ -1,6 +1,7 @@
 -- What a module is to contracts: what its calls do to a transaction and a world that tell, and what its cleanup
 -- of a datum comes to (Linux-PAM Module Writers' Guide; the form is this project's own).
-use Rattle.std.specs.Prelude.{◌≡◌, ℕ, zero, suc, ◌+◌, ◌%◌, ◌^◌, Bool, List, [], ◌∷◌, ◌++◌, length, map}
+use Rattle.std.specs.Prelude.{◌≡◌, ℕ, zero, suc, ◌+◌, ◌%◌, ◌^◌, Bool, true, false, ◌&&◌, IsTrue, List, [], ◌∷◌, ◌++◌, length, map}
+use Rattle.std.specs.Str.{bytes_eq}
 use Rattle.pam_base.specs.declared.code.Code.{Code}
 use Rattle.item_store.specs.Items.{ItemTexts}
 use Rattle.env_list.specs.Environment.{Variable}
@@ -69,15 +70,47 @@ Plays = PlainCall → SeenRoom → List NamedData → Sight → Played
 abbrev pub Note : Type 0
 Note = List ℕ → ℕ → ℕ
 
--- a module: its name and its two meanings
+-- whether a module's call that finds no memory may leave this: by the call and what it saw, what is seen of the room
+-- and the files then
+abbrev pub Breaks : Type 0
+Breaks = PlainCall → SeenRoom → List NamedData → Sight → SeenRoom → List File → Bool
+
+-- those of a module that doesn't say what it leaves then
+abbrev pub leaves_anything : Breaks
+leaves_anything call room held sight left files = true
+
+-- those of a module that takes no memory
+abbrev pub never_breaks : Breaks
+never_breaks call room held sight left files = false
+
+-- whether two lists have the same files
+abbrev pub same_files : List File → List File → Bool
+same_files [] [] = true
+same_files [] (g ∷ gs) = false
+same_files (f ∷ fs) [] = false
+same_files (f ∷ fs) (g ∷ gs) =
+    bytes_eq f.path g.path && (bytes_eq f.bytes g.bytes && same_files fs gs)
+
+-- those of a module that replaces no file
+abbrev pub keeps_files : Breaks
+keeps_files call room held sight left files = same_files files sight.files
+
+-- a module: its name and its three meanings
 pub record Player : Type 0 where
   pub name : List ℕ
   pub plays : Plays
   pub note : Note
+  pub breaks : Breaks
 
 -- a module as a player, by the members of its type
-abbrev pub player_of : {M : Type 0} → (M → List ℕ) → (M → Plays) → (M → Note) → M → Player
-player_of label plays note m = record { name = label m; plays = plays m; note = note m }
+abbrev pub player_of : {M : Type 0} → (M → List ℕ) → (M → Plays) → (M → Note) → (M → Breaks) → M
+    → Player
+player_of label plays note breaks m = record {
+  name = label m;
+  plays = plays m;
+  note = note m;
+  breaks = breaks m;
+}
 
 -- the notes that the owners of data give, by their numbers
 abbrev pub notes_of : List Player → Notes
@@ -122,6 +155,12 @@ sight_of s = record {
 abbrev pub played_in : Plays → PlainCall → Scene → Played
 played_in plays call s =
     plays call (seen_of s.room) (named_data s.room.transaction.datums.live) (sight_of s)
+
+-- a call that found no memory left what its module may leave then
+abbrev pub BreaksIn : Breaks → PlainCall → Scene → Scene → Type 0
+BreaksIn breaks call old new =
+    IsTrue (breaks call (seen_of old.room) (named_data old.room.transaction.datums.live)
+    (sight_of old) (seen_of new.room) new.vault.files)
 
 -- the births of data that are set one after another, with their ids, their transaction and their owner
 abbrev pub births_of : ℕ → ℕ → ℕ → List NamedData → List Birth

@@ -6,7 +6,7 @@ use Rattle.pam_base.specs.declared.code.Code.TheVariants.{ModuleUnknown, Incompl
 use Rattle.data_cleanup.specs.Cleanup.{Notes, swept_list, swept_ledger}
 use Rattle.pam_room.specs.State.{State, scene_in, with_scene}
 use Rattle.pam_room.specs.Call.{PlainCall}
-use Rattle.pam_room.specs.Module.{Player, played_in, with_played, notes_of}
+use Rattle.pam_room.specs.Module.{Player, played_in, with_played, notes_of, BreaksIn}
 
 -- an answer, and the state after it
 pub record Answered : Type 0 where
@@ -87,3 +87,15 @@ serve_line players number place path call s = visited place path (served players
 pub record AnswersAs (a : Answered) (code : Code) (state : State) : Type 0 where
   pub answer_is : code ≡ a.answer
   pub state_is : state ≡ a.state
+
+-- a player found no memory where it served with this number, and left what it may leave then
+abbrev pub PlayerBreaks : Option Player → ℕ → PlainCall → State → State → Type 0
+PlayerBreaks (Some player) number call old new =
+    BreaksIn player.breaks call (scene_in (at_work number old)) (scene_in new)
+PlayerBreaks None number call old new = ⊥
+
+-- the module with this number did; a line whose module isn't there takes no memory
+abbrev pub LineBreaks : List Player → Option ℕ → PlainCall → State → State → Type 0
+LineBreaks players (Some number) call old new =
+    PlayerBreaks (slice_get players number) number call old new
+LineBreaks players None call old new = ⊥

@@ -23,7 +23,7 @@ pub fn end_room(
         (plain_process process.old) }
     ensures conv { result ≡ room.conv }
     ensures process { process.new ≡ record process.old {
-      ledger = ledger_after (notes_of (map (player_of label plays note) mods.now)) status
+      ledger = ledger_after (notes_of (map (player_of label plays note breaks) mods.now)) status
           (reverse room.transaction.datums.live) process.old.ledger;
     } }
 {

@@ -1,10 +1,11 @@
-ghost use Rattle.std.specs.Prelude.{◌≡◌, ℕ, List, [], ◌++◌};
+ghost use Rattle.std.specs.Prelude.{◌≡◌, ℕ, List, [], ◌++◌, IsTrue};
 ghost use Rattle.data_cleanup.specs.DataList.{PlainDataList};
 ghost use Rattle.data_cleanup.specs.Ledger.{PlainLedger};
 ghost use Rattle.data_cleanup.specs.Sets.{Sets};
+ghost use Rattle.pam_outside.specs.Files.{File};
 ghost use Rattle.pam_room.specs.State.{PlainTransaction, PlainProcess, Scene};
 ghost use Rattle.pam_room.specs.Stays.{Stays};
-ghost use Rattle.pam_room.specs.Module.{HasSet, LeavesAs, NamedData, Played, with_played};
+ghost use Rattle.pam_room.specs.Module.{HasSet, LeavesAs, NamedData, Played, same_files, with_played};
 
 // Each of these does nothing: its contract is a law about the definitions, for those who call it in a proof.
 
@@ -41,4 +42,9 @@ pub fn parts_are_played()
 pub fn staying_is_transitive()
     ensures { (x y z : PlainTransaction) (a b c : PlainProcess) → Stays x y a b → Stays y z b c →
         Stays x z a c }
+{}
+
+/// Files that stayed are the same files, as `keeps_files` asks for.
+pub fn files_stay()
+    ensures { (files : List File) → IsTrue (same_files files files) }
 {}

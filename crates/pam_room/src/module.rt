@@ -1,8 +1,8 @@
-ghost use Rattle.std.specs.Prelude.{◌≡◌, ◌≤◌, ℕ, List, IfOk, IsTrue, ◌&&◌};
+ghost use Rattle.std.specs.Prelude.{◌≡◌, ◌≤◌, ℕ, List, IfOk, OnErr, IsTrue, ◌&&◌};
 ghost use Rattle.data_cleanup.specs.Sets.{Sets};
 ghost use Rattle.pam_room.specs.State.{room_of, scene_of};
 ghost use Rattle.pam_room.specs.Stays.{Stays};
-ghost use Rattle.pam_room.specs.Module.{Plays, Note, PlaysIn};
+ghost use Rattle.pam_room.specs.Module.{Plays, Note, Breaks, PlaysIn, BreaksIn};
 ghost use Rattle.pam_room.specs.Plain.{plain_call, plain_transaction, plain_process};
 
 use crate::call::Call;
@@ -26,6 +26,9 @@ pub trait Module: Drop {
     /// What its cleanups come to, a number below 2^32.
     ghost note: { Self → Note };
 
+    /// What its calls may leave where they find no memory.
+    ghost breaks: { Self → Breaks };
+
     /// The name by which a line finds it: the last part of a path, without `.so`.
     fn name(&self) -> &[u8]
         ensures { result.now ≡ label self.now };
@@ -33,8 +36,9 @@ pub trait Module: Drop {
     /// Serves one of the six functions (`pam_sm_authenticate(3)` and its like), and answers its code. It is lent
     /// the transaction with its conversation, and the vault, the clock and what else of the world it may use.
     ///
-    /// Where conversation, vault and clock tell, an Ok is what the module plays. In any
-    /// world, also without memory, the other clauses hold.
+    /// Where conversation, vault and clock tell, an Ok is what the module plays, and after an Err what is seen of the
+    /// transaction and the files is what `breaks` says that it may leave. In any world, also without memory, the other
+    /// clauses hold.
     fn serve(
         &self,
         alloc: Global,
@@ -54,6 +58,13 @@ pub trait Module: Drop {
             IfOk result (λ code. PlaysIn (plays self.now) (plain_call call.now)
             (scene_of (room_of (plain_transaction transaction.old) (conv_holds conv.old))
             (vault_holds vault.old) (clock_holds clock.old) (plain_process process.old)) code
+            (scene_of (room_of (plain_transaction transaction.new) (conv_holds conv.new))
+            (vault_holds vault.new) (clock_holds clock.new) (plain_process process.new))) }
+        ensures broken { IsTrue (conv_tells conv.old
+            && (vault_tells vault.old && clock_tells clock.old)) →
+            OnErr result (BreaksIn (breaks self.now) (plain_call call.now)
+            (scene_of (room_of (plain_transaction transaction.old) (conv_holds conv.old))
+            (vault_holds vault.old) (clock_holds clock.old) (plain_process process.old))
             (scene_of (room_of (plain_transaction transaction.new) (conv_holds conv.new))
             (vault_holds vault.new) (clock_holds clock.new) (plain_process process.new))) }
         ensures time { IsTrue (clock_tells clock.old) →

@@ -3,8 +3,8 @@ ghost use Rattle.data_cleanup.specs.Grows.{Grows};
 ghost use Rattle.data_cleanup.specs.Sets.{Sets};
 ghost use Rattle.pam_room.specs.State.{scene_in, state_of};
 ghost use Rattle.pam_room.specs.Stays.{Stays, IsReady};
-ghost use Rattle.pam_room.specs.Module.{PlaysIn, notes_of, player_of};
-ghost use Rattle.pam_room.specs.Serve.{AnswersAs, answer_or_incomplete, serve_line, served};
+ghost use Rattle.pam_room.specs.Module.{BreaksIn, PlaysIn, notes_of, player_of};
+ghost use Rattle.pam_room.specs.Serve.{AnswersAs, LineBreaks, answer_or_incomplete, serve_line, served};
 ghost use Rattle.pam_room.specs.Plain.{plain_call, plain_transaction, plain_process};
 
 use crate::call::Call;
@@ -14,7 +14,7 @@ use crate::sweep::sweep;
 use crate::visits::Visit;
 use crate::world::{World, WorldTold};
 use data_cleanup::laws;
-use pam_base::{Code, NoMemory, Text};
+use pam_base::{Code, NoMemory, SharedText};
 use std::alloc::Global;
 
 /// A line of a stack, as it is visited.
@@ -23,7 +23,7 @@ pub struct StackLine {
     /// Its place among the stack's lines, from 1.
     pub place: u32,
     /// The path of its module.
-    pub path: Text,
+    pub path: SharedText,
     /// The number of its module, from 0; None where it isn't there.
     pub module_number: Option<u32>,
 }
@@ -34,7 +34,8 @@ pub struct StackLine {
 /// answer is INCOMPLETE, whatever the module made of it.
 ///
 /// With spare room in the trail it takes no memory of its own. Without memory of the module's nothing is visited,
-/// but what was replaced is cleaned up too, and the module's number is still the one at work.
+/// but what was replaced is cleaned up too, and the module's number is still the one at work; of what modules see of
+/// the transaction, and of the files, nothing is changed but what the module may leave then.
 pub fn serve_line(
     alloc: Global,
     mods: &[Box<dyn Module>],
@@ -56,10 +57,17 @@ pub fn serve_line(
         && ⟦<World as WorldTold>⟧.tells world.old) →
         IfOk result (λ code. AnswersAs
         (serve_line
-        (map (player_of label plays note) mods.now) line.module_number line.place line.path
+        (map (player_of label plays note breaks) mods.now) line.module_number line.place line.path
         (plain_call call.now)
         (state_of (⟦<Room as RoomTold>⟧.plain room.old) (⟦<World as WorldTold>⟧.plain world.old)))
         code (state_of (⟦<Room as RoomTold>⟧.plain room.new)
+        (⟦<World as WorldTold>⟧.plain world.new))) }
+    ensures broken { IsTrue (⟦<Room as RoomTold>⟧.tells room.old
+        && ⟦<World as WorldTold>⟧.tells world.old) →
+        OnErr result (LineBreaks (map (player_of label plays note breaks) mods.now)
+        line.module_number (plain_call call.now)
+        (state_of (⟦<Room as RoomTold>⟧.plain room.old) (⟦<World as WorldTold>⟧.plain world.old))
+        (state_of (⟦<Room as RoomTold>⟧.plain room.new)
         (⟦<World as WorldTold>⟧.plain world.new))) }
     ensures unknown { line.module_number ≡ None →
         (result ≡ Ok Code.ModuleUnknown) × (world.new ≡ world.old) × (room.new.conv ≡ room.old.conv)
@@ -76,7 +84,8 @@ pub fn serve_line(
     ensures stays { Stays (plain_transaction room.old.transaction)
         (plain_transaction room.new.transaction) (plain_process world.old.process)
         (plain_process world.new.process) }
-    ensures grows { Grows (notes_of (map (player_of label plays note) mods.now)) (length mods.now)
+    ensures grows { Grows (notes_of (map (player_of label plays note breaks) mods.now))
+        (length mods.now)
         room.old.transaction.datums world.old.process.ledger room.new.transaction.datums
         world.new.process.ledger }
     ensures ready { IsReady (length mods.now) (plain_transaction room.new.transaction)
@@ -115,9 +124,17 @@ fn serve_by(
     ensures told { IsTrue (⟦<Room as RoomTold>⟧.tells room.old
         && ⟦<World as WorldTold>⟧.tells world.old) →
         IfOk result (λ code. AnswersAs
-        (served (map (player_of label plays note) mods.now) (Some number) (plain_call call.now)
+        (served (map (player_of label plays note breaks) mods.now) (Some number)
+        (plain_call call.now)
         (state_of (⟦<Room as RoomTold>⟧.plain room.old) (⟦<World as WorldTold>⟧.plain world.old)))
         code (state_of (⟦<Room as RoomTold>⟧.plain room.new)
+        (⟦<World as WorldTold>⟧.plain world.new))) }
+    ensures broken { IsTrue (⟦<Room as RoomTold>⟧.tells room.old
+        && ⟦<World as WorldTold>⟧.tells world.old) →
+        OnErr result (LineBreaks (map (player_of label plays note breaks) mods.now) (Some number)
+        (plain_call call.now)
+        (state_of (⟦<Room as RoomTold>⟧.plain room.old) (⟦<World as WorldTold>⟧.plain world.old))
+        (state_of (⟦<Room as RoomTold>⟧.plain room.new)
         (⟦<World as WorldTold>⟧.plain world.new))) }
     ensures serving { room.new.transaction.serving ≡ number }
     ensures trail { room.new.transaction.trail.visits ≡ room.old.transaction.trail.visits }
@@ -125,7 +142,8 @@ fn serve_by(
     ensures stays { Stays (plain_transaction room.old.transaction)
         (plain_transaction room.new.transaction) (plain_process world.old.process)
         (plain_process world.new.process) }
-    ensures grows { Grows (notes_of (map (player_of label plays note) mods.now)) (length mods.now)
+    ensures grows { Grows (notes_of (map (player_of label plays note breaks) mods.now))
+        (length mods.now)
         room.old.transaction.datums world.old.process.ledger room.new.transaction.datums
         world.new.process.ledger }
     ensures ready { IsReady (length mods.now) (plain_transaction room.new.transaction)
@@ -172,6 +190,14 @@ fn play(
         (scene_in
         (state_of (⟦<Room as RoomTold>⟧.plain room.old) (⟦<World as WorldTold>⟧.plain world.old)))
         code
+        (scene_in
+        (state_of (⟦<Room as RoomTold>⟧.plain room.new)
+        (⟦<World as WorldTold>⟧.plain world.new)))) }
+    ensures broken { IsTrue (⟦<Room as RoomTold>⟧.tells room.old
+        && ⟦<World as WorldTold>⟧.lent_tells world.old) →
+        OnErr result (BreaksIn (breaks handler.now) (plain_call call.now)
+        (scene_in
+        (state_of (⟦<Room as RoomTold>⟧.plain room.old) (⟦<World as WorldTold>⟧.plain world.old)))
         (scene_in
         (state_of (⟦<Room as RoomTold>⟧.plain room.new)
         (⟦<World as WorldTold>⟧.plain world.new)))) }

@@ -12,7 +12,7 @@ pub(crate) fn sweep(mods: &[Box<dyn Module>], datums: &mut DataList, ledger: &mu
     requires { AwaitCleanup (length mods.now) ledger.old (datums.old.gone ++ datums.old.live) }
     ensures datums { datums.new ≡ swept_list datums.old }
     ensures ledger { ledger.new ≡ swept_ledger
-        (notes_of (map (player_of label plays note) mods.now)) datums.old ledger.old }
+        (notes_of (map (player_of label plays note breaks) mods.now)) datums.old ledger.old }
     ensures awaiting { AwaitCleanup (length mods.now) ledger.new datums.new.live }
 {
     laws::cleanup_begins();
@@ -31,7 +31,7 @@ pub(crate) fn end_data(mods: &[Box<dyn Module>], datums: DataList, ledger: &mut 
     requires none_gone { datums.gone ≡ [] }
     requires awaiting { AwaitCleanup (length mods.now) ledger.old datums.live }
     ensures { ledger.new ≡ ledger_after
-        (notes_of (map (player_of label plays note) mods.now)) status
+        (notes_of (map (player_of label plays note breaks) mods.now)) status
         (reverse datums.live) ledger.old }
 {
     laws::cleanup_begins();

@@ -1,6 +1,6 @@
 ghost use Rattle.std.specs.Prelude.{◌≡◌, ◌<◌, ◌≤◌, ◌+◌, ◌==◌, ◌∷◌, ◌++◌, [], length, slice_get, Some, IsOk, OnOk, OnErr};
 
-use pam_base::{Code, NoMemory, Text};
+use pam_base::{Code, NoMemory, SharedText};
 use std::alloc::Global;
 use std::marker::Model;
 
@@ -8,7 +8,7 @@ use std::marker::Model;
 #[derive(Debug, Drop)]
 pub struct Visit {
     pub place: u32,
-    pub path: Text,
+    pub path: SharedText,
     pub answer: Code,
 }
 

@@ -9,7 +9,7 @@ use crate::rule_type::RuleType;
 use crate::type_field::{TypeField, is_word};
 use conf_lex::Token;
 use control_words::{Control, Rule, control_of};
-use pam_base::{FaultKind, NoMemory, Refuse, Sequence, Text, Texts};
+use pam_base::{FaultKind, NoMemory, Refuse, Sequence, SharedText, Text, Texts};
 use std::alloc::Global;
 
 /// What a rule brings to a stack.
@@ -110,7 +110,7 @@ fn copy_of_rule(alloc: Global, rule: &Rule) -> Result<Rule, NoMemory>
     Ok(Rule {
         silent: rule.silent,
         control: rule.control,
-        path: Text::from_bytes(alloc, rule.path.bytes())?,
+        path: rule.path.share()?,
         args: copy_of_texts(alloc, &rule.args)?,
     })
 }
@@ -181,7 +181,7 @@ fn rule_of(
     Ok(Rule {
         silent,
         control,
-        path: Text::from_bytes(alloc, path.text.bytes())?,
+        path: SharedText::from_bytes(alloc, path.text.bytes())?,
         args: texts_of(alloc, args)?,
     })
 }

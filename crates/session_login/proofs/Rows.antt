@@ -13,7 +13,7 @@ use Rattle.service_load.specs.FirstFault.{look}
 use Rattle.service_load.specs.Order.{items}
 use Rattle.service_load.specs.Tree.{nodes}
 use Rattle.pam_room.specs.Call.{PlainCall}
-use Rattle.pam_room.specs.Module.{NamedData, Player, SeenRoom, Sight, length_note}
+use Rattle.pam_room.specs.Module.{NamedData, Player, SeenRoom, Sight, length_note, never_breaks}
 use Rattle.pam_library.specs.Slots.{PlainSlot, closed}
 use Rattle.pam_library.specs.Step.{stepped}
 use Rattle.session_run.specs.State.{RunState, Setting, state_of}
@@ -25,6 +25,7 @@ answers_by by = record {
   name = codes "p";
   plays = λ (call : PlainCall) (room : SeenRoom) (datums : List NamedData) (sight : Sight). record { code = by call.func; room = room; births = []; files = sight.files; calls = 0 };
   note = length_note;
+  breaks = never_breaks;
 }
 
 abbrev with_answers : (Func → Code) → Setting

@@ -53,7 +53,8 @@ impl DeskTold for Desk {
         (slice_set d.convs.items 0 d.term) };
 
     ghost players = { λ d. map (player_of (λ b. (Module-box b).label b.value)
-        (λ b. (Module-box b).plays b.value) (λ b. (Module-box b).note b.value)) d.mods.items };
+        (λ b. (Module-box b).plays b.value) (λ b. (Module-box b).note b.value)
+        (λ b. (Module-box b).breaks b.value)) d.mods.items };
 }
 
 /// Puts the terminal's conversation in the first place.

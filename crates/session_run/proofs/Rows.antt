@@ -12,7 +12,7 @@ use Rattle.conf_lex.specs.Lexing.{answer_at}
 use Rattle.conf_lex.specs.Reading.{first_piece, pieces_behind}
 use Rattle.pam_base.specs.declared.code.Code.TheVariants as Code
 use Rattle.pam_room.specs.Call.{PlainCall}
-use Rattle.pam_room.specs.Module.{NamedData, Player, SeenRoom, Sight, length_note}
+use Rattle.pam_room.specs.Module.{NamedData, Player, SeenRoom, Sight, length_note, never_breaks}
 use Rattle.pam_room.specs.State.{PlainWorld}
 use Rattle.service_load.specs.Entry.{entry_of}
 use Rattle.service_load.specs.FirstFault.{look}
@@ -78,6 +78,7 @@ sets_datum = record {
   name = codes "p";
   plays = λ (call : PlainCall) (room : SeenRoom) (datums : List NamedData) (sight : Sight). record { code = Code.Success; room = room; births = record { name = codes "a"; payload = codes "x" } ∷ []; files = sight.files; calls = 0 };
   note = length_note;
+  breaks = never_breaks;
 }
 
 abbrev with_module : Setting
@@ -128,6 +129,7 @@ notes_in_file = record {
     calls = 1;
   };
   note = length_note;
+  breaks = never_breaks;
 }
 
 abbrev with_file : Setting

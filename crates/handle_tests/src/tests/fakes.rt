@@ -1,6 +1,6 @@
 ghost use Rattle.std.specs.Prelude.{codes};
 ghost use Rattle.handle_tests.specs.Fakes.{establisher_plays};
-ghost use Rattle.pam_room.specs.Module.{answered, length_note};
+ghost use Rattle.pam_room.specs.Module.{answered, keeps_files, length_note, never_breaks};
 
 use conv_port::Conv;
 use data_cleanup::{Datum, Receipt};
@@ -20,6 +20,8 @@ impl Module for Establisher {
     ghost plays = { λ _. establisher_plays };
 
     ghost note = { λ _. length_note };
+
+    ghost breaks = { λ _. never_breaks };
 
     fn name(&self) -> &[u8] {
         b"establisher"
@@ -60,6 +62,8 @@ impl Module for Forgetful {
 
     ghost note = { λ _. length_note };
 
+    ghost breaks = { λ _. keeps_files };
+
     fn name(&self) -> &[u8] {
         b"forgetful"
     }
@@ -76,6 +80,7 @@ impl Module for Forgetful {
     ) -> Result<Code, NoMemory> {
         laws::nothing_is_set();
         laws::set_data_are_sets();
+        laws::files_stay();
         transaction.set_data(alloc, &mut process.ledger, b"a", b"xyz")?;
         Err(NoMemory)
     }

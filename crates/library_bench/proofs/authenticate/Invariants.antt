@@ -11,7 +11,7 @@ invariant-loop g l =
     map
     (player_of (λ b. (goal.Module-dyn g (b.vtable, b.value)).label b.value)
     (λ b. (goal.Module-dyn g (b.vtable, b.value)).plays b.value)
-    (λ b. (goal.Module-dyn g (b.vtable, b.value)).note b.value)) l.gear.mods.items in
+    (λ b. (goal.Module-dyn g (b.vtable, b.value)).note b.value) (λ b. (goal.Module-dyn g (b.vtable, b.value)).breaks b.value)) l.gear.mods.items in
     IsReadyFor players
     (plain_handle (plain_room (λ b. (goal.Conv-dyn g (b.vtable, b.value)).conv_holds b.value))
     l.handle) (plain_process l.world.process)

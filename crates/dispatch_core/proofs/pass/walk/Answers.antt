@@ -21,7 +21,7 @@ use Rattle.dispatch_core.proofs.pass.walk.Goals as goal
 
 pub loop-walker-init : goal.loop-walker-init
 loop-walker-init g c =
-    let answers : Answering State = answers_by (map (player_of (λ b. (goal.Module-dyn g (b.vtable, b.value)).label b.value) (λ b. (goal.Module-dyn g (b.vtable, b.value)).plays b.value) (λ b. (goal.Module-dyn g (b.vtable, b.value)).note b.value)) c.args.mods.now) c.args.request.func c.args.request.flags in (
+    let answers : Answering State = answers_by (map (player_of (λ b. (goal.Module-dyn g (b.vtable, b.value)).label b.value) (λ b. (goal.Module-dyn g (b.vtable, b.value)).plays b.value) (λ b. (goal.Module-dyn g (b.vtable, b.value)).note b.value) (λ b. (goal.Module-dyn g (b.vtable, b.value)).breaks b.value)) c.args.mods.now) c.args.request.func c.args.request.flags in (
       [],
       record {
         goes = λ told. begun c.args.request.kind (serving c.args.request.kind (by_place c.args.follows.now) answers) c.args.chain.now.nodes c.new-walker.result _ c.new-walker.ensures.at c.new-walker.ensures.opinion c.new-walker.ensures.entries;
@@ -48,7 +48,7 @@ pub returns-in_default-clause-told : goal.returns-in_default-clause-told
 returns-in_default-clause-told g c = λ told.
     let sofar = c.loop-walker.invariant.1 in
     let visits : List Visit = c.loop-walker.invariant.0 in
-    let answers : Answering State = answers_by (map (player_of (λ b. (goal.Module-dyn g (b.vtable, b.value)).label b.value) (λ b. (goal.Module-dyn g (b.vtable, b.value)).plays b.value) (λ b. (goal.Module-dyn g (b.vtable, b.value)).note b.value)) c.args.mods.now) c.args.request.func c.args.request.flags in
+    let answers : Answering State = answers_by (map (player_of (λ b. (goal.Module-dyn g (b.vtable, b.value)).label b.value) (λ b. (goal.Module-dyn g (b.vtable, b.value)).plays b.value) (λ b. (goal.Module-dyn g (b.vtable, b.value)).note b.value) (λ b. (goal.Module-dyn g (b.vtable, b.value)).breaks b.value)) c.args.mods.now) c.args.request.func c.args.request.flags in
     let serve = serving c.args.request.kind (by_place c.args.follows.now) answers in
     let later : State = state_of (plain_room (λ b. (goal.Conv-dyn g (b.vtable, b.value)).conv_holds b.value) c.walk_line.new.room) (plain_world (λ b. (goal.Vault-dyn g (b.vtable, b.value)).vault_holds b.value) (λ b. (goal.Clock-dyn g (b.vtable, b.value)).clock_holds b.value) (λ b. (goal.Nap-dyn g (b.vtable, b.value)).nap_holds b.value) c.walk_line.new.world) in
     let now = both_tell _ _ _ _ sofar.room_tells sofar.world_tells told in
@@ -72,7 +72,7 @@ loop-walker-preserved g c =
     let visits : List Visit = c.loop-walker.invariant.0 in
     let answer : Code = c.in-Some._answer in
     let at = c.loop-walker.walker.at in
-    let answers : Answering State = answers_by (map (player_of (λ b. (goal.Module-dyn g (b.vtable, b.value)).label b.value) (λ b. (goal.Module-dyn g (b.vtable, b.value)).plays b.value) (λ b. (goal.Module-dyn g (b.vtable, b.value)).note b.value)) c.args.mods.now) c.args.request.func c.args.request.flags in
+    let answers : Answering State = answers_by (map (player_of (λ b. (goal.Module-dyn g (b.vtable, b.value)).label b.value) (λ b. (goal.Module-dyn g (b.vtable, b.value)).plays b.value) (λ b. (goal.Module-dyn g (b.vtable, b.value)).note b.value) (λ b. (goal.Module-dyn g (b.vtable, b.value)).breaks b.value)) c.args.mods.now) c.args.request.func c.args.request.flags in
     let serve = serving c.args.request.kind (by_place c.args.follows.now) answers in
     let later : State = state_of (plain_room (λ b. (goal.Conv-dyn g (b.vtable, b.value)).conv_holds b.value) c.walk_line.new.room) (plain_world (λ b. (goal.Vault-dyn g (b.vtable, b.value)).vault_holds b.value) (λ b. (goal.Clock-dyn g (b.vtable, b.value)).clock_holds b.value) (λ b. (goal.Nap-dyn g (b.vtable, b.value)).nap_holds b.value) c.walk_line.new.world) in
     let kept : c.walk_line.new.keeps ≡ kept_at c.loop-walker.keeps at answer = c.in_ok-_answer.ensures.keeps ∙ ap (kept_with c.loop-walker.keeps at) c.in-Some.is in
@@ -110,7 +110,7 @@ loop-walker-preserved g c =
 pub returns-clause-told : goal.returns-clause-told
 returns-clause-told g c = λ told.
     let sofar = c.loop-walker.invariant.1 in
-    let answers : Answering State = answers_by (map (player_of (λ b. (goal.Module-dyn g (b.vtable, b.value)).label b.value) (λ b. (goal.Module-dyn g (b.vtable, b.value)).plays b.value) (λ b. (goal.Module-dyn g (b.vtable, b.value)).note b.value)) c.args.mods.now) c.args.request.func c.args.request.flags in
+    let answers : Answering State = answers_by (map (player_of (λ b. (goal.Module-dyn g (b.vtable, b.value)).label b.value) (λ b. (goal.Module-dyn g (b.vtable, b.value)).plays b.value) (λ b. (goal.Module-dyn g (b.vtable, b.value)).note b.value) (λ b. (goal.Module-dyn g (b.vtable, b.value)).breaks b.value)) c.args.mods.now) c.args.request.func c.args.request.flags in
     let now : State = state_of (plain_room (λ b. (goal.Conv-dyn g (b.vtable, b.value)).conv_holds b.value) c.loop-walker.room) (plain_world (λ b. (goal.Vault-dyn g (b.vtable, b.value)).vault_holds b.value) (λ b. (goal.Clock-dyn g (b.vtable, b.value)).clock_holds b.value) (λ b. (goal.Nap-dyn g (b.vtable, b.value)).nap_holds b.value) c.loop-walker.world) in
     let behind : lines_in c.args.chain.now.nodes ≤ c.loop-walker.walker.at = omega (arith, c.len.ensures.counted, c.loop-walker-test.false, ap lines_in sofar.nodes) in
     walks_to _ c.loop-walker.walker.opinion c.loop-walker.supplies.given.past c.loop-walker.invariant.0 now c.loop-walker.keeps c.loop-walker.supplies.given sofar.progress.taken_is sofar.progress.kept_is _ c.verdict.ensures
@@ -120,5 +120,5 @@ pub returns-in_err-_answer-clause-stopped : goal.returns-in_err-_answer-clause-s
 returns-in_err-_answer-clause-stopped g c =
     let sofar = c.loop-walker.invariant.1 in
     let answered : c.from_residual.result ≡ Err c.in_err-_answer.field-0.0 = search rules in
-    rw answered (stops_later _ _ _ _ _ _ _ _ _ _ c.loop-walker.walker c.loop-walker.supplies.given.past _ _ _ sofar.nodes sofar.far c.in_err-_answer.ensures.at_work.0 (omega (arith, c.loop-walker-test.true, c.len.ensures.counted)) c.in_err-_answer.ensures.at_work.1
-    (length-map c.args.mods.now (player_of (λ b. (goal.Module-dyn g (b.vtable, b.value)).label b.value) (λ b. (goal.Module-dyn g (b.vtable, b.value)).plays b.value) (λ b. (goal.Module-dyn g (b.vtable, b.value)).note b.value))) c.walk_line.ensures.sound (ap (λ b. (goal.Nap-dyn g (b.vtable, b.value)).nap_holds b.value) c.walk_line.ensures.nap))
+    rw answered (stops_later _ _ _ _ _ _ _ _ _ _ c.loop-walker.walker c.loop-walker.supplies.given.past _ _ _ sofar.nodes _ (both_tell _ _ _ _ sofar.room_tells sofar.world_tells) sofar.far c.in_err-_answer.ensures.at_work.0 (omega (arith, c.loop-walker-test.true, c.len.ensures.counted)) c.in_err-_answer.ensures.at_work.1
+    (length-map c.args.mods.now (player_of (λ b. (goal.Module-dyn g (b.vtable, b.value)).label b.value) (λ b. (goal.Module-dyn g (b.vtable, b.value)).plays b.value) (λ b. (goal.Module-dyn g (b.vtable, b.value)).note b.value) (λ b. (goal.Module-dyn g (b.vtable, b.value)).breaks b.value))) c.walk_line.ensures.sound (ap (λ b. (goal.Nap-dyn g (b.vtable, b.value)).nap_holds b.value) c.walk_line.ensures.nap) c.in_err-_answer.ensures.broken)

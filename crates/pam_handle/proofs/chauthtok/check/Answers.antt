@@ -14,7 +14,7 @@ returns-in-Success-clause-told g c = λ told h room stack.
     let last : PlainWorld = plain_world (λ b. (goal.Vault-dyn g (b.vtable, b.value)).vault_holds b.value) (λ b. (goal.Clock-dyn g (b.vtable, b.value)).clock_holds b.value) (λ b. (goal.Nap-dyn g (b.vtable, b.value)).nap_holds b.value) c.pass.new.world in
     let before : PlainRoom = plain_room (λ b. (goal.Conv-dyn g (b.vtable, b.value)).conv_holds b.value) c.args.room.now in
     let later : PlainRoom = plain_room (λ b. (goal.Conv-dyn g (b.vtable, b.value)).conv_holds b.value) c.pass.new.room in
-    let players = map (player_of (λ b. (goal.Module-dyn g (b.vtable, b.value)).label b.value) (λ b. (goal.Module-dyn g (b.vtable, b.value)).plays b.value) (λ b. (goal.Module-dyn g (b.vtable, b.value)).note b.value)) c.args.gear.now.mods.items in
+    let players = map (player_of (λ b. (goal.Module-dyn g (b.vtable, b.value)).label b.value) (λ b. (goal.Module-dyn g (b.vtable, b.value)).plays b.value) (λ b. (goal.Module-dyn g (b.vtable, b.value)).note b.value) (λ b. (goal.Module-dyn g (b.vtable, b.value)).breaks b.value)) c.args.gear.now.mods.items in
     if_ok_from c.update.result _ _ _
     (checked players c.args.flags (past_of c.args.paused.now) h w c.args.chain.now.nodes before c.in_ok-code.code (kept_answers c.pass.new.kept) c.pass.new.paused later last room stack
     (rw c.none-kept.ensures at (c.in_ok-code.ensures.told told)) c.in-Success.is (success_over c.pass.new.paused c.in_ok-code.code c.in-Success.is c.in_ok-code.ensures.put_off))
@@ -26,7 +26,7 @@ returns-in_default-clause-told g c = λ told h room stack.
     let last : PlainWorld = plain_world (λ b. (goal.Vault-dyn g (b.vtable, b.value)).vault_holds b.value) (λ b. (goal.Clock-dyn g (b.vtable, b.value)).clock_holds b.value) (λ b. (goal.Nap-dyn g (b.vtable, b.value)).nap_holds b.value) c.pass.new.world in
     let before : PlainRoom = plain_room (λ b. (goal.Conv-dyn g (b.vtable, b.value)).conv_holds b.value) c.args.room.now in
     let later : PlainRoom = plain_room (λ b. (goal.Conv-dyn g (b.vtable, b.value)).conv_holds b.value) c.pass.new.room in
-    let players = map (player_of (λ b. (goal.Module-dyn g (b.vtable, b.value)).label b.value) (λ b. (goal.Module-dyn g (b.vtable, b.value)).plays b.value) (λ b. (goal.Module-dyn g (b.vtable, b.value)).note b.value)) c.args.gear.now.mods.items in
+    let players = map (player_of (λ b. (goal.Module-dyn g (b.vtable, b.value)).label b.value) (λ b. (goal.Module-dyn g (b.vtable, b.value)).plays b.value) (λ b. (goal.Module-dyn g (b.vtable, b.value)).note b.value) (λ b. (goal.Module-dyn g (b.vtable, b.value)).breaks b.value)) c.args.gear.now.mods.items in
     checked_alone players c.args.flags (past_of c.args.paused.now) h w c.args.chain.now.nodes before c.in_ok-code.code (kept_answers c.pass.new.kept) c.pass.new.paused later last c.args.first.now room stack c.requires.first
     (rw c.none-kept.ensures at (c.in_ok-code.ensures.told told)) c.in_default.not-Success
 

@@ -10,10 +10,10 @@ dispatch-requires-clause-names g c = rw c.deref.ensures.value (c.requires.names 
 pub returns-clause-told : goal.returns-clause-told
 returns-clause-told g c = λ told.
     pass_told c.dispatch.result _ _ c.args.request.func c.args.request.flags c.args.request.kind c.args.kept.now c.dispatch.new.kept c.args.chain.now.nodes (past_of c.args.paused.now) _ c.dispatch.new.paused _
-    (ap (map (player_of (λ b. (goal.Module-dyn g (b.vtable, b.value)).label b.value) (λ b. (goal.Module-dyn g (b.vtable, b.value)).plays b.value) (λ b. (goal.Module-dyn g (b.vtable, b.value)).note b.value))) c.deref.ensures.value)
+    (ap (map (player_of (λ b. (goal.Module-dyn g (b.vtable, b.value)).label b.value) (λ b. (goal.Module-dyn g (b.vtable, b.value)).plays b.value) (λ b. (goal.Module-dyn g (b.vtable, b.value)).note b.value) (λ b. (goal.Module-dyn g (b.vtable, b.value)).breaks b.value))) c.deref.ensures.value)
     (c.dispatch.ensures.told told)
 
 pub returns-clause-stopped : goal.returns-clause-stopped
 returns-clause-stopped g c =
     pass_stopped c.dispatch.result _ _ c.args.request.func c.args.request.flags c.args.request.kind c.args.kept.now c.args.chain.now.nodes (past_of c.args.paused.now) _ _ _ _
-    (ap (map (player_of (λ b. (goal.Module-dyn g (b.vtable, b.value)).label b.value) (λ b. (goal.Module-dyn g (b.vtable, b.value)).plays b.value) (λ b. (goal.Module-dyn g (b.vtable, b.value)).note b.value))) c.deref.ensures.value) c.dispatch.ensures.stopped
+    (ap (map (player_of (λ b. (goal.Module-dyn g (b.vtable, b.value)).label b.value) (λ b. (goal.Module-dyn g (b.vtable, b.value)).plays b.value) (λ b. (goal.Module-dyn g (b.vtable, b.value)).note b.value) (λ b. (goal.Module-dyn g (b.vtable, b.value)).breaks b.value))) c.deref.ensures.value) c.dispatch.ensures.stopped

@@ -1,5 +1,5 @@
-use Rattle.std.proofs.Common.{◌&&◌}
-use Rattle.pam_room.proofs.Serving.{all_await, served_so}
+use Rattle.std.proofs.Common.{◌≡◌, ◌&&◌, Err, rules}
+use Rattle.pam_room.proofs.Serving.{all_await, broken_so, served_so}
 use Rattle.pam_room.proofs.Telling.{all_but_last}
 use Rattle.pam_room.proofs.serve.serve_by.Goals as goal
 
@@ -28,3 +28,16 @@ returns-clause-grows g c =
 pub returns-in_err-code-clause-grows : goal.returns-in_err-code-clause-grows
 returns-in_err-code-clause-grows g c =
     rw (c.sweep.ensures.datums, c.sweep.ensures.ledger) (c.swept_setting_grows.ensures _ _ _ _ _ _ _ c.ledger_is_sound-2.ensures.numbered c.requires.there c.requires.ready.none_gone c.play-answer.ensures.sets)
+
+pub returns-in_err-code-clause-broken : goal.returns-in_err-code-clause-broken
+returns-in_err-code-clause-broken g c = λ told.
+    let conv = c.args.room.now.conv in
+    let vault = c.args.world.now.vault in
+    let clock = c.args.world.now.clock in
+    let nap = c.args.world.now.nap in
+    let broken = c.in_err-code.ensures.broken (all_but_last
+    ((goal.Conv-dyn g (conv.vtable, conv.value)).conv_tells conv.value)
+    ((goal.Vault-dyn g (vault.vtable, vault.value)).vault_tells vault.value && (goal.Clock-dyn g (clock.vtable, clock.value)).clock_tells clock.value)
+    ((goal.Nap-dyn g (nap.vtable, nap.value)).nap_tells nap.value) told) in
+    let answered : c.from_residual.result ≡ Err c.in_err-code.field-0.0 = search rules in
+    rw answered (broken_so _ c.args.mods.now c.args.number c.index-mods-number.result _ _ _ c.requires.there c.index-mods-number.is broken)

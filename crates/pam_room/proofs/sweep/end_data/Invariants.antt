@@ -5,7 +5,7 @@ use Rattle.pam_room.proofs.sweep.end_data.Given as goal
 
 abbrev pub invariant-loop-datum : goal.invariant-loop-datum
 invariant-loop-datum g l =
-    let players : List Player = map (player_of (λ b. (goal.Module-dyn g (b.vtable, b.value)).label b.value) (λ b. (goal.Module-dyn g (b.vtable, b.value)).plays b.value) (λ b. (goal.Module-dyn g (b.vtable, b.value)).note b.value)) l.fn.mods in
+    let players : List Player = map (player_of (λ b. (goal.Module-dyn g (b.vtable, b.value)).label b.value) (λ b. (goal.Module-dyn g (b.vtable, b.value)).plays b.value) (λ b. (goal.Module-dyn g (b.vtable, b.value)).note b.value) (λ b. (goal.Module-dyn g (b.vtable, b.value)).breaks b.value)) l.fn.mods in
     record {
       cleaning : IsCleaningUp (notes_of players) l.fn.status l.fn.ledger (reverse l.fn.datums.live) l.ledger (reverse l.datums.live);
       gone : l.datums.gone ≡ [];

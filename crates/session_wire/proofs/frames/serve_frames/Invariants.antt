@@ -20,8 +20,8 @@ use Rattle.session_wire.proofs.frames.serve_frames.Given as goal
 
 abbrev pub invariant-loop-ending : goal.invariant-loop-ending
 invariant-loop-ending g l =
-    let players : List Player = map (player_of (λ b. (goal.Module-dyn g (b.vtable, b.value)).label b.value) (λ b. (goal.Module-dyn g (b.vtable, b.value)).plays b.value) (λ b. (goal.Module-dyn g (b.vtable, b.value)).note b.value)) (gear_in l.library).mods.items in
-    let players_start : List Player = map (player_of (λ b. (goal.Module-dyn g (b.vtable, b.value)).label b.value) (λ b. (goal.Module-dyn g (b.vtable, b.value)).plays b.value) (λ b. (goal.Module-dyn g (b.vtable, b.value)).note b.value)) (gear_in l.fn.library).mods.items in
+    let players : List Player = map (player_of (λ b. (goal.Module-dyn g (b.vtable, b.value)).label b.value) (λ b. (goal.Module-dyn g (b.vtable, b.value)).plays b.value) (λ b. (goal.Module-dyn g (b.vtable, b.value)).note b.value) (λ b. (goal.Module-dyn g (b.vtable, b.value)).breaks b.value)) (gear_in l.library).mods.items in
+    let players_start : List Player = map (player_of (λ b. (goal.Module-dyn g (b.vtable, b.value)).label b.value) (λ b. (goal.Module-dyn g (b.vtable, b.value)).plays b.value) (λ b. (goal.Module-dyn g (b.vtable, b.value)).note b.value) (λ b. (goal.Module-dyn g (b.vtable, b.value)).breaks b.value)) (gear_in l.fn.library).mods.items in
     let now : RunState = state_of (slots_in (λ b. (goal.Conv-dyn g (b.vtable, b.value)).conv_holds b.value) l.library)
     (plain_world (λ b. (goal.Vault-dyn g (b.vtable, b.value)).vault_holds b.value) (λ b. (goal.Clock-dyn g (b.vtable, b.value)).clock_holds b.value) (λ b. (goal.Nap-dyn g (b.vtable, b.value)).nap_holds b.value) l.world) in
     let start : RunState = state_of (slots_in (λ b. (goal.Conv-dyn g (b.vtable, b.value)).conv_holds b.value) l.fn.library)

@@ -58,7 +58,7 @@ put_here : (g : given.Over) (c : goal.After-ledger_is_sound g)
 put_here g c = put_as _ _ _ _ _ _ _ (put (plain_slot (λ b. (goal.Conv-dyn g (b.vtable, b.value)).conv_holds b.value)) _ _ _ _ _ (omega arith) (replaced_here g c)) (ap (plain_slot (λ b. (goal.Conv-dyn g (b.vtable, b.value)).conv_holds b.value)) c.in-Open.is) (ap (λ b. closed ((goal.Conv-dyn g (b.vtable, b.value)).conv_holds b.value)) c.end-conv.ensures.conv)
 
 pub returns-clause-sound : goal.returns-clause-sound
-returns-clause-sound g c = end_sound (notes_of (map (player_of (λ b. (goal.Module-dyn g (b.vtable, b.value)).label b.value) (λ b. (goal.Module-dyn g (b.vtable, b.value)).plays b.value) (λ b. (goal.Module-dyn g (b.vtable, b.value)).note b.value)) c.args.self.now.gear.mods.items)) _ _ _ _ _ (plain_handle (plain_room (λ b. (goal.Conv-dyn g (b.vtable, b.value)).conv_holds b.value)) c.in-Open.handle) c.args.status _ _ (put_here g c) c.requires c.end-conv.ensures.world c.ledger_is_sound.ensures.numbered c.one_place_moves.ensures.sound
+returns-clause-sound g c = end_sound (notes_of (map (player_of (λ b. (goal.Module-dyn g (b.vtable, b.value)).label b.value) (λ b. (goal.Module-dyn g (b.vtable, b.value)).plays b.value) (λ b. (goal.Module-dyn g (b.vtable, b.value)).note b.value) (λ b. (goal.Module-dyn g (b.vtable, b.value)).breaks b.value)) c.args.self.now.gear.mods.items)) _ _ _ _ _ (plain_handle (plain_room (λ b. (goal.Conv-dyn g (b.vtable, b.value)).conv_holds b.value)) c.in-Open.handle) c.args.status _ _ (put_here g c) c.requires c.end-conv.ensures.world c.ledger_is_sound.ensures.numbered c.one_place_moves.ensures.sound
 
 pub returns-clause-tells : goal.returns-clause-tells
 returns-clause-tells g c = tell_as (slot_tells (λ b. (goal.Conv-dyn g (b.vtable, b.value)).conv_tells b.value)) _ _ _ _ _ (replaced_here g c)

@@ -1,0 +1,63 @@
+ghost use Rattle.std.specs.Prelude.{◌≡◌, [], IfOk};
+
+use crate::fault::NoMemory;
+use crate::sequence::Text;
+use std::alloc::Global;
+use std::marker::Model;
+use std::rc::Rc;
+
+/// Bytes with one or more owners, in one thread. They go with their last owner. Contracts see the list of bytes.
+#[derive(Debug, Drop)]
+pub struct SharedText {
+    // None stands for an empty text, which takes no memory.
+    shared: Option<Rc<Text>>,
+}
+
+impl Model for SharedText {
+    ghost use Rattle.std.specs.Prelude.{ℕ, List, [], option_map, unwrap_or};
+
+    ghost Value = { List ℕ };
+
+    ghost view = { λ s. unwrap_or (option_map (λ rc. rc.value) s.shared) [] };
+}
+
+impl SharedText {
+    /// An empty text. It takes no memory.
+    pub fn new() -> Self
+        ensures { result ≡ [] }
+    {
+        SharedText { shared: None }
+    }
+
+    /// A copy of the bytes.
+    pub fn from_bytes(alloc: Global, bytes: &[u8]) -> Result<Self, NoMemory>
+        ensures { IfOk result (λ text. text ≡ bytes.now) }
+    {
+        let text = Text::from_bytes(alloc, bytes)?;
+        Ok(SharedText {
+            shared: Some(Rc::new(alloc, text)?),
+        })
+    }
+
+    /// One owner more of the same bytes. It takes no memory, and answers `NoMemory` only where they have 2^64 - 1
+    /// owners.
+    pub fn share(&self) -> Result<Self, NoMemory>
+        ensures { IfOk result (λ text. text ≡ self.now) }
+    {
+        match &self.shared {
+            Some(text) => Ok(SharedText {
+                shared: Some(text.clone()?),
+            }),
+            None => Ok(SharedText::new()),
+        }
+    }
+
+    pub fn bytes(&self) -> &[u8]
+        ensures { result.now ≡ self.now }
+    {
+        match &self.shared {
+            Some(text) => text.bytes(),
+            None => &[],
+        }
+    }
+}

@@ -1,0 +1,5 @@
+use Rattle.pam_room.proofs.Staying.{files_same}
+use Rattle.pam_room.proofs.laws.files_stay.Goals as goal
+
+pub returns : goal.returns
+returns c = files_same
