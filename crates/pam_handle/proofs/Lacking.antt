@@ -1,11 +1,15 @@
 -- The modules that are missing in a stack, line by line.
-use Rattle.std.proofs.Common.{◌≡◌, ℕ, zero, suc, ◌+◌, ◌<◌, ◌||◌, List, [], ◌∷◌, ◌++◌, Bool, true, false, Option, Some, None, is_some, if◌then◌else◌, length, drop, refl, sym, ◌∙◌, ap, append_assoc, add-one, arith}
-use Rattle.std.proofs.lemmas.List.{append-nil, length-append}
+use Rattle.std.proofs.Common.{get_or, ◌≡◌, ℕ, zero, suc, ◌+◌, ◌<◌, ◌||◌, List, [], ◌∷◌, ◌++◌, Bool, true, false, Option, Some, None, is_some, if◌then◌else◌, length, drop, drop_of_length-le, ◌≤◌, refl, sym, ◌∙◌, ap, append_assoc, add-one, arith}
+use Rattle.std.proofs.lemmas.List.{append-nil, drop_more, length-append}
 use Rattle.control_words.specs.declared.nodes.Rule.{Rule}
 use Rattle.control_words.specs.Module.{name_of_module}
 use Rattle.control_words.specs.Stack.{Stack, none, line, sub, lines_in}
 use Rattle.handler_chain.specs.FlatLines.{FlatLine, flat_lines, module_at, module_of, no_rule, of_first, pending, rule_at}
-use Rattle.pam_handle.specs.Items.{missing_in, missing_of}
+use Rattle.service_load.specs.declared.rule_type.RuleType.{RuleType}
+use Rattle.service_load.specs.declared.rule_type.RuleType.TheVariants.{Session}
+use Rattle.service_load.specs.RuleType.{all_types}
+use Rattle.service_load.specs.Stacks.{stacks_of}
+use Rattle.pam_handle.specs.Items.{missing_from, missing_in, missing_of}
 
 -- what is missing of some lines
 abbrev pub missing_lines : List (List ℕ) → List FlatLine → List (List ℕ)
@@ -77,3 +81,28 @@ adds_name names rule silent number name s f m n e =
     ap (λ (x : List ℕ). x ∷ []) e
     ∙ sym (ap (λ (b : Bool). if b || is_some (module_of names rule) then [] else name_of_module rule.path ∷ []) (sym s ∙ f)
     ∙ ap (λ (o : Option ℕ). if is_some o then [] else name_of_module rule.path ∷ []) (sym m ∙ none_there number n))
+
+-- what is missing in the stacks of some types
+abbrev pub missing_under : List (List ℕ) → (RuleType → Stack) → List RuleType → List (List ℕ)
+missing_under names stack [] = []
+missing_under names stack (type ∷ types) = missing_in names (stack type) ++ missing_under names stack types
+
+pub under_all : (names : List (List ℕ)) (stack : RuleType → Stack) → missing_under names stack all_types ≡ missing_from names (stacks_of stack)
+under_all names stack = rw (append-nil (missing_in names (stack Session))) refl
+
+pub under_next : (names : List (List ℕ)) (stack : RuleType → Stack) (i : ℕ) (d : RuleType) (found new all : List (List ℕ))
+    → i < length all_types → found ++ missing_under names stack (drop i all_types) ≡ all
+    → new ≡ found ++ missing_in names (stack (get_or all_types i d))
+    → new ++ missing_under names stack (drop (i + 1) all_types) ≡ all
+under_next names stack i d found new all within was added =
+    ap (λ (x : List (List ℕ)). x ++ missing_under names stack (drop (i + 1) all_types)) added
+    ∙ append_assoc found (missing_in names (stack (get_or all_types i d))) (missing_under names stack (drop (i + 1) all_types))
+    ∙ sym (ap (λ (types : List RuleType). found ++ missing_under names stack types) (drop_more all_types i d within))
+    ∙ was
+
+pub under_none : (names : List (List ℕ)) (stack : RuleType → Stack) (i : ℕ) (found all : List (List ℕ))
+    → length all_types ≤ i → found ++ missing_under names stack (drop i all_types) ≡ all → found ≡ all
+under_none names stack i found all past was =
+    sym (append-nil found)
+    ∙ sym (ap (λ (types : List RuleType). found ++ missing_under names stack types) (drop_of_length-le all_types past))
+    ∙ was

@@ -8,6 +8,9 @@ use Rattle.pam_room.specs.declared.room.Room.{Room}
 use Rattle.pam_handle.specs.declared.chains.Chains.{Chains}
 use Rattle.pam_handle.specs.declared.handle.Handle.{Handle}
 use Rattle.pam_handle.specs.declared.put_off.PutOff.{PutOff}
+use Rattle.control_words.specs.Stack.{Stack}
+use Rattle.service_load.specs.declared.rule_type.RuleType.{RuleType}
+use Rattle.service_load.specs.declared.rule_type.RuleType.TheVariants.{Auth, Account, Password, Session}
 use Rattle.service_load.specs.Stacks.{Stacks}
 use Rattle.dispatch_core.specs.Pending.{Pending}
 use Rattle.pam_handle.specs.Handle.{PlainHandle}
@@ -21,6 +24,13 @@ stacks_in c = record {
   password = c.password.nodes;
   session = c.session.nodes;
 }
+
+-- the stack of a type that its chain was made from
+abbrev pub nodes_in : Chains → RuleType → Stack
+nodes_in c Auth = c.auth.nodes
+nodes_in c Account = c.account.nodes
+nodes_in c Password = c.password.nodes
+nodes_in c Session = c.session.nodes
 
 abbrev pub pending_of : PutOff → Pending
 pending_of p = record { func = p.func; past = past_of p.paused; first = kept_answers p.first }

@@ -9,6 +9,7 @@ use control_words::module_name;
 use handler_chain::Chain;
 use pam_base::{NoMemory, Text, Texts};
 use pam_room::{Room, RoomTold};
+use service_load::ALL_TYPES;
 use std::alloc::Global;
 
 impl Handle {
@@ -22,10 +23,9 @@ impl Handle {
             (plain_handle ⟦<Room as RoomTold>⟧.plain self.now).stacks) }
     {
         let mut names = Texts::new(alloc);
-        add_missing(alloc, &self.chains.auth, &mut names)?;
-        add_missing(alloc, &self.chains.account, &mut names)?;
-        add_missing(alloc, &self.chains.password, &mut names)?;
-        add_missing(alloc, &self.chains.session, &mut names)?;
+        for rule_type in &ALL_TYPES {
+            add_missing(alloc, self.chains.of(*rule_type), &mut names)?;
+        }
         Ok(names)
     }
 }

@@ -1,0 +1,10 @@
+use Rattle.std.proofs.Common.{◌≡◌, ◌++◌, drop}
+use Rattle.pam_handle.specs.Items.{missing_from}
+use Rattle.pam_handle.specs.Plain.{nodes_in, stacks_in}
+use Rattle.pam_handle.proofs.Lacking.{missing_under}
+use Rattle.pam_handle.proofs.handle.Handle.missing.Given as goal
+
+abbrev pub invariant-loop-rule_type : goal.invariant-loop-rule_type
+invariant-loop-rule_type l =
+    l.names ++ missing_under l.self.chains.auth.names (nodes_in l.self.chains) (drop l.rule_type-index l.rule_type-items)
+    ≡ missing_from l.self.chains.auth.names (stacks_in l.self.chains)
