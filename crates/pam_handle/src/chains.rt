@@ -1,5 +1,4 @@
 ghost use Rattle.std.specs.Prelude.{◌≡◌};
-ghost use Rattle.pam_handle.specs.Plain.{nodes_in};
 
 use handler_chain::Chain;
 use service_load::RuleType;
@@ -17,6 +16,8 @@ pub struct Chains {
 }
 
 impl Chains {
+    ghost use Rattle.pam_handle.specs.Plain.{nodes_in};
+
     /// The stack of a type.
     pub fn of(&self, rule_type: RuleType) -> &Chain
         ensures nodes { result.now.nodes ≡ nodes_in self.now rule_type }
