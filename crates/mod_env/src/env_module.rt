@@ -101,7 +101,7 @@ fn read_first(
     laws::act_steps();
     crate::laws::puts_alone();
     let name = name_or(call.value(b"conffile="), b"/etc/security/pam_env.conf");
-    let content = read_named(alloc, vault, process.root.bytes(), name, ENV_LIMIT)?;
+    let content = read_named(alloc, vault, process, name, ENV_LIMIT)?;
     match text_in(alloc, content) {
         None => Ok(Code::ServiceErr),
         Some(conf) => {
@@ -127,14 +127,13 @@ fn read_second(
         (standing transaction.new conv (vault_holds vault.new) clock process.now)) }
     ensures puts { Puts transaction.old transaction.new }
 {
-    laws::act_steps();
     crate::laws::puts_alone();
     if is_zero(call.value(b"readenv=")) {
         let nothing = no_text(alloc);
         return set_by_texts(alloc, conf, nothing, transaction, process, vault);
     }
     let name = name_or(call.value(b"envfile="), b"/etc/environment");
-    let content = read_named(alloc, vault, process.root.bytes(), name, ENV_LIMIT)?;
+    let content = read_named(alloc, vault, process, name, ENV_LIMIT)?;
     let env = text_in(alloc, content);
     let code = set_by_texts(alloc, conf, env, transaction, process, vault)?;
     Ok(code)

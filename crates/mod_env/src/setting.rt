@@ -124,7 +124,7 @@ fn look_user(
     laws::act_steps();
     match get_item(&transaction.items, ItemName::User) {
         Some(_user) => {
-            accounts.read_passwds(alloc, vault, process.root.bytes())?;
+            accounts.read_passwds(alloc, vault, process)?;
             Ok(())
         }
         None => Ok(()),

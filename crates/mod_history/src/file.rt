@@ -7,8 +7,7 @@ ghost use Rattle.mod_unix.specs.Change.{by_done};
 ghost use Rattle.mod_history.specs.Pwhistory.{history_in, stores_text};
 
 use crate::history::{History, read_history};
-use account_files::Content;
-use module_acts::replace_whole;
+use account_files::{Content, replace_named};
 use pam_base::{Code, NoMemory, Refuse};
 use pam_outside::Vault;
 use pam_room::Process;
@@ -51,7 +50,7 @@ pub(crate) fn store_text(
     if text.len() > HISTORY_LIMIT as usize {
         return Ok(Code::AuthtokErr);
     }
-    let done = replace_whole(alloc, vault, process, HISTORY_NAME, text)?;
+    let done = replace_named(alloc, vault, process, HISTORY_NAME, text)?;
     Ok(by_done(done))
 }
 

@@ -8,8 +8,7 @@ ghost use Rattle.account_files.specs.Act.{Came};
 ghost use Rattle.mod_unix.specs.Look.{field_in, is_x, looks, shadow_in};
 
 use account_db::{Shadow, entry_of, passwds, shadow_of, shadows};
-use account_files::Content;
-use module_acts::read_whole;
+use account_files::{Content, read_named};
 use pam_base::{NoMemory, Text};
 use pam_outside::Vault;
 use pam_room::Process;
@@ -52,7 +51,7 @@ pub fn look_up(
         (scene_of room (vault_holds vault.old) clock (plain_process process.now))
         (scene_of room (vault_holds vault.new) clock (plain_process process.now))) }
 {
-    let content = read_whole(alloc, vault, process, b"/etc/passwd", ACCOUNT_LIMIT)?;
+    let content = read_named(alloc, vault, process, b"/etc/passwd", ACCOUNT_LIMIT)?;
     let hash = match field_in(alloc, user, content)? {
         Field::Unreadable => return Ok(Look::Unavailable),
         Field::Missing => return Ok(Look::Unknown),
@@ -61,7 +60,7 @@ pub fn look_up(
     if !is_x(hash.bytes()) {
         return Ok(Look::Plain(hash));
     }
-    let content = read_whole(alloc, vault, process, b"/etc/shadow", ACCOUNT_LIMIT)?;
+    let content = read_named(alloc, vault, process, b"/etc/shadow", ACCOUNT_LIMIT)?;
     let look = shadow_in(alloc, user, content)?;
     Ok(look)
 }

@@ -11,8 +11,8 @@ ghost use Rattle.mod_unix.specs.Change.{by_done, changed_shadow, changes_shadow,
 use crate::look::ACCOUNT_LIMIT;
 use crate::new_hash::hashed_token;
 use account_db::{replace_hash, shadow_of, shadows};
-use account_files::Content;
-use module_acts::{laws, read_whole, replace_whole};
+use account_files::{Content, read_named, replace_named};
+use module_acts::laws;
 use pam_base::{Code, NoMemory, Refuse, Text};
 use pam_outside::{Clock, Vault, random_word};
 use pam_room::{Call, Process};
@@ -66,12 +66,12 @@ fn change_shadow(
         (scene_of room (vault_holds vault.old) clock (plain_process process.now))
         (scene_of room (vault_holds vault.new) clock (plain_process process.now))) }
 {
-    let content = read_whole(alloc, vault, process, b"/etc/shadow", ACCOUNT_LIMIT)?;
+    let content = read_named(alloc, vault, process, b"/etc/shadow", ACCOUNT_LIMIT)?;
     let text = match changed_shadow(alloc, today, user, hash, content)? {
         Some(text) => text,
         None => return Ok(Code::AuthtokErr),
     };
-    let done = replace_whole(alloc, vault, process, b"/etc/shadow", text.bytes())?;
+    let done = replace_named(alloc, vault, process, b"/etc/shadow", text.bytes())?;
     Ok(by_done(done))
 }
 
