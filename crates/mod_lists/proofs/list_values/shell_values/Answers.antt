@@ -14,4 +14,4 @@ pub returns-in_ok-values-in-Found-clause-told : goal.returns-in_ok-values-in-Fou
 returns-in_ok-values-in-Found-clause-told g c = λ tells room clock act code end rest.
     let account = rw c.in-Found.is at c.in_ok-account.ensures in
     c.in_ok-read_passwds.ensures.told tells _ clock _ _ _
-    (rw (← account) (rw (c.in_ok-values-in-Found.ensures, c.bytes-in-Found.ensures) at rest))
+    (rw (← account) (rw (c.in_ok-values-in-Found.ensures, c.bytes.ensures) at rest))
