@@ -1,10 +1,7 @@
 ghost use Rattle.std.specs.Prelude.{◌≡◌, ◌≤◌, IsTrue, IfOk, length};
-ghost use Rattle.pam_outside.specs.Time.{ClockState};
-ghost use Rattle.pam_room.specs.Plain.{plain_process};
-ghost use Rattle.pam_room.specs.State.{PlainRoom, scene_of};
 ghost use Rattle.account_files.specs.Accounts.{account_limit};
 ghost use Rattle.account_files.specs.Content.{IsWithin};
-ghost use Rattle.account_files.specs.Act.{Came};
+ghost use Rattle.account_files.specs.Act.{StepsTo};
 ghost use Rattle.mod_unix.specs.Look.{field_in, is_x, looks, shadow_in};
 
 use account_db::{Shadow, entry_of, passwds, shadow_of, shadows};
@@ -46,10 +43,9 @@ pub fn look_up(
     user: &[u8],
 ) -> Result<Look, NoMemory>
     ensures tells { vault_tells vault.new ≡ vault_tells vault.old }
-    ensures told { IsTrue (vault_tells vault.old) → (room : PlainRoom) (clock : ClockState) →
-        IfOk result (λ look. Came look (looks user.now)
-        (scene_of room (vault_holds vault.old) clock (plain_process process.now))
-        (scene_of room (vault_holds vault.new) clock (plain_process process.now))) }
+    ensures told { IsTrue (vault_tells vault.old) →
+        IfOk result (λ look. StepsTo (looks user.now) look process.now (vault_holds vault.old)
+        (vault_holds vault.new)) }
 {
     let content = read_named(alloc, vault, process, b"/etc/passwd", ACCOUNT_LIMIT)?;
     let hash = match field_in(alloc, user, content)? {
