@@ -5,8 +5,8 @@ ghost use Rattle.pam_outside.specs.Time.{ClockState};
 ghost use Rattle.pam_base.specs.declared.code.Code.{Code};
 ghost use Rattle.pam_room.specs.Module.{length_note};
 ghost use Rattle.account_files.specs.Accounts.{nothing_known};
-ghost use Rattle.account_files.specs.Act.{Acts, answers, standing};
-ghost use Rattle.mod_env.specs.Env.{at_once, by_entries, by_first, by_texts, env_plays, is_zero, puts_all, reads_first, reads_second, sets_all, text_in};
+ghost use Rattle.account_files.specs.Act.{Acts, standing};
+ghost use Rattle.mod_env.specs.Env.{at_once, by_entries, by_first, by_fits, by_texts, env_plays, is_zero, reads_first, reads_second, sets_all, text_in};
 ghost use Rattle.mod_env.specs.Conf.{conf_of};
 ghost use Rattle.mod_env.specs.EnvFile.{assignments_of};
 ghost use Rattle.mod_env.specs.Puts.{Puts};
@@ -14,7 +14,7 @@ ghost use Rattle.mod_env.specs.Puts.{Puts};
 use crate::conf::{Entries, conf_of};
 use crate::env_file::assignments_of;
 use crate::setting::{put_all, set_all};
-use account_files::{Content, laws, read_named};
+use account_files::{Accounts, Content, laws, read_named};
 use conv_port::Conv;
 use data_cleanup::{Datum, Receipt};
 use pam_base::{Code, Func, NoMemory, Text};
@@ -199,8 +199,8 @@ fn set_both(
 ) -> Result<Code, NoMemory>
     ensures tells { vault_tells vault.new ≡ vault_tells vault.old }
     ensures told { IsTrue (vault_tells vault.old) → (conv : ConvState) (clock : ClockState) →
-        IfOk result (λ code. Acts (sets_all entries.now (puts_all (assignments_of env.now)
-        (answers Code.Success))) nothing_known
+        IfOk result (λ code. Acts (sets_all entries.now (by_fits (assignments_of env.now)))
+        nothing_known
         (standing transaction.old conv (vault_holds vault.old) clock process.now) code
         (standing transaction.new conv (vault_holds vault.new) clock process.now)) }
     ensures puts { Puts transaction.old transaction.new }
@@ -208,7 +208,8 @@ fn set_both(
     laws::act_steps();
     crate::laws::puts_alone();
     let assignments = assignments_of(alloc, env)?;
-    if !set_all(alloc, entries, transaction, process, vault)? {
+    let mut accounts = Accounts::new();
+    if !set_all(alloc, entries, transaction, &mut accounts, process, vault)? {
         return Ok(Code::BufErr);
     }
     put_all(&assignments, transaction)?;
