@@ -1,5 +1,5 @@
 use Rattle.mod_env.proofs.Putting.{seeing_env}
 use Rattle.mod_env.proofs.laws.env_steps.Goals as goal
 
-pub returns-clause-seeing : goal.returns-clause-seeing
-returns-clause-seeing c = seeing_env
+pub returns : goal.returns
+returns c = record { seeing = seeing_env }
