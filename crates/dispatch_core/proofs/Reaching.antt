@@ -1,5 +1,5 @@
 -- How far a pass has come, whatever answers come after it; and where it stops that finds no memory.
-use Rattle.std.proofs.Common.{◌≡◌, ℕ, ◌+◌, ◌-◌, ◌<◌, ◌⊎◌, inl, inr, Bool, IsTrue, List, [], ◌∷◌, ◌++◌, length, append_assoc, append-nil, Option, Some, None, IfSome, refl, sym, ◌∙◌, ap, subst, arith}
+use Rattle.std.proofs.Common.{◌≡◌, ℕ, ◌+◌, ◌-◌, ◌<◌, ◌⊎◌, inl, inr, Bool, ◌&&◌, IsTrue, List, [], ◌∷◌, ◌++◌, length, append_assoc, append-nil, Option, Some, None, IfSome, refl, sym, ◌∙◌, ap, subst, arith}
 use Rattle.pam_base.specs.declared.code.Code.{Code}
 use Rattle.pam_base.specs.declared.code.Code.TheVariants as codes
 use Rattle.pam_base.specs.declared.call.Func.{Func}
@@ -7,7 +7,7 @@ use Rattle.control_words.specs.Stack.{Stack, lines_in}
 use Rattle.handler_chain.specs.FlatLines.{FlatLine, rule_at}
 use Rattle.pam_room.specs.declared.visits.Visit.{Visit as Visited}
 use Rattle.pam_room.specs.Module.{Player, notes_of}
-use Rattle.pam_room.specs.State.{State}
+use Rattle.pam_room.specs.State.{PlainRoom, PlainWorld, State, state_of}
 use Rattle.stack_walk.specs.declared.pass_kind.PassKind.{PassKind}
 use Rattle.stack_walk.specs.Opinion.{opening}
 use Rattle.stack_walk.specs.Pass.{AnswersAs, Visit, answers_of, decides, pass_after, pass_state, serving, visit}
@@ -165,3 +165,12 @@ module _ (players : List Player) (func : Func) (flags : ℕ) (stack : Stack) whe
         (subst (λ (t : Stack). IsAtWork players (rule_at t walker.at) now.room.transaction end.room.transaction) same work)
         (subst (λ n. GoesSoundly (notes_of players) n now.room.transaction end.room.transaction now.world.process end.world.process) (sym count) sound) nap
         (λ told. subst (λ (t : Stack). BreaksAt players func flags t walker.at now end) same (left (tell told)))
+
+-- where a pass stopped is where it stopped that took its memory first, which changed nothing that is seen
+pub stopped_as : (players : List Player) (func : Func) (flags : ℕ) (stack : Stack) (kind : PassKind) (kept : KeptAnswers) (given past : List Code) (now first world : Bool) (new old : PlainRoom) (w : PlainWorld) (end : State) (U : Type 0)
+    → given ≡ past → now ≡ first → new ≡ old → StopsAt players func flags stack kind kept given (now && world) (state_of new w) end
+    → U ⊎ StopsAt players func flags stack kind kept past (first && world) (state_of old w) end
+stopped_as players func flags stack kind kept given past now first world new old w end U all tell same stops =
+    inr (subst (λ (cs : List Code). StopsAt players func flags stack kind kept cs (first && world) (state_of old w) end) all
+    (subst (λ (b : Bool). StopsAt players func flags stack kind kept given (b && world) (state_of old w) end) tell
+    (subst (λ (r : PlainRoom). StopsAt players func flags stack kind kept given (now && world) (state_of r w) end) same stops)))

@@ -10,7 +10,7 @@ serve_line-requires-clause-there g c =
 
 pub serve_line-requires-clause-few : goal.serve_line-requires-clause-few
 serve_line-requires-clause-few g c =
-    few_modules (λ b. (goal.Module-dyn g (b.vtable, b.value)).label b.value) c.args.mods.now c.args.chain.now.names _ c.requires.names c.len.ensures.numbered
+    few_modules (λ b. (goal.Module-dyn g (b.vtable, b.value)).label b.value) c.args.mods.now c.args.chain.now.names _ c.requires.names c.len-few.ensures.numbered
 
 pub returns-clause-told : goal.returns-clause-told
 returns-clause-told g c = λ told.

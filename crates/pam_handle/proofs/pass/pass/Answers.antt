@@ -5,7 +5,7 @@ use Rattle.pam_handle.proofs.Passing.{names_of_players, pass_stopped, pass_told}
 use Rattle.pam_handle.proofs.pass.pass.Goals as goal
 
 pub dispatch-requires-clause-names : goal.dispatch-requires-clause-names
-dispatch-requires-clause-names g c = rw c.deref.ensures.value (c.requires.names ∙ names_of_players _ _ _ c.args.gear.now.mods.items)
+dispatch-requires-clause-names g c = rw c.deref.ensures.value (c.requires.names ∙ names_of_players _ _ _ _ c.args.gear.now.mods.items)
 
 pub returns-clause-told : goal.returns-clause-told
 returns-clause-told g c = λ told.
