@@ -1,5 +1,5 @@
 -- Steps of what a module does, put before what it does from there on.
-use Rattle.std.proofs.Common.{◌≡◌, ℕ, zero, suc, Bool, true, false, cond, List, [], Option, Some, None, codes, Result, Ok, Err, IfOk, refl, sym, ap, ◌∙◌}
+use Rattle.std.proofs.Common.{◌≡◌, ℕ, zero, suc, Bool, true, false, cond, List, [], Option, Some, None, is_some, unwrap_or, codes, Result, Ok, Err, IfOk, refl, sym, ap, ◌∙◌}
 use Rattle.std.proofs.lemmas.List.{append-nil}
 use Rattle.pam_base.specs.declared.code.Code.{Code}
 use Rattle.pam_base.specs.declared.fault.NoMemory.{NoMemory}
@@ -7,6 +7,8 @@ use Rattle.item_store.specs.Items.{ItemTexts}
 use Rattle.pam_outside.specs.Files.{File, VaultState, counted, file_put, is_failing}
 use Rattle.pam_outside.specs.Time.{ClockState}
 use Rattle.pam_room.specs.Call.{PlainCall}
+use Rattle.pam_room.specs.declared.process.Process.{Process}
+use Rattle.pam_room.specs.Plain.{plain_process}
 use Rattle.pam_room.specs.State.{PlainProcess, PlainRoom, Scene, scene_of}
 use Rattle.pam_room.specs.Module.{Played, PlaysIn, after_calls, failing_of, sight_of, with_played}
 use Rattle.account_db.specs.declared.group.Group.{Group}
@@ -14,10 +16,9 @@ use Rattle.account_db.specs.declared.passwd.Passwd.{Passwd}
 use Rattle.account_files.specs.declared.content.Content.{Content}
 use Rattle.account_files.specs.declared.content.Content.TheVariants.{Absent}
 use Rattle.pam_outside.specs.Paths.{path_of}
-use Rattle.account_files.specs.Content.{after_named, content_at, is_rooted, named_content}
-use Rattle.account_files.specs.Accounts.{Known, Looked, groups_looked, account_limit, known_groups, known_passwds, nothing_known, passwds_looked, shells_in}
-use Rattle.account_files.specs.Accounts.{groups_by as known_groups_by, passwds_by as known_by}
-use Rattle.account_files.specs.Act.{Act, Acts, answers, called, content_seen, groups_by, later, passwds_by, plays_by, reads_file, reads_groups, reads_if, reads_passwds, reads_shells, replaced, replaces_file, sees_items, sees_moment, stage_of}
+use Rattle.account_files.specs.Content.{content_at, is_rooted}
+use Rattle.account_files.specs.Accounts.{Known, account_limit, groups_in, known_groups, known_passwds, nothing_known, passwds_in, shells_in}
+use Rattle.account_files.specs.Act.{Act, Acts, LooksTo, answers, called, content_seen, groups_by, later, passwds_by, plays_by, reads_file, reads_groups, reads_if, reads_passwds, reads_shells, replaced, replaces_file, sees_items, sees_moment, stage_of}
 
 -- ---- a step that leaves the vault, and one that calls it once
 
@@ -77,62 +78,92 @@ module _ (room : PlainRoom) (vault : VaultState) (clock : ClockState) (process :
   by_root false name limit act known content after code new is next a =
       carried (reads_if false name limit act) (act content) known known (scene_of room vault clock process) (scene_of room after clock process) code new (rw (is, next) refl) (λ p. rw next refl) a
 
-  pub reading : (name : List ℕ) (limit : ℕ) (act : Content → Act) (known : Known) (content : Content) (after : VaultState) (code : Code) (new : Scene)
-      → content ≡ named_content process.root name limit vault → after ≡ after_named name vault
+  pub reading : (name : List ℕ) (limit : ℕ) (act : Content → Act) (known : Known) (content : Content) (after : VaultState) (code : Code) (new : Scene) → is_rooted name ≡ true
+      → content ≡ content_at process.root name limit vault → after ≡ counted vault
       → Acts (act content) known (scene_of room after clock process) code new → Acts (reads_file name limit act) known (scene_of room vault clock process) code new
   unfolding reads_file
-  reading name limit act known content after code new is next a = by_root (is_rooted name) name limit act known content after code new is next a
+  reading name limit act known content after code new rooted is next a = by_root (is_rooted name) name limit act known content after code new (rw rooted is) (rw rooted next) a
 
-  pub reading_shells : (act : Option (List (List ℕ)) → Act) (known : Known) (found : Option (List (List ℕ))) (after : VaultState) (code : Code) (new : Scene)
-      → found ≡ shells_in (content_at process.root (codes "/etc/shells") account_limit vault) → after ≡ counted vault
+  pub not_reading : (name : List ℕ) (limit : ℕ) (act : Content → Act) (known : Known) (code : Code) (new : Scene) → is_rooted name ≡ false
+      → Acts (act Absent) known (scene_of room vault clock process) code new → Acts (reads_file name limit act) known (scene_of room vault clock process) code new
+  unfolding reads_file
+  not_reading name limit act known code new rooted a = by_root (is_rooted name) name limit act known Absent vault code new (rw rooted refl) (rw rooted refl) a
+
+  pub reading_shells : (act : Option (List (List ℕ)) → Act) (known : Known) (content : Content) (found : Option (List (List ℕ))) (after : VaultState) (code : Code) (new : Scene)
+      → content ≡ content_at process.root (codes "/etc/shells") account_limit vault → found ≡ shells_in content → after ≡ counted vault
       → Acts (act found) known (scene_of room after clock process) code new → Acts (reads_shells act) known (scene_of room vault clock process) code new
   unfolding reads_shells
-  reading_shells act known found after code new is next a =
-      reading (codes "/etc/shells") account_limit (λ content. act (shells_in content)) known (content_at process.root (codes "/etc/shells") account_limit vault) after code new refl next (rw (← is) a)
+  reading_shells act known content found after code new is e next a =
+      reading (codes "/etc/shells") account_limit (λ text. act (shells_in text)) known content after code new refl is next (rw (← e) a)
 
-  by_known : (before : Option (Option (List Passwd))) (act : Option (List Passwd) → Act) (known now : Known) (after : VaultState) (code : Code) (new : Scene)
-      → known.passwds ≡ before → known_by before process.root known vault ≡ record { known = now; vault = after }
-      → Acts (act (known_passwds now)) now (scene_of room after clock process) code new → Acts (passwds_by before act) known (scene_of room vault clock process) code new
-  by_known (Some found) act known now after code new e is a =
-      let same = ap (λ (l : Looked). l.known) is in
-      let next = ap (λ (l : Looked). l.vault) is in
-      carried (passwds_by (Some found) act) (act (known_passwds now)) known now (scene_of room vault clock process) (scene_of room after clock process) code new (rw (← same, ← next, e) refl) (λ p. rw (← next) refl) a
-  by_known None act known now after code new e is a =
-      let s = scene_of room vault clock process in
-      let more = ap (λ (l : Looked). l.known) is in
-      let next = ap (λ (l : Looked). l.vault) is in
-      let same : passwds_by None act (stage_of known s) ≡ called (act (known_passwds now) (stage_of now (after_call s))) = rw (← more, content_is _ _ s, later_sight s) refl in
-      counted_once (passwds_by None act) (act (known_passwds now)) known now s code new same (rw (← next) at a)
+  -- ---- account files
 
-  pub reading_passwds : (act : Option (List Passwd) → Act) (known now : Known) (after : VaultState) (code : Code) (new : Scene)
-      → passwds_looked process.root known vault ≡ record { known = now; vault = after }
-      → Acts (act (known_passwds now)) now (scene_of room after clock process) code new → Acts (reads_passwds act) known (scene_of room vault clock process) code new
-  unfolding passwds_looked reads_passwds
-  reading_passwds act known now after code new is a =
+  first_passwds : (before : Option (Option (List Passwd))) (act : Option (List Passwd) → Act) (known : Known) (content : Content) (found : Option (List Passwd)) (after : VaultState) (code : Code) (new : Scene)
+      → is_some before ≡ false → content ≡ content_at process.root (codes "/etc/passwd") account_limit vault → found ≡ passwds_in content → after ≡ counted vault
+      → Acts (act found) (record known { passwds = Some found }) (scene_of room after clock process) code new → Acts (passwds_by before act) known (scene_of room vault clock process) code new
+  first_passwds None act known content found after code new none is e next a =
       let s = scene_of room vault clock process in
-      carried (reads_passwds act) (passwds_by known.passwds act) known known s s code new refl (λ p. refl) (by_known known.passwds act known now after code new refl is a)
+      let same : passwds_by None act (stage_of known s) ≡ called (act found (stage_of (record known { passwds = Some found }) (after_call s))) = rw (e, is, content_is _ _ s, later_sight s) refl in
+      counted_once (passwds_by None act) (act found) known (record known { passwds = Some found }) s code new same (rw next at a)
+  first_passwds (Some before) act known content found after code new none is e next a = absurd cc
 
-  by_known_groups : (before : Option (Option (List Group))) (act : Option (List Group) → Act) (known now : Known) (after : VaultState) (code : Code) (new : Scene)
-      → known.groups ≡ before → known_groups_by before process.root known vault ≡ record { known = now; vault = after }
-      → Acts (act (known_groups now)) now (scene_of room after clock process) code new → Acts (groups_by before act) known (scene_of room vault clock process) code new
-  by_known_groups (Some found) act known now after code new e is a =
-      let same = ap (λ (l : Looked). l.known) is in
-      let next = ap (λ (l : Looked). l.vault) is in
-      carried (groups_by (Some found) act) (act (known_groups now)) known now (scene_of room vault clock process) (scene_of room after clock process) code new (rw (← same, ← next, e) refl) (λ p. rw (← next) refl) a
-  by_known_groups None act known now after code new e is a =
+  passwds_again : (before : Option (Option (List Passwd))) (act : Option (List Passwd) → Act) (known : Known) (code : Code) (new : Scene) → is_some before ≡ true
+      → Acts (act (unwrap_or before None)) known (scene_of room vault clock process) code new → Acts (passwds_by before act) known (scene_of room vault clock process) code new
+  passwds_again None act known code new some a = absurd cc
+  passwds_again (Some before) act known code new some a =
       let s = scene_of room vault clock process in
-      let more = ap (λ (l : Looked). l.known) is in
-      let next = ap (λ (l : Looked). l.vault) is in
-      let same : groups_by None act (stage_of known s) ≡ called (act (known_groups now) (stage_of now (after_call s))) = rw (← more, content_is _ _ s, later_sight s) refl in
-      counted_once (groups_by None act) (act (known_groups now)) known now s code new same (rw (← next) at a)
+      carried (passwds_by (Some before) act) (act before) known known s s code new refl (λ p. refl) a
 
-  pub reading_groups : (act : Option (List Group) → Act) (known now : Known) (after : VaultState) (code : Code) (new : Scene)
-      → groups_looked process.root known vault ≡ record { known = now; vault = after }
-      → Acts (act (known_groups now)) now (scene_of room after clock process) code new → Acts (reads_groups act) known (scene_of room vault clock process) code new
-  unfolding groups_looked reads_groups
-  reading_groups act known now after code new is a =
+  by_passwds : (act : Option (List Passwd) → Act) (known : Known) (code : Code) (new : Scene) → Acts (passwds_by known.passwds act) known (scene_of room vault clock process) code new
+      → Acts (reads_passwds act) known (scene_of room vault clock process) code new
+  unfolding reads_passwds
+  by_passwds act known code new a =
       let s = scene_of room vault clock process in
-      carried (reads_groups act) (groups_by known.groups act) known known s s code new refl (λ p. refl) (by_known_groups known.groups act known now after code new refl is a)
+      carried (reads_passwds act) (passwds_by known.passwds act) known known s s code new refl (λ p. refl) a
+
+  first_groups : (before : Option (Option (List Group))) (act : Option (List Group) → Act) (known : Known) (content : Content) (found : Option (List Group)) (after : VaultState) (code : Code) (new : Scene)
+      → is_some before ≡ false → content ≡ content_at process.root (codes "/etc/group") account_limit vault → found ≡ groups_in content → after ≡ counted vault
+      → Acts (act found) (record known { groups = Some found }) (scene_of room after clock process) code new → Acts (groups_by before act) known (scene_of room vault clock process) code new
+  first_groups None act known content found after code new none is e next a =
+      let s = scene_of room vault clock process in
+      let same : groups_by None act (stage_of known s) ≡ called (act found (stage_of (record known { groups = Some found }) (after_call s))) = rw (e, is, content_is _ _ s, later_sight s) refl in
+      counted_once (groups_by None act) (act found) known (record known { groups = Some found }) s code new same (rw next at a)
+  first_groups (Some before) act known content found after code new none is e next a = absurd cc
+
+  groups_again : (before : Option (Option (List Group))) (act : Option (List Group) → Act) (known : Known) (code : Code) (new : Scene) → is_some before ≡ true
+      → Acts (act (unwrap_or before None)) known (scene_of room vault clock process) code new → Acts (groups_by before act) known (scene_of room vault clock process) code new
+  groups_again None act known code new some a = absurd cc
+  groups_again (Some before) act known code new some a =
+      let s = scene_of room vault clock process in
+      carried (groups_by (Some before) act) (act before) known known s s code new refl (λ p. refl) a
+
+  by_groups : (act : Option (List Group) → Act) (known : Known) (code : Code) (new : Scene) → Acts (groups_by known.groups act) known (scene_of room vault clock process) code new
+      → Acts (reads_groups act) known (scene_of room vault clock process) code new
+  unfolding reads_groups
+  by_groups act known code new a =
+      let s = scene_of room vault clock process in
+      carried (reads_groups act) (groups_by known.groups act) known known s s code new refl (λ p. refl) a
+
+module _ (process : Process) (known : Known) (vault : VaultState) where
+  pub reading_passwds : (content : Content) (found : Option (List Passwd)) (after : VaultState) → is_some known.passwds ≡ false
+      → content ≡ content_at process.root (codes "/etc/passwd") account_limit vault → found ≡ passwds_in content → after ≡ counted vault
+      → LooksTo reads_passwds found process known vault (record known { passwds = Some found }) after
+  reading_passwds content found after none is e next = λ room clock act code end rest.
+      by_passwds room vault clock (plain_process process) act known code end (first_passwds room vault clock (plain_process process) known.passwds act known content found after code end none is e next rest)
+
+  pub knowing_passwds : is_some known.passwds ≡ true → LooksTo reads_passwds (known_passwds known) process known vault known vault
+  knowing_passwds some = λ room clock act code end rest.
+      by_passwds room vault clock (plain_process process) act known code end (passwds_again room vault clock (plain_process process) known.passwds act known code end some rest)
+
+  pub reading_groups : (content : Content) (found : Option (List Group)) (after : VaultState) → is_some known.groups ≡ false
+      → content ≡ content_at process.root (codes "/etc/group") account_limit vault → found ≡ groups_in content → after ≡ counted vault
+      → LooksTo reads_groups found process known vault (record known { groups = Some found }) after
+  reading_groups content found after none is e next = λ room clock act code end rest.
+      by_groups room vault clock (plain_process process) act known code end (first_groups room vault clock (plain_process process) known.groups act known content found after code end none is e next rest)
+
+  pub knowing_groups : is_some known.groups ≡ true → LooksTo reads_groups (known_groups known) process known vault known vault
+  knowing_groups some = λ room clock act code end rest.
+      by_groups room vault clock (plain_process process) act known code end (groups_again room vault clock (plain_process process) known.groups act known code end some rest)
 
 -- ---- a file that is set
 

@@ -1,9 +1,8 @@
 ghost use Rattle.std.specs.Prelude.{◌≡◌, ◌≤◌, IsTrue, IfOk, OnOk};
 ghost use Rattle.pam_outside.specs.Files.{counted};
-ghost use Rattle.account_files.specs.Act.{StepsTo, replaces_file};
-ghost use Rattle.account_files.specs.Content.{IsWithin, after_named, content_at, is_rooted, named_content};
+ghost use Rattle.account_files.specs.Act.{StepsTo, reads_file, replaces_file};
+ghost use Rattle.account_files.specs.Content.{IsWithin, content_at, is_rooted};
 
-use crate::laws;
 use pam_base::{NoMemory, Text};
 use pam_outside::{ReplaceFault, Vault, VaultFault, path_of, read_file, replace_file};
 use pam_room::Process;
@@ -20,7 +19,7 @@ pub enum Content {
 }
 
 /// Reads the file with this name under a root, of which n bytes may be read, by one call of the vault.
-pub fn read_content(
+pub(crate) fn read_content(
     alloc: Global,
     vault: &mut dyn Vault,
     root: &[u8],
@@ -46,29 +45,27 @@ pub fn read_content(
     }
 }
 
-/// Reads the file that an argument names. Where the name isn't a path from the root, the file is absent, and no call
-/// is made.
+/// Reads the file with this name, of which n bytes may be read, by one call of the vault. Where the name isn't a path
+/// from the root, the file is absent, and no call is made.
 pub fn read_named(
     alloc: Global,
     vault: &mut dyn Vault,
-    root: &[u8],
+    process: &Process,
     name: &[u8],
     limit: u32,
 ) -> Result<Content, NoMemory>
     ensures bound { IfOk result (λ content. IsWithin content limit) }
     ensures tells { vault_tells vault.new ≡ vault_tells vault.old }
     ensures told { IsTrue (vault_tells vault.old) →
-        IfOk result (λ content. content ≡ named_content root.now name.now limit
-        (vault_holds vault.old)) }
-    ensures calls { IsTrue (vault_tells vault.old) →
-        OnOk result (vault_holds vault.new ≡ after_named name.now (vault_holds vault.old)) }
+        IfOk result (λ content. StepsTo (reads_file name.now limit) content process.now
+        (vault_holds vault.old) (vault_holds vault.new)) }
     ensures faults { vault_faults vault.old ≤ vault_faults vault.new }
 {
-    if is_rooted(name) {
-        read_content(alloc, vault, root, name, limit)
-    } else {
-        Ok(Content::Absent)
+    if !is_rooted(name) {
+        return Ok(Content::Absent);
     }
+    let content = read_content(alloc, vault, process.root.bytes(), name, limit)?;
+    Ok(content)
 }
 
 /// Sets the file with this name whole, by one call of the vault. False where the outside failed: the file is then as it
@@ -86,7 +83,6 @@ pub fn replace_named(
         (vault_holds vault.old) (vault_holds vault.new)) }
     ensures faults { vault_faults vault.old ≤ vault_faults vault.new }
 {
-    laws::act_steps();
     let path = path_of(alloc, process.root.bytes(), name)?;
     match replace_file(vault, alloc, path.bytes(), bytes) {
         Ok(()) => Ok(true),

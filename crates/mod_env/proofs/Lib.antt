@@ -2,5 +2,4 @@ mod Putting
 mod Collecting
 mod Respelling
 mod Settling
-mod Telling
 mod Rows

@@ -1,18 +1,17 @@
 -- Variables are set one by one.
-use Rattle.std.proofs.Common.{◌≡◌, ◌<◌, ◌≤◌, ℕ, ◌-◌, Bool, true, false, List, [], ◌∷◌, length, take, drop, get_or, Option, Some, None, refl, arith}
+use Rattle.std.proofs.Common.{◌≡◌, ◌<◌, ◌≤◌, ℕ, ◌-◌, Bool, true, false, cond, List, [], ◌∷◌, length, take, drop, get_or, Option, Some, None, refl, arith}
 use Rattle.std.proofs.lemmas.List.{take_all}
 use Rattle.env_list.specs.Environment.{Variable}
 use Rattle.item_store.specs.Items.{ItemTexts}
 use Rattle.pam_base.specs.declared.code.Code.{Code}
-use Rattle.pam_base.specs.declared.code.Code.TheVariants.{BufErr}
 use Rattle.pam_room.specs.State.{Scene}
 use Rattle.account_db.specs.declared.passwd.Passwd.{Passwd}
 use Rattle.account_files.specs.Accounts.{Known, account_in, known_passwds}
-use Rattle.account_files.specs.Act.{Act, Acts, answers, reads_passwds, sees_items}
+use Rattle.account_files.specs.Act.{Act, Acts, reads_passwds, sees_items}
 use Rattle.mod_env.specs.declared.conf.Entry.{Entry}
 use Rattle.mod_env.specs.declared.expand.Outcome.{Outcome}
 use Rattle.mod_env.specs.declared.expand.Outcome.TheVariants.{TooLong, Puts}
-use Rattle.mod_env.specs.Env.{GoesOn, by_outcome, by_user, entry_in, entry_known, looks_if, puts_all, puts_env, sees_env, sets_all, sets_by, sets_variable}
+use Rattle.mod_env.specs.Env.{by_outcome, by_user, entry_in, entry_known, looks_if, puts_all, puts_env, sees_env, sets_all, sets_by, sets_variable}
 use Rattle.mod_env.specs.Expand.{Sources, asks_account, outcome_of}
 
 pub first_of : {A : Type 0} (whole : List A) (x : A) → 1 ≤ length whole → x ≡ get_or whole 0 x → whole ≡ x ∷ take (length whole - 1) (drop 1 whole)
@@ -26,33 +25,35 @@ sources_in s account = record { items = s.room.transaction.items; env = s.room.t
 module _ (items : (act : ItemTexts → Act) (known : Known) (s : Scene) (code : Code) (new : Scene) → Acts (act s.room.transaction.items) known s code new → Acts (sees_items act) known s code new)
     (env : (act : List Variable → Act) (known : Known) (s : Scene) (code : Code) (new : Scene) → Acts (act s.room.transaction.env) known s code new → Acts (sees_env act) known s code new)
     (entry : Entry) (account : Option Passwd) (known : Known) (s : Scene) (found : Outcome) where
-  seen : (act : Act) (code : Code) (new : Scene) → found ≡ outcome_of entry (sources_in s account) → Acts (by_outcome found act) known s code new → Acts (sets_by entry account act) known s code new
+  seen : (act : Bool → Act) (code : Code) (new : Scene) → found ≡ outcome_of entry (sources_in s account) → Acts (by_outcome found act) known s code new → Acts (sets_by entry account act) known s code new
   unfolding sets_by
   seen act code new e a =
       items (λ texts. sees_env (λ variables. by_outcome (outcome_of entry (record { items = texts; env = variables; entry = account })) act)) known s code new
       (env (λ variables. by_outcome (outcome_of entry (record { items = s.room.transaction.items; env = variables; entry = account })) act) known s code new (rw (← e) a))
 
-  pub too_long : found ≡ outcome_of entry (sources_in s account) → found ≡ TooLong → Acts (answers BufErr) known s BufErr s → GoesOn false (sets_by entry account) known s known s
-  too_long e f a = λ act. seen act BufErr s e (rw f a)
+  pub too_long : found ≡ outcome_of entry (sources_in s account) → found ≡ TooLong
+      → (act : Bool → Act) (code : Code) (end : Scene) → Acts (act false) known s code end → Acts (sets_by entry account act) known s code end
+  too_long e f act code end a = seen act code end e (rw f a)
 
-  pub puts : (text : List ℕ) (new : Scene) → found ≡ outcome_of entry (sources_in s account) → found ≡ Puts text
-      → ((act : Act) (code : Code) (end : Scene) → Acts act known new code end → Acts (puts_env text act) known s code end) → GoesOn true (sets_by entry account) known s known new
-  puts text new e f step = λ act code end a. seen act code end e (rw f (step act code end a))
+  pub puts : (text : List ℕ) → found ≡ outcome_of entry (sources_in s account) → found ≡ Puts text
+      → (act : Bool → Act) (code : Code) (end : Scene) → Acts (puts_env text (act true)) known s code end → Acts (sets_by entry account act) known s code end
+  puts text e f act code end a = seen act code end e (rw f a)
 
-module _ (entry : Entry) (seen : Option Passwd) (known now : Known) (s mid new : Scene)
+module _ (entry : Entry) (seen : Option Passwd) (known now : Known) (s mid : Scene)
     (look : (act : Option Passwd → Act) (code : Code) (end : Scene) → Acts (act seen) now mid code end → Acts (looks_if (asks_account entry) act) known s code end) where
-  pub looked : (fits : Bool) → GoesOn fits (sets_by entry seen) now mid now new → GoesOn fits (sets_variable entry) known s now new
+  pub looked : (act : Bool → Act) (code : Code) (end : Scene) → Acts (sets_by entry seen act) now mid code end → Acts (sets_variable entry act) known s code end
   unfolding sets_variable
-  looked true h = λ act code end a. look (λ account. sets_by entry account act) code end (h act code end a)
-  looked false h = λ act. look (λ account. sets_by entry account act) BufErr new (h act)
+  looked act code end a = look (λ account. sets_by entry account act) code end a
 
 module _ (entries rest after : List Entry) (entry : Entry) (first known now : Known) (old s new : Scene) (is : rest ≡ entry ∷ after)
-    (told : (act : Act) (code : Code) (end : Scene) → Acts (sets_all rest act) known s code end → Acts (sets_all entries act) first old code end) where
-  pub one_more : GoesOn true (sets_variable entry) known s now new → (act : Act) (code : Code) (end : Scene) → Acts (sets_all after act) now new code end → Acts (sets_all entries act) first old code end
-  one_more h act code end a = told act code end (rw is (h (sets_all after act) code end a))
+    (told : (act : Bool → Act) (code : Code) (end : Scene) → Acts (sets_all rest act) known s code end → Acts (sets_all entries act) first old code end) where
+  pub one_more : ((act : Bool → Act) (code : Code) (end : Scene) → Acts (act true) now new code end → Acts (sets_variable entry act) known s code end)
+      → (act : Bool → Act) (code : Code) (end : Scene) → Acts (sets_all after act) now new code end → Acts (sets_all entries act) first old code end
+  one_more set act code end a = told act code end (rw is (set (λ fits. cond fits (sets_all after act) (act false)) code end a))
 
-  pub stopped : GoesOn false (sets_variable entry) known s now new → GoesOn false (sets_all entries) first old now new
-  stopped h = λ act. told act BufErr new (rw is (h (sets_all after act)))
+  pub stopped : ((act : Bool → Act) (code : Code) (end : Scene) → Acts (act false) now new code end → Acts (sets_variable entry act) known s code end)
+      → (act : Bool → Act) (code : Code) (end : Scene) → Acts (act false) now new code end → Acts (sets_all entries act) first old code end
+  stopped set act code end a = told act code end (rw is (set (λ fits. cond fits (sets_all after act) (act false)) code end a))
 
 module _ (found : Option (List ℕ)) where
   pub by_found : (user : List ℕ) (act : Option Passwd → Act) (known now : Known) (s mid : Scene) (code : Code) (end : Scene) → Some user ≡ found

@@ -8,12 +8,11 @@ use Rattle.pam_base.specs.declared.call.Func.TheVariants.{Authenticate, SetCred,
 use Rattle.env_list.specs.Environment.{Variable, after_put, is_refused}
 use Rattle.pam_room.specs.Call.{PlainCall, value_among}
 use Rattle.pam_room.specs.Module.{Plays}
-use Rattle.pam_room.specs.State.{Scene}
 use Rattle.account_db.specs.declared.passwd.Passwd.{Passwd}
 use Rattle.account_files.specs.declared.content.Content.{Content}
 use Rattle.account_files.specs.declared.content.Content.TheVariants.{Absent, Unreadable, Holds}
 use Rattle.account_files.specs.Accounts.{Account, Known, account_in, found, known_passwds, missing, unreadable}
-use Rattle.account_files.specs.Act.{Act, Acts, answers, finds_account, in_room, plays_by, reads_file, sees_items, unless_answered}
+use Rattle.account_files.specs.Act.{Act, answers, finds_account, in_room, plays_by, reads_file, sees_items, unless_answered}
 use Rattle.mod_env.specs.declared.conf.Entry.{Entry}
 use Rattle.mod_env.specs.declared.expand.Outcome.{Outcome}
 use Rattle.mod_env.specs.declared.expand.Outcome.TheVariants.{TooLong, Puts}
@@ -61,27 +60,28 @@ abbrev pub looks_if : Bool → (Option Passwd → Act) → Act
 looks_if true act = sees_items (λ items. by_user items.user act)
 looks_if false act = act None
 
--- a value that is too long is BUF_ERR at once
-abbrev pub by_outcome : Outcome → Act → Act
-by_outcome (Puts text) act = puts_env text act
-by_outcome TooLong act = answers returns.BufErr
+-- whether the value was set: one that is too long isn't
+abbrev pub by_outcome : Outcome → (Bool → Act) → Act
+by_outcome (Puts text) act = puts_env text (act true)
+by_outcome TooLong act = act false
 
 abbrev pub sees_sources : Option Passwd → (Sources → Act) → Act
 sees_sources entry act =
     sees_items (λ items. sees_env (λ env. act (record { items = items; env = env; entry = entry })))
 
-unfoldable pub sets_by : Entry → Option Passwd → Act → Act
+unfoldable pub sets_by : Entry → Option Passwd → (Bool → Act) → Act
 sets_by entry account act = sees_sources account (λ from. by_outcome (outcome_of entry from) act)
 
-unfoldable pub sets_variable : Entry → Act → Act
+unfoldable pub sets_variable : Entry → (Bool → Act) → Act
 sets_variable entry act = looks_if (asks_account entry) (λ account. sets_by entry account act)
 
 -- ---- both files
 
--- the variables in order, and then this
-abbrev pub sets_all : List Entry → Act → Act
-sets_all [] act = act
-sets_all (entry ∷ entries) act = sets_variable entry (sets_all entries act)
+-- the variables are set in order, up to one whose value is too long: whether all were
+abbrev pub sets_all : List Entry → (Bool → Act) → Act
+sets_all [] act = act true
+sets_all (entry ∷ entries) act =
+    sets_variable entry (λ fits. if fits then sets_all entries act else act false)
 
 abbrev pub puts_all : List (List ℕ) → Act → Act
 puts_all [] act = act
@@ -93,10 +93,14 @@ text_in Absent = Some []
 text_in Unreadable = None
 text_in (Holds text) = Some text
 
+-- a value that is too long is BUF_ERR at once, and the second file sets nothing
+abbrev pub by_fits : List (List ℕ) → Bool → Act
+by_fits assignments true = puts_all assignments (answers returns.Success)
+by_fits assignments false = answers returns.BufErr
+
 -- a line of pam_env.conf that has no form is SERVICE_ERR, and nothing is set
 abbrev pub by_entries : Option (List Entry) → List (List ℕ) → Act
-by_entries (Some entries) assignments =
-    sets_all entries (puts_all assignments (answers returns.Success))
+by_entries (Some entries) assignments = sets_all entries (by_fits assignments)
 by_entries None assignments = answers returns.ServiceErr
 
 abbrev pub by_texts : List ℕ → Option (List ℕ) → Act
@@ -144,12 +148,3 @@ env_act call = unless_answered (at_once call.func) (reads_first call.args)
 
 abbrev pub env_plays : Plays
 env_plays = plays_by env_act
-
--- ---- as the code tells it
-
--- Steps without a value were done, and what is done from here on is what the whole does from there; or a value was too
--- long, and BUF_ERR is the whole's answer.
-abbrev pub GoesOn : Bool → (Act → Act) → Known → Scene → Known → Scene → Type 0
-GoesOn true step known old now new = (act : Act) (code : Code) (end : Scene)
-    → Acts act now new code end → Acts (step act) known old code end
-GoesOn false step known old now new = (act : Act) → Acts (step act) known old returns.BufErr new

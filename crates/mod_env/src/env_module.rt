@@ -5,8 +5,8 @@ ghost use Rattle.pam_outside.specs.Time.{ClockState};
 ghost use Rattle.pam_base.specs.declared.code.Code.{Code};
 ghost use Rattle.pam_room.specs.Module.{leaves_anything, length_note};
 ghost use Rattle.account_files.specs.Accounts.{nothing_known};
-ghost use Rattle.account_files.specs.Act.{Acts, answers, standing};
-ghost use Rattle.mod_env.specs.Env.{at_once, by_entries, by_first, by_texts, env_plays, is_zero, puts_all, reads_first, reads_second, sets_all, text_in};
+ghost use Rattle.account_files.specs.Act.{Acts, standing};
+ghost use Rattle.mod_env.specs.Env.{at_once, by_entries, by_first, by_fits, by_texts, env_plays, is_zero, reads_first, reads_second, sets_all, text_in};
 ghost use Rattle.mod_env.specs.Conf.{conf_of};
 ghost use Rattle.mod_env.specs.EnvFile.{assignments_of};
 ghost use Rattle.mod_env.specs.Puts.{Puts};
@@ -14,7 +14,7 @@ ghost use Rattle.mod_env.specs.Puts.{Puts};
 use crate::conf::{Entries, conf_of};
 use crate::env_file::assignments_of;
 use crate::setting::{put_all, set_all};
-use account_files::{Content, laws, read_named};
+use account_files::{Accounts, Content, laws, read_named};
 use conv_port::Conv;
 use data_cleanup::{Datum, Receipt};
 use pam_base::{Code, Func, NoMemory, Text};
@@ -103,7 +103,7 @@ fn read_first(
     laws::act_steps();
     crate::laws::puts_alone();
     let name = name_or(call.value(b"conffile="), b"/etc/security/pam_env.conf");
-    let content = read_named(alloc, vault, process.root.bytes(), name, ENV_LIMIT)?;
+    let content = read_named(alloc, vault, process, name, ENV_LIMIT)?;
     match text_in(alloc, content) {
         None => Ok(Code::ServiceErr),
         Some(conf) => {
@@ -129,14 +129,13 @@ fn read_second(
         (standing transaction.new conv (vault_holds vault.new) clock process.now)) }
     ensures puts { Puts transaction.old transaction.new }
 {
-    laws::act_steps();
     crate::laws::puts_alone();
     if is_zero(call.value(b"readenv=")) {
         let nothing = no_text(alloc);
         return set_by_texts(alloc, conf, nothing, transaction, process, vault);
     }
     let name = name_or(call.value(b"envfile="), b"/etc/environment");
-    let content = read_named(alloc, vault, process.root.bytes(), name, ENV_LIMIT)?;
+    let content = read_named(alloc, vault, process, name, ENV_LIMIT)?;
     let env = text_in(alloc, content);
     let code = set_by_texts(alloc, conf, env, transaction, process, vault)?;
     Ok(code)
@@ -202,8 +201,8 @@ fn set_both(
 ) -> Result<Code, NoMemory>
     ensures tells { vault_tells vault.new ≡ vault_tells vault.old }
     ensures told { IsTrue (vault_tells vault.old) → (conv : ConvState) (clock : ClockState) →
-        IfOk result (λ code. Acts (sets_all entries.now (puts_all (assignments_of env.now)
-        (answers Code.Success))) nothing_known
+        IfOk result (λ code. Acts (sets_all entries.now (by_fits (assignments_of env.now)))
+        nothing_known
         (standing transaction.old conv (vault_holds vault.old) clock process.now) code
         (standing transaction.new conv (vault_holds vault.new) clock process.now)) }
     ensures puts { Puts transaction.old transaction.new }
@@ -211,7 +210,8 @@ fn set_both(
     laws::act_steps();
     crate::laws::puts_alone();
     let assignments = assignments_of(alloc, env)?;
-    if !set_all(alloc, entries, transaction, process, vault)? {
+    let mut accounts = Accounts::new();
+    if !set_all(alloc, entries, transaction, &mut accounts, process, vault)? {
         return Ok(Code::BufErr);
     }
     put_all(&assignments, transaction)?;

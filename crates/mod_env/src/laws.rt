@@ -1,21 +1,17 @@
 ghost use Rattle.std.specs.Prelude.{◌≡◌, ℕ, List, Some};
 ghost use Rattle.pam_base.specs.declared.code.Code.{Code};
-ghost use Rattle.conv_port.specs.Conv.{ConvState};
 ghost use Rattle.data_cleanup.specs.Ledger.{PlainLedger};
 ghost use Rattle.data_cleanup.specs.Sets.{Sets};
 ghost use Rattle.env_list.specs.Environment.{Variable};
-ghost use Rattle.pam_outside.specs.Files.{VaultState};
-ghost use Rattle.pam_outside.specs.Time.{ClockState};
-ghost use Rattle.pam_room.specs.declared.process.Process.{Process};
 ghost use Rattle.pam_room.specs.declared.transaction.Transaction.{Transaction};
 ghost use Rattle.pam_room.specs.Plain.{plain_transaction};
 ghost use Rattle.pam_room.specs.State.{PlainProcess, Scene};
 ghost use Rattle.pam_room.specs.Stays.{Stays};
 ghost use Rattle.account_files.specs.Accounts.{Known};
-ghost use Rattle.account_files.specs.Act.{Act, Acts, standing};
+ghost use Rattle.account_files.specs.Act.{Act, Acts};
 ghost use Rattle.mod_env.specs.declared.conf.Entry.{Entry};
 ghost use Rattle.mod_env.specs.Conf.{conf_of};
-ghost use Rattle.mod_env.specs.Env.{put_in, puts_env, sees_env};
+ghost use Rattle.mod_env.specs.Env.{sees_env};
 ghost use Rattle.mod_env.specs.Puts.{Puts};
 ghost use Rattle.mod_env.specs.Spelling.{SpellsConf};
 
@@ -28,17 +24,11 @@ pub fn a_text_has_one_reading()
         SpellsConf others text → entries ≡ others }
 {}
 
-/// Does nothing: its contract is the laws of the steps at the environment.
+/// Does nothing: its contract is the law of the step that sees the environment.
 pub(crate) fn env_steps()
     ensures seeing { (act : List Variable → Act) (known : Known) (s : Scene) (code : Code)
         (new : Scene) →
         Acts (act s.room.transaction.env) known s code new → Acts (sees_env act) known s code new }
-    ensures putting { (text : List ℕ) (act : Act) (known : Known) (t u : Transaction)
-        (conv : ConvState) (vault : VaultState) (clock : ClockState) (process : Process)
-        (code : Code) (new : Scene) →
-        Puts t u → u.env ≡ put_in text t.env → Acts act known
-        (standing u conv vault clock process) code new →
-        Acts (puts_env text act) known (standing t conv vault clock process) code new }
 {}
 
 /// Does nothing: its contract is what holds of a module that changes the environment alone, in any world.

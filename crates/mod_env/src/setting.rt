@@ -1,16 +1,14 @@
-ghost use Rattle.std.specs.Prelude.{◌≡◌, ◌≢◌, ℕ, List, Some, None, true, IsTrue, IfOk, OnOk, Option};
+ghost use Rattle.std.specs.Prelude.{◌≡◌, ◌≢◌, Bool, None, true, IsTrue, IfOk, OnOk, Option};
 ghost use Rattle.std.specs.Option.{option_copied};
 ghost use Rattle.conv_port.specs.Conv.{ConvState};
-ghost use Rattle.env_list.specs.Environment.{Variable};
 ghost use Rattle.pam_base.specs.declared.code.Code.{Code};
 ghost use Rattle.pam_outside.specs.Files.{VaultState};
 ghost use Rattle.pam_outside.specs.Time.{ClockState};
 ghost use Rattle.pam_room.specs.declared.process.Process.{Process};
 ghost use Rattle.pam_room.specs.State.{Scene};
 ghost use Rattle.account_db.specs.declared.passwd.Passwd.{Passwd};
-ghost use Rattle.account_files.specs.Accounts.{Known, nothing_known};
-ghost use Rattle.account_files.specs.Act.{Act, Acts, sees_items, standing};
-ghost use Rattle.mod_env.specs.Env.{GoesOn, by_user, entry_known, entry_seen, looks_if, put_in, puts_all, sets_all, sets_by, sets_variable};
+ghost use Rattle.account_files.specs.Act.{Act, Acts, Came, Leads, sees_items, standing};
+ghost use Rattle.mod_env.specs.Env.{by_user, entry_known, entry_seen, looks_if, put_in, puts_all, puts_env, sets_all, sets_by, sets_variable};
 ghost use Rattle.mod_env.specs.Puts.{Puts};
 
 use crate::conf::{Entries, Entry};
@@ -29,21 +27,23 @@ pub(crate) fn set_all(
     alloc: Global,
     entries: &Entries,
     transaction: &mut Transaction,
+    accounts: &mut Accounts,
     process: &Process,
     vault: &mut dyn Vault,
 ) -> Result<bool, NoMemory>
     ensures tells { vault_tells vault.new ≡ vault_tells vault.old }
-    ensures told { IsTrue (vault_tells vault.old) → (conv : ConvState) (clock : ClockState) →
-        IfOk result (λ fits. (now : Known) × GoesOn fits (sets_all entries.now) nothing_known
-        (standing transaction.old conv (vault_holds vault.old) clock process.now) now
-        (standing transaction.new conv (vault_holds vault.new) clock process.now)) }
+    ensures told { IsTrue (vault_tells vault.old) →
+        (conv : ConvState) (clock : ClockState) (act : Bool → Act) (code : Code) (end : Scene) →
+        IfOk result (λ fits. Acts (act fits) accounts.new (standing transaction.new conv
+        (vault_holds vault.new) clock process.now) code end →
+        Acts (sets_all entries.now act) accounts.old (standing transaction.old conv
+        (vault_holds vault.old) clock process.now) code end) }
     ensures puts { Puts transaction.old transaction.new }
 {
     crate::laws::puts_alone();
-    let mut accounts = Accounts::new();
     let mut rest = entries.items();
     while let [entry, after @ ..] = rest {
-        if !set_variable(alloc, entry, transaction, &mut accounts, process, vault)? {
+        if !set_variable(alloc, entry, transaction, accounts, process, vault)? {
             return Ok(false);
         }
         rest = after;
@@ -61,10 +61,12 @@ fn set_variable(
     vault: &mut dyn Vault,
 ) -> Result<bool, NoMemory>
     ensures tells { vault_tells vault.new ≡ vault_tells vault.old }
-    ensures told { IsTrue (vault_tells vault.old) → (conv : ConvState) (clock : ClockState) →
-        IfOk result (λ fits. GoesOn fits (sets_variable entry.now) accounts.old
-        (standing transaction.old conv (vault_holds vault.old) clock process.now) accounts.new
-        (standing transaction.new conv (vault_holds vault.new) clock process.now)) }
+    ensures told { IsTrue (vault_tells vault.old) →
+        (conv : ConvState) (clock : ClockState) (act : Bool → Act) (code : Code) (end : Scene) →
+        IfOk result (λ fits. Acts (act fits) accounts.new (standing transaction.new conv
+        (vault_holds vault.new) clock process.now) code end →
+        Acts (sets_variable entry.now act) accounts.old (standing transaction.old conv
+        (vault_holds vault.old) clock process.now) code end) }
     ensures puts { Puts transaction.old transaction.new }
 {
     crate::laws::puts_alone();
@@ -124,7 +126,7 @@ fn look_user(
     laws::act_steps();
     match get_item(&transaction.items, ItemName::User) {
         Some(_user) => {
-            accounts.read_passwds(alloc, vault, process.root.bytes())?;
+            accounts.read_passwds(alloc, vault, process)?;
             Ok(())
         }
         None => Ok(()),
@@ -161,10 +163,10 @@ fn set_by(
     account: Option<&Passwd>,
     transaction: &mut Transaction,
 ) -> Result<bool, NoMemory>
-    ensures told { (conv : ConvState) (vault : VaultState) (clock : ClockState) (process : Process)
-        (known : Known) →
-        IfOk result (λ fits. GoesOn fits (sets_by entry.now (option_copied account.entry)) known
-        (standing transaction.old conv vault clock process) known
+    ensures told { (conv : ConvState) (vault : VaultState) (clock : ClockState)
+        (process : Process) →
+        IfOk result (λ fits. Came fits (sets_by entry.now (option_copied account.entry))
+        (standing transaction.old conv vault clock process)
         (standing transaction.new conv vault clock process)) }
     ensures puts { Puts transaction.old transaction.new }
 {
@@ -187,14 +189,13 @@ fn set_by(
 
 /// Puts the texts in order (`pam_putenv(3)`).
 pub(crate) fn put_all(texts: &Texts, transaction: &mut Transaction) -> Result<(), NoMemory>
-    ensures told { (conv : ConvState) (vault : VaultState) (clock : ClockState) (process : Process)
-        (known : Known) (act : Act) (code : Code) (end : Scene) →
-        OnOk result (Acts act known (standing transaction.new conv vault clock process) code end →
-        Acts (puts_all texts.now act) known (standing transaction.old conv vault clock process) code
-        end) }
+    ensures told { (conv : ConvState) (vault : VaultState) (clock : ClockState)
+        (process : Process) →
+        OnOk result (Leads (puts_all texts.now)
+        (standing transaction.old conv vault clock process)
+        (standing transaction.new conv vault clock process)) }
     ensures puts { Puts transaction.old transaction.new }
 {
-    crate::laws::env_steps();
     crate::laws::puts_alone();
     let mut rest = texts.items();
     while let [text, after @ ..] = rest {
@@ -206,10 +207,15 @@ pub(crate) fn put_all(texts: &Texts, transaction: &mut Transaction) -> Result<()
 
 // Puts a text; one that is refused changes nothing.
 fn put(text: &[u8], transaction: &mut Transaction) -> Result<(), NoMemory>
-    ensures put { OnOk result (transaction.new.env ≡ put_in text.now transaction.old.env) }
+    ensures told { (conv : ConvState) (vault : VaultState) (clock : ClockState)
+        (process : Process) →
+        OnOk result (Leads (puts_env text.now)
+        (standing transaction.old conv vault clock process)
+        (standing transaction.new conv vault clock process)) }
     ensures puts { Puts transaction.old transaction.new }
 {
-    put_in(text, &mut transaction.env)
+    put_in(text, &mut transaction.env)?;
+    Ok(())
 }
 
 fn put_in(text: &[u8], env: &mut EnvList) -> Result<(), NoMemory>

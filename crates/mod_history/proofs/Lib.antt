@@ -1,4 +1,4 @@
-mod Telling
+mod Seeing
 mod Changing
 mod Rereading
 mod Wellformed

@@ -10,9 +10,10 @@ use crate::file::{HISTORY_LIMIT, HISTORY_NAME, history_in, store_text};
 use crate::history::{History, hashes_of};
 use crate::refusal::{is_refused, refuse_token};
 use crate::renewal::renewed_text;
+use account_files::read_named;
 use conv_port::Conv;
 use mod_unix::{Look, look_up, take_token};
-use module_acts::{laws, read_whole, require_user, user_of};
+use module_acts::{laws, require_user, user_of};
 use pam_base::{Code, ConvErr, NoMemory, Refuse, Text, number_in};
 use pam_outside::Vault;
 use pam_room::{Call, Process, Transaction};
@@ -173,7 +174,7 @@ fn remember(
     if remember_of(call) == 0 {
         return Ok(Code::Success);
     }
-    let content = read_whole(alloc, vault, process, HISTORY_NAME, HISTORY_LIMIT)?;
+    let content = read_named(alloc, vault, process, HISTORY_NAME, HISTORY_LIMIT)?;
     let history = history_in(alloc, content)?;
     let code = by_history(
         alloc,

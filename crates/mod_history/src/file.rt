@@ -1,14 +1,10 @@
 ghost use Rattle.std.specs.Prelude.{◌≡◌, IsTrue, IfOk};
-ghost use Rattle.pam_outside.specs.Time.{ClockState};
-ghost use Rattle.pam_room.specs.Plain.{plain_process};
-ghost use Rattle.pam_room.specs.State.{PlainRoom, scene_of};
-ghost use Rattle.account_files.specs.Act.{Came};
+ghost use Rattle.account_files.specs.Act.{StepsTo};
 ghost use Rattle.mod_unix.specs.Change.{by_done};
 ghost use Rattle.mod_history.specs.Pwhistory.{history_in, stores_text};
 
 use crate::history::{History, read_history};
-use account_files::Content;
-use module_acts::replace_whole;
+use account_files::{Content, replace_named};
 use pam_base::{Code, NoMemory, Refuse};
 use pam_outside::Vault;
 use pam_room::Process;
@@ -43,15 +39,14 @@ pub(crate) fn store_text(
     text: &[u8],
 ) -> Result<Code, NoMemory>
     ensures tells { vault_tells vault.new ≡ vault_tells vault.old }
-    ensures told { IsTrue (vault_tells vault.old) → (room : PlainRoom) (clock : ClockState) →
-        IfOk result (λ code. Came code (stores_text text.now)
-        (scene_of room (vault_holds vault.old) clock (plain_process process.now))
-        (scene_of room (vault_holds vault.new) clock (plain_process process.now))) }
+    ensures told { IsTrue (vault_tells vault.old) →
+        IfOk result (λ code. StepsTo (stores_text text.now) code process.now
+        (vault_holds vault.old) (vault_holds vault.new)) }
 {
     if text.len() > HISTORY_LIMIT as usize {
         return Ok(Code::AuthtokErr);
     }
-    let done = replace_whole(alloc, vault, process, HISTORY_NAME, text)?;
+    let done = replace_named(alloc, vault, process, HISTORY_NAME, text)?;
     Ok(by_done(done))
 }
 

@@ -49,7 +49,7 @@ impl Module for Pwhistory {
         vault: &mut dyn Vault,
         _clock: &mut dyn Clock,
     ) -> Result<Code, NoMemory> {
-        laws::acting();
+        account_files::laws::act_steps();
         laws::talking();
         match at_once(call) {
             Some(code) => Ok(code),

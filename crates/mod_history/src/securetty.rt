@@ -101,7 +101,7 @@ fn check_terminal(
     laws::act_steps();
     require_user(alloc, transaction, conv)?;
     let mut accounts = Accounts::new();
-    accounts.read_passwds(alloc, vault, process.root.bytes())?;
+    accounts.read_passwds(alloc, vault, process)?;
     let account = accounts.account(alloc, user_of(transaction))?;
     let entry = match account {
         Account::Unreadable => return Ok(Code::ServiceErr),
@@ -133,8 +133,7 @@ fn check_root(
     match get_item(&transaction.items, ItemName::Tty) {
         None => Ok(Code::ServiceErr),
         Some(tty) => {
-            let root = process.root.bytes();
-            let list = read_named(alloc, vault, root, b"/etc/securetty", LIST_LIMIT)?;
+            let list = read_named(alloc, vault, process, b"/etc/securetty", LIST_LIMIT)?;
             Ok(by_list(terminal_name(tty), &list))
         }
     }

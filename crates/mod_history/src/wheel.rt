@@ -101,13 +101,13 @@ fn check_wheel(
     require_user(alloc, transaction, conv)?;
     let caller = process.caller;
     let mut accounts = Accounts::new();
-    accounts.read_passwds(alloc, vault, process.root.bytes())?;
+    accounts.read_passwds(alloc, vault, process)?;
     let user = user_of(transaction);
     let decided = code_by_passwds(alloc, call, caller, user, accounts.passwds())?;
     match decided {
         Some(code) => Ok(code),
         None => {
-            accounts.read_groups(alloc, vault, process.root.bytes())?;
+            accounts.read_groups(alloc, vault, process)?;
             let code = code_by_groups(alloc, call, caller, accounts.passwds(), accounts.groups())?;
             Ok(code)
         }

@@ -7,7 +7,7 @@ ghost use Rattle.mod_lists.specs.Listfile.{applies, by_groups, yes_or_no};
 
 use crate::list_settings::Apply;
 use account_db::is_in_group;
-use account_files::{Accounts, laws};
+use account_files::Accounts;
 use pam_base::NoMemory;
 use pam_outside::Vault;
 use pam_room::Process;
@@ -35,17 +35,16 @@ pub(crate) fn list_applies(
         IfOk result (λ value. LooksTo (applies (plain_apply apply.entry) user.now) value process.now
         accounts.old (vault_holds vault.old) accounts.new (vault_holds vault.new)) }
 {
-    laws::act_steps();
     match apply {
         Apply::Everyone => Ok(Applies::Yes),
         Apply::One(name) => Ok(yes_or_no(is_same(name, user))),
         Apply::Members(name) => {
-            accounts.read_passwds(alloc, vault, process.root.bytes())?;
+            accounts.read_passwds(alloc, vault, process)?;
             match accounts.passwds() {
                 None => return Ok(Applies::Unknown),
                 Some(_) => {}
             }
-            accounts.read_groups(alloc, vault, process.root.bytes())?;
+            accounts.read_groups(alloc, vault, process)?;
             let applies = by_groups(alloc, name, user, accounts)?;
             Ok(applies)
         }

@@ -132,8 +132,7 @@ fn shell_values(
         IfOk result (λ values. LooksTo (reads_values ListItem.Shell user.now) values process.now
         accounts.old (vault_holds vault.old) accounts.new (vault_holds vault.new)) }
 {
-    laws::act_steps();
-    accounts.read_passwds(alloc, vault, process.root.bytes())?;
+    accounts.read_passwds(alloc, vault, process)?;
     let account = accounts.account(alloc, user)?;
     match account {
         Account::Missing => Ok(Values::Unknown),
@@ -158,15 +157,14 @@ fn group_values(
         IfOk result (λ values. LooksTo (reads_values ListItem.Group user.now) values process.now
         accounts.old (vault_holds vault.old) accounts.new (vault_holds vault.new)) }
 {
-    laws::act_steps();
-    accounts.read_passwds(alloc, vault, process.root.bytes())?;
+    accounts.read_passwds(alloc, vault, process)?;
     let account = accounts.account(alloc, user)?;
     match account {
         Account::Missing => return Ok(Values::Unknown),
         Account::Unreadable => return Ok(Values::Unknown),
         Account::Found(_) => {}
     }
-    accounts.read_groups(alloc, vault, process.root.bytes())?;
+    accounts.read_groups(alloc, vault, process)?;
     let values = values_of_groups(alloc, user, accounts)?;
     Ok(values)
 }

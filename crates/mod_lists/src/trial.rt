@@ -101,8 +101,7 @@ fn try_account(
         user.now) truth process.now accounts.old (vault_holds vault.old) accounts.new
         (vault_holds vault.new)) }
 {
-    laws::act_steps();
-    accounts.read_passwds(alloc, vault, process.root.bytes())?;
+    accounts.read_passwds(alloc, vault, process)?;
     let account = accounts.account(alloc, user)?;
     let truth = on_account(alloc, field, test, account)?;
     Ok(truth)
@@ -156,13 +155,12 @@ fn try_groups(
         user.now act)) truth process.now accounts.old (vault_holds vault.old) accounts.new
         (vault_holds vault.new)) }
 {
-    laws::act_steps();
-    accounts.read_passwds(alloc, vault, process.root.bytes())?;
+    accounts.read_passwds(alloc, vault, process)?;
     match accounts.passwds() {
         None => return Ok(Truth::Faulty),
         Some(_) => {}
     }
-    accounts.read_groups(alloc, vault, process.root.bytes())?;
+    accounts.read_groups(alloc, vault, process)?;
     let truth = by_groups(alloc, sense, names, user, accounts)?;
     Ok(truth)
 }

@@ -1,4 +1,3 @@
-mod Telling
 mod Going
 mod Counting
 mod Doing

@@ -116,7 +116,6 @@ fn check_tally(
         (clock_holds clock.now) process.now) }
     ensures talks { Talks transaction.old transaction.new }
 {
-    laws::act_steps();
     module_acts::laws::talking();
     require_user(alloc, transaction, conv)?;
     let code = check_user(alloc, task, settings, transaction, process, vault, clock)?;
@@ -151,7 +150,7 @@ fn check_user(
         return Ok(Code::UserUnknown);
     }
     let mut accounts = Accounts::new();
-    accounts.read_passwds(alloc, vault, process.root.bytes())?;
+    accounts.read_passwds(alloc, vault, process)?;
     let account = accounts.account(alloc, user)?;
     match account {
         Account::Unreadable => Ok(Code::ServiceErr),

@@ -63,8 +63,7 @@ pub(crate) fn read_tally(
         IfOk result (λ found. StepsTo (reads_tally name.now) found process.now
         (vault_holds vault.old) (vault_holds vault.new)) }
 {
-    laws::act_steps();
-    let content = read_named(alloc, vault, process.root.bytes(), name, TALLY_LIMIT)?;
+    let content = read_named(alloc, vault, process, name, TALLY_LIMIT)?;
     let found = failures_in(alloc, content)?;
     Ok(found)
 }

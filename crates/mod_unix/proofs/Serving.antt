@@ -1,5 +1,5 @@
 -- What the module does for each function.
-use Rattle.std.proofs.Common.{◌≡◌, Bool, true, false, ◌&&◌, IsTrue, Result, IfOk, refl, sym, subst}
+use Rattle.std.proofs.Common.{◌≡◌, Result, IfOk, sym, subst}
 use Rattle.pam_base.specs.declared.call.Func.{Func}
 use Rattle.pam_base.specs.declared.call.Func.TheVariants.{SetCred}
 use Rattle.pam_base.specs.declared.code.Code.{Code}
@@ -23,24 +23,6 @@ pub set_cred : ((code : Code) (known : Known) (s : Scene) → Acts (answers code
     → ((act : List NamedData → Act) (known : Known) (s : Scene) (code : Code) (new : Scene) → Acts (act (named_data s.room.transaction.datums.live)) known s code new → Acts (sees_data act) known s code new)
     → (call : PlainCall) (s : Scene) (code : Code) → code ≡ kept_code (named_data s.room.transaction.datums.live) → Goes (by_func SetCred call) s code s
 set_cred answering seeing call s code e = seeing (λ held. answers (kept_code held)) nothing_known s code s (subst (λ x. Acts (answers x) nothing_known s code s) e (answering code nothing_known s))
-
--- where all that a module is lent tells, each of it does
-pub first : (a b c : Bool) → IsTrue (a && (b && c)) → IsTrue a
-first true b c h = refl
-first false b c h = h
-
-pub second : (a b c : Bool) → IsTrue (a && (b && c)) → IsTrue b
-second true true c h = refl
-second true false c h = h
-second false true c h = refl
-second false false c h = h
-
-pub third : (a b c : Bool) → IsTrue (a && (b && c)) → IsTrue c
-third true true c h = h
-third true false true h = refl
-third true false false h = h
-third false b true h = refl
-third false b false h = h
 
 -- a clock stays as it was while words are taken from it
 pub at_clock : (act : Act) (old : Scene) (room : PlainRoom) (vault : VaultState) (process : PlainProcess) (before after : ClockState) (r : Result Code NoMemory) → after ≡ before

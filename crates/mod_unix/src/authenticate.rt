@@ -113,7 +113,7 @@ fn verify_token(
         (lent transaction.new (conv_holds conv.new) vault clock process) }
     ensures talks { Talks transaction.old transaction.new }
 {
-    laws::acting();
+    account_files::laws::act_steps();
     laws::talking();
     if has_argument(b"use_first_pass", call.args) {
         return match get_item(&transaction.items, ItemName::AuthTok) {

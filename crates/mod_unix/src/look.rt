@@ -1,15 +1,11 @@
 ghost use Rattle.std.specs.Prelude.{◌≡◌, ◌≤◌, IsTrue, IfOk, length};
-ghost use Rattle.pam_outside.specs.Time.{ClockState};
-ghost use Rattle.pam_room.specs.Plain.{plain_process};
-ghost use Rattle.pam_room.specs.State.{PlainRoom, scene_of};
 ghost use Rattle.account_files.specs.Accounts.{account_limit};
 ghost use Rattle.account_files.specs.Content.{IsWithin};
-ghost use Rattle.account_files.specs.Act.{Came};
+ghost use Rattle.account_files.specs.Act.{StepsTo};
 ghost use Rattle.mod_unix.specs.Look.{field_in, is_x, looks, shadow_in};
 
 use account_db::{Shadow, entry_of, passwds, shadow_of, shadows};
-use account_files::Content;
-use module_acts::read_whole;
+use account_files::{Content, read_named};
 use pam_base::{NoMemory, Text};
 use pam_outside::Vault;
 use pam_room::Process;
@@ -47,12 +43,11 @@ pub fn look_up(
     user: &[u8],
 ) -> Result<Look, NoMemory>
     ensures tells { vault_tells vault.new ≡ vault_tells vault.old }
-    ensures told { IsTrue (vault_tells vault.old) → (room : PlainRoom) (clock : ClockState) →
-        IfOk result (λ look. Came look (looks user.now)
-        (scene_of room (vault_holds vault.old) clock (plain_process process.now))
-        (scene_of room (vault_holds vault.new) clock (plain_process process.now))) }
+    ensures told { IsTrue (vault_tells vault.old) →
+        IfOk result (λ look. StepsTo (looks user.now) look process.now (vault_holds vault.old)
+        (vault_holds vault.new)) }
 {
-    let content = read_whole(alloc, vault, process, b"/etc/passwd", ACCOUNT_LIMIT)?;
+    let content = read_named(alloc, vault, process, b"/etc/passwd", ACCOUNT_LIMIT)?;
     let hash = match field_in(alloc, user, content)? {
         Field::Unreadable => return Ok(Look::Unavailable),
         Field::Missing => return Ok(Look::Unknown),
@@ -61,7 +56,7 @@ pub fn look_up(
     if !is_x(hash.bytes()) {
         return Ok(Look::Plain(hash));
     }
-    let content = read_whole(alloc, vault, process, b"/etc/shadow", ACCOUNT_LIMIT)?;
+    let content = read_named(alloc, vault, process, b"/etc/shadow", ACCOUNT_LIMIT)?;
     let look = shadow_in(alloc, user, content)?;
     Ok(look)
 }

@@ -32,7 +32,7 @@ pub fn take_token(
     ensures short { IfOk result (λ token. IfSome token (λ t. length t ≤ 512)) }
     ensures talks { Talks transaction.old transaction.new }
 {
-    laws::acting();
+    account_files::laws::act_steps();
     laws::talking();
     if has_argument(b"use_authtok", call.args) {
         let token = usable(alloc, get_item(&transaction.items, ItemName::AuthTok))?;

@@ -1,18 +1,17 @@
 ghost use Rattle.std.specs.Prelude.{◌≡◌, ◌≤◌, IsTrue, IfOk, IfSome, length};
-ghost use Rattle.pam_outside.specs.Time.{ClockState};
 ghost use Rattle.pam_room.specs.Plain.{plain_call, plain_process};
 ghost use Rattle.pam_room.specs.State.{PlainRoom, scene_of};
 ghost use Rattle.account_files.specs.Accounts.{account_limit};
 ghost use Rattle.account_files.specs.Content.{IsWithin};
-ghost use Rattle.account_files.specs.Act.{Came};
+ghost use Rattle.account_files.specs.Act.{Came, StepsTo};
 ghost use Rattle.mod_unix.specs.Aging.{day_of};
 ghost use Rattle.mod_unix.specs.Change.{by_done, changed_shadow, changes_shadow, stores_token};
 
 use crate::look::ACCOUNT_LIMIT;
 use crate::new_hash::hashed_token;
 use account_db::{replace_hash, shadow_of, shadows};
-use account_files::Content;
-use module_acts::{laws, read_whole, replace_whole};
+use account_files::{Content, read_named, replace_named};
+use module_acts::laws;
 use pam_base::{Code, NoMemory, Refuse, Text};
 use pam_outside::{Clock, Vault, random_word};
 use pam_room::{Call, Process};
@@ -61,17 +60,16 @@ fn change_shadow(
     vault: &mut dyn Vault,
 ) -> Result<Code, NoMemory>
     ensures tells { vault_tells vault.new ≡ vault_tells vault.old }
-    ensures told { IsTrue (vault_tells vault.old) → (room : PlainRoom) (clock : ClockState) →
-        IfOk result (λ code. Came code (changes_shadow user.now hash.now today)
-        (scene_of room (vault_holds vault.old) clock (plain_process process.now))
-        (scene_of room (vault_holds vault.new) clock (plain_process process.now))) }
+    ensures told { IsTrue (vault_tells vault.old) →
+        IfOk result (λ code. StepsTo (changes_shadow user.now hash.now today) code process.now
+        (vault_holds vault.old) (vault_holds vault.new)) }
 {
-    let content = read_whole(alloc, vault, process, b"/etc/shadow", ACCOUNT_LIMIT)?;
+    let content = read_named(alloc, vault, process, b"/etc/shadow", ACCOUNT_LIMIT)?;
     let text = match changed_shadow(alloc, today, user, hash, content)? {
         Some(text) => text,
         None => return Ok(Code::AuthtokErr),
     };
-    let done = replace_whole(alloc, vault, process, b"/etc/shadow", text.bytes())?;
+    let done = replace_named(alloc, vault, process, b"/etc/shadow", text.bytes())?;
     Ok(by_done(done))
 }
 

@@ -61,6 +61,7 @@ impl Module for Unix {
         vault: &mut dyn Vault,
         clock: &mut dyn Clock,
     ) -> Result<Code, NoMemory> {
+        account_files::laws::act_steps();
         laws::acting();
         laws::talking();
         match call.func {
@@ -116,7 +117,7 @@ fn settle(
     ensures others { transaction.new ≡ record transaction.old { datums = transaction.new.datums } }
     ensures process { process.new ≡ record process.old { ledger = process.new.ledger } }
 {
-    laws::acting();
+    account_files::laws::act_steps();
     laws::talking();
     match answer {
         Ok(answer) => match answer {

@@ -1,5 +1,5 @@
 -- Steps of what a module does, put before what it does from there on.
-use Rattle.std.proofs.Common.{◌≡◌, ℕ, max, Bool, true, false, List, [], ◌∷◌, ◌++◌, length, Some, unwrap_or, Result, Ok, Err, IfOk, OnOk, is_ok, refl, sym, ap, ◌∙◌}
+use Rattle.std.proofs.Common.{◌≡◌, ℕ, max, Bool, true, false, List, [], ◌∷◌, ◌++◌, length, Some, unwrap_or, Result, Ok, Err, OnOk, is_ok, refl, sym, ap, ◌∙◌}
 use Rattle.std.proofs.lemmas.List.{append-nil}
 use Rattle.pam_base.specs.declared.code.Code.{Code}
 use Rattle.pam_base.specs.declared.code.Code.TheVariants.{ConvErr}
@@ -21,12 +21,11 @@ use Rattle.pam_outside.specs.Files.{VaultState}
 use Rattle.pam_outside.specs.Time.{ClockState}
 use Rattle.pam_room.specs.declared.transaction.Transaction.{Transaction}
 use Rattle.pam_room.specs.Plain.{plain_transaction}
-use Rattle.pam_room.specs.Call.{PlainCall}
 use Rattle.pam_room.specs.State.{PlainProcess, PlainTransaction, Scene, room_of, scene_of}
-use Rattle.pam_room.specs.Module.{HasSet, NamedData, Played, PlaysIn, SeenRoom, births_of, named_data, seen_of, with_played}
+use Rattle.pam_room.specs.Module.{HasSet, NamedData, Played, SeenRoom, births_of, named_data, seen_of, with_played}
 use Rattle.pam_room.specs.Say.{Asked, Asks, Says, asked, speak, token_asked, token_of, user_asked}
 use Rattle.account_files.specs.Accounts.{Known}
-use Rattle.account_files.specs.Act.{Act, Acts, Leads, Stage, answers, asks_user, in_room, plays_by, sees_items, shown, shows, stage_of}
+use Rattle.account_files.specs.Act.{Act, Acts, Leads, Stage, answers, asks_user, in_room, shown, shows, stage_of}
 use Rattle.module_acts.specs.Comes.{Comes, ComesTo, Goes, lent}
 use Rattle.module_acts.specs.Steps.{answers_keeping, asks_token, exchanges, requests_delay, sees_caller, sees_clock, sees_data, sets_item, with_replies}
 
@@ -37,22 +36,13 @@ carried act next known s mid code new e same a = record {
   scene_is = a.scene_is ∙ same (next (stage_of known mid)) ∙ ap (λ (p : Played). with_played p s) (sym e);
 }
 
-pub answering : (code : Code) (known : Known) (s : Scene) → Acts (answers code) known s code s
+answering : (code : Code) (known : Known) (s : Scene) → Acts (answers code) known s code s
 unfolding answers
 answering code known s = record { code_is = refl; scene_is = rw append-nil refl }
-
-pub playing : (act : PlainCall → Act) (call : PlainCall) (old new : Scene) (result : Result Code NoMemory) → IfOk result (λ code. Goes (act call) old code new)
-    → IfOk result (λ code. PlaysIn (plays_by act) call old code new)
-playing act call old new (Ok code) a = record { code_is = a.code_is; scene_is = a.scene_is }
-playing act call old new (Err none) a = a
 
 -- ---- seeing
 
 module _ (known : Known) (s : Scene) (code : Code) (new : Scene) where
-  pub seeing_items : (act : ItemTexts → Act) → Acts (act s.room.transaction.items) known s code new → Acts (sees_items act) known s code new
-  unfolding sees_items
-  seeing_items act a = carried (sees_items act) (act s.room.transaction.items) known s s code new refl (λ p. refl) a
-
   pub seeing_data : (act : List NamedData → Act) → Acts (act (named_data s.room.transaction.datums.live)) known s code new → Acts (sees_data act) known s code new
   unfolding sees_data
   seeing_data act a = carried (sees_data act) (act (named_data s.room.transaction.datums.live)) known s s code new refl (λ p. refl) a

@@ -4,7 +4,7 @@ ghost use Rattle.pam_room.specs.State.{Scene};
 ghost use Rattle.account_files.specs.Act.{Act, answers};
 ghost use Rattle.module_acts.specs.Comes.{Comes, Finishes, Goes};
 
-use crate::laws;
+use account_files::laws;
 use pam_base::{Code, ConvErr, NoMemory, Refuse};
 
 /// The answer, which is CONV_ERR where the conversation gave no reply.
@@ -15,7 +15,7 @@ pub fn ended(answer: Result<Code, Refuse<ConvErr>>) -> Result<Code, NoMemory>
         IfOk result (λ code. Goes act old code new) }
     ensures memory { OnErr result (answer ≡ Err Refuse.NoMemory) }
 {
-    laws::acting();
+    laws::act_steps();
     match answer {
         Ok(code) => Ok(code),
         Err(refused) => match refused {

@@ -1,30 +1,20 @@
-ghost use Rattle.std.specs.Prelude.{◌≡◌, ℕ, List, Result, IfOk};
+ghost use Rattle.std.specs.Prelude.{◌≡◌, ℕ, List};
 ghost use Rattle.pam_base.specs.declared.code.Code.{Code};
-ghost use Rattle.pam_base.specs.declared.fault.NoMemory.{NoMemory};
 ghost use Rattle.data_cleanup.specs.Ledger.{PlainLedger};
 ghost use Rattle.data_cleanup.specs.Sets.{Sets};
-ghost use Rattle.item_store.specs.Items.{ItemTexts};
 ghost use Rattle.pam_outside.specs.Time.{ClockState};
 ghost use Rattle.pam_room.specs.declared.transaction.Transaction.{Transaction};
-ghost use Rattle.pam_room.specs.Call.{PlainCall};
-ghost use Rattle.pam_room.specs.Module.{NamedData, PlaysIn, named_data};
+ghost use Rattle.pam_room.specs.Module.{NamedData, named_data};
 ghost use Rattle.pam_room.specs.Plain.{plain_transaction};
 ghost use Rattle.pam_room.specs.State.{PlainProcess, Scene};
 ghost use Rattle.pam_room.specs.Stays.{Stays};
 ghost use Rattle.account_files.specs.Accounts.{Known};
-ghost use Rattle.account_files.specs.Act.{Act, Acts, answers, plays_by, sees_items};
-ghost use Rattle.module_acts.specs.Comes.{Goes};
+ghost use Rattle.account_files.specs.Act.{Act, Acts};
 ghost use Rattle.module_acts.specs.Steps.{sees_caller, sees_clock, sees_data};
 ghost use Rattle.module_acts.specs.Talks.{Talks};
 
-/// Does nothing: its contract is the laws of the steps that make no call.
+/// Does nothing: its contract is the laws of the steps that see something and make no call.
 pub fn acting()
-    ensures answers { (code : Code) (known : Known) (s : Scene) →
-        Acts (answers code) known s code s }
-    ensures items { (act : ItemTexts → Act) (known : Known) (s : Scene) (code : Code)
-        (new : Scene) →
-        Acts (act s.room.transaction.items) known s code new →
-        Acts (sees_items act) known s code new }
     ensures data { (act : List NamedData → Act) (known : Known) (s : Scene) (code : Code)
         (new : Scene) →
         Acts (act (named_data s.room.transaction.datums.live)) known s code new →
@@ -34,10 +24,6 @@ pub fn acting()
         Acts (act s.clock) known s code new → Acts (sees_clock act) known s code new }
     ensures caller { (act : ℕ → Act) (known : Known) (s : Scene) (code : Code) (new : Scene) →
         Acts (act s.process.caller) known s code new → Acts (sees_caller act) known s code new }
-    ensures playing { (act : PlainCall → Act) (call : PlainCall) (old new : Scene)
-        (result : Result Code NoMemory) →
-        IfOk result (λ code. Goes (act call) old code new) →
-        IfOk result (λ code. PlaysIn (plays_by act) call old code new) }
 {}
 
 /// Does nothing: its contract is what holds of a module that talks, in any world.

@@ -1,16 +1,14 @@
 //! More of what modules do step by step: they ask for tokens, exchange several messages, request delays, set items and
-//! data, and replace files. What a step's call ensures is how it stands before all that is done from there on.
+//! data. What a step's call ensures is how it stands before all that is done from there on.
 #![tactic(auto)]
 
 mod asking;
 mod changing;
 mod ending;
-mod files;
 pub mod laws;
 mod speech;
 
 pub use asking::{exchange, require_token, require_user};
 pub use changing::{answer_and_keep, request_delay, set_token};
 pub use ending::ended;
-pub use files::{read_whole, replace_whole};
 pub use speech::{show, user_of};

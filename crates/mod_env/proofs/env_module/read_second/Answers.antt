@@ -7,6 +7,5 @@ returns-then-is_zero-clause-told g c = λ tells conv clock.
 
 pub returns-clause-told : goal.returns-clause-told
 returns-clause-told g c = λ tells conv clock.
-    rw (← (rw c.value.ensures at c.if-is_zero.ensures)) (c.act_steps.ensures.reading _ _ _ clock _ _ _ _ _ _ _ _
-    (rw (c.bytes.ensures, c.name_or-name.ensures, c.value-2.ensures) at (c.in_ok-content.ensures.told tells)) (rw (c.name_or-name.ensures, c.value-2.ensures) at (c.in_ok-content.ensures.calls tells))
+    rw (← (rw c.value.ensures at c.if-is_zero.ensures)) ((rw (c.name_or-name.ensures, c.value-2.ensures) at (c.in_ok-content.ensures.told tells)) _ clock _ _ _ _
     (rw c.text_in-env.ensures at (c.in_ok-code.ensures.told (c.in_ok-content.ensures.tells ∙ tells) conv clock)))

@@ -6,7 +6,7 @@ pub returns-in_ok-read_passwds-in-Some-clause-told : goal.returns-in_ok-read_pas
 returns-in_ok-read_passwds-in-Some-clause-told g c = λ tells conv clock act code end rest.
     let steps = c.act_steps.ensures in
     steps.seeing (λ items. by_user items.user act) _ _ code end (by_found _ _ act _ _ _ _ code end c.in-Some.ensures
-    (λ act' a. steps.passwds _ _ _ clock _ act' _ _ code end (rw c.bytes.ensures at (c.in_ok-read_passwds-in-Some.ensures.told tells)) a) rest)
+    (λ act' a. c.in_ok-read_passwds-in-Some.ensures.told tells _ clock act' code end a) rest)
 
 pub returns-in-None-clause-told : goal.returns-in-None-clause-told
 returns-in-None-clause-told g c = λ tells conv clock act code end rest. c.act_steps.ensures.seeing (λ items. by_user items.user act) _ _ code end (by_none _ act _ _ code end c.in-None.ensures rest)

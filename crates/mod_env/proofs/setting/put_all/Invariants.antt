@@ -13,7 +13,7 @@ use Rattle.mod_env.proofs.setting.put_all.Given as goal
 
 abbrev pub invariant-loop-rest : goal.invariant-loop-rest
 invariant-loop-rest l = record {
-  told : (conv : ConvState) (vault : VaultState) (clock : ClockState) (process : Process) (known : Known) (act : Act) (code : Code) (end : Scene) →
+  told : (conv : ConvState) (vault : VaultState) (clock : ClockState) (process : Process) (act : Act) (known : Known) (code : Code) (end : Scene) →
       Acts (puts_all l.rest act) known (standing l.transaction conv vault clock process) code end → Acts (puts_all l.texts act) known (standing l.fn.transaction conv vault clock process) code end;
   puts : Puts l.fn.transaction l.transaction;
 }

@@ -14,13 +14,10 @@ loop-rest-preserved g c =
     }
 
 pub returns-then-not-branch-clause-told : goal.returns-then-not-branch-clause-told
-returns-then-not-branch-clause-told g c = λ tells conv clock.
-    let inv = c.loop-rest.invariant in (
-      c.set_variable.new.accounts,
-      stopped _ _ _ _ _ _ c.set_variable.new.accounts _ _ _ (first_of _ c.entry-item.result c.in-len1-up.len_at_least c.entry-item.is) (inv.told tells conv clock)
-          (rw c.if-not-branch.true at (c.in_ok-set_variable.ensures.told (inv.tells ∙ tells) conv clock)),
-    )
+returns-then-not-branch-clause-told g c = λ tells conv clock act code end rest.
+    let inv = c.loop-rest.invariant in
+    stopped _ _ _ _ _ _ c.set_variable.new.accounts _ _ _ (first_of _ c.entry-item.result c.in-len1-up.len_at_least c.entry-item.is) (inv.told tells conv clock)
+    (rw c.if-not-branch.true at (c.in_ok-set_variable.ensures.told (inv.tells ∙ tells) conv clock)) act code end rest
 
 pub returns-clause-told : goal.returns-clause-told
-returns-clause-told g c = λ tells conv clock.
-    (c.loop-rest.accounts, λ act code end a. c.loop-rest.invariant.told tells conv clock act code end (rw (nothing_left _ c.in_default.len_below) a))
+returns-clause-told g c = λ tells conv clock act code end rest. c.loop-rest.invariant.told tells conv clock act code end (rw (nothing_left _ c.in_default.len_below) rest)

@@ -1,9 +1,8 @@
-use Rattle.std.proofs.Common.{◌≡◌, length, IsTrue}
+use Rattle.std.proofs.Common.{◌≡◌, Bool, length, IsTrue}
 use Rattle.conv_port.specs.Conv.{ConvState}
 use Rattle.pam_base.specs.declared.code.Code.{Code}
 use Rattle.pam_outside.specs.Time.{ClockState}
 use Rattle.pam_room.specs.State.{Scene}
-use Rattle.account_files.specs.Accounts.{nothing_known}
 use Rattle.account_files.specs.Act.{Act, Acts, standing}
 use Rattle.mod_env.specs.Env.{sets_all}
 use Rattle.mod_env.specs.Puts.{Puts}
@@ -12,9 +11,9 @@ use Rattle.mod_env.proofs.setting.set_all.Given as goal
 abbrev pub invariant-loop-rest : goal.invariant-loop-rest
 invariant-loop-rest g l = record {
   tells : (goal.Vault-dyn g l.vault.now).vault_tells l.vault.now.1 ≡ (goal.Vault-dyn g l.fn.vault.now).vault_tells l.fn.vault.now.1;
-  told : IsTrue ((goal.Vault-dyn g l.fn.vault.now).vault_tells l.fn.vault.now.1) → (conv : ConvState) (clock : ClockState) (act : Act) (code : Code) (end : Scene) →
+  told : IsTrue ((goal.Vault-dyn g l.fn.vault.now).vault_tells l.fn.vault.now.1) → (conv : ConvState) (clock : ClockState) (act : Bool → Act) (code : Code) (end : Scene) →
       Acts (sets_all l.rest act) l.accounts (standing l.transaction conv ((goal.Vault-dyn g l.vault.now).vault_holds l.vault.now.1) clock l.process) code end →
-      Acts (sets_all l.entries act) nothing_known (standing l.fn.transaction conv ((goal.Vault-dyn g l.fn.vault.now).vault_holds l.fn.vault.now.1) clock l.process) code end;
+      Acts (sets_all l.entries act) l.fn.accounts (standing l.fn.transaction conv ((goal.Vault-dyn g l.fn.vault.now).vault_holds l.fn.vault.now.1) clock l.process) code end;
   puts : Puts l.fn.transaction l.transaction;
 }
 

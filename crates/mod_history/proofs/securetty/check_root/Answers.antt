@@ -10,5 +10,5 @@ pub returns-in_ok-list-in-Some-clause-told : goal.returns-in_ok-list-in-Some-cla
 returns-in_ok-list-in-Some-clause-told g c = λ tells conv clock known.
     let steps = c.act_steps.ensures in
     steps.seeing (λ items. by_terminal items.tty) known _ _ _ (rw (← c.in-Some.ensures)
-    (steps.reading _ _ _ clock _ _ _ _ _ _ _ _ (rw c.bytes-root.ensures at (c.in_ok-list-in-Some.ensures.told tells)) (c.in_ok-list-in-Some.ensures.calls tells)
+    (c.in_ok-list-in-Some.ensures.told tells _ clock _ _ _ _
     (rw (c.by_list.ensures, c.terminal_name.ensures) (steps.answers _ _ _))))

@@ -14,7 +14,7 @@ returns-in-Unreadable-clause-told g c = λ talks tells clock.
     let steps = c.act_steps.ensures in
     let account = rw (c.in-Unreadable.is, c.user_of.ensures) at c.in_ok-account.ensures in
     c.in_ok-require_user.ensures.told talks _ clock _ _ _ _ _
-    (steps.passwds _ _ _ clock _ _ _ _ _ _ (rw (c.bytes.ensures, c.new-accounts.ensures) at (c.in_ok-read_passwds.ensures.told tells))
+    ((rw c.new-accounts.ensures at (c.in_ok-read_passwds.ensures.told tells)) _ clock _ _ _
     (rw (← account) (steps.answers _ _ _)))
 
 pub returns-in-Missing-clause-told : goal.returns-in-Missing-clause-told
@@ -22,7 +22,7 @@ returns-in-Missing-clause-told g c = λ talks tells clock.
     let steps = c.act_steps.ensures in
     let account = rw (c.in-Missing.is, c.user_of.ensures) at c.in_ok-account.ensures in
     c.in_ok-require_user.ensures.told talks _ clock _ _ _ _ _
-    (steps.passwds _ _ _ clock _ _ _ _ _ _ (rw (c.bytes.ensures, c.new-accounts.ensures) at (c.in_ok-read_passwds.ensures.told tells))
+    ((rw c.new-accounts.ensures at (c.in_ok-read_passwds.ensures.told tells)) _ clock _ _ _
     (rw (← account) (steps.answers _ _ _)))
 
 pub returns-then-entry-ne0-clause-told : goal.returns-then-entry-ne0-clause-told
@@ -31,14 +31,13 @@ returns-then-entry-ne0-clause-told g c = λ talks tells clock.
     let account = rw (c.in-Found.is, c.user_of.ensures) at c.in_ok-account.ensures in
     let other : (c.in-Found.entry.uid == 0) ≡ false = grind (arith, nat_tests) in
     c.in_ok-require_user.ensures.told talks _ clock _ _ _ _ _
-    (steps.passwds _ _ _ clock _ _ _ _ _ _ (rw (c.bytes.ensures, c.new-accounts.ensures) at (c.in_ok-read_passwds.ensures.told tells))
+    ((rw c.new-accounts.ensures at (c.in_ok-read_passwds.ensures.told tells)) _ clock _ _ _
     (rw (← account, other) (steps.answers _ _ _)))
 
 pub returns-clause-told : goal.returns-clause-told
 returns-clause-told g c = λ talks tells clock.
-    let steps = c.act_steps.ensures in
     let account = rw (c.in-Found.is, c.user_of.ensures) at c.in_ok-account.ensures in
     let root : (c.in-Found.entry.uid == 0) ≡ true = grind (arith, nat_tests) in
     c.in_ok-require_user.ensures.told talks _ clock _ _ _ _ _
-    (steps.passwds _ _ _ clock _ _ _ _ _ _ (rw (c.bytes.ensures, c.new-accounts.ensures) at (c.in_ok-read_passwds.ensures.told tells))
+    ((rw c.new-accounts.ensures at (c.in_ok-read_passwds.ensures.told tells)) _ clock _ _ _
     (rw (← account, root) (c.in_ok-code.ensures.told (c.in_ok-read_passwds.ensures.tells ∙ tells) _ clock _)))

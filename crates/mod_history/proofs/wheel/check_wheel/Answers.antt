@@ -13,7 +13,7 @@ returns-in-Some-clause-told g c = λ talks tells clock.
     let steps = c.act_steps.ensures in
     let decided = rw (c.in-Some.is, c.user_of-user.ensures, c.passwds.ensures) at c.in_ok-decided.ensures in
     c.in_ok-require_user.ensures.told talks _ clock _ _ _ _ _
-    (steps.passwds _ _ _ clock _ _ _ _ _ _ (rw (c.bytes.ensures, c.new-accounts.ensures) at (c.in_ok-read_passwds.ensures.told tells))
+    ((rw c.new-accounts.ensures at (c.in_ok-read_passwds.ensures.told tells)) _ clock _ _ _
     (rw (← decided) (steps.answers _ _ _)))
 
 pub returns-clause-told : goal.returns-clause-told
@@ -21,6 +21,6 @@ returns-clause-told g c = λ talks tells clock.
     let steps = c.act_steps.ensures in
     let open_ = rw (c.in-None.is, c.user_of-user.ensures, c.passwds.ensures) at c.in_ok-decided.ensures in
     c.in_ok-require_user.ensures.told talks _ clock _ _ _ _ _
-    (steps.passwds _ _ _ clock _ _ _ _ _ _ (rw (c.bytes.ensures, c.new-accounts.ensures) at (c.in_ok-read_passwds.ensures.told tells))
-    (rw (← open_) (steps.groups _ _ _ clock _ _ _ _ _ _ (rw c.bytes-in-None.ensures at (c.in_ok-read_groups-in-None.ensures.told (c.in_ok-read_passwds.ensures.tells ∙ tells)))
+    ((rw c.new-accounts.ensures at (c.in_ok-read_passwds.ensures.told tells)) _ clock _ _ _
+    (rw (← open_) (c.in_ok-read_groups-in-None.ensures.told (c.in_ok-read_passwds.ensures.tells ∙ tells) _ clock _ _ _
     (rw (c.in_ok-code-in-None.ensures, c.passwds-in-None.ensures, c.groups.ensures, c.in_ok-read_groups-in-None.ensures.passwds) (steps.answers _ _ _)))))

@@ -10,13 +10,12 @@ returns-in-One-clause-told g c = λ tells room clock act code end rest. rw c.in-
 
 pub returns-in-None-clause-told : goal.returns-in-None-clause-told
 returns-in-None-clause-told g c = λ tells room clock act code end rest.
-    rw c.in-Members.is (c.act_steps.ensures.passwds _ _ _ clock _ _ _ _ _ _ (rw c.bytes.ensures at (c.in_ok-read_passwds-in-Members.ensures.told tells)) (rw (← c.in-None.ensures) rest))
+    rw c.in-Members.is (c.in_ok-read_passwds-in-Members.ensures.told tells _ clock _ _ _ (rw (← c.in-None.ensures) rest))
 
 pub returns-in_ok-applies-in-Members-clause-told : goal.returns-in_ok-applies-in-Members-clause-told
 returns-in_ok-applies-in-Members-clause-told g c = λ tells room clock act code end rest.
-    let steps = c.act_steps.ensures in
     let passwds = c.in_ok-read_passwds-in-Members.ensures in
     let groups = c.in_ok-read_groups-in-Members.ensures in
     let value = groups_by_entries c.in-Members.name.now c.args.user.now c.read_passwds.new.self c.read_groups.new.self c.in-Some.field-0.now _ _ groups.passwds c.in-Some.ensures c.in_ok-applies-in-Members.ensures in
-    rw c.in-Members.is (steps.passwds _ _ _ clock _ _ _ _ _ _ (rw c.bytes.ensures at (passwds.told tells))
-    (rw (← c.in-Some.ensures) (steps.groups _ _ _ clock _ _ _ _ _ _ (rw c.bytes-in-Members.ensures at (groups.told (passwds.tells ∙ tells))) (rw value at rest))))
+    rw c.in-Members.is (passwds.told tells _ clock _ _ _
+    (rw (← c.in-Some.ensures) (groups.told (passwds.tells ∙ tells) _ clock _ _ _ (rw value at rest))))

@@ -5,17 +5,16 @@ use Rattle.mod_lists.proofs.list_values.group_values.Goals as goal
 pub returns-in-Missing-clause-told : goal.returns-in-Missing-clause-told
 returns-in-Missing-clause-told g c = λ tells room clock act code end rest.
     let account = rw c.in-Missing.is at c.in_ok-account.ensures in
-    c.act_steps.ensures.passwds _ _ _ clock _ _ _ _ _ _ (rw c.bytes.ensures at (c.in_ok-read_passwds.ensures.told tells)) (rw (← account) rest)
+    c.in_ok-read_passwds.ensures.told tells _ clock _ _ _ (rw (← account) rest)
 
 pub returns-in-Unreadable-clause-told : goal.returns-in-Unreadable-clause-told
 returns-in-Unreadable-clause-told g c = λ tells room clock act code end rest.
     let account = rw c.in-Unreadable.is at c.in_ok-account.ensures in
-    c.act_steps.ensures.passwds _ _ _ clock _ _ _ _ _ _ (rw c.bytes.ensures at (c.in_ok-read_passwds.ensures.told tells)) (rw (← account) rest)
+    c.in_ok-read_passwds.ensures.told tells _ clock _ _ _ (rw (← account) rest)
 
 pub returns-clause-told : goal.returns-clause-told
 returns-clause-told g c = λ tells room clock act code end rest.
-    let steps = c.act_steps.ensures in
     let account = rw c.in-Found.is at c.in_ok-account.ensures in
     let values = values_by_account c.args.user.now c.read_passwds.new.self c.read_groups.new.self _ _ _ c.in_ok-read_groups.ensures.passwds account c.in_ok-values.ensures in
-    steps.passwds _ _ _ clock _ _ _ _ _ _ (rw c.bytes.ensures at (c.in_ok-read_passwds.ensures.told tells))
-    (rw (← account) (steps.groups _ _ _ clock _ _ _ _ _ _ (rw c.bytes-2.ensures at (c.in_ok-read_groups.ensures.told (c.in_ok-read_passwds.ensures.tells ∙ tells))) (rw values at rest)))
+    c.in_ok-read_passwds.ensures.told tells _ clock _ _ _
+    (rw (← account) (c.in_ok-read_groups.ensures.told (c.in_ok-read_passwds.ensures.tells ∙ tells) _ clock _ _ _ (rw values at rest)))

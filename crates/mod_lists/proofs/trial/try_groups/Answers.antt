@@ -4,13 +4,12 @@ use Rattle.mod_lists.proofs.trial.try_groups.Goals as goal
 
 pub returns-in-None-clause-told : goal.returns-in-None-clause-told
 returns-in-None-clause-told g c = λ tells room clock act code end rest.
-    c.act_steps.ensures.passwds _ _ _ clock _ _ _ _ _ _ (rw c.bytes.ensures at (c.in_ok-read_passwds.ensures.told tells)) (rw (← c.in-None.ensures) rest)
+    c.in_ok-read_passwds.ensures.told tells _ clock _ _ _ (rw (← c.in-None.ensures) rest)
 
 pub returns-clause-told : goal.returns-clause-told
 returns-clause-told g c = λ tells room clock act code end rest.
-    let steps = c.act_steps.ensures in
     let passwds = c.in_ok-read_passwds.ensures in
     let groups = c.in_ok-read_groups.ensures in
     let value = truth_by_entries c.args.sense _ c.args.user.now c.read_passwds.new.self c.read_groups.new.self c.in-Some.field-0.now _ _ groups.passwds c.in-Some.ensures c.in_ok-truth.ensures in
-    steps.passwds _ _ _ clock _ _ _ _ _ _ (rw c.bytes.ensures at (passwds.told tells))
-    (rw (← c.in-Some.ensures) (steps.groups _ _ _ clock _ _ _ _ _ _ (rw c.bytes-2.ensures at (groups.told (passwds.tells ∙ tells))) (rw value at rest)))
+    passwds.told tells _ clock _ _ _
+    (rw (← c.in-Some.ensures) (groups.told (passwds.tells ∙ tells) _ clock _ _ _ (rw value at rest)))

@@ -4,24 +4,24 @@ use Rattle.mod_unix.proofs.authenticate.verify_token.Goals as goal
 
 pub returns-in_ok-verify-in-Some-clause-told : goal.returns-in_ok-verify-in-Some-clause-told
 returns-in_ok-verify-in-Some-clause-told g c = λ talks vault clock process.
-    uses_token c.acting.ensures.items _ _ _ _ _ _ c.if-has_argument.ensures c.in-Some.ensures c.in_ok-verify-in-Some.ensures refl
+    uses_token c.act_steps.ensures.seeing _ _ _ _ _ _ c.if-has_argument.ensures c.in-Some.ensures c.in_ok-verify-in-Some.ensures refl
 
 pub returns-in-None-clause-told : goal.returns-in-None-clause-told
 returns-in-None-clause-told g c = λ talks vault clock process.
-    lacks_token c.acting.ensures.items _ _ _ _ c.if-has_argument.ensures c.in-None.ensures refl
+    lacks_token c.act_steps.ensures.seeing _ _ _ _ c.if-has_argument.ensures c.in-None.ensures refl
 
 pub returns-then-not-has_argument-clause-told : goal.returns-then-not-has_argument-clause-told
 returns-then-not-has_argument-clause-told g c = λ talks vault clock process.
-    asks c.acting.ensures.items _ _ _ _ c.ask_password.result (c.ask_password.ensures.told talks vault clock process) c.if-has_argument.ensures c.if-not-has_argument.ensures
+    asks c.act_steps.ensures.seeing _ _ _ _ c.ask_password.result (c.ask_password.ensures.told talks vault clock process) c.if-has_argument.ensures c.if-not-has_argument.ensures
 
 pub returns-in-None-get_item-clause-told : goal.returns-in-None-get_item-clause-told
 returns-in-None-get_item-clause-told g c = λ talks vault clock process.
-    tries_nothing c.acting.ensures.items _ _ _ _ c.ask_password-in-None-get_item.result (c.ask_password-in-None-get_item.ensures.told talks vault clock process) c.if-has_argument.ensures c.if-not-has_argument.ensures c.in-None-get_item.ensures
+    tries_nothing c.act_steps.ensures.seeing _ _ _ _ c.ask_password-in-None-get_item.result (c.ask_password-in-None-get_item.ensures.told talks vault clock process) c.if-has_argument.ensures c.if-not-has_argument.ensures c.in-None-get_item.ensures
 
 pub returns-then-is_success-clause-told : goal.returns-then-is_success-clause-told
 returns-then-is_success-clause-told g c = λ talks vault clock process.
-    tries_well c.acting.ensures.items _ _ _ _ _ _ c.if-has_argument.ensures c.if-not-has_argument.ensures c.in-Some-get_item.ensures c.in_ok-code-in-Some-get_item.ensures c.if-is_success.ensures refl
+    tries_well c.act_steps.ensures.seeing _ _ _ _ _ _ c.if-has_argument.ensures c.if-not-has_argument.ensures c.in-Some-get_item.ensures c.in_ok-code-in-Some-get_item.ensures c.if-is_success.ensures refl
 
 pub returns-clause-told : goal.returns-clause-told
 returns-clause-told g c = λ talks vault clock process.
-    tries c.acting.ensures.items _ _ _ _ c.ask_password-2.result (c.ask_password-2.ensures.told talks vault clock process) c.if-has_argument.ensures _ _ c.if-not-has_argument.ensures c.in-Some-get_item.ensures c.in_ok-code-in-Some-get_item.ensures c.if-is_success.ensures
+    tries c.act_steps.ensures.seeing _ _ _ _ c.ask_password-2.result (c.ask_password-2.ensures.told talks vault clock process) c.if-has_argument.ensures _ _ c.if-not-has_argument.ensures c.in-Some-get_item.ensures c.in_ok-code-in-Some-get_item.ensures c.if-is_success.ensures

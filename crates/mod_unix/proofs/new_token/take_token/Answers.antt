@@ -5,7 +5,7 @@ use Rattle.mod_unix.proofs.new_token.take_token.Goals as goal
 
 pub returns-then-has_argument-clause-told : goal.returns-then-has_argument-clause-told
 returns-then-has_argument-clause-told g c = λ talks vault clock process.
-    there _ _ _ c.acting.ensures.items _ _ c.if-has_argument.ensures c.in_ok-token.ensures.usable c.get_item.ensures refl
+    there _ _ _ c.act_steps.ensures.seeing _ _ c.if-has_argument.ensures c.in_ok-token.ensures.usable c.get_item.ensures refl
 
 pub returns-in_err-replies-clause-told : goal.returns-in_err-replies-clause-told
 returns-in_err-replies-clause-told g c = λ talks vault clock process.

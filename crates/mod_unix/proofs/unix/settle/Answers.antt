@@ -8,7 +8,7 @@ returns-in-Kept-clause-told c = λ step s conv vault clock h.
 
 pub returns-in-Unkept-clause-told : goal.returns-in-Unkept-clause-told
 returns-in-Unkept-clause-told c = λ step s conv vault clock h.
-    unkept step c.in-Ok.answer _ s _ c.acting.ensures.answers c.in-Unkept.is (rw c.in-Ok.is at h)
+    unkept step c.in-Ok.answer _ s _ c.act_steps.ensures.answers c.in-Unkept.is (rw c.in-Ok.is at h)
 
 pub returns-in-Named-clause-told : goal.returns-in-Named-clause-told
 returns-in-Named-clause-told c = λ step s conv vault clock h. refused c.in-Err.refused _ step settles s _ c.in-Named.is (rw c.in-Err.is at h)

@@ -4,7 +4,7 @@ use Rattle.module_acts.proofs.Refusing.{refused, unanswered}
 use Rattle.module_acts.proofs.ending.ended.Goals as goal
 
 pub returns-in-Ok-clause-told : goal.returns-in-Ok-clause-told
-returns-in-Ok-clause-told c = λ step old new h. (rw c.in-Ok.is at h) answers nothing_known _ _ (c.acting.ensures.answers _ _ _)
+returns-in-Ok-clause-told c = λ step old new h. (rw c.in-Ok.is at h) answers nothing_known _ _ (c.act_steps.ensures.answers _ _ _)
 
 pub returns-in-Ok-clause-finished : goal.returns-in-Ok-clause-finished
 returns-in-Ok-clause-finished c = λ act old new h. rw c.in-Ok.is at h

@@ -1,6 +1,6 @@
 use Rattle.std.proofs.Common.{Ok}
 use Rattle.mod_env.specs.Env.{env_act}
-use Rattle.mod_env.proofs.Telling.{vault_of}
+use Rattle.account_files.specs.Tells.{vault_of}
 use Rattle.mod_env.proofs.env_module.EnvModule.serve.Goals as goal
 
 pub returns-in-Some-clause-told : goal.returns-in-Some-clause-told

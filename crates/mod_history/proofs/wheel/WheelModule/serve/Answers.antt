@@ -1,6 +1,7 @@
 use Rattle.std.proofs.Common.{Ok}
 use Rattle.mod_history.specs.Wheel.{wheel_act}
-use Rattle.mod_history.proofs.Telling.{first, second, seen}
+use Rattle.account_files.specs.Tells.{conv_of, vault_of}
+use Rattle.mod_history.proofs.Seeing.{seen}
 use Rattle.mod_history.proofs.wheel.WheelModule.serve.Goals as goal
 
 pub returns-in-Some-clause-told : goal.returns-in-Some-clause-told
@@ -15,4 +16,4 @@ returns-in-None-clause-told g c = λ told.
     let clock_tells = (goal.Clock-dyn g clock).clock_tells clock.1 in
     c.act_steps.ensures.playing wheel_act _ _ _ c.ended.result (rw (← c.in-None.ensures)
     (seen c.acting.ensures.caller _ _ _ c.ended.result
-    (c.ended.ensures.finished _ _ _ (c.check_wheel-answer.ensures.told (first _ vault_tells clock_tells told) (second _ vault_tells clock_tells told) _))))
+    (c.ended.ensures.finished _ _ _ (c.check_wheel-answer.ensures.told (conv_of _ vault_tells clock_tells told) (vault_of _ vault_tells clock_tells told) _))))

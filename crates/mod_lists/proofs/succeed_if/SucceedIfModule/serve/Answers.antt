@@ -1,6 +1,6 @@
 use Rattle.std.proofs.Common.{Ok}
 use Rattle.mod_lists.specs.SucceedIf.{succeed_if_act}
-use Rattle.mod_lists.proofs.Telling.{first, second}
+use Rattle.account_files.specs.Tells.{conv_of, vault_of}
 use Rattle.mod_lists.proofs.succeed_if.SucceedIfModule.serve.Goals as goal
 
 pub returns-in-Some-clause-told : goal.returns-in-Some-clause-told
@@ -14,4 +14,4 @@ returns-in-None-clause-told g c = λ told.
     let vault_tells = (goal.Vault-dyn g vault).vault_tells vault.1 in
     let clock_tells = (goal.Clock-dyn g clock).clock_tells clock.1 in
     c.act_steps.ensures.playing succeed_if_act _ _ _ c.ended.result (rw (← c.in-None.ensures)
-    (c.ended.ensures.finished _ _ _ (c.check_conditions-answer.ensures.told (first _ vault_tells clock_tells told) (second _ vault_tells clock_tells told) _)))
+    (c.ended.ensures.finished _ _ _ (c.check_conditions-answer.ensures.told (conv_of _ vault_tells clock_tells told) (vault_of _ vault_tells clock_tells told) _)))

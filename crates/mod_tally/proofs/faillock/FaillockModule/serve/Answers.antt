@@ -1,6 +1,6 @@
 use Rattle.std.proofs.Common.{Ok}
 use Rattle.mod_tally.specs.Faillock.{faillock_act}
-use Rattle.mod_tally.proofs.Telling.{first, second, third}
+use Rattle.account_files.specs.Tells.{clock_of, conv_of, vault_of}
 use Rattle.mod_tally.proofs.faillock.FaillockModule.serve.Goals as goal
 
 pub returns-in-Err-clause-told : goal.returns-in-Err-clause-told
@@ -13,6 +13,6 @@ returns-in-Ok-clause-told g c = λ told.
     let clock = c.args.clock.now in
     let vault_tells = (goal.Vault-dyn g vault).vault_tells vault.1 in
     let clock_tells = (goal.Clock-dyn g clock).clock_tells clock.1 in
-    let tally = c.check_tally-answer.ensures.told (first _ vault_tells clock_tells told) (second _ vault_tells clock_tells told) (third _ vault_tells clock_tells told) in
+    let tally = c.check_tally-answer.ensures.told (conv_of _ vault_tells clock_tells told) (vault_of _ vault_tells clock_tells told) (clock_of _ vault_tells clock_tells told) in
     c.act_steps.ensures.playing faillock_act _ _ _ c.ended.result (rw (← (rw c.task_among.ensures at c.in-Ok.ensures))
     (c.ended.ensures.finished _ _ _ (rw c.settings_of-settings.ensures at tally)))
