@@ -1,13 +1,11 @@
-ghost use Rattle.std.specs.Prelude.{◌≡◌, ◌≢◌, Bool, None, true, IsTrue, IfOk, OnOk, Option};
+ghost use Rattle.std.specs.Prelude.{◌≡◌, ◌≢◌, None, true, IsTrue, IfOk, OnOk};
 ghost use Rattle.std.specs.Option.{option_copied};
 ghost use Rattle.conv_port.specs.Conv.{ConvState};
-ghost use Rattle.pam_base.specs.declared.code.Code.{Code};
 ghost use Rattle.pam_outside.specs.Files.{VaultState};
 ghost use Rattle.pam_outside.specs.Time.{ClockState};
 ghost use Rattle.pam_room.specs.declared.process.Process.{Process};
-ghost use Rattle.pam_room.specs.State.{Scene};
-ghost use Rattle.account_db.specs.declared.passwd.Passwd.{Passwd};
-ghost use Rattle.account_files.specs.Act.{Act, Acts, Came, Leads, sees_items, standing};
+ghost use Rattle.account_files.specs.Act.{Came, Leads, sees_items, standing};
+ghost use Rattle.account_files.specs.CameWith.{CameWith};
 ghost use Rattle.mod_env.specs.Env.{by_user, entry_known, entry_seen, looks_if, put_in, puts_all, puts_env, sets_all, sets_by, sets_variable};
 ghost use Rattle.mod_env.specs.Puts.{Puts};
 
@@ -33,11 +31,10 @@ pub(crate) fn set_all(
 ) -> Result<bool, NoMemory>
     ensures tells { vault_tells vault.new ≡ vault_tells vault.old }
     ensures told { IsTrue (vault_tells vault.old) →
-        (conv : ConvState) (clock : ClockState) (act : Bool → Act) (code : Code) (end : Scene) →
-        IfOk result (λ fits. Acts (act fits) accounts.new (standing transaction.new conv
-        (vault_holds vault.new) clock process.now) code end →
-        Acts (sets_all entries.now act) accounts.old (standing transaction.old conv
-        (vault_holds vault.old) clock process.now) code end) }
+        (conv : ConvState) (clock : ClockState) →
+        IfOk result (λ fits. CameWith fits (sets_all entries.now) accounts.old
+        (standing transaction.old conv (vault_holds vault.old) clock process.now) accounts.new
+        (standing transaction.new conv (vault_holds vault.new) clock process.now)) }
     ensures puts { Puts transaction.old transaction.new }
 {
     crate::laws::puts_alone();
@@ -62,11 +59,10 @@ fn set_variable(
 ) -> Result<bool, NoMemory>
     ensures tells { vault_tells vault.new ≡ vault_tells vault.old }
     ensures told { IsTrue (vault_tells vault.old) →
-        (conv : ConvState) (clock : ClockState) (act : Bool → Act) (code : Code) (end : Scene) →
-        IfOk result (λ fits. Acts (act fits) accounts.new (standing transaction.new conv
-        (vault_holds vault.new) clock process.now) code end →
-        Acts (sets_variable entry.now act) accounts.old (standing transaction.old conv
-        (vault_holds vault.old) clock process.now) code end) }
+        (conv : ConvState) (clock : ClockState) →
+        IfOk result (λ fits. CameWith fits (sets_variable entry.now) accounts.old
+        (standing transaction.old conv (vault_holds vault.old) clock process.now) accounts.new
+        (standing transaction.new conv (vault_holds vault.new) clock process.now)) }
     ensures puts { Puts transaction.old transaction.new }
 {
     crate::laws::puts_alone();
@@ -88,13 +84,11 @@ fn look(
 ) -> Result<(), NoMemory>
     ensures tells { vault_tells vault.new ≡ vault_tells vault.old }
     ensures told { IsTrue (vault_tells vault.old) →
-        (conv : ConvState) (clock : ClockState) (act : Option Passwd →
-        Act) (code : Code) (end : Scene) →
-        OnOk result (Acts (act (entry_seen asks transaction.now.items.user accounts.new))
-        accounts.new (standing transaction.now conv
-        (vault_holds vault.new) clock process.now) code end →
-        Acts (looks_if asks act) accounts.old (standing transaction.now conv
-        (vault_holds vault.old) clock process.now) code end) }
+        (conv : ConvState) (clock : ClockState) →
+        OnOk result (CameWith (entry_seen asks transaction.now.items.user accounts.new)
+        (looks_if asks) accounts.old
+        (standing transaction.now conv (vault_holds vault.old) clock process.now) accounts.new
+        (standing transaction.now conv (vault_holds vault.new) clock process.now)) }
     ensures read { OnOk result (asks ≡ true → transaction.now.items.user ≢ None →
         accounts.new.passwds ≢ None) }
 {
@@ -115,12 +109,11 @@ fn look_user(
 ) -> Result<(), NoMemory>
     ensures tells { vault_tells vault.new ≡ vault_tells vault.old }
     ensures told { IsTrue (vault_tells vault.old) →
-        (conv : ConvState) (clock : ClockState) (act : Option Passwd →
-        Act) (code : Code) (end : Scene) →
-        OnOk result (Acts (act (entry_known transaction.now.items.user accounts.new)) accounts.new
-        (standing transaction.now conv (vault_holds vault.new) clock process.now) code end →
-        Acts (sees_items (λ items. by_user items.user act)) accounts.old
-        (standing transaction.now conv (vault_holds vault.old) clock process.now) code end) }
+        (conv : ConvState) (clock : ClockState) →
+        OnOk result (CameWith (entry_known transaction.now.items.user accounts.new)
+        (λ act. sees_items (λ items. by_user items.user act)) accounts.old
+        (standing transaction.now conv (vault_holds vault.old) clock process.now) accounts.new
+        (standing transaction.now conv (vault_holds vault.new) clock process.now)) }
     ensures read { OnOk result (transaction.now.items.user ≢ None → accounts.new.passwds ≢ None) }
 {
     laws::act_steps();

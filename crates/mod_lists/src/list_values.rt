@@ -2,10 +2,9 @@ ghost use Rattle.std.specs.Prelude.{◌≡◌, ◌≢◌, [], ◌∷◌, None, I
 ghost use Rattle.std.specs.Option.{option_copied};
 ghost use Rattle.conv_port.specs.Conv.{ConvState};
 ghost use Rattle.pam_outside.specs.Time.{ClockState};
-ghost use Rattle.pam_base.specs.declared.code.Code.{Code};
-ghost use Rattle.pam_room.specs.State.{Scene};
 ghost use Rattle.account_files.specs.Accounts.{account_in, known_groups, known_passwds};
-ghost use Rattle.account_files.specs.Act.{Act, Acts, LooksTo, standing};
+ghost use Rattle.account_files.specs.Act.{LooksTo, standing};
+ghost use Rattle.account_files.specs.CameWith.{CameWith};
 ghost use Rattle.mod_lists.specs.Listfile.{group_values, reads_values, text_value, text_values, without_dev};
 
 use crate::list_settings::ListItem;
@@ -39,11 +38,11 @@ pub(crate) fn values_of(
     requires { transaction.now.items.user ≢ None }
     ensures tells { vault_tells vault.new ≡ vault_tells vault.old }
     ensures told { IsTrue (vault_tells vault.old) →
-        (conv : ConvState) (clock : ClockState) (act : Values → Act) (code : Code) (end : Scene) →
-        IfOk result (λ values. Acts (act values) accounts.new (standing transaction.now conv
-        (vault_holds vault.new) clock process.now) code end →
-        Acts (reads_values item (unwrap_or transaction.now.items.user []) act) accounts.old
-        (standing transaction.now conv (vault_holds vault.old) clock process.now) code end) }
+        (conv : ConvState) (clock : ClockState) →
+        IfOk result (λ values. CameWith values
+        (reads_values item (unwrap_or transaction.now.items.user [])) accounts.old
+        (standing transaction.now conv (vault_holds vault.old) clock process.now) accounts.new
+        (standing transaction.now conv (vault_holds vault.new) clock process.now)) }
 {
     laws::act_steps();
     let texts = &transaction.items;

@@ -2,10 +2,9 @@ ghost use Rattle.std.specs.Prelude.{◌≡◌, ◌≢◌, [], Some, None, IsTrue
 ghost use Rattle.std.specs.Option.{option_copied};
 ghost use Rattle.conv_port.specs.Conv.{ConvState};
 ghost use Rattle.pam_outside.specs.Time.{ClockState};
-ghost use Rattle.pam_base.specs.declared.code.Code.{Code};
-ghost use Rattle.pam_room.specs.State.{Scene};
 ghost use Rattle.account_files.specs.Accounts.{entry_known, known_groups, known_passwds};
-ghost use Rattle.account_files.specs.Act.{Act, Acts, LooksTo, reads_passwds, standing};
+ghost use Rattle.account_files.specs.Act.{LooksTo, reads_passwds, standing};
+ghost use Rattle.account_files.specs.CameWith.{CameWith};
 ghost use Rattle.account_files.specs.Found.{plain_account};
 ghost use Rattle.mod_lists.specs.declared.truth.Truth.{Truth};
 ghost use Rattle.mod_lists.specs.Condition.{items_of, plain_condition, plain_test};
@@ -34,12 +33,12 @@ pub(crate) fn try_words(
     requires { transaction.now.items.user ≢ None }
     ensures tells { vault_tells vault.new ≡ vault_tells vault.old }
     ensures told { IsTrue (vault_tells vault.old) →
-        (conv : ConvState) (clock : ClockState) (act : Truth → Act) (code : Code) (end : Scene) →
-        IfOk result (λ truth. Acts (act truth) accounts.new (standing transaction.now conv
-        (vault_holds vault.new) clock process.now) code end →
-        Acts (tries_words (option_map plain_condition condition.entry)
-        (unwrap_or transaction.now.items.user []) act) accounts.old (standing transaction.now conv
-        (vault_holds vault.old) clock process.now) code end) }
+        (conv : ConvState) (clock : ClockState) →
+        IfOk result (λ truth. CameWith truth
+        (tries_words (option_map plain_condition condition.entry)
+        (unwrap_or transaction.now.items.user [])) accounts.old
+        (standing transaction.now conv (vault_holds vault.old) clock process.now) accounts.new
+        (standing transaction.now conv (vault_holds vault.new) clock process.now)) }
 {
     laws::act_steps();
     let condition = match condition {
