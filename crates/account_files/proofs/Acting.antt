@@ -22,7 +22,7 @@ use Rattle.account_files.specs.Act.{Act, Acts, LooksTo, answers, called, content
 
 -- ---- a step that leaves the vault, and one that calls it once
 
-carried : (act next : Act) (known after : Known) (s mid : Scene) (code : Code) (new : Scene) → act (stage_of known s) ≡ next (stage_of after mid)
+pub carried : (act next : Act) (known after : Known) (s mid : Scene) (code : Code) (new : Scene) → act (stage_of known s) ≡ next (stage_of after mid)
     → ((p : Played) → with_played p mid ≡ with_played p s) → Acts next after mid code new → Acts act known s code new
 carried act next known after s mid code new e same a = record {
   code_is = a.code_is ∙ ap (λ (p : Played). p.code) (sym e);

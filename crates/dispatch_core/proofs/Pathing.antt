@@ -1,12 +1,12 @@
--- The paths of lines, as they are copied and taken.
+-- The paths of lines, as they are shared and taken.
 use Rattle.std.proofs.Common.{◌≡◌, ℕ, ◌<◌, ◌≤◌, List, length, arith}
 use Rattle.control_words.specs.Stack.{Stack}
 use Rattle.handler_chain.specs.FlatLines.{rule_at}
 use Rattle.dispatch_core.specs.Paths.{HasPaths, path_in}
 
--- the first n paths are copied
-pub record Copied (stack : Stack) (paths : List (List ℕ)) (n : ℕ) : Type 0 where
-  pub so_many : length paths ≡ n
+-- the first n paths are shared
+pub record Shared (stack : Stack) (paths : List (List ℕ)) (n : ℕ) : Type 0 where
+  pub count : length paths ≡ n
   pub each : (i : ℕ) → i < n → path_in paths i ≡ (rule_at stack i).path
 
 -- further on, fewer have to be there

@@ -1,5 +1,5 @@
 ghost use Rattle.std.specs.Prelude.{◌≡◌, ◌<◌, ◌≤◌, ◌^◌, length, IfOk};
-ghost use Rattle.control_words.specs.Stack.{lines_in, stack_of, depth};
+ghost use Rattle.control_words.specs.Stack.{depth, lines_in, none, stack_of};
 ghost use Rattle.handler_chain.specs.FlatLines.{end_at, level_at, module_at, opens_at, rule_at, target_at};
 ghost use Rattle.handler_chain.specs.Chain.{fresh_chain, looked};
 
@@ -66,6 +66,21 @@ pub fn flatten(alloc: Global, nodes: &Nodes, names: &Texts) -> Result<Chain, NoM
 }
 
 impl Chain {
+    /// A stack without a line, for modules with these names.
+    pub fn new(alloc: Global, names: &Texts) -> Self
+        requires { length names.now < 2 ^ 32 }
+        ensures { result ≡ fresh_chain none names.now }
+    {
+        let nodes = Nodes::new(alloc);
+        Chain {
+            lines: Vec::new(alloc),
+            positions: Vec::new(alloc),
+            nodes: Snapshot::of(&nodes),
+            names: Snapshot::of(names),
+            looks: 0,
+        }
+    }
+
     /// How many lines there are, those of substacks among them.
     pub fn len(&self) -> usize
         ensures counted { result ≡ lines_in self.now.nodes }

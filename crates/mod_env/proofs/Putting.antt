@@ -18,17 +18,11 @@ use Rattle.account_files.specs.Accounts.{Known}
 use Rattle.account_files.specs.Act.{Act, Acts, stage_of, standing}
 use Rattle.mod_env.specs.Env.{put_in, puts_env, sees_env}
 use Rattle.mod_env.specs.Puts.{Puts}
-
-carried : (act next : Act) (known : Known) (s mid : Scene) (code : Code) (new : Scene) → act (stage_of known s) ≡ next (stage_of known mid)
-    → ((p : Played) → with_played p mid ≡ with_played p s) → Acts next known mid code new → Acts act known s code new
-carried act next known s mid code new e same a = record {
-  code_is = a.code_is ∙ ap (λ (p : Played). p.code) (sym e);
-  scene_is = a.scene_is ∙ same (next (stage_of known mid)) ∙ ap (λ (p : Played). with_played p s) (sym e);
-}
+use Rattle.account_files.proofs.Acting.{carried}
 
 pub seeing_env : (act : List Variable → Act) (known : Known) (s : Scene) (code : Code) (new : Scene) → Acts (act s.room.transaction.env) known s code new → Acts (sees_env act) known s code new
 unfolding sees_env
-seeing_env act known s code new a = carried (sees_env act) (act s.room.transaction.env) known s s code new refl (λ p. refl) a
+seeing_env act known s code new a = carried (sees_env act) (act s.room.transaction.env) known known s s code new refl (λ p. refl) a
 
 module _ (text : List ℕ) (act : Act) (known : Known) (t u : Transaction) (conv : ConvState) (vault : VaultState) (clock : ClockState) (process : Process) (code : Code) (new : Scene) (puts : Puts t u) where
   same_played : (p : Played) → with_played p (standing u conv vault clock process) ≡ with_played p (standing t conv vault clock process)
@@ -52,7 +46,7 @@ module _ (text : List ℕ) (act : Act) (known : Known) (t u : Transaction) (conv
       rw (items, datums, delay, said, put_off, handle, serving, e) refl
 
   pub putting_env : u.env ≡ put_in text t.env → Acts act known (standing u conv vault clock process) code new → Acts (puts_env text act) known (standing t conv vault clock process) code new
-  putting_env e a = carried (puts_env text act) act known _ _ code new (same_stage e) same_played a
+  putting_env e a = carried (puts_env text act) act known known _ _ code new (same_stage e) same_played a
 
 pub puts_nothing : (t : Transaction) → Puts t t
 puts_nothing t = record { others = refl }

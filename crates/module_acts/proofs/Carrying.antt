@@ -28,13 +28,7 @@ use Rattle.account_files.specs.Accounts.{Known}
 use Rattle.account_files.specs.Act.{Act, Acts, Leads, Stage, answers, asks_user, in_room, shown, shows, stage_of}
 use Rattle.module_acts.specs.Comes.{Comes, ComesTo, Goes, lent}
 use Rattle.module_acts.specs.Steps.{answers_keeping, asks_token, exchanges, requests_delay, sees_caller, sees_clock, sees_data, sets_item, with_replies}
-
-carried : (act next : Act) (known : Known) (s mid : Scene) (code : Code) (new : Scene) → act (stage_of known s) ≡ next (stage_of known mid)
-    → ((p : Played) → with_played p mid ≡ with_played p s) → Acts next known mid code new → Acts act known s code new
-carried act next known s mid code new e same a = record {
-  code_is = a.code_is ∙ ap (λ (p : Played). p.code) (sym e);
-  scene_is = a.scene_is ∙ same (next (stage_of known mid)) ∙ ap (λ (p : Played). with_played p s) (sym e);
-}
+use Rattle.account_files.proofs.Acting.{carried}
 
 answering : (code : Code) (known : Known) (s : Scene) → Acts (answers code) known s code s
 unfolding answers
@@ -45,15 +39,15 @@ answering code known s = record { code_is = refl; scene_is = rw append-nil refl 
 module _ (known : Known) (s : Scene) (code : Code) (new : Scene) where
   pub seeing_data : (act : List NamedData → Act) → Acts (act (named_data s.room.transaction.datums.live)) known s code new → Acts (sees_data act) known s code new
   unfolding sees_data
-  seeing_data act a = carried (sees_data act) (act (named_data s.room.transaction.datums.live)) known s s code new refl (λ p. refl) a
+  seeing_data act a = carried (sees_data act) (act (named_data s.room.transaction.datums.live)) known known s s code new refl (λ p. refl) a
 
   pub seeing_clock : (act : ClockState → Act) → Acts (act s.clock) known s code new → Acts (sees_clock act) known s code new
   unfolding sees_clock
-  seeing_clock act a = carried (sees_clock act) (act s.clock) known s s code new refl (λ p. refl) a
+  seeing_clock act a = carried (sees_clock act) (act s.clock) known known s s code new refl (λ p. refl) a
 
   pub seeing_caller : (act : ℕ → Act) → Acts (act s.process.caller) known s code new → Acts (sees_caller act) known s code new
   unfolding sees_caller
-  seeing_caller act a = carried (sees_caller act) (act s.process.caller) known s s code new refl (λ p. refl) a
+  seeing_caller act a = carried (sees_caller act) (act s.process.caller) known known s s code new refl (λ p. refl) a
 
 -- ---- the room
 
@@ -76,18 +70,18 @@ module _ (t u : Transaction) (conv conv' : ConvState) (vault : VaultState) (cloc
       → ComesTo r (unwrap_or u.items.user []) asks_user (lent t conv vault clock process) (lent u conv' vault clock process)
   unfolding asks_user answers
   asking_user (Ok done) h = λ act known code end rest.
-      carried (asks_user act) (act (unwrap_or u.items.user [])) known _ _ code end (rw (asked_is (user_asked (seen_of (room_of (plain_transaction t) conv))) false _ h, datums) refl) same_played rest
+      carried (asks_user act) (act (unwrap_or u.items.user [])) known known _ _ code end (rw (asked_is (user_asked (seen_of (room_of (plain_transaction t) conv))) false _ h, datums) refl) same_played rest
   asking_user (Err (refusals.Named e)) h = λ act known.
-      carried (asks_user act) (answers ConvErr) known _ _ ConvErr _ (rw (asked_is (user_asked (seen_of (room_of (plain_transaction t) conv))) true _ h) refl) same_played (answering ConvErr known _)
+      carried (asks_user act) (answers ConvErr) known known _ _ ConvErr _ (rw (asked_is (user_asked (seen_of (room_of (plain_transaction t) conv))) true _ h) refl) same_played (answering ConvErr known _)
   asking_user (Err refusals.NoMemory) h = tt
 
   pub asking_token : {T : Type 0} (r : Result T (Refuse NoReply)) (old : Bool) (prompt : List ℕ) → Asks r (token_asked old prompt (seen_of (room_of (plain_transaction t) conv))) (seen_of (room_of (plain_transaction u) conv'))
       → ComesTo r (unwrap_or (text_of u.items (token_of old)) []) (asks_token old prompt) (lent t conv vault clock process) (lent u conv' vault clock process)
   unfolding asks_token answers
   asking_token (Ok done) old prompt h = λ act known code end rest.
-      carried (asks_token old prompt act) (act (unwrap_or (text_of u.items (token_of old)) [])) known _ _ code end (rw (asked_is (token_asked old prompt (seen_of (room_of (plain_transaction t) conv))) false _ h, datums) refl) same_played rest
+      carried (asks_token old prompt act) (act (unwrap_or (text_of u.items (token_of old)) [])) known known _ _ code end (rw (asked_is (token_asked old prompt (seen_of (room_of (plain_transaction t) conv))) false _ h, datums) refl) same_played rest
   asking_token (Err (refusals.Named e)) old prompt h = λ act known.
-      carried (asks_token old prompt act) (answers ConvErr) known _ _ ConvErr _ (rw (asked_is (token_asked old prompt (seen_of (room_of (plain_transaction t) conv))) true _ h) refl) same_played (answering ConvErr known _)
+      carried (asks_token old prompt act) (answers ConvErr) known known _ _ ConvErr _ (rw (asked_is (token_asked old prompt (seen_of (room_of (plain_transaction t) conv))) true _ h) refl) same_played (answering ConvErr known _)
   asking_token (Err refusals.NoMemory) old prompt h = tt
 
   replied : (answer : Result (List Reply) ConvFault) (room : SeenRoom) (act : List Reply → Act) (replies : List Reply) (stage : Stage) → answer ≡ Ok replies → with_replies answer room act stage ≡ act replies (in_room room stage)
@@ -106,18 +100,18 @@ module _ (t u : Transaction) (conv conv' : ConvState) (vault : VaultState) (cloc
   unfolding exchanges
   exchanging (Ok replies) messages h = λ act known code end rest.
       let spoken = speak messages (seen_of (room_of (plain_transaction t) conv)) in
-      carried (exchanges messages act) (act replies) known _ _ code end
+      carried (exchanges messages act) (act replies) known known _ _ code end
       (replied spoken.answer spoken.room act replies (stage_of known (lent t conv vault clock process)) h.0 ∙ in_this spoken.room (act replies) known h.1) same_played rest
   exchanging (Err (refusals.Named e)) messages h = λ act known.
       let spoken = speak messages (seen_of (room_of (plain_transaction t) conv)) in
-      carried (exchanges messages act) (answers ConvErr) known _ _ ConvErr _
+      carried (exchanges messages act) (answers ConvErr) known known _ _ ConvErr _
       (none_replied spoken.answer spoken.room act (stage_of known (lent t conv vault clock process)) h.0 ∙ in_this spoken.room (answers ConvErr) known h.1) same_played (answering ConvErr known _)
   exchanging (Err refusals.NoMemory) messages h = tt
 
   pub showing : {T : Type 0} (r : Result T NoMemory) (style : Style) (text : List ℕ) → OnOk r (seen_of (room_of (plain_transaction u) conv') ≡ shown style text (seen_of (room_of (plain_transaction t) conv)))
       → OnOk r (Leads (shows style text) (lent t conv vault clock process) (lent u conv' vault clock process))
   unfolding shows
-  showing (Ok done) style text e = λ act known code end rest. carried (shows style text act) act known _ _ code end (rw (← e, datums) refl) same_played rest
+  showing (Ok done) style text e = λ act known code end rest. carried (shows style text act) act known known _ _ code end (rw (← e, datums) refl) same_played rest
   showing (Err none) style text e = tt
 
 pub with_items : (t u : Transaction) → u ≡ record t { said = u.said; put_off = u.put_off } → u ≡ record t { items = u.items; said = u.said; put_off = u.put_off }
@@ -127,12 +121,12 @@ module _ (t u : Transaction) (conv : ConvState) (vault : VaultState) (clock : Cl
   pub delaying : (micros delay : ℕ) → delay ≡ max (counted_request micros) t.delay → u ≡ record t { delay = delay } → Leads (requests_delay micros) (lent t conv vault clock process) (lent u conv vault clock process)
   unfolding requests_delay
   delaying micros delay e n = λ act known code end rest.
-      carried (requests_delay micros act) act known _ _ code end (rw (n, e) refl) (λ p. rw n refl) rest
+      carried (requests_delay micros act) act known known _ _ code end (rw (n, e) refl) (λ p. rw n refl) rest
 
   pub setting : (item : ItemName) (text : List ℕ) → u ≡ record t { items = with_text t.items item (Some text) } → Leads (sets_item item text) (lent t conv vault clock process) (lent u conv vault clock process)
   unfolding sets_item
   setting item text n = λ act known code end rest.
-      carried (sets_item item text act) act known _ _ code end (rw n refl) (λ p. rw n refl) rest
+      carried (sets_item item text act) act known known _ _ code end (rw n refl) (λ p. rw n refl) rest
 
   pub keeping : (q : PlainProcess) (datum : NamedData) (code : Code) → t.datums.handle ≡ t.handle → u ≡ record t { datums = u.datums } → q ≡ record process { ledger = q.ledger }
       → HasSet t.serving (datum ∷ []) t.datums process.ledger u.datums q.ledger → Goes (answers_keeping datum code) (lent t conv vault clock process) code (lent u conv vault clock q)

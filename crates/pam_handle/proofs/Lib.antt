@@ -5,4 +5,5 @@ mod Authenticating
 mod Changing
 mod Stopping
 mod Lacking
+mod Laying
 mod Rows

@@ -10,8 +10,6 @@ use Rattle.service_load.specs.FirstFault.{Counts, Stop}
 use Rattle.service_load.specs.Load.{loaded, has_folder}
 use Rattle.service_load.specs.Loading.{texts_of, CountsFaults}
 use Rattle.service_load.specs.Tree.{tree}
-use Rattle.service_load.specs.declared.trees.Trees.{Trees}
-use Rattle.control_words.specs.Stack.{stack_of}
 use Rattle.item_store.specs.Items.{ItemTexts, no_texts}
 use Rattle.pam_room.specs.State.{PlainWorld, new_transaction, room_of}
 use Rattle.pam_handle.specs.declared.chains.Chains.{Chains}
@@ -43,15 +41,6 @@ abbrev pub new_handle : ℕ → List ℕ → Option (List ℕ) → ConvState →
     → PlainHandle
 new_handle number service user conv names stacks =
     handle_with number (first_texts service user) conv names stacks
-
--- the stacks that the trees of a load are
-abbrev pub stacks_of_trees : Trees → Stacks
-stacks_of_trees trees = record {
-  auth = stack_of trees.auth.vec.items;
-  account = stack_of trees.account.vec.items;
-  password = stack_of trees.password.vec.items;
-  session = stack_of trees.session.vec.items;
-}
 
 -- a start: a transaction, or the first fault of its configuration; of the world only the vault's number of calls
 -- changes

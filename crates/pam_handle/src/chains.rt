@@ -1,7 +1,9 @@
 ghost use Rattle.std.specs.Prelude.{◌≡◌};
 
 use handler_chain::Chain;
+use pam_base::Texts;
 use service_load::RuleType;
+use std::alloc::Global;
 
 /// The stacks of a service, laid flat for one list of modules.
 #[derive(Drop)]
@@ -16,7 +18,24 @@ pub struct Chains {
 }
 
 impl Chains {
-    ghost use Rattle.pam_handle.specs.Plain.{nodes_in};
+    ghost use Rattle.std.specs.Prelude.{◌<◌, ◌^◌, length};
+    ghost use Rattle.control_words.specs.Stack.{none};
+    ghost use Rattle.service_load.specs.Stacks.{stacks_of, with_stack};
+    ghost use Rattle.pam_handle.specs.Plain.{nodes_in, stacks_in};
+
+    /// Stacks without a line, for modules with these names.
+    pub(crate) fn new(alloc: Global, names: &Texts) -> Self
+        requires { length names.now < 2 ^ 32 }
+        ensures stacks { stacks_in result ≡ stacks_of (λ _. none) }
+        ensures names { result.auth.names ≡ names.now }
+    {
+        Chains {
+            auth: Chain::new(alloc, names),
+            account: Chain::new(alloc, names),
+            password: Chain::new(alloc, names),
+            session: Chain::new(alloc, names),
+        }
+    }
 
     /// The stack of a type.
     pub fn of(&self, rule_type: RuleType) -> &Chain
@@ -28,6 +47,21 @@ impl Chains {
             RuleType::Account => &self.account,
             RuleType::Password => &self.password,
             RuleType::Session => &self.session,
+        }
+    }
+
+    /// Sets the stack of a type, laid flat for the same modules.
+    pub(crate) fn put(&mut self, rule_type: RuleType, chain: Chain)
+        requires { chain.names ≡ self.old.auth.names }
+        ensures stacks { stacks_in self.new
+            ≡ with_stack (stacks_in self.old) rule_type chain.nodes }
+        ensures names { self.new.auth.names ≡ self.old.auth.names }
+    {
+        match rule_type {
+            RuleType::Auth => self.auth = chain,
+            RuleType::Account => self.account = chain,
+            RuleType::Password => self.password = chain,
+            RuleType::Session => self.session = chain,
         }
     }
 }

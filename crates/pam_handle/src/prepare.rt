@@ -2,8 +2,9 @@ ghost use Rattle.std.specs.Prelude.{◌≡◌, ◌<◌, ◌^◌, Some, map, leng
 ghost use Rattle.std.specs.Option.{option_copied};
 ghost use Rattle.dispatch_core.specs.Lines.{names_of};
 ghost use Rattle.service_load.specs.Load.{AreBounded};
+ghost use Rattle.service_load.specs.Trees.{stacks_of_trees};
 ghost use Rattle.pam_handle.specs.Plain.{stacks_in};
-ghost use Rattle.pam_handle.specs.Start.{first_texts, stacks_of_trees};
+ghost use Rattle.pam_handle.specs.Start.{first_texts};
 
 use crate::chains::Chains;
 use crate::gear::{Gear, GearTold};
@@ -11,7 +12,7 @@ use handler_chain::flatten;
 use item_store::Items;
 use pam_base::{ItemName, NoMemory, Text, Texts, lowercase};
 use pam_room::{Module, name_of, set_item};
-use service_load::Trees;
+use service_load::{ALL_TYPES, Trees};
 use std::alloc::Global;
 
 /// The items of a transaction that is started: SERVICE, in lower case, and where it is known USER.
@@ -54,10 +55,10 @@ pub(crate) fn lay_flat(alloc: Global, trees: &Trees, names: &Texts) -> Result<Ch
     ensures stacks { IfOk result (λ chains. stacks_in chains ≡ stacks_of_trees trees.now) }
     ensures names { IfOk result (λ chains. chains.auth.names ≡ names.now) }
 {
-    Ok(Chains {
-        auth: flatten(alloc, &trees.auth, names)?,
-        account: flatten(alloc, &trees.account, names)?,
-        password: flatten(alloc, &trees.password, names)?,
-        session: flatten(alloc, &trees.session, names)?,
-    })
+    let mut chains = Chains::new(alloc, names);
+    for rule_type in &ALL_TYPES {
+        let chain = flatten(alloc, trees.of(*rule_type), names)?;
+        chains.put(*rule_type, chain);
+    }
+    Ok(chains)
 }

@@ -3,10 +3,11 @@ ghost use Rattle.std.specs.Option.{option_copied};
 ghost use Rattle.pam_base.specs.ServiceName.{is_service_name};
 ghost use Rattle.dispatch_core.specs.Lines.{names_of};
 ghost use Rattle.service_load.specs.Load.{AreBounded};
+ghost use Rattle.service_load.specs.Trees.{stacks_of_trees};
 ghost use Rattle.service_load.specs.Loading.{CountsFaults, OnlyCalls};
 ghost use Rattle.pam_handle.specs.Plain.{in_box, plain_handle, room_in, stacks_in};
 ghost use Rattle.pam_handle.specs.Ready.{IsReadyFor};
-ghost use Rattle.pam_handle.specs.Start.{Opens, Prepares, RefusalCounts, Refuses, first_texts, handle_with, new_handle, stacks_of_trees, started};
+ghost use Rattle.pam_handle.specs.Start.{Opens, Prepares, RefusalCounts, Refuses, first_texts, handle_with, new_handle, started};
 
 use crate::chains::Chains;
 use crate::gear::{Gear, GearTold};

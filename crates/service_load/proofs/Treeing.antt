@@ -1,5 +1,6 @@
--- One tree, and the four in turn.
-use Rattle.std.proofs.Common.{◌≡◌, ℕ, ◌+◌, Bool, true, false, not, cond, eqb, List, [], ◌∷◌, ◌++◌, Option, Result, Ok, Err, IfOk, refl, sym, ap, subst, ◌∙◌, append_assoc, arith}
+-- One tree, and those of all types in turn.
+use Rattle.std.proofs.Common.{◌≡◌, ℕ, ◌+◌, ◌<◌, ◌≤◌, Bool, true, false, not, cond, eqb, List, [], ◌∷◌, ◌++◌, length, drop, get_or, drop_of_length-le, Option, Result, Ok, Err, refl, ap, subst, ◌∙◌, arith}
+use Rattle.std.proofs.lemmas.List.{drop_more}
 use Rattle.std.proofs.lemmas.Bool.{eqb-true}
 use Rattle.pam_base.specs.declared.fault.Refuse.{Refuse}
 use Rattle.pam_base.specs.declared.fault.Refuse.TheVariants as refusals
@@ -15,13 +16,17 @@ use Rattle.service_load.specs.declared.trees.Trees.{Trees}
 use Rattle.service_load.specs.Files.{held, is_absent}
 use Rattle.service_load.specs.FirstFault.{Counts, look}
 use Rattle.service_load.specs.Entry.{folder_name}
-use Rattle.service_load.specs.Load.{LoadsBy, LoadsFrom, Loads, loaded_from, has_folder}
+use Rattle.service_load.specs.Load.{AreBounded, LoadsBy, LoadsFrom, Loads, loaded_from, has_folder}
 use Rattle.pam_outside.specs.Paths.{path_of}
 use Rattle.service_load.specs.Loading.{texts_of, counts_of, Looks, OnlyCalls, Brings, Grows, IsBounded, Makes, items_at, nodes_at}
 use Rattle.std.specs.List.{flat_map}
 use Rattle.service_load.specs.declared.rule_type.RuleType.TheVariants.{Auth, Account, Password, Session}
 use Rattle.service_load.specs.Order.{Item, Opener, as_service, as_other, as_last, items, other_opener, tree_items, trees_items}
+use Rattle.service_load.specs.RuleType.{all_types}
+use Rattle.service_load.specs.Stacks.{Stacks, stacks_of, with_stack}
 use Rattle.service_load.specs.Tree.{nodes, tree, tree_from}
+use Rattle.service_load.specs.Trees.{stacks_of_trees, with_nodes}
+use Rattle.service_load.proofs.Filling.{filled, filled_all, filled_next}
 use Rattle.service_load.proofs.Expanding.{Since, since, look_past, look_stops}
 
 empty-none : (s : Stack) → eqb (count s) 0 ≡ true → s ≡ none
@@ -117,7 +122,7 @@ pub other_since : (r : Result Bool (Refuse LoadFault)) (root : List ℕ) (first 
 other_since r root first mid now half is own other type there before after =
     since r root first mid now half is (λ texts. items_at texts 0 type (cond there as_other (as_last own.name)) other) before after (λ texts. nodes_at texts 0 type other)
 
--- ---- the four trees
+-- ---- the trees of the types in turn
 
 pub only_only : (a b c : VaultState) → OnlyCalls a b → OnlyCalls b c → OnlyCalls a c
 only_only a b c one two = two ∙ ap (λ (v : VaultState). record v { calls = c.calls }) one
@@ -130,72 +135,100 @@ makes_since r root first old new was is own other type only makes =
     let P : VaultState → Type 0 = λ v. Makes r (texts_of root v) v new was is own other type in
     subst P only makes
 
--- Over the vault as it was at first, some items were looked along, the last of them those of a tree, which was made.
-pub record Along (r : Result Nodes (Refuse LoadFault)) (root : List ℕ) (first new : VaultState) (start : Counts) (along : List Item) (is : Loader) (stack : Stack) : Type 0 where
-  pub looks : Looks r (look (texts_of root first) first.fails start along) (counts_of is new)
-  pub made : IfOk r (λ made. stack_of made.vec.items ≡ stack)
+-- the look along nothing more
+look_none : (texts : List ℕ → Option (List ℕ)) (fails : List ℕ) (counts : Counts) → look texts fails counts [] ≡ Ok counts
+unfolding look
+look_none texts fails counts = refl
+
+-- Over the vault as it was at first, the trees of some types were made, and those of the types that are left come next.
+pub record Making (root : List ℕ) (first new : VaultState) (start : Counts) (is : Loader) (own other : RuleFile) (trees : Trees) (left : List RuleType) : Type 0 where
+  pub looks : look (texts_of root first) first.fails start (trees_items (texts_of root first) own other)
+      ≡ look (texts_of root first) first.fails (counts_of is new) (flat_map (tree_items (texts_of root first) own other) left)
+  pub made : filled (tree_from (texts_of root first) own other) left (stacks_of_trees trees) ≡ stacks_of (tree_from (texts_of root first) own other)
   pub stays : OnlyCalls first new
 
-pub first_tree : (r : Result Nodes (Refuse LoadFault)) (root : List ℕ) (first new : VaultState) (was is : Loader) (own other : RuleFile) (type : RuleType)
-    → Makes r (texts_of root first) first new was is own other type
-    → Along r root first new (counts_of was first) (tree_items (texts_of root first) own other type) is (tree_from (texts_of root first) own other type)
-first_tree r root first new was is own other type m = record { looks = m.looks; made = m.made; stays = m.stays }
+pub making_none : (root : List ℕ) (first : VaultState) (was : Loader) (own other : RuleFile) (trees : Trees)
+    → Making root first first (counts_of was first) was own other trees all_types
+making_none root first was own other trees = record { looks = refl; made = refl; stays = refl }
 
-looks_on : (r : Result Nodes (Refuse LoadFault)) (texts : List ℕ → Option (List ℕ)) (fails : List ℕ) (start mid now : Counts) (before items : List Item)
-    → look texts fails start before ≡ Ok mid
-    → Looks r (look texts fails mid items) now → Looks r (look texts fails start (before ++ items)) now
-looks_on (Ok made) texts fails start mid now before items past l = look_past texts fails start mid before items past ∙ l
-looks_on (Err (refusals.Named f)) texts fails start mid now before items past l = look_past texts fails start mid before items past ∙ l
-looks_on (Err refusals.NoMemory) texts fails start mid now before items past l = tt
+put_stacks : (trees : Trees) (type : RuleType) (given : Nodes) → stacks_of_trees (with_nodes trees type given) ≡ with_stack (stacks_of_trees trees) type (stack_of given.vec.items)
+put_stacks trees Auth given = refl
+put_stacks trees Account given = refl
+put_stacks trees Password given = refl
+put_stacks trees Session given = refl
 
--- a later tree
-pub next_tree : (r : Result Nodes (Refuse LoadFault)) (root : List ℕ) (first old new : VaultState) (start : Counts) (before : List Item) (was is : Loader) (own other : RuleFile) (type : RuleType)
-    → OnlyCalls first old
-    → look (texts_of root first) first.fails start before ≡ Ok (counts_of was old) → Makes r (texts_of root old) old new was is own other type
-    → Along r root first new start (before ++ tree_items (texts_of root first) own other type) is (tree_from (texts_of root first) own other type)
-next_tree r root first old new start before was is own other type only past makes =
-    let m = makes_since r root first old new was is own other type only makes in
+-- one tree more
+pub making_next : (root : List ℕ) (first old new : VaultState) (start : Counts) (was is : Loader) (own other : RuleFile) (trees after : Trees) (given : Nodes) (i : ℕ) (d : RuleType)
+    → i < length all_types → Making root first old start was own other trees (drop i all_types)
+    → Makes (Ok given) (texts_of root old) old new was is own other (get_or all_types i d)
+    → after ≡ with_nodes trees (get_or all_types i d) given
+    → Making root first new start is own other after (drop (i + 1) all_types)
+making_next root first old new start was is own other trees after given i d within h makes put =
+    let texts = texts_of root first in
+    let type = get_or all_types i d in
+    let rest = drop (i + 1) all_types in
+    let next = drop_more all_types i d within in
+    let m = makes_since (Ok given) root first old new was is own other type h.stays makes in
     record {
-      looks = looks_on r (texts_of root first) first.fails start (counts_of was old) (counts_of is new) before (tree_items (texts_of root first) own other type) past m.looks;
-      made = m.made;
-      stays = only_only first old new only makes.stays;
+      looks = h.looks ∙ ap (λ (types : List RuleType). look texts first.fails (counts_of was old) (flat_map (tree_items texts own other) types)) next
+          ∙ look_past texts first.fails (counts_of was old) (counts_of is new) (tree_items texts own other type) (flat_map (tree_items texts own other) rest) m.looks;
+      made = filled_next (tree_from texts own other) _ _ _ i d within h.made
+          (ap stacks_of_trees put ∙ put_stacks trees type given ∙ ap (with_stack (stacks_of_trees trees) type) m.made);
+      stays = m.stays;
     }
 
 -- a refusal in a tree, unless memory ran out, is the first fault of the whole load
-pub stops_whole : (r : Refuse LoadFault) (root : List ℕ) (first new : VaultState) (own other : RuleFile) (start : Counts) (along rest : List Item) (is : Loader) (one : Stack)
-    → along ++ rest ≡ trees_items (texts_of root first) own other
-    → Along (Err r) root first new start along is one → LoadsBy (Err r) (look (texts_of root first) first.fails start (trees_items (texts_of root first) own other)) new (tree_from (texts_of root first) own other)
-stops_whole (refusals.Named f) root first new own other start along rest is one e a =
-    ap (look (texts_of root first) first.fails start) (sym e) ∙ look_stops (texts_of root first) first.fails start (record { fault = f; calls = new.calls }) along rest a.looks
-stops_whole refusals.NoMemory root first new own other start along rest is one e a = tt
+pub making_stops : (r : Refuse LoadFault) (root : List ℕ) (first old new : VaultState) (start : Counts) (was is : Loader) (own other : RuleFile) (trees : Trees) (i : ℕ) (d : RuleType)
+    → i < length all_types → Making root first old start was own other trees (drop i all_types)
+    → Makes (Err r) (texts_of root old) old new was is own other (get_or all_types i d)
+    → LoadsBy (Err r) (look (texts_of root first) first.fails start (trees_items (texts_of root first) own other)) new (tree_from (texts_of root first) own other)
+making_stops (refusals.Named f) root first old new start was is own other trees i d within h makes =
+    let texts = texts_of root first in
+    let type = get_or all_types i d in
+    let rest = drop (i + 1) all_types in
+    let m = makes_since (Err (refusals.Named f)) root first old new was is own other type h.stays makes in
+    h.looks ∙ ap (λ (types : List RuleType). look texts first.fails (counts_of was old) (flat_map (tree_items texts own other) types)) (drop_more all_types i d within)
+    ∙ look_stops texts first.fails (counts_of was old) (record { fault = f; calls = new.calls }) (tree_items texts own other type) (flat_map (tree_items texts own other) rest) m.looks
+making_stops refusals.NoMemory root first old new start was is own other trees i d within h makes = tt
 
--- all that is looked along, by what comes up to a tree and what comes after it
-module _ (root : List ℕ) (first : VaultState) (own other : RuleFile) where
-  abbrev pub of_type : RuleType → List Item
-  of_type = tree_items (texts_of root first) own other
+pub making_keeps : (r : Refuse LoadFault) (root : List ℕ) (first old new : VaultState) (start : Counts) (was is : Loader) (own other : RuleFile) (trees : Trees) (left : List RuleType) (type : RuleType)
+    → Making root first old start was own other trees left → Makes (Err r) (texts_of root old) old new was is own other type → OnlyCalls first new
+making_keeps r root first old new start was is own other trees left type h makes = only_only first old new h.stays makes.stays
 
-  pub from_second : (of_type Auth ++ of_type Account) ++ flat_map of_type (Password ∷ Session ∷ []) ≡ trees_items (texts_of root first) own other
-  from_second = append_assoc (of_type Auth) (of_type Account) (flat_map of_type (Password ∷ Session ∷ []))
+-- all are made: these are the trees of the whole load
+pub making_all : (root : List ℕ) (first new : VaultState) (start : Counts) (is : Loader) (own other : RuleFile) (trees : Trees) (i : ℕ)
+    → length all_types ≤ i → Making root first new start is own other trees (drop i all_types)
+    → LoadsBy (Ok trees) (look (texts_of root first) first.fails start (trees_items (texts_of root first) own other)) new (tree_from (texts_of root first) own other)
+making_all root first new start is own other trees i past h =
+    let texts = texts_of root first in
+    let are = filled_all (tree_from texts own other) (stacks_of_trees trees) i past h.made in
+    record {
+      counts = counts_of is new;
+      no_fault = h.looks ∙ ap (λ (types : List RuleType). look texts first.fails (counts_of is new) (flat_map (tree_items texts own other) types)) (drop_of_length-le all_types past)
+          ∙ look_none texts first.fails (counts_of is new);
+      calls = refl;
+      trees_are = record { auth = ap (λ (s : Stacks). s.auth) are; account = ap (λ (s : Stacks). s.account) are; password = ap (λ (s : Stacks). s.password) are; session = ap (λ (s : Stacks). s.session) are };
+    }
 
-  pub from_third : ((of_type Auth ++ of_type Account) ++ of_type Password) ++ flat_map of_type (Session ∷ []) ≡ trees_items (texts_of root first) own other
-  from_third = append_assoc (of_type Auth ++ of_type Account) (of_type Password) (flat_map of_type (Session ∷ [])) ∙ from_second
+empty_is_bounded : (s : Stack) → s ≡ none → IsBounded s
+empty_is_bounded s e = rw e (record { lines = omega arith; deep = omega arith })
 
-  pub from_fourth : (((of_type Auth ++ of_type Account) ++ of_type Password) ++ of_type Session) ++ [] ≡ trees_items (texts_of root first) own other
-  from_fourth = append_assoc ((of_type Auth ++ of_type Account) ++ of_type Password) (of_type Session) [] ∙ from_third
-
--- four trees, one after another, are those of the whole load
-pub loads_four : (root : List ℕ) (first v w x new : VaultState) (own other : RuleFile) (start : Counts) (k l m is : Loader) (auth account password session : Nodes)
-    → Along (Ok auth) root first v start (of_type root first own other Auth) k (tree_from (texts_of root first) own other Auth)
-    → Along (Ok account) root first w start (of_type root first own other Auth ++ of_type root first own other Account) l (tree_from (texts_of root first) own other Account)
-    → Along (Ok password) root first x start ((of_type root first own other Auth ++ of_type root first own other Account) ++ of_type root first own other Password) m (tree_from (texts_of root first) own other Password)
-    → Along (Ok session) root first new start (((of_type root first own other Auth ++ of_type root first own other Account) ++ of_type root first own other Password) ++ of_type root first own other Session) is (tree_from (texts_of root first) own other Session)
-    → LoadsBy (Ok (record { auth = auth; account = account; password = password; session = session })) (look (texts_of root first) first.fails start (trees_items (texts_of root first) own other)) new (tree_from (texts_of root first) own other)
-loads_four root first v w x new own other start k l m is auth account password session one two three four = record {
-  counts = counts_of is new;
-  no_fault = ap (look (texts_of root first) first.fails start) (sym (from_fourth root first own other) ∙ nil-append _) ∙ four.looks;
-  calls = refl;
-  trees_are = record { auth = one.made; account = two.made; password = three.made; session = four.made };
+pub bounded_new : (trees : Trees) → stacks_of_trees trees ≡ stacks_of (λ _. none) → AreBounded trees
+bounded_new trees e = record {
+  auth = empty_is_bounded _ (ap (λ (s : Stacks). s.auth) e);
+  account = empty_is_bounded _ (ap (λ (s : Stacks). s.account) e);
+  password = empty_is_bounded _ (ap (λ (s : Stacks). s.password) e);
+  session = empty_is_bounded _ (ap (λ (s : Stacks). s.session) e);
 }
+
+bounded_put : (trees : Trees) (type : RuleType) (given : Nodes) → AreBounded trees → IsBounded (stack_of given.vec.items) → AreBounded (with_nodes trees type given)
+bounded_put trees Auth given were is = record { auth = is; account = were.account; password = were.password; session = were.session }
+bounded_put trees Account given were is = record { auth = were.auth; account = is; password = were.password; session = were.session }
+bounded_put trees Password given were is = record { auth = were.auth; account = were.account; password = is; session = were.session }
+bounded_put trees Session given were is = record { auth = were.auth; account = were.account; password = were.password; session = is }
+
+pub bounded_next : (trees after : Trees) (type : RuleType) (given : Nodes) → after ≡ with_nodes trees type given → AreBounded trees → IsBounded (stack_of given.vec.items) → AreBounded after
+bounded_next trees after type given put were is = rw put (bounded_put trees type given were is)
 
 -- ---- the whole load
 

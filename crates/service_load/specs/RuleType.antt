@@ -1,5 +1,5 @@
 -- The types of rules (pam.conf(5): account, auth, password, session).
-use Rattle.std.specs.Prelude.{ℕ, Bool, true, false, List, [], ◌∷◌, Option, Some, None, codes, not, ◌&&◌, ◌==◌, if◌then◌else◌, option_map}
+use Rattle.std.specs.Prelude.{ℕ, Bool, true, false, List, [], ◌∷◌, Option, None, codes, not, ◌&&◌, ◌==◌, if◌then◌else◌, option_map}
 use Rattle.std.specs.List.{find}
 use Rattle.std.specs.Str.{str_eq_ignore_ascii_case}
 use Rattle.conf_lex.specs.declared.token.Token.{Token}

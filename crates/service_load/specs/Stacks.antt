@@ -17,3 +17,10 @@ stacks_of stack = record {
   password = stack Password;
   session = stack Session;
 }
+
+-- with this stack of a type
+abbrev pub with_stack : Stacks → RuleType → Stack → Stacks
+with_stack stacks Auth stack = record stacks { auth = stack }
+with_stack stacks Account stack = record stacks { account = stack }
+with_stack stacks Password stack = record stacks { password = stack }
+with_stack stacks Session stack = record stacks { session = stack }

@@ -19,7 +19,7 @@ use crate::load_fault::{LoadFault, refused};
 use crate::opener::{Opener, opener_of_other, refused_opening};
 use crate::position::Position;
 use crate::rule_file::RuleFile;
-use crate::rule_type::RuleType;
+use crate::rule_type::{ALL_TYPES, RuleType};
 use crate::trees::Trees;
 use control_words::{Node, Nodes, Rule};
 use pam_base::{FaultKind, Refuse, Text};
@@ -286,15 +286,11 @@ impl Loader {
         ensures bounded { IfOk result (λ trees. AreBounded trees) }
         ensures faults { CountsFaults result (vault_faults vault.old) (vault_faults vault.new) }
     {
-        let auth = self.tree(alloc, vault, root, RuleType::Auth, own, other)?;
-        let account = self.tree(alloc, vault, root, RuleType::Account, own, other)?;
-        let password = self.tree(alloc, vault, root, RuleType::Password, own, other)?;
-        let session = self.tree(alloc, vault, root, RuleType::Session, own, other)?;
-        Ok(Trees {
-            auth,
-            account,
-            password,
-            session,
-        })
+        let mut trees = Trees::new(alloc);
+        for rule_type in &ALL_TYPES {
+            let nodes = self.tree(alloc, vault, root, *rule_type, own, other)?;
+            trees.put(*rule_type, nodes);
+        }
+        Ok(trees)
     }
 }

@@ -1,0 +1,12 @@
+use Rattle.std.proofs.Common.{◌≡◌, drop}
+use Rattle.service_load.specs.Trees.{stacks_of_trees}
+use Rattle.service_load.proofs.Filling.{filled}
+use Rattle.pam_handle.specs.Plain.{stacks_in}
+use Rattle.pam_handle.proofs.Laying.{stack_in}
+use Rattle.pam_handle.proofs.prepare.lay_flat.Given as goal
+
+abbrev pub invariant-loop-rule_type : goal.invariant-loop-rule_type
+invariant-loop-rule_type l = record {
+  filling : filled (stack_in l.trees) (drop l.rule_type-index l.rule_type-items) (stacks_in l.chains) ≡ stacks_of_trees l.trees;
+  names : l.chains.auth.names ≡ l.names;
+}
