@@ -3,7 +3,7 @@ ghost use Rattle.std.specs.Option.{option_copied};
 ghost use Rattle.conv_port.specs.Conv.{ConvState};
 ghost use Rattle.pam_outside.specs.Time.{ClockState};
 ghost use Rattle.pam_base.specs.declared.code.Code.{Code};
-ghost use Rattle.pam_room.specs.Module.{leaves_anything, length_note};
+ghost use Rattle.pam_room.specs.Module.{keeps_files, length_note};
 ghost use Rattle.account_files.specs.Accounts.{nothing_known};
 ghost use Rattle.account_files.specs.Act.{Acts, standing};
 ghost use Rattle.mod_env.specs.Env.{at_once, by_entries, by_first, by_fits, by_texts, env_plays, is_zero, reads_first, reads_second, sets_all, text_in};
@@ -45,7 +45,7 @@ impl Module for Env {
 
     ghost note = { λ _. length_note };
 
-    ghost breaks = { λ _. leaves_anything };
+    ghost breaks = { λ _. keeps_files };
 
     fn name(&self) -> &[u8] {
         b"pam_env"
@@ -63,6 +63,7 @@ impl Module for Env {
     ) -> Result<Code, NoMemory> {
         laws::act_steps();
         crate::laws::puts_alone();
+        pam_room::laws::files_stay();
         match at_once(call.func) {
             Some(code) => Ok(code),
             None => read_first(alloc, call, transaction, process, vault),
@@ -94,6 +95,8 @@ fn read_first(
     vault: &mut dyn Vault,
 ) -> Result<Code, NoMemory>
     ensures tells { vault_tells vault.new ≡ vault_tells vault.old }
+    ensures files { IsTrue (vault_tells vault.old) →
+        (vault_holds vault.new).files ≡ (vault_holds vault.old).files }
     ensures told { IsTrue (vault_tells vault.old) → (conv : ConvState) (clock : ClockState) →
         IfOk result (λ code. Acts (reads_first call.now.args.now) nothing_known
         (standing transaction.old conv (vault_holds vault.old) clock process.now) code
@@ -123,6 +126,8 @@ fn read_second(
     vault: &mut dyn Vault,
 ) -> Result<Code, NoMemory>
     ensures tells { vault_tells vault.new ≡ vault_tells vault.old }
+    ensures files { IsTrue (vault_tells vault.old) →
+        (vault_holds vault.new).files ≡ (vault_holds vault.old).files }
     ensures told { IsTrue (vault_tells vault.old) → (conv : ConvState) (clock : ClockState) →
         IfOk result (λ code. Acts (by_first call.now.args.now (Some conf.now)) nothing_known
         (standing transaction.old conv (vault_holds vault.old) clock process.now) code
@@ -151,6 +156,8 @@ fn set_by_texts(
     vault: &mut dyn Vault,
 ) -> Result<Code, NoMemory>
     ensures tells { vault_tells vault.new ≡ vault_tells vault.old }
+    ensures files { IsTrue (vault_tells vault.old) →
+        (vault_holds vault.new).files ≡ (vault_holds vault.old).files }
     ensures told { IsTrue (vault_tells vault.old) → (conv : ConvState) (clock : ClockState) →
         IfOk result (λ code. Acts (by_texts conf.now env) nothing_known
         (standing transaction.old conv (vault_holds vault.old) clock process.now) code
@@ -175,6 +182,8 @@ fn set_by_conf(
     vault: &mut dyn Vault,
 ) -> Result<Code, NoMemory>
     ensures tells { vault_tells vault.new ≡ vault_tells vault.old }
+    ensures files { IsTrue (vault_tells vault.old) →
+        (vault_holds vault.new).files ≡ (vault_holds vault.old).files }
     ensures told { IsTrue (vault_tells vault.old) → (conv : ConvState) (clock : ClockState) →
         IfOk result (λ code. Acts (by_entries (conf_of conf.now)
         (assignments_of env.now)) nothing_known
@@ -200,6 +209,8 @@ fn set_both(
     vault: &mut dyn Vault,
 ) -> Result<Code, NoMemory>
     ensures tells { vault_tells vault.new ≡ vault_tells vault.old }
+    ensures files { IsTrue (vault_tells vault.old) →
+        (vault_holds vault.new).files ≡ (vault_holds vault.old).files }
     ensures told { IsTrue (vault_tells vault.old) → (conv : ConvState) (clock : ClockState) →
         IfOk result (λ code. Acts (sets_all entries.now (by_fits (assignments_of env.now)))
         nothing_known

@@ -30,6 +30,8 @@ pub(crate) fn set_all(
     vault: &mut dyn Vault,
 ) -> Result<bool, NoMemory>
     ensures tells { vault_tells vault.new ≡ vault_tells vault.old }
+    ensures files { IsTrue (vault_tells vault.old) →
+        (vault_holds vault.new).files ≡ (vault_holds vault.old).files }
     ensures told { IsTrue (vault_tells vault.old) →
         (conv : ConvState) (clock : ClockState) →
         IfOk result (λ fits. CameWith fits (sets_all entries.now) accounts.old
@@ -58,6 +60,8 @@ fn set_variable(
     vault: &mut dyn Vault,
 ) -> Result<bool, NoMemory>
     ensures tells { vault_tells vault.new ≡ vault_tells vault.old }
+    ensures files { IsTrue (vault_tells vault.old) →
+        (vault_holds vault.new).files ≡ (vault_holds vault.old).files }
     ensures told { IsTrue (vault_tells vault.old) →
         (conv : ConvState) (clock : ClockState) →
         IfOk result (λ fits. CameWith fits (sets_variable entry.now) accounts.old
@@ -83,6 +87,8 @@ fn look(
     vault: &mut dyn Vault,
 ) -> Result<(), NoMemory>
     ensures tells { vault_tells vault.new ≡ vault_tells vault.old }
+    ensures files { IsTrue (vault_tells vault.old) →
+        (vault_holds vault.new).files ≡ (vault_holds vault.old).files }
     ensures told { IsTrue (vault_tells vault.old) →
         (conv : ConvState) (clock : ClockState) →
         OnOk result (CameWith (entry_seen asks transaction.now.items.user accounts.new)
@@ -108,6 +114,8 @@ fn look_user(
     vault: &mut dyn Vault,
 ) -> Result<(), NoMemory>
     ensures tells { vault_tells vault.new ≡ vault_tells vault.old }
+    ensures files { IsTrue (vault_tells vault.old) →
+        (vault_holds vault.new).files ≡ (vault_holds vault.old).files }
     ensures told { IsTrue (vault_tells vault.old) →
         (conv : ConvState) (clock : ClockState) →
         OnOk result (CameWith (entry_known transaction.now.items.user accounts.new)

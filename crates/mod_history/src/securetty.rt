@@ -2,7 +2,7 @@ ghost use Rattle.std.specs.Prelude.{◌≡◌, IsTrue, IfOk, codes};
 ghost use Rattle.std.specs.Option.{option_copied};
 ghost use Rattle.conv_port.specs.Conv.{ConvState};
 ghost use Rattle.pam_outside.specs.Time.{ClockState};
-ghost use Rattle.pam_room.specs.Module.{leaves_anything, length_note};
+ghost use Rattle.pam_room.specs.Module.{keeps_files, length_note};
 ghost use Rattle.account_files.specs.Accounts.{Known, nothing_known};
 ghost use Rattle.account_files.specs.Act.{Acts, standing};
 ghost use Rattle.module_acts.specs.Comes.{Finishes};
@@ -40,7 +40,7 @@ impl Module for Securetty {
 
     ghost note = { λ _. length_note };
 
-    ghost breaks = { λ _. leaves_anything };
+    ghost breaks = { λ _. keeps_files };
 
     fn name(&self) -> &[u8] {
         b"pam_securetty"
@@ -58,6 +58,7 @@ impl Module for Securetty {
     ) -> Result<Code, NoMemory> {
         laws::act_steps();
         module_acts::laws::talking();
+        pam_room::laws::files_stay();
         match at_once(call.func) {
             Some(code) => Ok(code),
             None => {
@@ -92,6 +93,8 @@ fn check_terminal(
 ) -> Result<Code, Refuse<ConvErr>>
     ensures conv_tells { conv_tells conv.new ≡ conv_tells conv.old }
     ensures vault_tells { vault_tells vault.new ≡ vault_tells vault.old }
+    ensures files { IsTrue (vault_tells vault.old) →
+        (vault_holds vault.new).files ≡ (vault_holds vault.old).files }
     ensures told { IsTrue (conv_tells conv.old) → IsTrue (vault_tells vault.old) →
         (clock : ClockState) → Finishes result checks_terminal
         (standing transaction.old (conv_holds conv.old) (vault_holds vault.old) clock process.now)
@@ -123,6 +126,8 @@ fn check_root(
     vault: &mut dyn Vault,
 ) -> Result<Code, NoMemory>
     ensures tells { vault_tells vault.new ≡ vault_tells vault.old }
+    ensures files { IsTrue (vault_tells vault.old) →
+        (vault_holds vault.new).files ≡ (vault_holds vault.old).files }
     ensures told { IsTrue (vault_tells vault.old) →
         (conv : ConvState) (clock : ClockState) (known : Known) →
         IfOk result (λ code. Acts checks_root known

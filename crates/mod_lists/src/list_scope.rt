@@ -31,6 +31,8 @@ pub(crate) fn list_applies(
     vault: &mut dyn Vault,
 ) -> Result<Applies, NoMemory>
     ensures tells { vault_tells vault.new ≡ vault_tells vault.old }
+    ensures files { IsTrue (vault_tells vault.old) →
+        (vault_holds vault.new).files ≡ (vault_holds vault.old).files }
     ensures told { IsTrue (vault_tells vault.old) →
         IfOk result (λ value. LooksTo (applies (plain_apply apply.entry) user.now) value process.now
         accounts.old (vault_holds vault.old) accounts.new (vault_holds vault.new)) }

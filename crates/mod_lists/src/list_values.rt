@@ -37,6 +37,8 @@ pub(crate) fn values_of(
 ) -> Result<Values, NoMemory>
     requires { transaction.now.items.user ≢ None }
     ensures tells { vault_tells vault.new ≡ vault_tells vault.old }
+    ensures files { IsTrue (vault_tells vault.old) →
+        (vault_holds vault.new).files ≡ (vault_holds vault.old).files }
     ensures told { IsTrue (vault_tells vault.old) →
         (conv : ConvState) (clock : ClockState) →
         IfOk result (λ values. CameWith values
@@ -127,6 +129,8 @@ fn shell_values(
     vault: &mut dyn Vault,
 ) -> Result<Values, NoMemory>
     ensures tells { vault_tells vault.new ≡ vault_tells vault.old }
+    ensures files { IsTrue (vault_tells vault.old) →
+        (vault_holds vault.new).files ≡ (vault_holds vault.old).files }
     ensures told { IsTrue (vault_tells vault.old) →
         IfOk result (λ values. LooksTo (reads_values ListItem.Shell user.now) values process.now
         accounts.old (vault_holds vault.old) accounts.new (vault_holds vault.new)) }
@@ -152,6 +156,8 @@ fn group_values(
     vault: &mut dyn Vault,
 ) -> Result<Values, NoMemory>
     ensures tells { vault_tells vault.new ≡ vault_tells vault.old }
+    ensures files { IsTrue (vault_tells vault.old) →
+        (vault_holds vault.new).files ≡ (vault_holds vault.old).files }
     ensures told { IsTrue (vault_tells vault.old) →
         IfOk result (λ values. LooksTo (reads_values ListItem.Group user.now) values process.now
         accounts.old (vault_holds vault.old) accounts.new (vault_holds vault.new)) }

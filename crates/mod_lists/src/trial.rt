@@ -32,6 +32,8 @@ pub(crate) fn try_words(
 ) -> Result<Truth, NoMemory>
     requires { transaction.now.items.user ≢ None }
     ensures tells { vault_tells vault.new ≡ vault_tells vault.old }
+    ensures files { IsTrue (vault_tells vault.old) →
+        (vault_holds vault.new).files ≡ (vault_holds vault.old).files }
     ensures told { IsTrue (vault_tells vault.old) →
         (conv : ConvState) (clock : ClockState) →
         IfOk result (λ truth. CameWith truth
@@ -95,6 +97,8 @@ fn try_account(
     vault: &mut dyn Vault,
 ) -> Result<Truth, NoMemory>
     ensures tells { vault_tells vault.new ≡ vault_tells vault.old }
+    ensures files { IsTrue (vault_tells vault.old) →
+        (vault_holds vault.new).files ≡ (vault_holds vault.old).files }
     ensures told { IsTrue (vault_tells vault.old) →
         IfOk result (λ truth. LooksTo (tests_field (Field.Account field) (plain_test test.entry)
         user.now) truth process.now accounts.old (vault_holds vault.old) accounts.new
@@ -149,6 +153,8 @@ fn try_groups(
     vault: &mut dyn Vault,
 ) -> Result<Truth, NoMemory>
     ensures tells { vault_tells vault.new ≡ vault_tells vault.old }
+    ensures files { IsTrue (vault_tells vault.old) →
+        (vault_holds vault.new).files ≡ (vault_holds vault.old).files }
     ensures told { IsTrue (vault_tells vault.old) →
         IfOk result (λ truth. LooksTo (λ act. reads_passwds (by_passwds sense (items_of names.now)
         user.now act)) truth process.now accounts.old (vault_holds vault.old) accounts.new

@@ -7,6 +7,7 @@ loop-rest-preserved g c =
     let inv = c.loop-rest.invariant in
     record {
       tells = c.in_ok-set_variable.ensures.tells ∙ inv.tells;
+      files = λ tells. c.in_ok-set_variable.ensures.files (inv.tells ∙ tells) ∙ inv.files tells;
       told = λ tells conv clock act code end a.
           one_more _ _ _ _ _ _ c.set_variable.new.accounts _ _ _ (first_of _ c.entry-item.result c.in-len1-up.len_at_least c.entry-item.is) (inv.told tells conv clock)
           (rw c.if-not-branch.false at (c.in_ok-set_variable.ensures.told (inv.tells ∙ tells) conv clock)) act code end a;

@@ -11,6 +11,8 @@ use Rattle.mod_env.proofs.setting.set_all.Given as goal
 abbrev pub invariant-loop-rest : goal.invariant-loop-rest
 invariant-loop-rest g l = record {
   tells : (goal.Vault-dyn g l.vault.now).vault_tells l.vault.now.1 ≡ (goal.Vault-dyn g l.fn.vault.now).vault_tells l.fn.vault.now.1;
+  files : IsTrue ((goal.Vault-dyn g l.fn.vault.now).vault_tells l.fn.vault.now.1) →
+      ((goal.Vault-dyn g l.vault.now).vault_holds l.vault.now.1).files ≡ ((goal.Vault-dyn g l.fn.vault.now).vault_holds l.fn.vault.now.1).files;
   told : IsTrue ((goal.Vault-dyn g l.fn.vault.now).vault_tells l.fn.vault.now.1) → (conv : ConvState) (clock : ClockState) (act : Bool → Act) (code : Code) (end : Scene) →
       Acts (sets_all l.rest act) l.accounts (standing l.transaction conv ((goal.Vault-dyn g l.vault.now).vault_holds l.vault.now.1) clock l.process) code end →
       Acts (sets_all l.entries act) l.fn.accounts (standing l.fn.transaction conv ((goal.Vault-dyn g l.fn.vault.now).vault_holds l.fn.vault.now.1) clock l.process) code end;

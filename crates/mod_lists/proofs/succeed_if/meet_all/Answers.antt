@@ -7,6 +7,7 @@ loop-rest-preserved g c =
     let inv = c.loop-rest.invariant in
     record {
       tells = c.in_ok-truth.ensures.tells ∙ inv.tells;
+      files = λ tells. c.in_ok-truth.ensures.files (inv.tells ∙ tells) ∙ inv.files tells;
       told = λ tells conv clock code end rest.
           inv.told tells conv clock code end (goes_on _ _ _ _ _ _ _ _ _ _ (first_three _ c.field-item.result c.word-item.result c.value-item.result c.in-len3-up.len_at_least c.field-item.is c.word-item.is c.value-item.is) _
           (λ act code' end' a. (rw (c.condition_of-condition.ensures, c.bytes.ensures, c.bytes-in-len3-up.ensures, c.bytes-in-len3-up-2.ensures) at (c.in_ok-truth.ensures.told (inv.tells ∙ tells) conv clock act code' end')) a)

@@ -11,6 +11,8 @@ use Rattle.mod_lists.proofs.succeed_if.meet_all.Given as goal
 abbrev pub invariant-loop-rest : goal.invariant-loop-rest
 invariant-loop-rest g l = record {
   tells : (goal.Vault-dyn g l.vault.now).vault_tells l.vault.now.1 ≡ (goal.Vault-dyn g l.fn.vault.now).vault_tells l.fn.vault.now.1;
+  files : IsTrue ((goal.Vault-dyn g l.fn.vault.now).vault_tells l.fn.vault.now.1) →
+      ((goal.Vault-dyn g l.vault.now).vault_holds l.vault.now.1).files ≡ ((goal.Vault-dyn g l.fn.vault.now).vault_holds l.fn.vault.now.1).files;
   told : IsTrue ((goal.Vault-dyn g l.fn.vault.now).vault_tells l.fn.vault.now.1) → (conv : ConvState) (clock : ClockState) (code : Code) (end : Scene) →
       Acts (meets_all l.rest (unwrap_or l.transaction.items.user [])) l.accounts (standing l.transaction conv ((goal.Vault-dyn g l.vault.now).vault_holds l.vault.now.1) clock l.process) code end →
       Acts (meets_all l.conditions (unwrap_or l.transaction.items.user [])) nothing_known (standing l.transaction conv ((goal.Vault-dyn g l.fn.vault.now).vault_holds l.fn.vault.now.1) clock l.process) code end;
