@@ -12,8 +12,8 @@ use std::alloc::Global;
 
 /// A shadow file (`shadow(5)`) in which the first line of the user has this hash, and this day as
 /// that of its last change. Every other byte stays; where the user has no line, all do. Or the
-/// first line that hasn't the form of an entry, as `shadows` tells it. The text has at most
-/// 1,048,576 bytes.
+/// first line that hasn't the form of an entry, as `shadows` tells it, also without memory. The
+/// text has at most 1,048,576 bytes.
 pub fn replace_hash(
     alloc: Global,
     text: &[u8],
