@@ -1,4 +1,4 @@
-ghost use Rattle.std.specs.Prelude.{◌≡◌, ◌≤◌, IsTrue, IfOk, OnOk};
+ghost use Rattle.std.specs.Prelude.{◌≡◌, ◌≢◌, ◌≤◌, IsTrue, IfOk, Ok, OnOk, OnErr, false};
 ghost use Rattle.pam_outside.specs.Files.{counted};
 ghost use Rattle.account_files.specs.Act.{StepsTo, reads_file, replaces_file};
 ghost use Rattle.account_files.specs.Content.{IsWithin, content_at, is_rooted};
@@ -33,7 +33,11 @@ pub(crate) fn read_content(
         (vault_holds vault.old)) }
     ensures calls { IsTrue (vault_tells vault.old) →
         OnOk result (vault_holds vault.new ≡ counted (vault_holds vault.old)) }
+    ensures files { IsTrue (vault_tells vault.old) →
+        (vault_holds vault.new).files ≡ (vault_holds vault.old).files }
     ensures faults { vault_faults vault.old ≤ vault_faults vault.new }
+    ensures no_fault { result ≢ Ok Content.Unreadable →
+        vault_faults vault.new ≡ vault_faults vault.old }
 {
     let path = path_of(alloc, root, name)?;
     match read_file(vault, alloc, path.bytes(), limit) {
@@ -46,7 +50,8 @@ pub(crate) fn read_content(
 }
 
 /// Reads the file with this name, of which n bytes may be read, by one call of the vault. Where the name isn't a path
-/// from the root, the file is absent, and no call is made.
+/// from the root, the file is absent, and no call is made. The files stay, also without memory, and where the outside
+/// failed the file is unreadable.
 pub fn read_named(
     alloc: Global,
     vault: &mut dyn Vault,
@@ -59,7 +64,11 @@ pub fn read_named(
     ensures told { IsTrue (vault_tells vault.old) →
         IfOk result (λ content. StepsTo (reads_file name.now limit) content process.now
         (vault_holds vault.old) (vault_holds vault.new)) }
+    ensures files { IsTrue (vault_tells vault.old) →
+        (vault_holds vault.new).files ≡ (vault_holds vault.old).files }
     ensures faults { vault_faults vault.old ≤ vault_faults vault.new }
+    ensures no_fault { result ≢ Ok Content.Unreadable →
+        vault_faults vault.new ≡ vault_faults vault.old }
 {
     if !is_rooted(name) {
         return Ok(Content::Absent);
@@ -68,8 +77,8 @@ pub fn read_named(
     Ok(content)
 }
 
-/// Sets the file with this name whole, by one call of the vault. False where the outside failed: the file is then as it
-/// was.
+/// Sets the file with this name whole, by one call of the vault. False where the outside failed: all files are then as
+/// they were, as they are without memory.
 pub fn replace_named(
     alloc: Global,
     vault: &mut dyn Vault,
@@ -81,7 +90,10 @@ pub fn replace_named(
     ensures told { IsTrue (vault_tells vault.old) →
         IfOk result (λ done. StepsTo (replaces_file name.now bytes.now) done process.now
         (vault_holds vault.old) (vault_holds vault.new)) }
+    ensures err { IsTrue (vault_tells vault.old) →
+        OnErr result ((vault_holds vault.new).files ≡ (vault_holds vault.old).files) }
     ensures faults { vault_faults vault.old ≤ vault_faults vault.new }
+    ensures no_fault { result ≢ Ok false → vault_faults vault.new ≡ vault_faults vault.old }
 {
     let path = path_of(alloc, process.root.bytes(), name)?;
     match replace_file(vault, alloc, path.bytes(), bytes) {
