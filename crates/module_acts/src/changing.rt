@@ -1,4 +1,4 @@
-ghost use Rattle.std.specs.Prelude.{◌≡◌, ℕ, IfOk, OnOk, Some};
+ghost use Rattle.std.specs.Prelude.{◌≡◌, ℕ, IfOk, OnOk, OnErr, Some};
 ghost use Rattle.conv_port.specs.Conv.{ConvState};
 ghost use Rattle.data_cleanup.specs.Sets.{Sets};
 ghost use Rattle.pam_outside.specs.Files.{VaultState};
@@ -26,7 +26,7 @@ pub fn request_delay(transaction: &mut Transaction, micros: u32)
     transaction.delay.request(micros);
 }
 
-/// Sets AUTHTOK (`pam_set_item(3)`).
+/// Sets AUTHTOK (`pam_set_item(3)`). Without memory all stays as it was.
 pub fn set_token(transaction: &mut Transaction, token: &[u8]) -> Result<(), NoMemory>
     ensures told { (conv : ConvState) (vault : VaultState) (clock : ClockState)
         (process : PlainProcess) →
@@ -34,6 +34,7 @@ pub fn set_token(transaction: &mut Transaction, token: &[u8]) -> Result<(), NoMe
         clock process) (lent transaction.new conv vault clock process)) }
     ensures items { OnOk result (transaction.new.items
         ≡ record transaction.old.items { auth_tok = Some token.now }) }
+    ensures err { OnErr result (transaction.new ≡ transaction.old) }
     ensures talks { Talks transaction.old transaction.new }
 {
     set_item(&mut transaction.items, ItemName::AuthTok, token)?;
@@ -55,6 +56,8 @@ pub fn answer_and_keep(
         (record { name = name.now; payload = payload.now }) code)
         (lent transaction.old conv vault clock (plain_process process.old)) answer
         (lent transaction.new conv vault clock (plain_process process.new))) }
+    ensures err { OnErr result ((transaction.new ≡ transaction.old)
+        × (process.new ≡ process.old)) }
     ensures sets { Sets transaction.old.serving transaction.old.datums process.old.ledger
         transaction.new.datums process.new.ledger }
     ensures data_handle { transaction.new.datums.handle ≡ transaction.old.datums.handle }

@@ -1,7 +1,8 @@
-ghost use Rattle.std.specs.Prelude.{◌≡◌, ◌≢◌, ◌++◌, None, IsTrue, OnOk, List, unwrap_or, []};
+ghost use Rattle.std.specs.Prelude.{◌≡◌, ◌≢◌, ◌++◌, None, IsTrue, OnOk, OnErr, List, unwrap_or, []};
 ghost use Rattle.conv_port.specs.declared.message.Message.{Message};
 ghost use Rattle.pam_outside.specs.Files.{VaultState};
 ghost use Rattle.pam_outside.specs.Time.{ClockState};
+ghost use Rattle.pam_room.specs.Say.{signs};
 ghost use Rattle.pam_room.specs.State.{PlainProcess, room_of};
 ghost use Rattle.pam_room.specs.Module.{seen_of};
 ghost use Rattle.pam_room.specs.Plain.{plain_transaction};
@@ -25,7 +26,8 @@ pub fn user_of(transaction: &Transaction) -> &[u8]
     }
 }
 
-/// Shows a text, of which 512 bytes count, whatever the conversation makes of it. An empty one isn't shown.
+/// Shows a text, of which 512 bytes count, whatever the conversation makes of it. An empty one isn't shown. Without
+/// memory a conversation that tells is as it was, and none failed.
 pub fn show(
     alloc: Global,
     transaction: &mut Transaction,
@@ -39,6 +41,12 @@ pub fn show(
         OnOk result (Leads (shows style text.now)
         (lent transaction.old (conv_holds conv.old) vault clock process)
         (lent transaction.new (conv_holds conv.new) vault clock process)) }
+    ensures untaken { IsTrue (conv_tells conv.old) →
+        OnErr result (conv_holds conv.new ≡ conv_holds conv.old) }
+    ensures no_fault { OnErr result (signs (conv_faults conv.new)
+        (conv_deferrals conv.new) transaction.new.put_off
+        ≡ signs (conv_faults conv.old) (conv_deferrals conv.old) transaction.old.put_off) }
+    ensures items { transaction.new.items ≡ transaction.old.items }
     ensures talks { Talks transaction.old transaction.new }
 {
     put_forward(alloc, transaction, conv, style, text)
@@ -57,6 +65,11 @@ fn put_forward(
         OnOk result (seen_of (room_of (plain_transaction transaction.new) (conv_holds conv.new))
         ≡ shown style text.now (seen_of (room_of (plain_transaction transaction.old)
         (conv_holds conv.old)))) }
+    ensures untaken { IsTrue (conv_tells conv.old) →
+        OnErr result (conv_holds conv.new ≡ conv_holds conv.old) }
+    ensures no_fault { OnErr result (signs (conv_faults conv.new)
+        (conv_deferrals conv.new) transaction.new.put_off
+        ≡ signs (conv_faults conv.old) (conv_deferrals conv.old) transaction.old.put_off) }
     ensures said { (more : List Message) × (transaction.new.said ≡ transaction.old.said ++ more) }
     ensures others { transaction.new ≡ record transaction.old {
       said = transaction.new.said;
