@@ -1,5 +1,5 @@
 -- The stacks of a service, laid flat type by type.
-use Rattle.std.proofs.Common.{◌≡◌, ℕ, ◌+◌, ◌<◌, ◌≤◌, length, drop, get_or, List, refl, ap, ◌∙◌}
+use Rattle.std.proofs.Common.{◌≡◌, ℕ, ◌+◌, ◌<◌, ◌≤◌, length, drop, get_or, ap, ◌∙◌}
 use Rattle.control_words.specs.Stack.{Stack, stack_of}
 use Rattle.service_load.specs.declared.rule_type.RuleType.{RuleType}
 use Rattle.service_load.specs.declared.rule_type.RuleType.TheVariants.{Auth, Account, Password, Session}
@@ -7,7 +7,7 @@ use Rattle.service_load.specs.declared.trees.Trees.{Trees}
 use Rattle.service_load.specs.Load.{AreBounded}
 use Rattle.service_load.specs.Loading.{IsBounded}
 use Rattle.service_load.specs.RuleType.{all_types}
-use Rattle.service_load.specs.Stacks.{Stacks, stacks_of, with_stack}
+use Rattle.service_load.specs.Stacks.{Stacks, with_stack}
 use Rattle.service_load.specs.Trees.{nodes_in, stacks_of_trees}
 use Rattle.service_load.proofs.Filling.{filled, filled_all, filled_next}
 

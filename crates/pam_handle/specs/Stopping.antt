@@ -1,5 +1,5 @@
 -- Where a stack call stopped that found no memory (this project's own).
-use Rattle.std.specs.Prelude.{◌≡◌, ◌⊎◌, ℕ, bit_or, Bool, true, false, IsTrue, List, [], length, Option, Some, None}
+use Rattle.std.specs.Prelude.{◌≡◌, ◌⊎◌, ℕ, Bool, true, false, IsTrue, List, [], length, Option, Some, None}
 use Rattle.pam_base.specs.declared.code.Code.{Code}
 use Rattle.pam_base.specs.declared.code.Code.TheVariants as codes
 use Rattle.pam_base.specs.declared.call.Func.{Func}
@@ -16,7 +16,7 @@ use Rattle.dispatch_core.specs.Pending.{first_in, past_in}
 use Rattle.pam_room.specs.Module.{Player, notes_of}
 use Rattle.pam_room.specs.State.{PlainRoom, PlainWorld, State, state_of}
 use Rattle.pam_handle.specs.Handle.{PlainHandle}
-use Rattle.pam_handle.specs.Call.{items_begun, request_behind, without_its_tokens, without_request}
+use Rattle.pam_handle.specs.Call.{items_begun, without_its_tokens, without_request}
 use Rattle.pam_handle.specs.Pass.{PassesTo, passed}
 use Rattle.pam_handle.specs.StackCalls.{flags_seen, held_in}
 

@@ -1,6 +1,5 @@
-use Rattle.std.proofs.Common.{List, Option, None, map, length, refl, sym, ◌∙◌, ap}
+use Rattle.std.proofs.Common.{Option, None, map, length, refl, sym, ◌∙◌, ap}
 use Rattle.std.specs.Option.{option_map}
-use Rattle.pam_base.specs.declared.code.Code.{Code}
 use Rattle.item_store.specs.Items.{ItemTexts}
 use Rattle.pam_base.specs.declared.call.Func.TheVariants.{Authenticate}
 use Rattle.pam_room.specs.Module.{notes_of, player_of}
