@@ -6,3 +6,4 @@ pub mod Lawful
 pub mod Giving
 pub mod Settling
 pub mod Fitting
+mod Wanting

@@ -32,6 +32,12 @@ next_by (Whole size) rest = next_in (step_in (take (size - 2) (drop 2 rest))) si
 abbrev pub next_of : List ℕ → Next
 next_of rest = next_by (front_of rest) rest
 
+-- the frame of a step stands in front
+abbrev pub IsStep : Next → Type 0
+IsStep (next.Frame step size) = Unit {0}
+IsStep next.Open = ⊥
+IsStep next.Bad = ⊥
+
 -- the next step is taken, or there is none yet, or there is no frame; without memory all is as
 -- before
 abbrev pub Nexts : Result (Option Step) (Refuse BadFrame) → FramesState → FramesState → Type 0

@@ -1,7 +1,7 @@
-ghost use Rattle.std.specs.Prelude.{◌≡◌, ◌+◌, ◌<◌, ◌≤◌, ◌++◌, ◌^◌, ℕ, List, [], length, drop, IfOk, OnOk, OnErr};
+ghost use Rattle.std.specs.Prelude.{◌≡◌, ◌+◌, ◌<◌, ◌≤◌, ◌++◌, ◌^◌, ℕ, List, [], length, drop, Err, IfOk, OnOk, OnErr};
 ghost use Rattle.pam_base.specs.declared.call.Step.{Step as TheStep};
 ghost use Rattle.pam_wire.specs.Frame.{AreBytes};
-ghost use Rattle.pam_wire.specs.Stream.{Gave, GivesNext, Nexts};
+ghost use Rattle.pam_wire.specs.Stream.{Gave, GivesNext, IsStep, Nexts, next_of};
 
 use crate::next::{Next, next_of};
 use pam_base::{NoMemory, Refuse, Step};
@@ -58,10 +58,12 @@ impl Frames {
 
     /// Takes the step of the first frame that wasn't taken yet. None exactly where nothing is left, or the beginning
     /// of a frame whose length is in range. `BadFrame` exactly where the length is out of range, or the frame is whole
-    /// and no call; every later answer is the same then. Without memory all is as before.
+    /// and no call; every later answer is the same then. Memory is taken for a step alone, and without it all is as
+    /// before.
     pub fn next(&mut self, alloc: Global) -> Result<Option<Step>, Refuse<BadFrame>>
         requires { self.old.place + length self.old.rest < 2 ^ 63 }
         ensures next { Nexts result self.old self.new }
+        ensures memory { result ≡ Err Refuse.NoMemory → IsStep (next_of self.old.rest) }
         ensures fed { self.new.place + length self.new.rest ≡ self.old.place + length self.old.rest }
         ensures gave { (fed : List ℕ) (steps : List TheStep) → AreBytes fed →
             Gave fed steps self.old → GivesNext result fed steps self.new }

@@ -1,5 +1,5 @@
-ghost use Rattle.std.specs.Prelude.{◌≡◌, IfOk};
-ghost use Rattle.pam_wire.specs.Stream.{next_of};
+ghost use Rattle.std.specs.Prelude.{◌≡◌, IfOk, OnErr};
+ghost use Rattle.pam_wire.specs.Stream.{IsStep, next_of};
 
 use crate::front::{Front, LENGTH, front_of};
 use crate::step::step_in;
@@ -18,7 +18,8 @@ pub enum Next {
 }
 
 pub(crate) fn next_of(alloc: Global, bytes: &[u8]) -> Result<Next, NoMemory>
-    ensures { IfOk result (λ next. next ≡ next_of bytes.now) }
+    ensures next { IfOk result (λ next. next ≡ next_of bytes.now) }
+    ensures memory { OnErr result (IsStep (next_of bytes.now)) }
 {
     match front_of(bytes) {
         Front::Open => Ok(Next::Open),

@@ -1,4 +1,4 @@
-ghost use Rattle.std.specs.Prelude.{◌≡◌, IfOk, IfSome, IsTrue};
+ghost use Rattle.std.specs.Prelude.{◌≡◌, IfOk, IfSome, IsTrue, OnErr, is_some, true};
 ghost use Rattle.pam_base.specs.Call.{is_fit};
 ghost use Rattle.pam_wire.specs.Read.{number_in, text_in, name_in, value_in, switch_in, item_in, item_of_number, setting_in, start_in, list_in, call_in, step_in, step_of};
 
@@ -10,9 +10,11 @@ use std::alloc::Global;
 /// The most bytes of a text.
 const MAX_TEXT: usize = 512;
 
-/// The step that these bytes are the frame of. None exactly where they are no frame, or one that is no call.
+/// The step that these bytes are the frame of. None exactly where they are no frame, or one that is no call; memory is
+/// taken for a step alone.
 pub fn step_of(alloc: Global, frame: &[u8]) -> Result<Option<Step>, NoMemory>
     ensures step { IfOk result (λ step. step ≡ step_of frame.now) }
+    ensures memory { OnErr result (is_some (step_of frame.now) ≡ true) }
 
     // A start names a service, and a reply has at most 512 bytes.
     ensures fit { IfOk result (λ found. IfSome found (λ step. IsTrue (is_fit step.call))) }
@@ -32,6 +34,7 @@ pub fn step_of(alloc: Global, frame: &[u8]) -> Result<Option<Step>, NoMemory>
 /// The step of what stands after a length. None exactly where it is no call.
 pub(crate) fn step_in(alloc: Global, body: &[u8]) -> Result<Option<Step>, NoMemory>
     ensures step { IfOk result (λ step. step ≡ step_in body.now) }
+    ensures memory { OnErr result (is_some (step_in body.now) ≡ true) }
     ensures fit { IfOk result (λ found. IfSome found (λ step. IsTrue (is_fit step.call))) }
 {
     let [number, kind, rest @ ..] = body else {
@@ -48,7 +51,8 @@ pub(crate) fn step_in(alloc: Global, body: &[u8]) -> Result<Option<Step>, NoMemo
 }
 
 fn call_in(alloc: Global, kind: Kind, rest: &[u8]) -> Result<Option<AppCall>, NoMemory>
-    ensures { IfOk result (λ call. call ≡ call_in kind rest.now) }
+    ensures call { IfOk result (λ call. call ≡ call_in kind rest.now) }
+    ensures memory { OnErr result (is_some (call_in kind rest.now) ≡ true) }
 {
     let number = number_in(rest);
     Ok(match kind {
@@ -83,7 +87,8 @@ fn number_in(rest: &[u8]) -> Option<u32>
 }
 
 fn text_in(alloc: Global, rest: &[u8]) -> Result<Option<Text>, NoMemory>
-    ensures { IfOk result (λ text. text ≡ text_in rest.now) }
+    ensures text { IfOk result (λ text. text ≡ text_in rest.now) }
+    ensures memory { OnErr result (is_some (text_in rest.now) ≡ true) }
 {
     if rest.len() <= MAX_TEXT {
         Ok(Some(Text::from_bytes(alloc, rest)?))
@@ -93,7 +98,8 @@ fn text_in(alloc: Global, rest: &[u8]) -> Result<Option<Text>, NoMemory>
 }
 
 fn name_in(alloc: Global, rest: &[u8]) -> Result<Option<Text>, NoMemory>
-    ensures { IfOk result (λ name. name ≡ name_in rest.now) }
+    ensures name { IfOk result (λ name. name ≡ name_in rest.now) }
+    ensures memory { OnErr result (is_some (name_in rest.now) ≡ true) }
 {
     if rest.is_empty() {
         Ok(None)
@@ -104,7 +110,8 @@ fn name_in(alloc: Global, rest: &[u8]) -> Result<Option<Text>, NoMemory>
 
 // 0 for none; or 1 and the text.
 fn value_in(alloc: Global, rest: &[u8]) -> Result<Option<Option<Text>>, NoMemory>
-    ensures { IfOk result (λ value. value ≡ value_in rest.now) }
+    ensures value { IfOk result (λ value. value ≡ value_in rest.now) }
+    ensures memory { OnErr result (is_some (value_in rest.now) ≡ true) }
 {
     match rest {
         [0] => Ok(Some(None)),
@@ -142,7 +149,8 @@ fn item_of_number(number: u8) -> Option<ItemName>
 }
 
 fn setting_in(alloc: Global, rest: &[u8]) -> Result<Option<AppCall>, NoMemory>
-    ensures { IfOk result (λ call. call ≡ setting_in rest.now) }
+    ensures call { IfOk result (λ call. call ≡ setting_in rest.now) }
+    ensures memory { OnErr result (is_some (setting_in rest.now) ≡ true) }
 {
     let [number, value @ ..] = rest else {
         return Ok(None);
@@ -158,7 +166,8 @@ fn setting_in(alloc: Global, rest: &[u8]) -> Result<Option<AppCall>, NoMemory>
 
 // One byte that says how long the service's name is, then the name, and perhaps a user.
 fn start_in(alloc: Global, rest: &[u8]) -> Result<Option<AppCall>, NoMemory>
-    ensures { IfOk result (λ call. call ≡ start_in rest.now) }
+    ensures call { IfOk result (λ call. call ≡ start_in rest.now) }
+    ensures memory { OnErr result (is_some (start_in rest.now) ≡ true) }
 {
     let [size, more @ ..] = rest else {
         return Ok(None);
