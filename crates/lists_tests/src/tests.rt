@@ -35,7 +35,11 @@ struct Outcome {
 
 // Memory of a process without data.
 fn process(alloc: Global) -> Process
-    ensures { plain_process result ≡ record { ledger = record { births = []; filed = [] }; root = []; caller = 0 } }
+    ensures { plain_process result ≡ record {
+      ledger = record { births = []; filed = [] };
+      root = [];
+      caller = 0;
+    } }
 {
     Process {
         ledger: Ledger::new(alloc),
@@ -65,8 +69,10 @@ fn serve_first(
 ) -> Result<Code, NoMemory>
     requires some { 0 < length mods.now }
     requires few { length mods.now < 2 ^ 32 }
-    requires ready { IsReady (length mods.now) (plain_transaction room.old.transaction) (plain_process world.old.process) }
-    ensures ready { IsReady (length mods.now) (plain_transaction room.new.transaction) (plain_process world.new.process) }
+    requires ready { IsReady (length mods.now) (plain_transaction room.old.transaction)
+        (plain_process world.old.process) }
+    ensures ready { IsReady (length mods.now) (plain_transaction room.new.transaction)
+        (plain_process world.new.process) }
 {
     room.transaction.trail.reserve(1)?;
     let line = StackLine {

@@ -72,7 +72,8 @@ impl Handle {
             (plain_handle ⟦<Room as RoomTold>⟧.plain self.new).pending) }
         ensures no_nap { OnErr result (world.new.nap ≡ world.old.nap) }
         ensures stopped { OnErr result (StopsChanging (⟦<Gear as GearTold>⟧.players gear.now) flags
-            (⟦<Room as RoomTold>⟧.tells (room_in self.old) && ⟦<World as WorldTold>⟧.tells world.old)
+            (⟦<Room as RoomTold>⟧.tells (room_in self.old)
+            && ⟦<World as WorldTold>⟧.tells world.old)
             (plain_handle ⟦<Room as RoomTold>⟧.plain self.old)
             (plain_handle ⟦<Room as RoomTold>⟧.plain self.new)
             (⟦<World as WorldTold>⟧.plain world.old) (⟦<World as WorldTold>⟧.plain world.new)

@@ -59,7 +59,8 @@ impl Handle {
         ensures no_nap { OnErr result (world.new.nap ≡ world.old.nap) }
         ensures stopped { OnErr result (StopsOnce (⟦<Gear as GearTold>⟧.players gear.now)
             Func.SetCred flags
-            (⟦<Room as RoomTold>⟧.tells (room_in self.old) && ⟦<World as WorldTold>⟧.tells world.old)
+            (⟦<Room as RoomTold>⟧.tells (room_in self.old)
+            && ⟦<World as WorldTold>⟧.tells world.old)
             (plain_handle ⟦<Room as RoomTold>⟧.plain self.old)
             (plain_handle ⟦<Room as RoomTold>⟧.plain self.new)
             (⟦<World as WorldTold>⟧.plain world.old) (⟦<World as WorldTold>⟧.plain world.new)

@@ -47,7 +47,10 @@ impl Frames {
     /// before.
     pub fn feed(&mut self, piece: &[u8]) -> Result<(), NoMemory>
         requires { self.old.place + length self.old.rest + length piece.now < 2 ^ 63 }
-        ensures ok { OnOk result (self.new ≡ record { place = self.old.place; rest = self.old.rest ++ piece.now }) }
+        ensures ok { OnOk result (self.new ≡ record {
+          place = self.old.place;
+          rest = self.old.rest ++ piece.now;
+        }) }
         ensures err { OnErr result (self.new ≡ self.old) }
         ensures gave { (fed : List ℕ) (steps : List TheStep) → Gave fed steps self.old →
             OnOk result (Gave (fed ++ piece.now) steps self.new) }
@@ -64,7 +67,8 @@ impl Frames {
         requires { self.old.place + length self.old.rest < 2 ^ 63 }
         ensures next { Nexts result self.old self.new }
         ensures memory { result ≡ Err Refuse.NoMemory → IsStep (next_of self.old.rest) }
-        ensures fed { self.new.place + length self.new.rest ≡ self.old.place + length self.old.rest }
+        ensures fed { self.new.place + length self.new.rest
+            ≡ self.old.place + length self.old.rest }
         ensures gave { (fed : List ℕ) (steps : List TheStep) → AreBytes fed →
             Gave fed steps self.old → GivesNext result fed steps self.new }
     {
@@ -88,7 +92,10 @@ impl Frames {
     fn skip(&mut self, size: usize)
         requires within { size ≤ length self.old.rest }
         requires few { self.old.place + length self.old.rest < 2 ^ 63 }
-        ensures { self.new ≡ record { place = self.old.place + size; rest = drop size self.old.rest } }
+        ensures { self.new ≡ record {
+          place = self.old.place + size;
+          rest = drop size self.old.rest;
+        } }
     {
         let left = self.held.len() - size;
         self.held.rotate_left(size);

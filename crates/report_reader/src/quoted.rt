@@ -29,7 +29,8 @@ pub fn unquoted(alloc: Global, text: &[u8]) -> Result<Text, NoMemory>
 
 fn read_byte(reading: Reading, byte: u8, bytes: &mut Vec<u8>) -> Result<Reading, NoMemory>
     ensures state { IfOk result (λ next. state_of next ≡ state_behind (state_of reading) byte) }
-    ensures bytes { OnOk result (bytes.new.items ≡ bytes.old.items ++ bytes_behind (state_of reading) byte) }
+    ensures bytes { OnOk result (bytes.new.items
+        ≡ bytes.old.items ++ bytes_behind (state_of reading) byte) }
 {
     match reading {
         Reading::Between if byte == b'\\' => Ok(Reading::Escaped),

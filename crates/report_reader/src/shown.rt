@@ -219,8 +219,8 @@ fn read_pending(
     command: Spoken,
     func: Func,
 ) -> Result<Option<Form>, NoMemory>
-    ensures { Reads result
-        (if_printed line.now (results number (answered (command_of command) (shows_pending func)))) }
+    ensures { Reads result (if_printed line.now
+        (results number (answered (command_of command) (shows_pending func)))) }
 {
     let mut text = String::new(alloc);
     write_pending_result(&mut text, number, command_word(command), func)?;
