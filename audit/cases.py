@@ -60,7 +60,15 @@ class Case:
         """Whether a file is one that was written whole, old or new."""
         if path.startswith("var/run/faillock/"):
             return re.fullmatch(rb"faillock [12]\n(\d{1,13}( U| [RTS] [!-~]+)?\n)*", text) is not None
-        return text in (self.files.get(path), self.after.get(path))
+        old, new = self.files.get(path), self.after.get(path)
+        if text in (old, new):
+            return True
+        # Of two lines that set a token each writes the file whole, with a hash of its own.
+        return path == "etc/shadow" and None not in (text, new) and HASHES.sub(b"HASH", text) == HASHES.sub(b"HASH", bytes_of(new))
+
+
+# a hash of SHA-crypt as a field
+HASHES = re.compile(rb"(?<=:)\$(5\$[^$:\n]{1,16}\$[./0-9A-Za-z]{43}|6\$[^$:\n]{1,16}\$[./0-9A-Za-z]{86})(?=:)")
 
 
 def bytes_of(text):
