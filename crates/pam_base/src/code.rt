@@ -4,37 +4,69 @@ ghost use Rattle.pam_base.specs.Code.{number_of, name_of, code_word, all_codes, 
 /// The return codes of PAM, in the order of their numbers (`pam(3)`, `_pam_types.h`).
 #[derive(Clone, Copy, Debug, PartialEq, Eq)]
 pub enum Code {
+    /// PAM_SUCCESS (0).
     Success,
+    /// PAM_OPEN_ERR (1): a module could not be loaded.
     OpenErr,
+    /// PAM_SYMBOL_ERR (2): a module lacks a function.
     SymbolErr,
+    /// PAM_SERVICE_ERR (3): an error in a module.
     ServiceErr,
+    /// PAM_SYSTEM_ERR (4).
     SystemErr,
+    /// PAM_BUF_ERR (5): out of memory, or a text is too long.
     BufErr,
+    /// PAM_PERM_DENIED (6).
     PermDenied,
+    /// PAM_AUTH_ERR (7): authentication failed.
     AuthErr,
+    /// PAM_CRED_INSUFFICIENT (8): the caller may not see the authentication data.
     CredInsufficient,
+    /// PAM_AUTHINFO_UNAVAIL (9): the authentication data cannot be read.
     AuthinfoUnavail,
+    /// PAM_USER_UNKNOWN (10).
     UserUnknown,
+    /// PAM_MAXTRIES (11).
     MaxTries,
+    /// PAM_NEW_AUTHTOK_REQD (12): the password has expired and must be changed.
     NewAuthtokReqd,
+    /// PAM_ACCT_EXPIRED (13).
     AcctExpired,
+    /// PAM_SESSION_ERR (14).
     SessionErr,
+    /// PAM_CRED_UNAVAIL (15).
     CredUnavail,
+    /// PAM_CRED_EXPIRED (16).
     CredExpired,
+    /// PAM_CRED_ERR (17).
     CredErr,
+    /// PAM_NO_MODULE_DATA (18): `pam_get_data(3)` found no data of this name.
     NoModuleData,
+    /// PAM_CONV_ERR (19): the conversation failed.
     ConvErr,
+    /// PAM_AUTHTOK_ERR (20): the new password could not be stored.
     AuthtokErr,
+    /// PAM_AUTHTOK_RECOVERY_ERR (21): the old password could not be had.
     AuthtokRecoveryErr,
+    /// PAM_AUTHTOK_LOCK_BUSY (22).
     AuthtokLockBusy,
+    /// PAM_AUTHTOK_DISABLE_AGING (23).
     AuthtokDisableAging,
+    /// PAM_TRY_AGAIN (24): the first pass of `pam_chauthtok(3)` failed.
     TryAgain,
+    /// PAM_IGNORE (25): the module does not count.
     Ignore,
+    /// PAM_ABORT (26).
     Abort,
+    /// PAM_AUTHTOK_EXPIRED (27).
     AuthtokExpired,
+    /// PAM_MODULE_UNKNOWN (28): there is no such module.
     ModuleUnknown,
+    /// PAM_BAD_ITEM (29).
     BadItem,
+    /// PAM_CONV_AGAIN (30): the conversation has no reply yet.
     ConvAgain,
+    /// PAM_INCOMPLETE (31): the call is to be made again once there is a reply.
     Incomplete,
 }
 
@@ -110,14 +142,14 @@ const CODE_WORDS: [(&str, &str); 32] = [
     ("INCOMPLETE", "incomplete"),
 ];
 
-/// The number of a code, from 0 to 31.
+/// The number of a code in `_pam_types.h`, from 0 to 31.
 pub fn code_number(code: Code) -> u32
     ensures { result ≡ number_of code }
 {
     code as u32
 }
 
-/// The code with this number; None exactly where it is above 31.
+/// The code with this number; None if it is above 31.
 pub fn code_of(number: u32) -> Option<Code>
     ensures code { IfSome result (λ code. number_of code ≡ number) }
     ensures none { IsNone result ↔ (31 < number) }
@@ -136,22 +168,22 @@ fn code_at(number: u32) -> Code
     ALL_CODES[number as usize]
 }
 
-/// The name in capitals, as `AUTH_ERR`.
+/// The constant's name without `PAM_`, as `AUTH_ERR`. (`pam_strerror(3)` gives a sentence instead.)
 pub fn code_name(code: Code) -> &'static str
     ensures { result.now ≡ name_of code }
 {
     CODE_WORDS[code as usize].0
 }
 
-/// The word that `pam.conf(5)` has for the code: its name in small letters, but `authtok_recover_err` for 21.
+/// The word that `pam.conf(5)` has for the code: its name in lower case, except `authtok_recover_err` for 21.
 pub fn code_word(code: Code) -> &'static str
     ensures { result.now ≡ code_word code }
 {
     CODE_WORDS[code as usize].1
 }
 
-/// The code that a word of a configuration names, in any case (`pam.conf(5)`). Each code is named by its
-/// name, and 21 by `authtok_recover_err` too. None exactly for all other words.
+/// The code that a word of a configuration names, in upper or lower case (`pam.conf(5)`): the code's own name, and for 21
+/// also `authtok_recover_err`. None for any other word.
 pub fn code_named(word: &[u8]) -> Option<Code>
     ensures { result ≡ code_of_word word.now }
 {

@@ -1,5 +1,6 @@
-//! What every crate of the runtime speaks of: PAM's return codes with their names, message styles, module
-//! functions, items, an application's calls, faults, and lists and texts that contracts see as lists.
+//! What every crate of the runtime uses: PAM's return codes (`Code`), items (`ItemName`), message styles, flags, module
+//! functions and application calls, as in `_pam_types.h`; faults; and lists and texts that contracts see as lists.
+//! Begin at `code.rt` and `call.rt`.
 #![tactic(auto)]
 
 mod bytes;

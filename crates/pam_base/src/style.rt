@@ -4,11 +4,13 @@ ghost use Rattle.pam_base.specs.Style.{style_number, is_prompt};
 /// How a message is shown to the user, by its number in `pam_conv(3)`.
 #[derive(Clone, Copy, Debug, PartialEq, Eq)]
 pub enum Style {
-    /// A question whose answer isn't shown while it is typed.
+    /// PAM_PROMPT_ECHO_OFF (1): a prompt; the reply isn't shown while it is typed.
     EchoOff = 1,
-    /// A question whose answer is shown.
+    /// PAM_PROMPT_ECHO_ON (2): a prompt; the reply is shown.
     EchoOn = 2,
+    /// PAM_ERROR_MSG (3): an error to be shown.
     ErrorMsg = 3,
+    /// PAM_TEXT_INFO (4): a text to be shown.
     TextInfo = 4,
 }
 
@@ -20,7 +22,7 @@ impl Style {
         self as u32
     }
 
-    /// Whether a message of this style is a prompt, which wants a reply.
+    /// Whether a message of this style is a prompt, which asks for a reply.
     pub fn is_prompt(self) -> bool
         ensures { result ≡ is_prompt self }
     {

@@ -1,13 +1,14 @@
-ghost use Rattle.std.specs.Prelude.{IsTrue, ◌≡◌, ◌≢◌, ◌≤◌, ◌↔◌, [], Some, false, length, IfOk, OnOk, Err, List, ℕ};
+ghost use Rattle.std.specs.Prelude.{IsTrue, ◌≡◌, ◌≢◌, ◌≤◌, ◌↔◌, [], Some, false, length, IfOk, OnErr, OnOk, IsOk, Err, List, ℕ};
 ghost use Rattle.std.specs.Str.{IsUtf8};
 ghost use Rattle.pam_outside.specs.Counts.{Rose, next_count};
 ghost use Rattle.pam_outside.specs.Files.{ReadsFile, TellsFolder, Replaces, counted, file_at};
 
 use crate::beside::replace_beside;
+use crate::held::{Held, LockKind, hold_path};
 use crate::limited::{CHUNK, read_to_limit};
 use crate::reader_source::ReaderSource;
 use crate::vault::{ReplaceFault, Vault, VaultFault};
-use pam_base::Text;
+use pam_base::{Failed, Text};
 use std::alloc::Global;
 use std::fs;
 use std::io::ErrorKind;
@@ -18,24 +19,25 @@ use std::rt::Files;
 /// It tells nothing but its faults: each Failed counts one, and nothing else does. A path that isn't UTF-8 is
 /// Failed.
 #[derive(Drop)]
-pub struct FolderVault<R: Files + Drop> {
-    rt: R,
+pub struct FolderVault {
+    rt: HostRuntime,
     faults: u64,
     /// What a read goes by, so that it isn't cleared for each.
     piece: [u8; CHUNK],
 }
 
-impl<R: Files + Drop> Model for FolderVault<R> {
+impl Model for FolderVault {
+    ghost use Rattle.std.specs.declared.rt.LibcRuntime.{LibcRuntime};
     ghost use Rattle.pam_outside.specs.Adapter.{Adapter};
 
-    ghost Value = { Adapter R };
+    ghost Value = { Adapter LibcRuntime };
 
     ghost view = { λ v. record { inner = v.rt; faults = v.faults } };
 }
 
-impl<R: Files + Drop> FolderVault<R> {
+impl FolderVault {
     /// A vault that hasn't failed yet.
-    pub fn new(rt: R) -> Self
+    pub fn new(rt: HostRuntime) -> Self
         ensures { result ≡ record { inner = rt; faults = 0 } }
     {
         FolderVault {
@@ -46,7 +48,7 @@ impl<R: Files + Drop> FolderVault<R> {
     }
 }
 
-impl<R: Files + Drop> Vault for FolderVault<R> {
+impl Vault for FolderVault {
     ghost vault_tells = { λ v. false };
 
     // never told
@@ -55,24 +57,25 @@ impl<R: Files + Drop> Vault for FolderVault<R> {
     ghost vault_faults = { λ v. v.faults };
 
     /// Absent comes where opening answers that there is no such file, or no folder on the way to it, and nowhere
-    /// else. A path that the system refuses, a folder, and any other error are Failed.
+    /// else. What isn't a regular file is Failed, and isn't opened; so are a path that the
+    /// system refuses, and any other error.
     fn read(&mut self, alloc: Global, path: &[u8], limit: u32) -> Result<Text, VaultFault>
         ensures bound { IfOk result (λ text. length text ≤ limit) }
-        ensures tells { ⟦<FolderVault<R> as Vault>⟧.vault_tells self.new ≡
-            ⟦<FolderVault<R> as Vault>⟧.vault_tells self.old }
-        ensures told { IsTrue (⟦<FolderVault<R> as Vault>⟧.vault_tells self.old) →
-            ReadsFile result path.now limit (⟦<FolderVault<R> as Vault>⟧.vault_holds self.old) }
-        ensures counts { IsTrue (⟦<FolderVault<R> as Vault>⟧.vault_tells self.old) →
-            ⟦<FolderVault<R> as Vault>⟧.vault_holds self.new ≡ counted
-            (⟦<FolderVault<R> as Vault>⟧.vault_holds self.old) }
-        ensures faults { ⟦<FolderVault<R> as Vault>⟧.vault_faults self.old ≤
-            ⟦<FolderVault<R> as Vault>⟧.vault_faults self.new }
+        ensures tells { ⟦<FolderVault as Vault>⟧.vault_tells self.new ≡
+            ⟦<FolderVault as Vault>⟧.vault_tells self.old }
+        ensures told { IsTrue (⟦<FolderVault as Vault>⟧.vault_tells self.old) →
+            ReadsFile result path.now limit (⟦<FolderVault as Vault>⟧.vault_holds self.old) }
+        ensures counts { IsTrue (⟦<FolderVault as Vault>⟧.vault_tells self.old) →
+            ⟦<FolderVault as Vault>⟧.vault_holds self.new ≡ counted
+            (⟦<FolderVault as Vault>⟧.vault_holds self.old) }
+        ensures faults { ⟦<FolderVault as Vault>⟧.vault_faults self.old ≤
+            ⟦<FolderVault as Vault>⟧.vault_faults self.new }
         ensures failed { result ≡ Err VaultFault.Failed →
-            Rose (⟦<FolderVault<R> as Vault>⟧.vault_faults self.old)
-            (⟦<FolderVault<R> as Vault>⟧.vault_faults self.new) }
+            Rose (⟦<FolderVault as Vault>⟧.vault_faults self.old)
+            (⟦<FolderVault as Vault>⟧.vault_faults self.new) }
         ensures no_fault { result ≢ Err VaultFault.Failed →
-            ⟦<FolderVault<R> as Vault>⟧.vault_faults self.new ≡
-            ⟦<FolderVault<R> as Vault>⟧.vault_faults self.old }
+            ⟦<FolderVault as Vault>⟧.vault_faults self.new ≡
+            ⟦<FolderVault as Vault>⟧.vault_faults self.old }
         ensures fault { result ≡ Err VaultFault.Failed →
             self.new ≡ record self.old { faults = next_count self.old.faults } }
         ensures stays { result ≢ Err VaultFault.Failed → self.new ≡ self.old }
@@ -88,21 +91,21 @@ impl<R: Files + Drop> Vault for FolderVault<R> {
     /// Whether the path is a folder, be it empty or not: no, where there is a file or nothing. Any other error of
     /// the system is Failed. It takes no memory.
     fn folder(&mut self, _alloc: Global, path: &[u8]) -> Result<bool, ReplaceFault>
-        ensures tells { ⟦<FolderVault<R> as Vault>⟧.vault_tells self.new ≡
-            ⟦<FolderVault<R> as Vault>⟧.vault_tells self.old }
-        ensures told { IsTrue (⟦<FolderVault<R> as Vault>⟧.vault_tells self.old) →
-            TellsFolder result path.now (⟦<FolderVault<R> as Vault>⟧.vault_holds self.old) }
-        ensures counts { IsTrue (⟦<FolderVault<R> as Vault>⟧.vault_tells self.old) →
-            ⟦<FolderVault<R> as Vault>⟧.vault_holds self.new ≡ counted
-            (⟦<FolderVault<R> as Vault>⟧.vault_holds self.old) }
-        ensures faults { ⟦<FolderVault<R> as Vault>⟧.vault_faults self.old ≤
-            ⟦<FolderVault<R> as Vault>⟧.vault_faults self.new }
+        ensures tells { ⟦<FolderVault as Vault>⟧.vault_tells self.new ≡
+            ⟦<FolderVault as Vault>⟧.vault_tells self.old }
+        ensures told { IsTrue (⟦<FolderVault as Vault>⟧.vault_tells self.old) →
+            TellsFolder result path.now (⟦<FolderVault as Vault>⟧.vault_holds self.old) }
+        ensures counts { IsTrue (⟦<FolderVault as Vault>⟧.vault_tells self.old) →
+            ⟦<FolderVault as Vault>⟧.vault_holds self.new ≡ counted
+            (⟦<FolderVault as Vault>⟧.vault_holds self.old) }
+        ensures faults { ⟦<FolderVault as Vault>⟧.vault_faults self.old ≤
+            ⟦<FolderVault as Vault>⟧.vault_faults self.new }
         ensures failed { result ≡ Err ReplaceFault.Failed →
-            Rose (⟦<FolderVault<R> as Vault>⟧.vault_faults self.old)
-            (⟦<FolderVault<R> as Vault>⟧.vault_faults self.new) }
+            Rose (⟦<FolderVault as Vault>⟧.vault_faults self.old)
+            (⟦<FolderVault as Vault>⟧.vault_faults self.new) }
         ensures no_fault { result ≢ Err ReplaceFault.Failed →
-            ⟦<FolderVault<R> as Vault>⟧.vault_faults self.new ≡
-            ⟦<FolderVault<R> as Vault>⟧.vault_faults self.old }
+            ⟦<FolderVault as Vault>⟧.vault_faults self.new ≡
+            ⟦<FolderVault as Vault>⟧.vault_faults self.old }
         ensures fault { result ≡ Err ReplaceFault.Failed →
             self.new ≡ record self.old { faults = next_count self.old.faults } }
         ensures stays { result ≢ Err ReplaceFault.Failed → self.new ≡ self.old }
@@ -115,31 +118,34 @@ impl<R: Files + Drop> Vault for FolderVault<R> {
         result
     }
 
-    /// Writes a file beside, under the same name with `.pamsess-new` after it, and renames it to the path. It has
-    /// the permissions of the file that it replaces, and where there is none its owner alone may read it. It makes
-    /// no folders.
+    /// Writes a new file beside the old one, under a name that no other writer has
+    /// (`NAME.N-M.pamsess-new`), and renames it to the path. The new file gets the old one's owner,
+    /// group and mode before a byte is written; if that isn't possible, Failed is returned and the
+    /// old file stays. Without an old file, only its owner may read the new one. The file is synced
+    /// before the rename and its directory after it; if only the last sync fails, Failed is
+    /// returned although the new file is there.
     fn replace(&mut self, alloc: Global, path: &[u8], bytes: &[u8]) -> Result<(), ReplaceFault>
-        ensures tells { ⟦<FolderVault<R> as Vault>⟧.vault_tells self.new ≡
-            ⟦<FolderVault<R> as Vault>⟧.vault_tells self.old }
-        ensures told { IsTrue (⟦<FolderVault<R> as Vault>⟧.vault_tells self.old) →
-            Replaces result path.now bytes.now (⟦<FolderVault<R> as Vault>⟧.vault_holds self.old)
-            (⟦<FolderVault<R> as Vault>⟧.vault_holds self.new) }
-        ensures found { IsTrue (⟦<FolderVault<R> as Vault>⟧.vault_tells self.old) →
+        ensures tells { ⟦<FolderVault as Vault>⟧.vault_tells self.new ≡
+            ⟦<FolderVault as Vault>⟧.vault_tells self.old }
+        ensures told { IsTrue (⟦<FolderVault as Vault>⟧.vault_tells self.old) →
+            Replaces result path.now bytes.now (⟦<FolderVault as Vault>⟧.vault_holds self.old)
+            (⟦<FolderVault as Vault>⟧.vault_holds self.new) }
+        ensures found { IsTrue (⟦<FolderVault as Vault>⟧.vault_tells self.old) →
             OnOk result
             (file_at path.now
-            (⟦<FolderVault<R> as Vault>⟧.vault_holds self.new).files ≡ Some bytes.now) }
-        ensures others { IsTrue (⟦<FolderVault<R> as Vault>⟧.vault_tells self.old) →
+            (⟦<FolderVault as Vault>⟧.vault_holds self.new).files ≡ Some bytes.now) }
+        ensures others { IsTrue (⟦<FolderVault as Vault>⟧.vault_tells self.old) →
             (other : List ℕ) → other ≢ path.now →
-            file_at other (⟦<FolderVault<R> as Vault>⟧.vault_holds self.new).files ≡ file_at other
-            (⟦<FolderVault<R> as Vault>⟧.vault_holds self.old).files }
-        ensures faults { ⟦<FolderVault<R> as Vault>⟧.vault_faults self.old ≤
-            ⟦<FolderVault<R> as Vault>⟧.vault_faults self.new }
+            file_at other (⟦<FolderVault as Vault>⟧.vault_holds self.new).files ≡ file_at other
+            (⟦<FolderVault as Vault>⟧.vault_holds self.old).files }
+        ensures faults { ⟦<FolderVault as Vault>⟧.vault_faults self.old ≤
+            ⟦<FolderVault as Vault>⟧.vault_faults self.new }
         ensures failed { result ≡ Err ReplaceFault.Failed →
-            Rose (⟦<FolderVault<R> as Vault>⟧.vault_faults self.old)
-            (⟦<FolderVault<R> as Vault>⟧.vault_faults self.new) }
+            Rose (⟦<FolderVault as Vault>⟧.vault_faults self.old)
+            (⟦<FolderVault as Vault>⟧.vault_faults self.new) }
         ensures no_fault { result ≢ Err ReplaceFault.Failed →
-            ⟦<FolderVault<R> as Vault>⟧.vault_faults self.new ≡
-            ⟦<FolderVault<R> as Vault>⟧.vault_faults self.old }
+            ⟦<FolderVault as Vault>⟧.vault_faults self.new ≡
+            ⟦<FolderVault as Vault>⟧.vault_faults self.old }
         ensures fault { result ≡ Err ReplaceFault.Failed →
             self.new ≡ record self.old { faults = next_count self.old.faults } }
         ensures stays { result ≢ Err ReplaceFault.Failed → self.new ≡ self.old }
@@ -151,10 +157,38 @@ impl<R: Files + Drop> Vault for FolderVault<R> {
         }
         result
     }
+
+    /// Locks the file at this path, which is made where it isn't there, and tries for 15 seconds. Where its folder
+    /// isn't there, nothing is held. A path that isn't UTF-8, what isn't a file, and any other error are Failed.
+    fn hold(&mut self, path: &[u8], kind: LockKind) -> Result<Held, Failed>
+        ensures tells { ⟦<FolderVault as Vault>⟧.vault_tells self.new ≡
+            ⟦<FolderVault as Vault>⟧.vault_tells self.old }
+        ensures told { IsTrue (⟦<FolderVault as Vault>⟧.vault_tells self.old) →
+            ⟦<FolderVault as Vault>⟧.vault_holds self.new ≡
+            ⟦<FolderVault as Vault>⟧.vault_holds self.old }
+        ensures held { IsTrue (⟦<FolderVault as Vault>⟧.vault_tells self.old) → IsOk result }
+        ensures faults { ⟦<FolderVault as Vault>⟧.vault_faults self.old ≤
+            ⟦<FolderVault as Vault>⟧.vault_faults self.new }
+        ensures failed { OnErr result (Rose
+            (⟦<FolderVault as Vault>⟧.vault_faults self.old)
+            (⟦<FolderVault as Vault>⟧.vault_faults self.new)) }
+        ensures no_fault { OnOk result (
+            ⟦<FolderVault as Vault>⟧.vault_faults self.new ≡
+            ⟦<FolderVault as Vault>⟧.vault_faults self.old) }
+        ensures fault { OnErr result
+            (self.new ≡ record self.old { faults = next_count self.old.faults }) }
+        ensures stays { OnOk result (self.new ≡ self.old) }
+    {
+        let result = hold_path(&self.rt, path, kind);
+        if let Err(Failed) = result {
+            self.faults = self.faults.saturating_add(1);
+        }
+        result
+    }
 }
 
-fn file_bytes<R: Files>(
-    rt: &R,
+fn file_bytes(
+    rt: &HostRuntime,
     alloc: Global,
     piece: &mut [u8; CHUNK],
     path: &[u8],
@@ -164,6 +198,12 @@ fn file_bytes<R: Files>(
     ensures not_text { ¬ (IsUtf8 path.now) → result ≡ Err VaultFault.Failed }
 {
     let path = str::from_utf8(path).map_err(|_| VaultFault::Failed)?;
+    let found = rt
+        .metadata(path)
+        .map_err(|error| opening_fault(error.kind()))?;
+    if !found.is_file() {
+        return Err(VaultFault::Failed);
+    }
     let file = fs::open(rt, path).map_err(|error| opening_fault(error.kind()))?;
     read_to_limit(alloc, &mut ReaderSource::new(file), piece, limit)
 }
@@ -179,7 +219,7 @@ fn opening_fault(kind: ErrorKind) -> VaultFault
     }
 }
 
-fn names_folder<R: Files>(rt: &R, path: &[u8]) -> Result<bool, ReplaceFault>
+fn names_folder(rt: &HostRuntime, path: &[u8]) -> Result<bool, ReplaceFault>
     ensures { ¬ (IsUtf8 path.now) → result ≡ Err ReplaceFault.Failed }
 {
     let path = str::from_utf8(path).map_err(|_| ReplaceFault::Failed)?;

@@ -4,8 +4,9 @@ ghost use Rattle.std.specs.Str.{bytes_eq};
 ghost use Rattle.pam_outside.specs.Files.{file_at, file_put, is_below, is_folder};
 
 use crate::calls::Calls;
+use crate::held::{Held, LockKind};
 use crate::vault::{ReplaceFault, Vault, VaultFault};
-use pam_base::{NoMemory, Numbers, Text};
+use pam_base::{Failed, NoMemory, Numbers, Text};
 use std::alloc::Global;
 use std::marker::Model;
 
@@ -155,5 +156,10 @@ impl Vault for MemVault {
             Ok(()) => Ok(()),
             Err(NoMemory) => Err(ReplaceFault::NoMemory),
         }
+    }
+
+    /// Nobody else has these files.
+    fn hold(&mut self, _path: &[u8], _kind: LockKind) -> Result<Held, Failed> {
+        Ok(Held::nothing())
     }
 }

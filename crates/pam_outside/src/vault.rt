@@ -1,8 +1,9 @@
-ghost use Rattle.std.specs.Prelude.{◌≡◌, ◌≢◌, ◌≤◌, ℕ, List, Some, Bool, length, IsTrue, IfOk, OnOk, Err};
+ghost use Rattle.std.specs.Prelude.{◌≡◌, ◌≢◌, ◌≤◌, ℕ, List, Some, Bool, length, IsTrue, IfOk, OnOk, OnErr, IsOk, Err};
 ghost use Rattle.pam_outside.specs.Counts.{Rose};
 ghost use Rattle.pam_outside.specs.Files.{VaultState, ReadsFile, TellsFolder, Replaces, counted, file_at};
 
-use pam_base::Text;
+use crate::held::{Held, LockKind};
+use pam_base::{Failed, Text};
 use std::alloc::Global;
 
 /// Why a file isn't read.
@@ -27,7 +28,7 @@ pub enum ReplaceFault {
 
 /// Files by their paths, as a folder has them.
 ///
-/// Each call counts one call, and leaves the numbers of the calls that are to fail. Where the vault tells, Failed
+/// Each call but `hold` counts one call, and leaves the numbers of the calls that are to fail. Where the vault tells, Failed
 /// comes exactly at these calls, before every other answer, NoMemory too. In any world Failed comes only where the
 /// count of faults rose, and the count rises with no other answer.
 pub trait Vault: Drop {
@@ -84,6 +85,17 @@ pub trait Vault: Drop {
             Rose (vault_faults self.old) (vault_faults self.new) }
         ensures no_fault { result ≢ Err ReplaceFault.Failed →
             vault_faults self.new ≡ vault_faults self.old };
+
+    /// Holds what is behind this path until the answer is dropped: whoever holds it too waits, for a while at most.
+    /// It is no counted call and changes no file, and a vault that tells never refuses it.
+    fn hold(&mut self, path: &[u8], kind: LockKind) -> Result<Held, Failed>
+        ensures tells { vault_tells self.new ≡ vault_tells self.old }
+        ensures told { IsTrue (vault_tells self.old) →
+            vault_holds self.new ≡ vault_holds self.old }
+        ensures held { IsTrue (vault_tells self.old) → IsOk result }
+        ensures faults { vault_faults self.old ≤ vault_faults self.new }
+        ensures failed { OnErr result (Rose (vault_faults self.old) (vault_faults self.new)) }
+        ensures no_fault { OnOk result (vault_faults self.new ≡ vault_faults self.old) };
 }
 
 /// `Vault::read` of a vault that is lent.
@@ -145,4 +157,17 @@ pub fn replace_file(
         vault_faults vault.new ≡ vault_faults vault.old }
 {
     vault.replace(alloc, path, bytes)
+}
+
+/// `Vault::hold` of a vault that is lent.
+pub fn hold_file(vault: &mut dyn Vault, path: &[u8], kind: LockKind) -> Result<Held, Failed>
+    ensures tells { vault_tells vault.new ≡ vault_tells vault.old }
+    ensures told { IsTrue (vault_tells vault.old) →
+        vault_holds vault.new ≡ vault_holds vault.old }
+    ensures held { IsTrue (vault_tells vault.old) → IsOk result }
+    ensures faults { vault_faults vault.old ≤ vault_faults vault.new }
+    ensures failed { OnErr result (Rose (vault_faults vault.old) (vault_faults vault.new)) }
+    ensures no_fault { OnOk result (vault_faults vault.new ≡ vault_faults vault.old) }
+{
+    vault.hold(path, kind)
 }

@@ -1,8 +1,8 @@
 use super::{bytes_of, read_some};
 use pam_base::{Failed, Text};
 use pam_outside::{
-    Clock, FolderVault, Nap, ReaderSource, RealClock, ReplaceFault, Sink, SleepNap, Vault,
-    VaultFault, WriterSink, write_all,
+    Clock, FolderVault, LockKind, Nap, ReaderSource, RealClock, ReplaceFault, Sink, SleepNap,
+    Vault, VaultFault, WriterSink, write_all,
 };
 use std::fs::Permissions;
 use std::io::{self, ErrorKind, Read};
@@ -250,6 +250,46 @@ fn real_files_that_are_not_replaced_leave_nothing(rt: HostRuntime) -> Result<(),
     let refused = vault.replace(alloc, b"/tmp/\xff", b"short");
     assert_eq!(rt; refused, Err(ReplaceFault::Failed));
     assert_eq!(rt; names_in(rt, &folder)?, 1);
+    fs::remove_dir_all(&rt, folder.as_path())?;
+    Ok(())
+}
+
+#[test]
+fn what_a_killed_writer_left_is_removed(rt: HostRuntime) -> Result<(), Fail> {
+    let folder = new_folder(rt, "left")?;
+    for name in [
+        "stands",
+        "stands.1-0.pamsess-new",
+        "stands-not.1-0.pamsess-new",
+    ] {
+        let path = folder.join(rt.alloc(), name)?;
+        fs::write(&rt, path.as_path(), "a longer text")?;
+    }
+    let path = folder.join(rt.alloc(), "stands")?;
+    assert_eq!(rt; replaced(rt, &path)?.bytes(), b"short".as_slice());
+    assert_eq!(rt; names_in(rt, &folder)?, 2, "another file's stays");
+    fs::remove_dir_all(&rt, folder.as_path())?;
+    Ok(())
+}
+
+#[test]
+fn a_lock_is_taken_again_once_it_is_let_go(rt: HostRuntime) -> Result<(), Fail> {
+    let folder = new_folder(rt, "hold")?;
+    fs::create_dir(&rt, folder.join(rt.alloc(), "pam.d")?.as_path())?;
+    let mut vault = FolderVault::new(rt);
+    for kind in [LockKind::Record, LockKind::Whole] {
+        for (name, is_held) in [
+            ("lock", true),
+            ("lock", true),
+            ("absent/lock", true),
+            ("pam.d", false),
+        ] {
+            let path = folder.join(rt.alloc(), name)?;
+            let held = vault.hold(path.as_str().as_bytes(), kind);
+            assert_eq!(rt; held.is_ok(), is_held, "at {name}");
+        }
+    }
+    assert_eq!(rt; names_in(rt, &folder)?, 2, "nothing is left beside");
     fs::remove_dir_all(&rt, folder.as_path())?;
     Ok(())
 }
