@@ -14,7 +14,7 @@ pub at_line-stands : {A : Type 0} (other : A) (of : FlatLine → A) (stack : Sta
     → drop i (flat_lines 0 0 stack) ≡ s ∷ rest → at_line other of stack i ≡ of s
 at_line-stands other of stack i s rest stands = ap (of_first other of) stands
 
--- levels are bounded, and no line opens more substacks than are round it
+-- levels are bounded, and no line opens more substacks than are around it
 abbrev AreWithin : ℕ → List FlatLine → Type 0
 AreWithin most [] = Unit {0}
 AreWithin most (s ∷ ss) = ((s.level ≤ most) × (s.opens ≤ s.level)) × AreWithin most ss

@@ -5,7 +5,7 @@ use Rattle.std.proofs.Common.{◌∙◌, ap, sym, append_assoc, append-nil}
 use Rattle.control_words.specs.declared.nodes.Rule.{Rule}
 use Rattle.control_words.specs.Stack.{Stack, none, line, sub}
 
--- None is an empty list, Some (Some rule) puts a line in front, Some None puts a substack in front
+-- None is an empty list, Some (Some rule) puts a line before it, Some None a substack
 abbrev pub words : Stack → List (Option (Option Rule))
 words none = None ∷ []
 words (line rule rest) = words rest ++ Some (Some rule) ∷ []

@@ -1,4 +1,4 @@
--- Lines and positions of a chain that stand for the lines of a stack.
+-- Lines and positions of a chain that represent the lines of a stack.
 use Rattle.std.specs.Prelude.{◌≡◌, ℕ, ◌+◌, ◌^◌, ◌<◌, ◌≤◌, List, [], ◌∷◌, ◌++◌, length, get_or}
 use Rattle.control_words.specs.Stack.{Stack, none, line, sub, count, lines_in, depth}
 use Rattle.handler_chain.specs.declared.chain_line.ChainLine.{ChainLine}

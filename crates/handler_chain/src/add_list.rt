@@ -30,7 +30,7 @@ fn copy_of(alloc: Global, rule: &Rule) -> Result<Rule, NoMemory>
     })
 }
 
-// The number of the first of several names that is this one.
+// The index of the first of several names that is this one.
 fn number_of(names: &Texts, wanted: &[u8]) -> Option<u32>
     requires { length names.now < 2 ^ 32 }
     ensures { result ≡ number_of_name wanted.now 0 names.now }
@@ -61,7 +61,7 @@ fn add_positions(positions: &mut Vec<usize>, nodes: &Nodes, first: usize) -> Res
     Ok(())
 }
 
-/// Adds the lines of a list at a level, before whose first line n substacks were opened since the last line.
+/// Adds the lines of a list at a level; n substacks were opened since the last line before it.
 pub fn add_list(
     alloc: Global,
     nodes: &Nodes,

@@ -5,19 +5,21 @@ ghost use Rattle.handler_chain.specs.Chain.{fresh_chain, looked};
 
 use crate::add_list::add_list;
 use crate::chain_line::ChainLine;
+use crate::line_count::line_count;
 use control_words::{Control, Nodes};
 use pam_base::{NoMemory, SharedText, Texts};
 use std::alloc::Global;
 use std::marker::Model;
 use std::snapshot::Snapshot;
 
-/// A stack, laid flat: its lines by their indices from 0, in written order. Contracts see the nested list and the
-/// names that it was made from, and how often it was asked how its lines are nested. No call takes memory.
+/// A flattened stack: its lines by their indices from 0, in written order (libpam: the list of
+/// `struct handler`). Contracts see the nested list and the names that it was made from, and how
+/// often its nesting was looked up. No call allocates.
 #[derive(Drop)]
 pub struct Chain {
     lines: Vec<ChainLine>,
     positions: Vec<usize>,
-    // What the chain was made from, for its contracts alone: these take no bytes.
+    // What the chain was made from, for its contracts only: these take no bytes.
     nodes: Snapshot<Nodes>,
     names: Snapshot<Texts>,
     looks: u64,
@@ -46,15 +48,15 @@ impl Model for Chain {
         c.positions.items };
 }
 
-/// Lays a stack flat, for modules with these names.
+/// Flattens a stack, for modules with these names.
 pub fn flatten(alloc: Global, nodes: &Nodes, names: &Texts) -> Result<Chain, NoMemory>
     requires few { lines_in (stack_of nodes.now.vec.items) ≤ 4096 }
     requires numbered { length names.now < 2 ^ 32 }
     requires shallow { depth (stack_of nodes.now.vec.items) ≤ 16 }
     ensures { IfOk result (λ chain. chain ≡ fresh_chain (stack_of nodes.now.vec.items) names.now) }
 {
-    let mut lines = Vec::new(alloc);
-    let mut positions = Vec::new(alloc);
+    let mut lines = Vec::with_capacity(alloc, line_count(nodes))?;
+    let mut positions = Vec::with_capacity(alloc, nodes.vec.len().saturating_add(1))?;
     add_list(alloc, nodes, names, 0, 0, &mut lines, &mut positions)?;
     Ok(Chain {
         lines,
@@ -81,7 +83,7 @@ impl Chain {
         }
     }
 
-    /// How many lines there are, those of substacks among them.
+    /// How many lines there are, including those of substacks.
     pub fn len(&self) -> usize
         ensures counted { result ≡ lines_in self.now.nodes }
         ensures bounded { result ≤ 4096 }
@@ -97,8 +99,8 @@ impl Chain {
         &self.lines[i].rule.control
     }
 
-    /// The number, from 0, of the first name that is that of the line's module: the last part of its path, without
-    /// `.so`. None where it is no name.
+    /// The index, from 0, of the first name that is the name of the line's module: the last part of
+    /// its path, without `.so`. None if no name is.
     pub fn module(&self, i: usize) -> Option<u32>
         requires { i < lines_in self.now.nodes }
         ensures { result ≡ module_at self.now.nodes self.now.names i }
@@ -121,7 +123,7 @@ impl Chain {
         &self.lines[i].rule.path
     }
 
-    /// Whether a missing module is passed over in silence.
+    /// Whether no note is made of a missing module.
     pub fn silent(&self, i: usize) -> bool
         requires { i < lines_in self.now.nodes }
         ensures { result ≡ (rule_at self.now.nodes i).silent }
@@ -129,8 +131,8 @@ impl Chain {
         self.lines[i].rule.silent
     }
 
-    /// Of how many substacks the line is the first one. This is a look, as `end`, `target` and `level` are: it takes
-    /// constant time, raises `looks` by one, and leaves all else as it was.
+    /// Of how many substacks the line is the first one. This is a lookup, as `end`, `target` and
+    /// `level` are: it takes constant time, raises `looks` by one, and changes nothing else.
     pub fn opens(&mut self, i: usize) -> u32
         requires { i < lines_in self.old.nodes }
         ensures value { result ≡ opens_at self.old.nodes i }
@@ -141,8 +143,8 @@ impl Chain {
         opens
     }
 
-    /// The index of the position after the last node of the list in which the line stands: how many lines are
-    /// written before it.
+    /// The index of the position after the last node of the line's list, which is how many lines
+    /// are written before it.
     pub fn end(&mut self, i: usize) -> usize
         requires { i < lines_in self.old.nodes }
         ensures value { result ≡ end_at self.old.nodes i }
@@ -154,7 +156,8 @@ impl Chain {
         end
     }
 
-    /// The index of the position after the n nodes that follow the line in its list. None where fewer follow it.
+    /// The index of the position after the n nodes that follow the line in its list; None if fewer
+    /// follow.
     pub fn target(&mut self, i: usize, n: u8) -> Option<usize>
         requires { i < lines_in self.old.nodes }
         ensures value { result ≡ target_at self.old.nodes i n }
@@ -170,7 +173,7 @@ impl Chain {
         target
     }
 
-    /// How many substacks are round the line.
+    /// How many substacks are around the line.
     pub fn level(&mut self, i: usize) -> u32
         requires { i < lines_in self.old.nodes }
         ensures value { result ≡ level_at self.old.nodes i }
@@ -183,7 +186,7 @@ impl Chain {
         level
     }
 
-    /// How often it was asked how its lines are nested: 0 for a new chain. The count stays at its type's last value.
+    /// How often its nesting was looked up: 0 for a new chain. The count saturates.
     pub fn looks(&self) -> u64
         ensures { result ≡ self.now.looks }
     {

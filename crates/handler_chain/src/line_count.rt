@@ -3,7 +3,7 @@ ghost use Rattle.control_words.specs.Stack.{stack_of, lines_in};
 
 use control_words::{Node, Nodes};
 
-/// How many lines stand in a list, those of its substacks too.
+/// How many lines a list has, including those of its substacks.
 pub fn line_count(nodes: &Nodes) -> usize
     requires few { lines_in (stack_of nodes.now.vec.items) ≤ 4096 }
     ensures { result ≡ lines_in (stack_of nodes.now.vec.items) }

@@ -1,3 +1,4 @@
+pub use Rattle.pam_outside
 pub mod Run
 pub mod Cutting
 pub mod Front
@@ -5,3 +6,4 @@ pub mod Taking
 pub mod Turns
 pub mod Whole
 pub mod Laws
+pub mod Written

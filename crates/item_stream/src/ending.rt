@@ -1,3 +1,5 @@
+use pam_base::{Failed, NoMemory};
+
 /// How the items of a stream came to an end.
 #[derive(Clone, Copy, Debug, PartialEq, Eq)]
 pub enum Ending<K> {
@@ -14,4 +16,29 @@ pub enum Ending<K> {
 pub enum Stop {
     NoMemory,
     WriteFault,
+}
+
+impl From<NoMemory> for Stop {
+    ghost use Rattle.std.specs.Prelude.{◌≡◌};
+    ghost use Rattle.item_stream.specs.declared.ending.Stop.{Stop};
+    ghost use Rattle.item_stream.specs.declared.ending.Stop.TheVariants as stops;
+
+    ghost from_gives = { λ _ e. e ≡ stops.NoMemory };
+
+    fn from(_: NoMemory) -> Self {
+        Stop::NoMemory
+    }
+}
+
+/// A sink that fails stops a run. So `?` is for calls that write.
+impl From<Failed> for Stop {
+    ghost use Rattle.std.specs.Prelude.{◌≡◌};
+    ghost use Rattle.item_stream.specs.declared.ending.Stop.{Stop};
+    ghost use Rattle.item_stream.specs.declared.ending.Stop.TheVariants as stops;
+
+    ghost from_gives = { λ _ e. e ≡ stops.WriteFault };
+
+    fn from(_: Failed) -> Self {
+        Stop::WriteFault
+    }
 }

@@ -1,4 +1,4 @@
-ghost use Rattle.std.specs.Prelude.{◌≡◌, ◌≤◌, ◌<◌, ◌+◌, ◌==◌, if◌then◌else◌, [], drop, length, List, ℕ, IsTrue, IfOk, OnErr, is_err};
+ghost use Rattle.std.specs.Prelude.{◌≡◌, ◌≤◌, ◌<◌, ◌+◌, ◌++◌, ◌==◌, if◌then◌else◌, [], drop, length, List, ℕ, IsTrue, IfOk, OnErr, is_err};
 ghost use Rattle.pam_outside.specs.Counts.{RisesIf};
 ghost use Rattle.item_stream.specs.Taking.{Adds, Fills, Finds, IsFound};
 
@@ -17,16 +17,18 @@ const ROOM: usize = 1093;
 #[derive(Drop)]
 pub struct Reader {
     held: Vec<u8>,
+    // The number of bytes at its beginning that were handed on. They stay there until more is read.
+    handed: usize,
 }
 
 impl Model for Reader {
-    ghost use Rattle.std.specs.Prelude.{List, ℕ, ◌≤◌, vec_capacity};
+    ghost use Rattle.std.specs.Prelude.{List, ℕ, ◌≤◌, drop, length, vec_capacity};
 
     ghost Value = { List ℕ };
 
-    ghost view = { λ r. r.held.items };
+    ghost view = { λ r. drop r.handed r.held.items };
 
-    ghost invariant = { λ r. 1093 ≤ vec_capacity r.held };
+    ghost invariant = { λ r. (1093 ≤ vec_capacity r.held) × (r.handed ≤ length r.held.items) };
 }
 
 /// What stands at the front of what is held.
@@ -47,13 +49,14 @@ impl Reader {
     {
         Ok(Reader {
             held: Vec::with_capacity(alloc, ROOM)?,
+            handed: 0,
         })
     }
 
     pub fn bytes(&self) -> &[u8]
         ensures { result.now ≡ self.now }
     {
-        &self.held
+        &self.held[self.handed..]
     }
 
     /// Hands the first n bytes on.
@@ -61,9 +64,7 @@ impl Reader {
         requires { n ≤ length self.old }
         ensures { self.new ≡ drop n self.old }
     {
-        let left = self.held.len() - n;
-        self.held.rotate_left(n);
-        self.held.truncate(left);
+        self.handed += n;
     }
 
     /// Takes bytes until an item is whole, or what is held is refused, whatever follows.
@@ -117,7 +118,20 @@ impl Reader {
     {
         let mut chunk = [0u8; CHUNK];
         let n = source.read(&mut chunk)?;
-        self.held.extend_from_slice(&chunk[..n]).unwrap();
+        self.add(&chunk[..n]);
         Ok(n)
+    }
+
+    // Adds bytes after those that are held. The bytes that were handed on make room for them first.
+    fn add(&mut self, bytes: &[u8])
+        requires held { length self.old ≤ 581 }
+        requires few { length bytes.now ≤ 512 }
+        ensures { self.new ≡ self.old ++ bytes.now }
+    {
+        let left = self.held.len() - self.handed;
+        self.held.rotate_left(self.handed);
+        self.held.truncate(left);
+        self.handed = 0;
+        self.held.extend_from_slice(bytes).unwrap();
     }
 }

@@ -19,7 +19,7 @@ use Rattle.stack_walk.specs.Retell.{Seen}
 
 -- ---- what a step tells before its result
 
--- a receipt: its datum's number, status and note, the name of the owner and of the datum
+-- a cleanup record: the data's number, the status and note, the names of the owner and of the data
 pub record Cleanup : Type 0 where
   pub id : ℕ
   pub status : ℕ
@@ -238,7 +238,7 @@ long_of n = n % 2 ^ 64
 abbrev pub IsLong : ℕ → Type 0
 IsLong n = n < 2 ^ 64
 
--- a line that was visited
+-- a line that was run
 pub record IsSeen (v : Seen) : Type 0 where
   pub place : IsLong v.place
   pub name : AreBytes v.name

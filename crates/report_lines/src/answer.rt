@@ -1,9 +1,12 @@
-ghost use Rattle.std.specs.Prelude.{◌≡◌, ◌++◌, Some, OnOk, string_bytes};
+ghost use Rattle.std.specs.Prelude.{◌≡◌, ◌++◌, Some, OnOk, codes, decimal, string_bytes};
 ghost use Rattle.report_lines.specs.Line.{code_words, number_words, pending_words, refused_words, value_words, words_text};
 
+use crate::code::write_code;
+use crate::number::write_number;
 use pam_base::{Code, Func, NoMemory, Text, code_name, code_number, push_quoted};
 use script_lang::func_word;
 use service_load::LoadFault;
+use std::alloc::AllocError;
 
 /// Adds the line of a result, `H COMMAND WORDS`.
 pub fn write_result(
@@ -29,10 +32,21 @@ pub fn write_code_result(
     ensures { OnOk result (string_bytes text.new ≡ string_bytes text.old
         ++ words_text handle command.now (code_words code)) }
 {
-    let name = code_name(code);
-    let number = code_number(code);
-    write!(text, "{handle} {command} {name} {number}\n")?;
+    write_heading(text, handle, command)?;
+    write_code(text, code)?;
+    text.push_str("\n")?;
     Ok(())
+}
+
+// Adds the handle and the command, with a space after each.
+fn write_heading(text: &mut String, handle: u32, command: &str) -> Result<(), AllocError>
+    ensures { OnOk result (string_bytes text.new ≡ string_bytes text.old
+        ++ (decimal handle ++ codes " " ++ command.now ++ codes " ")) }
+{
+    write_number(text, u64::from(handle))?;
+    text.push_str(" ")?;
+    text.push_str(command)?;
+    text.push_str(" ")
 }
 
 /// Adds the result of a start that the configuration refused, `refused FILE LINE NAME NUMBER`.
@@ -51,7 +65,7 @@ pub fn write_refused_result(
     Ok(())
 }
 
-/// Adds the result of a call that asks for a value: `set TEXT`, or `unset`.
+/// Adds the result of a call that returns a value: `set TEXT`, or `unset`.
 pub fn write_value_result(
     text: &mut String,
     handle: u32,

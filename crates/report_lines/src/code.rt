@@ -1,6 +1,7 @@
 ghost use Rattle.std.specs.Prelude.{◌≡◌, ◌++◌, OnOk, string_bytes};
 ghost use Rattle.report_lines.specs.Line.{code_words};
 
+use crate::number::write_number;
 use pam_base::{Code, code_name, code_number};
 use std::alloc::AllocError;
 
@@ -8,7 +9,7 @@ use std::alloc::AllocError;
 pub(crate) fn write_code(text: &mut String, code: Code) -> Result<(), AllocError>
     ensures { OnOk result (string_bytes text.new ≡ string_bytes text.old ++ code_words code) }
 {
-    let name = code_name(code);
-    let number = code_number(code);
-    write!(text, "{name} {number}")
+    text.push_str(code_name(code))?;
+    text.push_str(" ")?;
+    write_number(text, u64::from(code_number(code)))
 }

@@ -4,7 +4,7 @@ ghost use Rattle.report_lines.specs.Line.{last_text, script_text, unread};
 use pam_base::{NoMemory, ScriptKind};
 use std::alloc::Global;
 
-/// The last line of a run whose script couldn't be read on, with its newline.
+/// The last line of a run whose script couldn't be read to its end, with its newline.
 pub fn read_fault_line() -> &'static str
     ensures { result.now ≡ last_text (Some unread) }
 {

@@ -1,10 +1,11 @@
-//! The lines of a report, each by what it says: their texts, and the code that writes them. What
-//! prints a report and what reads one go by the same.
+//! The lines of a report, each by what it says: their texts, and the code that writes them. The
+//! code that prints reports and the code that reads them use the same. Begin at `answer.rt`.
 #![tactic(auto)]
 
 mod answer;
 mod code;
 mod last;
+mod number;
 mod told;
 
 pub use answer::{
@@ -12,6 +13,9 @@ pub use answer::{
     write_refused_result, write_result, write_value_result,
 };
 pub use last::{read_fault_line, script_line};
+pub use script_lang;
+pub use service_load;
+pub use service_load::control_words;
 pub use told::{
     write_cleaned, write_missing, write_said, write_variable, write_visited, write_waited,
 };

@@ -1,8 +1,9 @@
-ghost use Rattle.std.specs.Prelude.{◌≡◌, ◌++◌, OnOk, string_bytes};
+ghost use Rattle.std.specs.Prelude.{◌≡◌, ◌++◌, OnOk, codes, decimal, string_bytes};
 ghost use Rattle.stack_walk.specs.Retell.{seen_at};
 ghost use Rattle.report_lines.specs.Line.{cleanup_text, message_text, missing_text, names_text, status_words, variable_text, visit_text, wait_text};
 
 use crate::code::write_code;
+use crate::number::write_number;
 use pam_base::{Code, NoMemory, Style, push_quoted};
 use std::alloc::AllocError;
 
@@ -23,7 +24,7 @@ pub fn write_said(
     Ok(())
 }
 
-/// Adds the line of a visit, `H line PLACE MODULE NAME NUMBER`.
+/// Adds the line of a rule that was run, `H line PLACE MODULE NAME NUMBER`.
 pub fn write_visited(
     text: &mut String,
     handle: u32,
@@ -34,7 +35,7 @@ pub fn write_visited(
     ensures { OnOk result (string_bytes text.new ≡ string_bytes text.old
         ++ visit_text handle (seen_at place module.now answer)) }
 {
-    write!(text, "{handle} line {place} ")?;
+    write_place(text, handle, place)?;
     push_quoted(text, module)?;
     text.push_str(" ")?;
     write_code(text, answer)?;
@@ -42,7 +43,18 @@ pub fn write_visited(
     Ok(())
 }
 
-/// Adds the line of a datum that was cleaned up, `H clean ID STATUS NOTE MODULE DATUM`.
+// Adds the handle and the number of the rule that was run, up to the module's name.
+fn write_place(text: &mut String, handle: u32, place: u32) -> Result<(), AllocError>
+    ensures { OnOk result (string_bytes text.new ≡ string_bytes text.old
+        ++ (decimal handle ++ codes " line " ++ decimal place ++ codes " ")) }
+{
+    write_number(text, u64::from(handle))?;
+    text.push_str(" line ")?;
+    write_number(text, u64::from(place))?;
+    text.push_str(" ")
+}
+
+/// Adds the line of module data that was cleaned up, `H clean ID STATUS NOTE MODULE DATUM`.
 pub fn write_cleaned(
     text: &mut String,
     handle: u32,
@@ -85,7 +97,7 @@ fn write_status(text: &mut String, status: u32) -> Result<(), AllocError>
     write!(text, "{status:08x}")
 }
 
-/// Adds the line of a wait, `H wait NAME NUMBER ASKED WAIT`, both in microseconds.
+/// Adds the line of a delay, `H wait NAME NUMBER ASKED WAIT`, both in microseconds.
 pub fn write_waited(
     text: &mut String,
     handle: u32,

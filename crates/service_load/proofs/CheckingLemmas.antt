@@ -1,8 +1,8 @@
 -- What was found in the rules so far, and what is left.
 use Rattle.std.proofs.Common.{◌≡◌, ℕ, Bool, List, [], ◌∷◌, ◌++◌, Some, Ok, Err, refl}
 use Rattle.pam_base.specs.declared.fault.FaultKind.{FaultKind}
-use Rattle.conf_lex.specs.declared.token.Token.{Token}
-use Rattle.conf_lex.specs.declared.token.RawRule.{RawRule}
+use Rattle.control_words.specs.conf_lex.specs.declared.token.Token.{Token}
+use Rattle.control_words.specs.conf_lex.specs.declared.token.RawRule.{RawRule}
 use Rattle.service_load.specs.declared.entry.Entry.{Entry}
 use Rattle.service_load.specs.Answers.{with_front}
 use Rattle.service_load.specs.Checking.{checked_entries, GivesFields}

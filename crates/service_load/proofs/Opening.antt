@@ -1,4 +1,4 @@
--- What a file that is opened comes to, along the items that it brings.
+-- The result of opening a file, along the items that it adds.
 use Rattle.std.proofs.Common.{◌≡◌, ℕ, suc, ◌+◌, ◌-◌, ◌≤◌, ◌<◌, Bool, true, false, cond, List, [], ◌∷◌, ◌++◌, map, length, Option, Some, None, Result, Ok, Err, refl, sym, ap, ◌∙◌, arith, inl, inr}
 use Rattle.std.specs.Prelude.{IsSomeAnd, ◌⊎◌}
 use Rattle.std.specs.Option.{option_map}
@@ -9,9 +9,9 @@ use Rattle.pam_base.specs.declared.fault.FaultKind.{FaultKind}
 use Rattle.pam_base.specs.declared.fault.FaultKind.TheVariants.{FileTooLong, TooDeep, TooManyFiles, ReadFailed}
 use Rattle.pam_outside.specs.Counts.{fails_next}
 use Rattle.pam_outside.specs.Files.{VaultState, counted}
-use Rattle.conf_lex.specs.Answer.{answer_to}
-use Rattle.conf_lex.specs.declared.token.RawRule.{RawRule}
-use Rattle.conf_lex.specs.declared.token.LexFault.{LexFault}
+use Rattle.control_words.specs.conf_lex.specs.Answer.{answer_to}
+use Rattle.control_words.specs.conf_lex.specs.declared.token.RawRule.{RawRule}
+use Rattle.control_words.specs.conf_lex.specs.declared.token.LexFault.{LexFault}
 use Rattle.service_load.specs.declared.entry.Entry.{Entry}
 use Rattle.service_load.specs.declared.load_fault.LoadFault.{LoadFault}
 use Rattle.service_load.specs.declared.loader.Loader.{Loader}

@@ -8,9 +8,9 @@ use Rattle.control_words.specs.declared.control.Action.{Action}
 use Rattle.control_words.specs.Entries.{entries_behind, entries_in}
 use Rattle.control_words.specs.Keyword.{required, optional}
 use Rattle.control_words.specs.Stack.{Stack, none, line, sub}
-use Rattle.conf_lex.specs.Reading.{units_behind, first_piece, pieces_behind}
-use Rattle.conf_lex.specs.Lexing.{answer_at}
-use Rattle.conf_lex.specs.Answer.{answer_to}
+use Rattle.control_words.specs.conf_lex.specs.Reading.{units_behind, first_piece, pieces_behind}
+use Rattle.control_words.specs.conf_lex.specs.Lexing.{answer_at}
+use Rattle.control_words.specs.conf_lex.specs.Answer.{answer_to}
 use Rattle.service_load.specs.declared.rule_type.RuleType.TheVariants.{Auth, Account}
 use Rattle.service_load.specs.Entry.{entry_of}
 use Rattle.service_load.specs.Tree.{nodes, tree}
@@ -29,7 +29,7 @@ empty name = None
 with_file : List ℕ → List ℕ → Texts → Texts
 with_file name text others other = cond (bytes_eq other name) (Some text) (others other)
 
--- one file more in the folder
+-- one file more in the directory
 with_service : List ℕ → List ℕ → Texts → Texts
 with_service name text others = with_file (codes "/etc/pam.d/" ++ name) text others
 
@@ -145,7 +145,7 @@ sixteen_levels : IsLoaded (chain (codes "auth required pam_permit.so")) 23
 unfolding IsRefused IsLoaded alone with_service with_file empty start one chain doubled look items nodes answer_to answer_at pieces_behind first_piece units_behind entry_of entries_in entries_behind
 sixteen_levels = refl
 
--- and what they come to
+-- and their result
 sixteen_deep : tree (chain (codes "auth required pam_permit.so")) true (codes "t") Auth ≡ one required (codes "pam_permit.so") none
 unfolding IsRefused IsLoaded alone with_service with_file empty start one chain doubled look items nodes answer_to answer_at pieces_behind first_piece units_behind entry_of entries_in entries_behind
 sixteen_deep = refl

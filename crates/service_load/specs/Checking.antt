@@ -2,9 +2,9 @@
 use Rattle.std.specs.Prelude.{◌≡◌, ℕ, Bool, List, [], ◌∷◌, Option, Some, None, Result, Ok, Err}
 use Rattle.std.specs.List.{filter}
 use Rattle.pam_base.specs.declared.fault.FaultKind.{FaultKind}
-use Rattle.conf_lex.specs.declared.token.Token.{Token}
-use Rattle.conf_lex.specs.declared.token.RawRule.{RawRule}
-use Rattle.conf_lex.specs.declared.token.LexFault.{LexFault}
+use Rattle.control_words.specs.conf_lex.specs.declared.token.Token.{Token}
+use Rattle.control_words.specs.conf_lex.specs.declared.token.RawRule.{RawRule}
+use Rattle.control_words.specs.conf_lex.specs.declared.token.LexFault.{LexFault}
 use Rattle.service_load.specs.declared.entry.Entry.{Entry}
 use Rattle.service_load.specs.declared.rule_type.RuleType.{RuleType}
 use Rattle.service_load.specs.Answers.{result_map}
@@ -12,7 +12,7 @@ use Rattle.service_load.specs.Entry.{entry_of}
 use Rattle.service_load.specs.Files.{Held, absent, faulty, holds}
 use Rattle.service_load.specs.Tree.{serves}
 
--- an entry in front of those of the rules after it, or the fault of the rule in this line
+-- an entry before those of the rules after it, or the fault of the rule in this line
 abbrev pub with_entry : ℕ → Result Entry FaultKind → Result (List Entry) LexFault
     → Result (List Entry) LexFault
 with_entry line (Ok entry) more = result_map (λ es. entry ∷ es) more

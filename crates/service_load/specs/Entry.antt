@@ -2,8 +2,8 @@
 use Rattle.std.specs.Prelude.{ℕ, Bool, true, false, List, [], ◌∷◌, ◌++◌, map, Option, Some, None, Result, Ok, Err, codes, ◌==◌, if◌then◌else◌}
 use Rattle.pam_base.specs.declared.fault.FaultKind.{FaultKind}
 use Rattle.pam_base.specs.declared.fault.FaultKind.TheVariants.{BadType, MissingField}
-use Rattle.conf_lex.specs.declared.token.Token.{Token}
-use Rattle.conf_lex.specs.declared.token.RawRule.{RawRule}
+use Rattle.control_words.specs.conf_lex.specs.declared.token.Token.{Token}
+use Rattle.control_words.specs.conf_lex.specs.declared.token.RawRule.{RawRule}
 use Rattle.control_words.specs.declared.control.Action.{Action}
 use Rattle.control_words.specs.declared.nodes.Rule.{Rule}
 use Rattle.control_words.specs.declared.bracket.ControlFault.{ControlFault}
@@ -16,11 +16,12 @@ use Rattle.service_load.specs.declared.type_field.TypeField.{TypeField}
 use Rattle.service_load.specs.Answers.{result_map}
 use Rattle.service_load.specs.RuleType.{is_word, type_field_of}
 
--- the folder of the service files (pam.d(5))
+-- the directory of the service files (pam.d(5))
 abbrev pub folder_name : List ℕ
 folder_name = codes "/etc/pam.d"
 
--- the name of a file that a rule names (pam.conf(5)): one that doesn't begin with a slash lies in the folder
+-- the name of a file that a rule names (pam.conf(5)): one that doesn't begin with a slash is in the
+-- directory
 abbrev pub named_file : List ℕ → List ℕ
 named_file [] = codes "/etc/pam.d/"
 named_file (b ∷ bs) = if b == 47 then b ∷ bs else codes "/etc/pam.d/" ++ b ∷ bs
@@ -62,8 +63,8 @@ with_type line None tokens = Err BadType
 with_type line (Some field) tokens =
     entry_at line (Some field.rule_type) (behind_type field.silent tokens)
 
--- what a rule of these tokens says; `@include`, Debian's addition, stands in files of the folder's form alone (this
--- project's own)
+-- what a rule of these tokens says; `@include`, Debian's addition, is only in files of the form of
+-- `/etc/pam.d` (this project's own)
 abbrev pub entry_of_tokens : ℕ → Bool → List Token → Result Entry FaultKind
 entry_of_tokens line in_folder [] = Err MissingField
 entry_of_tokens line true (t ∷ ts) = if is_word (codes "@include") t
@@ -71,6 +72,7 @@ entry_of_tokens line true (t ∷ ts) = if is_word (codes "@include") t
     else with_type line (type_field_of t) ts
 entry_of_tokens line false (t ∷ ts) = with_type line (type_field_of t) ts
 
--- what a rule says, in a file of the folder's form (pam.d(5)) or in pam.conf after its service (pam.conf(5))
+-- what a rule says, in a file of the form of `/etc/pam.d` (pam.d(5)) or in pam.conf after its
+-- service (pam.conf(5))
 unfoldable pub entry_of : Bool → RawRule → Result Entry FaultKind
 entry_of in_folder rule = entry_of_tokens rule.line in_folder rule.tokens

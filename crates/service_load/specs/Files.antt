@@ -5,21 +5,21 @@ use Rattle.std.specs.List.{flat_map, filter_map, list_all}
 use Rattle.std.specs.Str.{str_to_ascii_lowercase}
 use Rattle.std.specs.Option.{is_none}
 use Rattle.std.specs.Result.{result_ok, is_ok}
-use Rattle.conf_lex.specs.Answer.{answer_to}
-use Rattle.conf_lex.specs.declared.token.Token.{Token}
-use Rattle.conf_lex.specs.declared.token.RawRule.{RawRule}
-use Rattle.conf_lex.specs.declared.token.LexFault.{LexFault}
+use Rattle.control_words.specs.conf_lex.specs.Answer.{answer_to}
+use Rattle.control_words.specs.conf_lex.specs.declared.token.Token.{Token}
+use Rattle.control_words.specs.conf_lex.specs.declared.token.RawRule.{RawRule}
+use Rattle.control_words.specs.conf_lex.specs.declared.token.LexFault.{LexFault}
 use Rattle.service_load.specs.declared.entry.Entry.{Entry}
 use Rattle.service_load.specs.declared.rule_file.RuleFile.{RuleFile}
 use Rattle.service_load.specs.Entry.{entry_of}
 use Rattle.service_load.specs.RuleType.{is_word}
 
--- the file with this name, in the folder's form (pam.d(5))
+-- the file with this name, in the form of `/etc/pam.d` (pam.d(5))
 abbrev pub plain_file : List ℕ → RuleFile
 plain_file name = record { name = name; service = None }
 
--- the file of a service (pam.d(5)): one in the folder where there is a folder, else pam.conf; a service is folded to
--- lower case (this project's own)
+-- the file of a service (pam.d(5)): one in the directory if it exists, else pam.conf; a service is
+-- put in lower case (this project's own)
 abbrev pub service_file : Bool → List ℕ → RuleFile
 service_file true service = plain_file (codes "/etc/pam.d/" ++ str_to_ascii_lowercase service)
 service_file false service = record {
@@ -27,13 +27,14 @@ service_file false service = record {
   service = Some (str_to_ascii_lowercase service);
 }
 
--- a rule of pam.conf without its service, where it is one of this service (pam.conf(5))
+-- a rule of pam.conf without its service, if it is one of this service (pam.conf(5))
 abbrev pub rule_without : List ℕ → ℕ → List Token → List RawRule
 rule_without service line [] = []
 rule_without service line (t ∷ ts) = if is_word service t
     then record { line = line; tokens = ts } ∷ [] else []
 
--- a rule where it is meant: in a file of the folder, or in pam.conf without its service where it is one of the service
+-- a rule if it is asked for: in a file of the directory, or in pam.conf without its service if it
+-- is one of the service
 abbrev pub own_rule : Option (List ℕ) → RawRule → List RawRule
 own_rule None rule = rule ∷ []
 own_rule (Some service) rule = rule_without service rule.line rule.tokens
@@ -42,23 +43,24 @@ own_rule (Some service) rule = rule_without service rule.line rule.tokens
 abbrev pub own_rules : Option (List ℕ) → List RawRule → List RawRule
 own_rules service rules = flat_map (own_rule service) rules
 
--- what stands in a file: it isn't there, its text has a fault, or it has these rules (this project's own)
+-- the content of a file: it doesn't exist, its text has a fault, or it has these rules (this
+-- project's own)
 pub data Held : Type 0 where
   absent : Held
   faulty : LexFault → Held
   holds : List RawRule → Held
 
--- a service isn't there where pam.conf has no rule of it (this project's own)
+-- a service doesn't exist if pam.conf has no rule of it (this project's own)
 abbrev pub held_in_conf : List RawRule → Held
 held_in_conf [] = absent
 held_in_conf (r ∷ rs) = holds (r ∷ rs)
 
--- the rules that are meant, in a file of the folder or in pam.conf
+-- the rules asked for, in a file of the directory or in pam.conf
 abbrev pub held_for : Option (List ℕ) → List RawRule → Held
 held_for None rules = holds (own_rules None rules)
 held_for (Some service) rules = held_in_conf (own_rules (Some service) rules)
 
--- by what the text comes to
+-- by the result for the text
 abbrev pub held_answer : Option (List ℕ) → Result (List RawRule) LexFault → Held
 held_answer service (Ok rules) = held_for service rules
 held_answer service (Err fault) = faulty fault
@@ -69,21 +71,21 @@ held_text service None = absent
 held_text service (Some text) = held_answer service (answer_to text)
 
 module _ (texts : List ℕ → Option (List ℕ)) where
-  -- what stands in this file
+  -- the content of this file
   abbrev pub held : RuleFile → Held
   held file = held_text file.service (texts file.name)
 
--- the rules among what stands in a file
+-- the rules of the content of a file
 abbrev pub rules_held : Held → List RawRule
 rules_held (holds rules) = rules
 rules_held other = []
 
--- whether nothing stands there
+-- whether there is no content
 abbrev pub is_absent : Held → Bool
 is_absent absent = true
 is_absent other = false
 
--- whether a file has the folder's form
+-- whether a file has the form of `/etc/pam.d`
 abbrev pub is_in_folder : RuleFile → Bool
 is_in_folder file = is_none file.service
 

@@ -13,13 +13,13 @@ use Rattle.service_load.specs.Order.{Opener, as_service, as_other, as_last, by_r
 abbrev pub fault_at : List ℕ → ℕ → FaultKind → LoadFault
 fault_at file line kind = record { file = file; line = line; kind = kind }
 
--- the counts so far: the calls of the vault, the openings of this load, and the lines of this tree
+-- the counts so far: the file accesses, the openings of this load, and the lines of this stack
 pub record Counts : Type 0 where
   pub calls : ℕ
   pub openings : ℕ
   pub lines : ℕ
 
--- a fault, and the vault's calls up to it
+-- a fault, and the file accesses up to it
 pub record Stop : Type 0 where
   pub fault : LoadFault
   pub calls : ℕ
@@ -27,7 +27,7 @@ pub record Stop : Type 0 where
 abbrev pub stop : Counts → List ℕ → ℕ → FaultKind → Result Counts Stop
 stop counts file line kind = Err (record { fault = fault_at file line kind; calls = counts.calls })
 
--- the fault of an opening that isn't asked for stands at the including rule, or at the file itself
+-- the fault of an opening that isn't made is at the including rule, or at the file itself
 abbrev pub opening_fault : List ℕ → Opener → FaultKind → LoadFault
 opening_fault file (by_rule name line) kind = fault_at name line kind
 opening_fault file opener kind = fault_at file 0 kind
@@ -36,20 +36,20 @@ abbrev pub refused_opening : Counts → RuleFile → Opener → FaultKind → Re
 refused_opening counts file opener kind =
     Err (record { fault = opening_fault file.name opener kind; calls = counts.calls })
 
--- an absent file: one that a rule includes, and `other` where the service isn't there either
+-- an absent file: one that a rule includes, and `other` if the service doesn't exist either
 abbrev pub absent_file : Counts → Opener → Result Counts Stop
 absent_file counts as_service = Ok counts
 absent_file counts as_other = Ok counts
 absent_file counts (as_last service) = stop counts service 0 NoService
 absent_file counts (by_rule name line) = stop counts name line IncludeAbsent
 
--- what the vault answered, and the faults of the text
+-- the result of reading the file, and the faults of the text
 abbrev pub held_file : Counts → RuleFile → Opener → Held → Result Counts Stop
 held_file counts file opener absent = absent_file counts opener
 held_file counts file opener (faulty fault) = stop counts file.name fault.line fault.kind
 held_file counts file opener (holds rules) = Ok counts
 
--- one more call of the vault, and one more opening
+-- one more file access, and one more opening
 abbrev pub asked : Counts → Counts
 asked counts = record {
   calls = next_count counts.calls;
@@ -67,7 +67,8 @@ going_on (Ok counts) more = more counts
 going_on (Err s) more = Err s
 
 module _ (texts : List ℕ → Option (List ℕ)) (fails : List ℕ) where
-  -- the causes for one opening, in their order: the level, the number of openings, and the vault's answer
+  -- the causes for one opening, in their order: the level, the number of openings, and the result
+  -- of reading the file
   abbrev pub opened : Counts → RuleFile → ℕ → Opener → Result Counts Stop
   opened counts file level opener =
       if nat_lt 16 level then refused_opening counts file opener TooDeep

@@ -1,4 +1,4 @@
--- Which faults come from a vault (this project's own): ReadFailed alone.
+-- Which faults come from reading a file (this project's own): ReadFailed alone.
 use Rattle.std.specs.Prelude.{◌≡◌, ℕ, Bool, true, false, Result, Err}
 use Rattle.pam_base.specs.declared.fault.Refuse.{Refuse}
 use Rattle.pam_base.specs.declared.fault.Refuse.TheVariants.{Named}
@@ -16,7 +16,7 @@ abbrev pub IfNamed : {A F : Type 0} → Result A (Refuse F) → (F → Type 0) �
 IfNamed (Err (Named f)) P = P f
 IfNamed result P = Unit {0}
 
--- a vault's count of faults rose where a file couldn't be read, and stays with every other fault
+-- the count of faults rose if a file couldn't be read, and stays with every other fault
 abbrev pub KindCounts : FaultKind → ℕ → ℕ → Type 0
 KindCounts ReadFailed before now = Rose before now
 KindCounts kind before now = now ≡ before

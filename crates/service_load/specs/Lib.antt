@@ -1,3 +1,5 @@
+pub use Rattle.control_words.specs.conf_lex
+pub use Rattle.control_words
 pub mod RuleType
 pub mod Entry
 pub mod Files

@@ -17,18 +17,19 @@ use Rattle.pam_outside.specs.Paths.{path_of}
 use Rattle.service_load.specs.Order.{order}
 use Rattle.service_load.specs.Tree.{tree}
 
--- whether the folder of the service files is there
+-- whether the directory of the service files exists
 abbrev pub has_folder : VaultState → List ℕ → Bool
 has_folder vault root = is_folder (path_of root folder_name) vault.files
 
--- what a service comes to, once it is known whether there is a folder, by the calls of the vault so far
+-- the result for a service, once it is known whether the directory exists, by the file accesses so
+-- far
 abbrev pub loaded_from : Bool → VaultState → List ℕ → List ℕ → ℕ → Result Counts Stop
 loaded_from in_folder vault root service calls =
     look (texts_of root vault) vault.fails (record { calls = calls; openings = 0; lines = 0 })
     (order (texts_of root vault) in_folder service)
 
--- what a service comes to: the folder is asked for, and then the look goes along the whole order; the counts after
--- it, or the first fault, with the calls of the vault up to it
+-- the result for a service: it is asked whether the directory exists, and then everything is looked
+-- at in order; the counts after it, or the first fault, with the file accesses up to it
 abbrev pub loaded : VaultState → List ℕ → List ℕ → Result Counts Stop
 loaded vault root service =
     if is_failing vault then Err (record {
@@ -58,7 +59,7 @@ pub record AreBounded (trees : Trees) : Type 0 where
   pub password : IsBounded (stack_of trees.password.vec.items)
   pub session : IsBounded (stack_of trees.session.vec.items)
 
--- the four trees of a service that has no fault, with the calls of the vault that the look counted
+-- the four stacks of a service that has no fault, with the file accesses that were counted
 pub record LoadsTrees (trees : Trees) (looked : Result Counts Stop) (new : VaultState)
     (stack : RuleType → Stack) : Type 0 where
   pub counts : Counts
@@ -66,7 +67,7 @@ pub record LoadsTrees (trees : Trees) (looked : Result Counts Stop) (new : Vault
   pub calls : new.calls ≡ counts.calls
   pub trees_are : AreTrees trees stack
 
--- the trees where there is no fault, else the first fault; want of memory is free
+-- the stacks if there is no fault, else the first fault; an allocation may fail
 abbrev pub LoadsBy : Result Trees (Refuse LoadFault) → Result Counts Stop → VaultState
     → (RuleType → Stack) → Type 0
 LoadsBy (Ok trees) looked new stack = LoadsTrees trees looked new stack
@@ -74,7 +75,7 @@ LoadsBy (Err (Named fault)) looked new stack =
     looked ≡ Err (record { fault = fault; calls = new.calls })
 LoadsBy (Err NoMemory) looked new stack = Unit {0}
 
--- once it is known whether there is a folder
+-- once it is known whether the directory exists
 abbrev pub LoadsFrom : Result Trees (Refuse LoadFault) → Bool → VaultState → VaultState → List ℕ
     → List ℕ → Type 0
 LoadsFrom result in_folder old new root service =

@@ -4,7 +4,7 @@ use Rattle.pam_base.specs.declared.fault.Refuse.{Refuse}
 use Rattle.pam_base.specs.declared.fault.Refuse.TheVariants.{NoMemory, Named}
 use Rattle.pam_base.specs.declared.fault.FaultKind.TheVariants.{TooManyLines, ReadFailed}
 use Rattle.pam_outside.specs.Files.{VaultState}
-use Rattle.conf_lex.specs.declared.token.LexFault.{LexFault}
+use Rattle.control_words.specs.conf_lex.specs.declared.token.LexFault.{LexFault}
 use Rattle.control_words.specs.Stack.{Stack, none, line, sub, joined, lines_in, depth, stack_of}
 use Rattle.control_words.specs.declared.nodes.Nodes.{Nodes}
 use Rattle.control_words.specs.declared.nodes.Rule.{Rule}
@@ -26,7 +26,7 @@ use Rattle.service_load.specs.declared.opener.Opener.TheVariants as openers
 use Rattle.service_load.specs.Order.{Item, Opener, as_service, as_other, as_last, by_rule, entry_items, items, items_of, tree_items}
 use Rattle.service_load.specs.Tree.{serves, entry_nodes, nodes, nodes_of, tree_from}
 
--- the texts of the files that a vault tells of, under a root
+-- the texts of the modelled files below a root
 abbrev pub texts_of : List ℕ → VaultState → List ℕ → Option (List ℕ)
 texts_of root vault = texts_under root vault.files
 
@@ -37,7 +37,7 @@ opener_of openers.Other = as_other
 opener_of (openers.Last service) = as_last service.now
 opener_of (openers.Rule name number) = by_rule name.now number
 
--- the counts of a load over a vault that tells
+-- the counts of a load over modelled files
 abbrev pub counts_of : Loader → VaultState → Counts
 counts_of loader vault = record {
   calls = vault.calls;
@@ -51,22 +51,22 @@ Looks (Ok x) looked now = looked ≡ Ok now
 Looks (Err (Named f)) looked now = looked ≡ Err (record { fault = f; calls = now.calls })
 Looks (Err NoMemory) looked now = Unit {0}
 
--- of what a vault tells only its number of calls has changed
+-- of modelled files only the number of accesses has changed
 abbrev pub OnlyCalls : VaultState → VaultState → Type 0
 OnlyCalls old new = new ≡ record old { calls = new.calls }
 
--- what an opened file comes to, by whether the vault's call is to fail
+-- the content of an opened file, by whether the access is set to fail
 abbrev pub opened_answer : {A : Type 0} → Bool → List ℕ → Result A LexFault → Result A LoadFault
 opened_answer true name found = Err (fault_at name 0 ReadFailed)
 opened_answer false name (Ok x) = Ok x
 opened_answer false name (Err fault) = Err (fault_at name fault.line fault.kind)
 
--- a fact that holds with every answer but want of memory
+-- a fact that holds with every result except NoMemory
 abbrev pub IfCalled : {A F : Type 0} → Result A (Refuse F) → Type 0 → Type 0
 IfCalled (Err NoMemory) fact = Unit {0}
 IfCalled result fact = fact
 
--- it stays with Ok too, and where memory ran out: no fault is hidden behind that
+-- it stays with Ok, and if an allocation failed: no fault is hidden by that
 abbrev pub CountsFaults : {A : Type 0} → Result A (Refuse LoadFault) → ℕ → ℕ → Type 0
 CountsFaults (Ok x) before now = now ≡ before
 CountsFaults (Err (Named f)) before now = KindCounts f.kind before now
@@ -152,7 +152,7 @@ module _ (texts : List ℕ → Option (List ℕ)) where
       ≡ Err (record { fault = f; calls = is.calls })
   Opens (Err NoMemory) fails was is level type opener file = Unit {0}
 
--- over a vault that tells, a part of a load looked along these items, and added these nodes
+-- over modelled files, a part of a load looked at these items, and added these nodes
 pub record Brings {A : Type 0} (result : Result A (Refuse LoadFault))
     (texts : List ℕ → Option (List ℕ)) (old new : VaultState) (was is : Loader) (items : List Item)
     (before after added : Stack) : Type 0 where
@@ -160,15 +160,15 @@ pub record Brings {A : Type 0} (result : Result A (Refuse LoadFault))
   pub nodes : OnOk result (after ≡ joined before added)
   pub stays : OnlyCalls old new
 
--- in any world a file at this level adds lines that are counted and few, nested no deeper than what is left up to
--- level 16
+-- with real files too, a file at this level adds lines that are counted and few, nested no deeper
+-- than what is left up to level 16
 pub record Grows (level : ℕ) (was is : Loader) (before after : Stack) : Type 0 where
   pub within : level ≤ 16
   pub lines : lines_in after + was.lines ≡ lines_in before + is.lines
   pub few : was.lines ≤ 4096 → is.lines ≤ 4096
   pub deep : (n : ℕ) → depth before ≤ n → 16 ≤ level + n → depth after ≤ n
 
--- over a vault that tells, a tree was made along its items
+-- over modelled files, a stack was made from its items
 pub record Makes (result : Result Nodes (Refuse LoadFault)) (texts : List ℕ → Option (List ℕ))
     (old new : VaultState) (was is : Loader) (own other : RuleFile) (type : RuleType) : Type 0 where
   pub looks : Looks result (look texts old.fails (counts_of was old)
@@ -176,7 +176,7 @@ pub record Makes (result : Result Nodes (Refuse LoadFault)) (texts : List ℕ �
   pub made : IfOk result (λ made. stack_of made.vec.items ≡ tree_from texts own other type)
   pub stays : OnlyCalls old new
 
--- in any world a stack has at most 4,096 lines, and substacks nested at most 16 deep
+-- with real files too, a stack has at most 4,096 lines, and substacks nested at most 16 deep
 pub record IsBounded (stack : Stack) : Type 0 where
   pub lines : lines_in stack ≤ 4096
   pub deep : depth stack ≤ 16

@@ -2,7 +2,7 @@
 -- in turn.
 use Rattle.std.specs.Prelude.{ℕ, zero, suc, ◌+◌, ◌-◌, Bool, List, [], ◌∷◌, ◌++◌, map, Option, codes, ◌==◌, if◌then◌else◌}
 use Rattle.std.specs.List.{flat_map}
-use Rattle.conf_lex.specs.declared.token.RawRule.{RawRule}
+use Rattle.control_words.specs.conf_lex.specs.declared.token.RawRule.{RawRule}
 use Rattle.control_words.specs.Stack.{count}
 use Rattle.service_load.specs.declared.entry.Content.{Content}
 use Rattle.service_load.specs.declared.entry.Content.TheVariants.{Line, Include, Substack}
@@ -13,8 +13,8 @@ use Rattle.service_load.specs.Files.{plain_file, service_file, held, rules_held,
 use Rattle.service_load.specs.RuleType.{all_types}
 use Rattle.service_load.specs.Tree.{serves, nodes}
 
--- why a file is opened: as the service's own, as `other` where the service is there or where it isn't (with the name
--- of its file), or by a rule of the file with this name, in this line
+-- why a file is opened: as the service's own, as `other` if the service exists or doesn't (with the
+-- name of its file), or by a rule of the file with this name, in this line
 pub data Opener : Type 0 where
   as_service : Opener
   as_other : Opener
@@ -35,13 +35,13 @@ openings_in [] = 0
 openings_in (opening file level opener ∷ is) = openings_in is + 1
 openings_in (i ∷ is) = openings_in is
 
--- what an entry of the file with this name brings, where `deeper` gives what an opened file brings
+-- what an entry of the file with this name adds, if `deeper` is what an opened file adds
 abbrev pub content_items : (Opener → RuleFile → List Item) → List ℕ → ℕ → Content → List Item
 content_items deeper name line (Line rule) = made name line ∷ []
 content_items deeper name line (Include file) = deeper (by_rule name line) (plain_file file)
 content_items deeper name line (Substack file) = deeper (by_rule name line) (plain_file file)
 
--- and where it serves the type
+-- and if it is for the type
 abbrev pub entry_items : (Opener → RuleFile → List Item) → RuleType → List ℕ → Entry → List Item
 entry_items deeper type name entry = if serves type entry.rule_type
     then content_items deeper name entry.line entry.content else []
@@ -50,7 +50,7 @@ entry_items deeper type name entry = if serves type entry.rule_type
 abbrev pub items_of : (Opener → RuleFile → List Item) → RuleType → List ℕ → List Entry → List Item
 items_of deeper type name entries = flat_map (entry_items deeper type name) entries
 
--- all rules of a file are checked first; where one has a fault nothing follows
+-- all rules of a file are checked first; if one has a fault nothing follows
 abbrev pub file_items : (Opener → RuleFile → List Item) → RuleType → RuleFile → List RawRule
     → List Item
 file_items deeper type file rules =
@@ -58,7 +58,8 @@ file_items deeper type file rules =
     then items_of deeper type file.name (entries_of (is_in_folder file) rules) else [])
 
 module _ (texts : List ℕ → Option (List ℕ)) where
-  -- a file that is opened, and what it brings, where n levels of files may open; at level 17 nothing follows
+  -- a file that is opened, and what it adds, if n levels of files may open; at level 17 nothing
+  -- follows
   unfoldable pub items : ℕ → RuleType → Opener → RuleFile → List Item
   items zero type opener file = opening file 17 opener ∷ []
   items (suc levels) type opener file = opening file (16 - levels) opener
@@ -68,7 +69,7 @@ module _ (texts : List ℕ → Option (List ℕ)) where
   abbrev pub other_opener : RuleFile → Opener
   other_opener own = if is_absent (held texts own) then as_last own.name else as_other
 
-  -- one tree: the service's file, and where its nodes are none that of `other`
+  -- one stack: the service's file, and if it has no nodes that of `other`
   abbrev pub tree_items : RuleFile → RuleFile → RuleType → List Item
   tree_items own other type =
       begin ∷ (items 17 type as_service own ++ (if count (nodes texts 17 type own) == 0

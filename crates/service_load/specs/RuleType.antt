@@ -2,7 +2,7 @@
 use Rattle.std.specs.Prelude.{ℕ, Bool, true, false, List, [], ◌∷◌, Option, None, codes, not, ◌&&◌, ◌==◌, if◌then◌else◌, option_map}
 use Rattle.std.specs.List.{find}
 use Rattle.std.specs.Str.{str_eq_ignore_ascii_case}
-use Rattle.conf_lex.specs.declared.token.Token.{Token}
+use Rattle.control_words.specs.conf_lex.specs.declared.token.Token.{Token}
 use Rattle.service_load.specs.declared.rule_type.RuleType.{RuleType}
 use Rattle.service_load.specs.declared.type_field.TypeField.{TypeField}
 use Rattle.service_load.specs.declared.rule_type.RuleType.TheVariants.{Auth, Account, Password, Session}
@@ -34,7 +34,7 @@ type_word Session = codes "session"
 abbrev pub type_of_word : List ℕ → Option RuleType
 type_of_word word = find (λ type. str_eq_ignore_ascii_case word (type_word type)) all_types
 
--- the type field that a word is: a type, and before it a `-` where a module that is missing is passed over in silence
+-- the type field that a word is: a type, and before it a `-` if no note is made of a missing module
 -- (pam.conf(5))
 abbrev pub type_field_of_word : List ℕ → Option TypeField
 type_field_of_word [] = None
@@ -42,6 +42,6 @@ type_field_of_word (b ∷ bs) =
     if b == 45 then option_map (λ t. record { silent = true; rule_type = t }) (type_of_word bs)
     else option_map (λ t. record { silent = false; rule_type = t }) (type_of_word (b ∷ bs))
 
--- the type field that a token is (this project's own: it stands without brackets)
+-- the type field that a token is (this project's own: it has no brackets)
 abbrev pub type_field_of : Token → Option TypeField
 type_field_of token = if token.bracketed then None else type_field_of_word token.text

@@ -14,14 +14,14 @@ abbrev pub serves : RuleType → Option RuleType → Bool
 serves type None = true
 serves type (Some own) = same_type type own
 
--- what an entry brings, where `deeper` gives the nodes of a file (pam.conf(5), on include and substack): a line, the
--- nodes of a file, or a substack of them
+-- what an entry adds, if `deeper` is the nodes of a file (pam.conf(5), on include and substack): a
+-- line, the nodes of a file, or a substack of them
 abbrev pub content_nodes : (List ℕ → Stack) → Content → Stack
 content_nodes deeper (Line rule) = line rule none
 content_nodes deeper (Include file) = deeper file
 content_nodes deeper (Substack file) = sub (deeper file) none
 
--- and where it serves the type
+-- and if it is for the type
 abbrev pub entry_nodes : (List ℕ → Stack) → RuleType → Entry → Stack
 entry_nodes deeper type entry = if serves type entry.rule_type
     then content_nodes deeper entry.content else none
@@ -31,20 +31,21 @@ abbrev pub nodes_of : (List ℕ → Stack) → RuleType → List Entry → Stack
 nodes_of deeper type [] = none
 nodes_of deeper type (e ∷ es) = joined (entry_nodes deeper type e) (nodes_of deeper type es)
 
--- the nodes of a service, or those of `other` where it has none (pam.conf(5))
+-- the nodes of a service, or those of `other` if it has none (pam.conf(5))
 abbrev pub tree_of : Stack → Stack → Stack
 tree_of own other = if count own == 0 then other else own
 
 module _ (texts : List ℕ → Option (List ℕ)) where
-  -- the nodes of a file for a type (pam.conf(5)), where n levels of files may open: none above the last
+  -- the nodes of a file for a type (pam.conf(5)), if n levels of files may open: none above the
+  -- last
   unfoldable pub nodes : ℕ → RuleType → RuleFile → Stack
   nodes zero type file = none
   nodes (suc levels) type file =
       nodes_of (λ name. nodes levels type (plain_file name)) type
       (entries_of (is_in_folder file) (rules_held (held texts file)))
 
-  -- the tree of a service's file for a type: its nodes, at level 0 of 16, or those of the file of `other` where it
-  -- has none
+  -- the stack of a service's file for a type: its nodes, at level 0 of 16, or those of the file of
+  -- `other` if it has none
   abbrev pub tree_from : RuleFile → RuleFile → RuleType → Stack
   tree_from own other type = tree_of (nodes 17 type own) (nodes 17 type other)
 

@@ -7,12 +7,12 @@ ghost use Rattle.service_load.specs.Tree.{serves};
 use crate::names::{IN_FOLDER, joined};
 use crate::rule_type::RuleType;
 use crate::type_field::{TypeField, is_word};
-use conf_lex::Token;
+use control_words::conf_lex::Token;
 use control_words::{Control, Rule, control_of};
 use pam_base::{FaultKind, NoMemory, Refuse, Sequence, SharedText, Text, Texts};
 use std::alloc::Global;
 
-/// What a rule brings to a stack.
+/// What a rule adds to a stack.
 #[derive(Debug, Drop)]
 pub(crate) enum Content {
     /// A line of its own.
@@ -23,12 +23,12 @@ pub(crate) enum Content {
     Substack(Text),
 }
 
-/// A rule as it is understood.
+/// A rule as it is read.
 #[derive(Debug, Drop)]
 pub(crate) struct Entry {
     /// The number of its first physical line, from 1.
     pub(crate) line: u32,
-    /// Its type; None where it serves all four, as `@include` does.
+    /// Its type; None if it is for all four, as `@include` is.
     pub(crate) rule_type: Option<RuleType>,
     pub(crate) content: Content,
 }
@@ -37,8 +37,8 @@ pub(crate) struct Entry {
 pub(crate) type Entries = Sequence<Entry>;
 
 impl Entry {
-    /// What the tokens of a rule in this line say, in a file of the folder or, after its service, in
-    /// `pam.conf(5)`; or what is wrong with the first field that isn't as it should be.
+    /// What the tokens of a rule in this line say, in a file of `/etc/pam.d` or, after its service,
+    /// in `pam.conf(5)`; or the fault of the first field that isn't as it should be.
     pub(crate) fn of(
         alloc: Global,
         line: u32,
@@ -69,7 +69,7 @@ impl Entry {
         }
     }
 
-    /// Whether it says something of the stack of this type.
+    /// Whether it is for the stack of this type.
     pub(crate) fn serves(&self, rule_type: RuleType) -> bool
         ensures { result ≡ serves rule_type self.now.rule_type }
     {

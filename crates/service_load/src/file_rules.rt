@@ -7,11 +7,11 @@ ghost use Rattle.service_load.specs.Checking.{checked_entries, entries_held, Giv
 use crate::entry::{Entries, Entry};
 use crate::rule_file::RuleFile;
 use crate::type_field::is_word;
-use conf_lex::{LexFault, RawRule, Token, rules};
+use control_words::conf_lex::{LexFault, RawRule, Token, rules};
 use pam_base::Refuse;
 use std::alloc::Global;
 
-/// What the rules of a file with this text say, all of which are checked; None where the file is
+/// What the rules of a file with this text say, all of which are checked; None if the file is
 /// `pam.conf(5)` and has no rule of the service.
 pub(crate) fn entries_in(
     alloc: Global,
@@ -33,7 +33,7 @@ pub(crate) fn entries_in(
     Ok(Some(entries))
 }
 
-// Adds what a rule says, where it is one of those that are meant.
+// Adds what a rule says, if it is one of those asked for.
 fn add_rule(
     alloc: Global,
     file: &RuleFile,
@@ -60,7 +60,7 @@ fn add_rule(
     }
 }
 
-// The fields of a rule without its service, where it is one of those that are meant.
+// The fields of a rule without its service, if it is one of those asked for.
 fn fields_of<'a>(file: &RuleFile, rule: &'a RawRule) -> Option<&'a [Token]>
     ensures { GivesFields (option_copied result) rule.now.line
         (own_rule file.now.service rule.now) }

@@ -6,7 +6,7 @@ use crate::rule_file::RuleFile;
 use control_words::{Node, Nodes};
 use pam_base::NoMemory;
 
-/// A file that a rule brings in.
+/// A file that a rule includes.
 #[derive(Drop)]
 pub(crate) struct Inclusion {
     /// The number of the rule's first physical line, from 1.
@@ -17,7 +17,7 @@ pub(crate) struct Inclusion {
 }
 
 impl Inclusion {
-    /// Adds the nodes of the file to those of the file with the rule.
+    /// Adds the nodes of the file to those of the file that includes it.
     pub(crate) fn bring_in(self, mut inner: Nodes, nodes: &mut Nodes) -> Result<(), NoMemory>
         ensures { OnOk result (stack_of nodes.new.vec.items ≡
             joined (stack_of nodes.old.vec.items) (brought_in self.as_substack

@@ -9,7 +9,7 @@ use crate::entry::{Entries, Entry};
 use crate::file_rules::entries_in;
 use crate::rule_file::RuleFile;
 use crate::rule_type::RuleType;
-use conf_lex::LexFault;
+use control_words::conf_lex::LexFault;
 use pam_base::{NoMemory, Refuse, Sequence, Text};
 use std::alloc::Global;
 use std::marker::Model;
@@ -17,15 +17,16 @@ use std::marker::Model;
 /// A text of a file that a load has read, and what its rules say.
 #[derive(Drop)]
 struct KeptFile {
-    /// Where the file has the form of `pam.conf(5)`, the service meant.
+    /// If the file has the form of `pam.conf(5)`, the service asked for.
     service: Option<Text>,
     text: Text,
-    /// None where it has no rule of the service.
+    /// None if it has no rule of the service.
     entries: Option<Entries>,
     ghost said: { entries_held (is_none service) (held_text service (Some text)) ≡ Ok entries },
 }
 
-/// The texts that a load has read, so that a text which comes again isn't parsed again. Contracts see nothing of it.
+/// The texts that a load has read, so that a text that is read again isn't parsed again. Contracts
+/// don't see it.
 #[derive(Drop)]
 pub(crate) struct Kept {
     files: Sequence<KeptFile>,
@@ -46,7 +47,7 @@ impl KeptFile {
         self.text.bytes() == text && is_same(&self.service, &file.service)
     }
 
-    // A copy of its entries that serve a type.
+    // A copy of its entries for a type.
     fn entries_for(&self, alloc: Global, rule_type: RuleType) -> Result<Option<Entries>, NoMemory>
         ensures { IfOk result (λ entries. entries ≡ option_map
             (served rule_type) self.now.entries) }
@@ -65,8 +66,8 @@ impl Kept {
         }
     }
 
-    /// What the rules of a file with this text say of a type, where all are as they should be; None where the file
-    /// is `pam.conf(5)` and has no rule of the service.
+    /// What the rules of a file with this text say for a type, if none has a fault; None if the
+    /// file is `pam.conf(5)` and has no rule of the service.
     pub(crate) fn entries_in(
         &mut self,
         alloc: Global,
@@ -125,7 +126,7 @@ fn copy_of(alloc: Global, text: &Option<Text>) -> Result<Option<Text>, NoMemory>
     }
 }
 
-// A copy of the entries that serve a type.
+// A copy of the entries for a type.
 fn served(alloc: Global, rule_type: RuleType, entries: &[Entry]) -> Result<Entries, NoMemory>
     ensures { IfOk result (λ copy. copy ≡ served rule_type entries.now) }
 {

@@ -2,7 +2,7 @@ ghost use Rattle.std.specs.Prelude.{◌≡◌, ℕ, ◌+◌, ◌-◌, ◌≤◌,
 ghost use Rattle.service_load.specs.FirstFault.{Counts, look};
 ghost use Rattle.service_load.specs.Order.{Item, openings_in};
 
-/// Where a look meets no fault, it has counted one opening and one call of the vault for each file that is
+/// If a load meets no fault, it has counted one opening and one file access for each file that is
 /// opened along its items, whatever these are.
 pub fn each_opening_is_a_call()
     ensures { (texts : List ℕ → Option (List ℕ)) (fails : List ℕ) (before after : Counts)

@@ -1,5 +1,5 @@
-//! The configuration of a service: its files under `/etc/pam.d` or its lines of `pam.conf(5)`, with the files
-//! that they include, come to four stacks, or to the first fault.
+//! The configuration of a service: its files under `/etc/pam.d`, or its lines of `pam.conf(5)`,
+//! with the files that they include, give four stacks, or the first fault. Begin at `loading.rt`.
 #![tactic(auto)]
 
 mod entry;
@@ -18,6 +18,7 @@ mod rule_type;
 mod trees;
 mod type_field;
 
+pub use control_words;
 pub use load_fault::LoadFault;
 pub use loading::load;
 pub use rule_type::{ALL_TYPES, RuleType};

@@ -5,12 +5,12 @@ ghost use Rattle.service_load.specs.Answers.{IsRefusal};
 use pam_base::{FaultKind, NoMemory, Refuse, Text};
 use std::alloc::Global;
 
-/// What is wrong with a configuration, and where.
+/// A fault of a configuration, and where it is.
 #[derive(Debug, Drop)]
 pub struct LoadFault {
-    /// The file's name, without the root that it lies under.
+    /// The file's name, without the root.
     pub file: Text,
-    /// The number of a physical line, from 1; 0 where the file as a whole is meant.
+    /// The number of a physical line, from 1; 0 if the fault concerns the whole file.
     pub line: u32,
     pub kind: FaultKind,
 }
@@ -28,7 +28,7 @@ impl LoadFault {
     }
 }
 
-/// The refusal for this fault; without memory for its file's name, want of memory.
+/// The refusal for this fault; NoMemory if the file's name can't be copied.
 pub(crate) fn refused(alloc: Global, file: &[u8], line: u32, kind: FaultKind) -> Refuse<LoadFault>
     ensures { IsRefusal result (fault_at file.now line kind) }
 {

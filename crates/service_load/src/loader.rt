@@ -26,28 +26,29 @@ use pam_base::{FaultKind, Refuse, Text};
 use pam_outside::{Vault, VaultFault, path_of, read_file};
 use std::alloc::Global;
 
-/// The most bytes of a file.
+/// The maximum length of a file in bytes.
 const MAX_FILE: u32 = 65536;
-/// The highest level of a file.
+/// The maximum level of a file.
 const MAX_LEVEL: u32 = 16;
-/// The most files that a load opens.
+/// The maximum number of files that a load opens.
 const MAX_OPENINGS: u32 = 256;
-/// The most lines of a tree.
+/// The maximum number of lines of a stack.
 const MAX_LINES: u32 = 4096;
 
-/// A load as far as it has come.
+/// The state of a load.
 #[derive(Drop)]
 pub(crate) struct Loader {
     /// How many files were opened.
     pub(crate) openings: u32,
-    /// How many lines the present tree has.
+    /// How many lines the present stack has.
     pub(crate) lines: u32,
     /// What was read.
     pub(crate) kept: Kept,
 }
 
 impl Loader {
-    /// Reads a file, checks all its rules, and gives the entries that serve a type; None where it isn't there.
+    /// Reads a file, checks all its rules, and returns the entries for a type; None if the file
+    /// doesn't exist.
     fn read(
         &mut self,
         alloc: Global,
@@ -74,7 +75,7 @@ impl Loader {
         self.openings += 1;
         let name = file.name.bytes();
         let path = path_of(alloc, root, name)?;
-        // Copied before the call, so that want of memory hides no fault of the vault.
+        // Copied before the call, so that a failed allocation hides no fault of the files.
         let unread = Text::from_bytes(alloc, name)?;
         match read_file(vault, alloc, path.bytes(), MAX_FILE) {
             Ok(text) => match self.kept.entries_in(alloc, file, rule_type, text) {
@@ -89,7 +90,8 @@ impl Loader {
         }
     }
 
-    /// Opens a file, if the level and the number of openings let it; None where it isn't there and needn't be.
+    /// Opens a file, if its level and the number of openings allow it; None if it doesn't exist and
+    /// needn't.
     fn open(
         &mut self,
         alloc: Global,
@@ -150,8 +152,8 @@ impl Loader {
         Ok(())
     }
 
-    /// Takes an entry of the file with this name, where it serves the type: adds its line, or gives the file that it
-    /// brings in.
+    /// Takes an entry of the file with this name, if it is for the type: adds its line, or returns
+    /// the file that it includes.
     fn take_entry(
         &mut self,
         alloc: Global,
@@ -183,7 +185,7 @@ impl Loader {
         }))
     }
 
-    /// Adds the nodes of a file, and answers whether it is there.
+    /// Adds the nodes of a file, and returns whether it exists.
     pub(crate) fn add_file(
         &mut self,
         alloc: Global,
@@ -231,7 +233,8 @@ impl Loader {
         Ok(true)
     }
 
-    /// The stack of a service for a type: the service's own nodes or, where it has none, those of `other`.
+    /// The stack of a service for a type: the service's own nodes or, if it has none, those of
+    /// `other`.
     pub(crate) fn tree(
         &mut self,
         alloc: Global,

@@ -13,24 +13,27 @@ use pam_base::{Refuse, Text};
 use pam_outside::{ReplaceFault, Vault, is_folder, path_of};
 use std::alloc::Global;
 
-/// The stacks of a service (`pam.conf(5)`, `pam.d(5)`), under a root whose slashes at its end don't count.
+/// Returns the stacks of a service (`pam.conf(5)`, `pam.d(5)`; libpam: `_pam_init_handlers`), below
+/// a root whose trailing slashes don't count.
 ///
-/// The rules are those of `/etc/pam.d/SERVICE`, with the service in lower case; where `/etc/pam.d` is no folder,
-/// those lines of `/etc/pam.conf` that begin with the service, in any case. `include`, `substack` and
-/// `@include` bring in other files, which are read anew each time. Of a type for which the service has no nodes
-/// the stack is that of the service `other`, or empty where that isn't there.
+/// The rules are those of `/etc/pam.d/SERVICE`, with the service in lower case; if `/etc/pam.d`
+/// isn't a directory, those lines of `/etc/pam.conf` that begin with the service, in any case.
+/// `include`, `substack` and `@include` include other files, which are read again each time. If the
+/// service has no nodes of a type, the stack is that of the service `other`, or empty if that
+/// doesn't exist.
 ///
-/// The fault is the first one that is met, type by type and file by file: when a file is opened, first
-/// `TooDeep`, the 17th level; `TooManyFiles`, the 257th opening; `ReadFailed`, where the vault's call failed;
-/// `IncludeAbsent` or, where neither the service nor `other` is there, `NoService`; the faults of the file's
-/// text (`rules`) and of each of its rules (`BadType`, `MissingField`, those of `control_of`); then, rule by
-/// rule, `TooManyLines`, the 4,097th line of a stack. It stands at the rule, with its file and line; line 0
-/// means the file as a whole.
+/// The fault is the first one that is met, type by type and file by file: when a file is opened,
+/// first `TooDeep`, the 17th level; `TooManyFiles`, the 257th opening; `ReadFailed`, if the file
+/// can't be read; `IncludeAbsent` or, if neither the service nor `other` exists, `NoService`; the
+/// faults of the file's text (`rules`) and of each of its rules (`BadType`, `MissingField`, those
+/// of `control_of`); then, rule by rule, `TooManyLines`, the 4,097th line of a stack. It has the
+/// file and line of the rule; line 0 means the whole file.
 ///
-/// A load asks the vault once for the folder and once for each file that it opens. It takes memory for the
-/// texts that it reads with their rules, each different text once and until its end, for the rules of the files
-/// that are open, at most 17, and for the stacks. Without memory nothing is given; of what the vault tells only
-/// its number of calls has changed, as with every answer, and no fault of the vault is hidden behind it.
+/// A load asks once whether the directory exists, and reads a file at each opening. Memory is used
+/// for the texts that it reads with their rules, each different text once and until its end, for
+/// the rules of the files that are open, at most 17, and for the stacks. If an allocation fails,
+/// NoMemory is returned. Of modelled files only the number of accesses changes, whatever is
+/// returned, and NoMemory hides no fault of the files.
 pub fn load(
     alloc: Global,
     vault: &mut dyn Vault,
@@ -54,7 +57,7 @@ pub fn load(
     }
 }
 
-// The stacks of a service, once it is known whether there is a folder.
+// The stacks of a service, once it is known whether the directory exists.
 fn load_from(
     alloc: Global,
     vault: &mut dyn Vault,

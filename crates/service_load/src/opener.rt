@@ -14,15 +14,15 @@ use std::alloc::Global;
 pub(crate) enum Opener<'a> {
     /// It is the service's own.
     Service,
-    /// It is that of `other`, and the service is there.
+    /// It is that of `other`, and the service exists.
     Other,
-    /// It is that of `other`, and the service, whose file has this name, isn't there.
+    /// It is that of `other`, and the service, whose file has this name, doesn't exist.
     Last(&'a [u8]),
     /// The rule in a line of the file with this name includes it.
     Rule(&'a [u8], u32),
 }
 
-/// Why `other` is opened, by whether the service is there.
+/// Why `other` is opened, by whether the service exists.
 pub(crate) fn opener_of_other<'a>(there: bool, own: &'a RuleFile) -> Opener<'a>
     ensures { opener_of result ≡ (if there then as_other else as_last own.now.name) }
 {
@@ -33,7 +33,7 @@ pub(crate) fn opener_of_other<'a>(there: bool, own: &'a RuleFile) -> Opener<'a>
     }
 }
 
-/// The refusal to open a file: it stands at the rule that includes it, or at the file itself.
+/// The refusal to open a file: its position is the rule that includes it, or the file itself.
 pub(crate) fn refused_opening(
     alloc: Global,
     opener: Opener,

@@ -8,9 +8,10 @@ use std::alloc::Global;
 /// A file of rules.
 #[derive(Debug, Drop)]
 pub(crate) struct RuleFile {
-    /// Its name, without the root that it lies under.
+    /// Its name, without the root.
     pub(crate) name: Text,
-    /// Where it has the form of `pam.conf(5)`, whose rules begin with their service, the service meant.
+    /// If it has the form of `pam.conf(5)`, whose rules begin with their service, the service asked
+    /// for.
     pub(crate) service: Option<Text>,
 }
 
@@ -25,7 +26,7 @@ impl RuleFile {
         }
     }
 
-    /// The file of a service: one in `/etc/pam.d` where that is a folder, else `/etc/pam.conf`.
+    /// The file of a service: one in `/etc/pam.d` if that is a directory, else `/etc/pam.conf`.
     pub(crate) fn of_service(
         alloc: Global,
         is_folder: bool,

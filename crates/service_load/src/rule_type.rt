@@ -2,7 +2,8 @@ ghost use Rattle.std.specs.Prelude.{◌≡◌};
 ghost use Rattle.std.specs.Str.{str_eq_ignore_ascii_case};
 ghost use Rattle.service_load.specs.RuleType.{type_of_word, type_word};
 
-/// The type of a rule (`pam.conf(5)`): which calls of an application it serves.
+/// The type of a rule (`pam.conf(5)`; libpam: PAM_T_AUTH, PAM_T_ACCT, PAM_T_PASS, PAM_T_SESS): for
+/// which calls of an application it is.
 #[derive(Clone, Copy, Debug, PartialEq, Eq)]
 pub enum RuleType {
     Auth,
@@ -20,7 +21,7 @@ pub const ALL_TYPES: [RuleType; 4] = [
 ];
 
 impl RuleType {
-    /// Its word, in small letters.
+    /// Its word, in lower case.
     pub fn word(self) -> &'static str
         ensures { result.now ≡ type_word self }
     {
@@ -32,7 +33,7 @@ impl RuleType {
         }
     }
 
-    /// The type that a word names, in any case. None exactly for all other words.
+    /// The type that a word names, in any case; None if and only if it names none.
     pub fn named(word: &[u8]) -> Option<RuleType>
         ensures { result ≡ type_of_word word.now }
     {

@@ -2,18 +2,19 @@ ghost use Rattle.std.specs.Prelude.{◌≡◌};
 ghost use Rattle.service_load.specs.RuleType.{is_word, type_field_of, type_field_of_word};
 
 use crate::rule_type::RuleType;
-use conf_lex::Token;
+use control_words::conf_lex::Token;
 
 /// The type field of a rule (`pam.conf(5)`).
 #[derive(Clone, Copy, Debug, PartialEq, Eq)]
 pub(crate) struct TypeField {
-    /// Whether a missing module is passed over in silence (a `-` before the type).
+    /// Whether no note is made of a missing module (a `-` before the type).
     pub(crate) silent: bool,
     pub(crate) rule_type: RuleType,
 }
 
 impl TypeField {
-    /// The type field that a token is, in any case; None exactly for every other token. It has no brackets.
+    /// The type field that a token is, in any case; None if and only if it is none. It has no
+    /// brackets.
     pub(crate) fn of(token: &Token) -> Option<TypeField>
         ensures { result ≡ type_field_of token.now }
     {
