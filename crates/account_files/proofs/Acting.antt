@@ -3,9 +3,9 @@ use Rattle.std.proofs.Common.{◌≡◌, ℕ, zero, suc, Bool, true, false, cond
 use Rattle.std.proofs.lemmas.List.{append-nil}
 use Rattle.pam_base.specs.declared.code.Code.{Code}
 use Rattle.pam_base.specs.declared.fault.NoMemory.{NoMemory}
-use Rattle.item_store.specs.Items.{ItemTexts}
-use Rattle.pam_outside.specs.Files.{File, VaultState, counted, file_put, is_failing}
-use Rattle.pam_outside.specs.Time.{ClockState}
+use Rattle.pam_room.specs.item_store.specs.Items.{ItemTexts}
+use Rattle.pam_room.specs.pam_outside.specs.Files.{File, VaultState, counted, file_put, is_failing}
+use Rattle.pam_room.specs.pam_outside.specs.Time.{ClockState, drawn}
 use Rattle.pam_room.specs.Call.{PlainCall}
 use Rattle.pam_room.specs.declared.process.Process.{Process}
 use Rattle.pam_room.specs.Plain.{plain_process}
@@ -15,10 +15,10 @@ use Rattle.account_db.specs.declared.group.Group.{Group}
 use Rattle.account_db.specs.declared.passwd.Passwd.{Passwd}
 use Rattle.account_files.specs.declared.content.Content.{Content}
 use Rattle.account_files.specs.declared.content.Content.TheVariants.{Absent}
-use Rattle.pam_outside.specs.Paths.{path_of}
+use Rattle.pam_room.specs.pam_outside.specs.Paths.{path_of}
 use Rattle.account_files.specs.Content.{content_at, is_rooted}
 use Rattle.account_files.specs.Accounts.{Known, account_limit, groups_in, known_groups, known_passwds, nothing_known, passwds_in, shells_in}
-use Rattle.account_files.specs.Act.{Act, Acts, LooksTo, answers, called, content_seen, groups_by, later, passwds_by, plays_by, reads_file, reads_groups, reads_if, reads_passwds, reads_shells, replaced, replaces_file, sees_items, sees_moment, stage_of}
+use Rattle.account_files.specs.Act.{Act, Acts, LooksTo, answers, called, content_seen, draws_word, groups_by, later, passwds_by, plays_by, reads_file, reads_groups, reads_if, reads_passwds, reads_shells, replaced, replaces_file, sees_items, sees_moment, stage_of}
 
 -- ---- a step that leaves the vault, and one that calls it once
 
@@ -66,6 +66,11 @@ unfolding sees_moment
 timing act known s code new a = carried (sees_moment act) (act s.clock.moment) known known s s code new refl (λ p. refl) a
 
 -- ---- files
+
+pub drawing : (act : ℕ → Act) (known : Known) (room : PlainRoom) (vault : VaultState) (clock : ClockState) (process : PlainProcess) (code : Code) (new : Scene)
+    → Acts (act clock.word) known (scene_of room vault (drawn clock) process) code new → Acts (draws_word act) known (scene_of room vault clock process) code new
+unfolding draws_word
+drawing act known room vault clock process code new a = record { code_is = a.code_is; scene_is = a.scene_is }
 
 module _ (room : PlainRoom) (vault : VaultState) (clock : ClockState) (process : PlainProcess) where
   by_root : (rooted : Bool) (name : List ℕ) (limit : ℕ) (act : Content → Act) (known : Known) (content : Content) (after : VaultState) (code : Code) (new : Scene)

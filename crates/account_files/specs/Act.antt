@@ -3,23 +3,23 @@ use Rattle.std.specs.Prelude.{◌≡◌, ℕ, suc, Bool, true, false, not, if◌
 use Rattle.pam_base.specs.declared.code.Code.{Code}
 use Rattle.pam_base.specs.declared.code.Code.TheVariants.{ConvErr}
 use Rattle.pam_base.specs.declared.style.Style.{Style}
-use Rattle.pam_outside.specs.Files.{file_at, file_put}
-use Rattle.item_store.specs.Items.{ItemTexts}
+use Rattle.pam_room.specs.pam_outside.specs.Files.{file_at, file_put}
+use Rattle.pam_room.specs.item_store.specs.Items.{ItemTexts}
 use Rattle.pam_room.specs.Call.{PlainCall}
 use Rattle.pam_room.specs.State.{PlainRoom, Scene, room_of, scene_of}
 use Rattle.pam_room.specs.Plain.{plain_process, plain_transaction}
 use Rattle.pam_room.specs.declared.process.Process.{Process}
 use Rattle.pam_room.specs.declared.transaction.Transaction.{Transaction}
-use Rattle.pam_outside.specs.Files.{VaultState}
-use Rattle.pam_outside.specs.Time.{ClockState}
-use Rattle.conv_port.specs.Conv.{ConvState}
+use Rattle.pam_room.specs.pam_outside.specs.Files.{VaultState}
+use Rattle.pam_room.specs.pam_outside.specs.Time.{ClockState}
+use Rattle.pam_room.specs.conv_port.specs.Conv.{ConvState}
 use Rattle.pam_room.specs.Module.{NamedData, Played, Plays, SeenRoom, Sight, answered, named_data, seen_of, sight_of, with_played}
 use Rattle.pam_room.specs.Say.{Asked, speak, user_asked}
 use Rattle.account_db.specs.declared.passwd.Passwd.{Passwd}
 use Rattle.account_db.specs.declared.group.Group.{Group}
 use Rattle.account_files.specs.declared.content.Content.{Content}
 use Rattle.account_files.specs.declared.content.Content.TheVariants.{Absent}
-use Rattle.pam_outside.specs.Paths.{path_of}
+use Rattle.pam_room.specs.pam_outside.specs.Paths.{path_of}
 use Rattle.account_files.specs.Content.{content_of, is_rooted}
 use Rattle.account_files.specs.Accounts.{Account, Known, account_in, account_limit, groups_in, nothing_known, passwds_in, shells_in}
 
@@ -114,6 +114,14 @@ replaces_file name bytes act stage =
 -- the moment is seen
 unfoldable pub sees_moment : (ℕ → Act) → Act
 sees_moment act stage = act stage.sight.clock.moment stage
+
+-- one word more was drawn
+abbrev pub drew : Played → Played
+drew played = record played { draws = suc played.draws }
+
+-- a random word is drawn
+unfoldable pub draws_word : (ℕ → Act) → Act
+draws_word act stage = drew (act stage.sight.clock.word stage)
 
 -- ---- account files
 

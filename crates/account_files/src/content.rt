@@ -1,11 +1,13 @@
-ghost use Rattle.std.specs.Prelude.{◌≡◌, ◌≢◌, ◌≤◌, IsTrue, IfOk, Ok, OnOk, OnErr, false};
-ghost use Rattle.pam_outside.specs.Files.{counted};
+ghost use Rattle.std.specs.Prelude.{◌≡◌, ◌≢◌, ◌≤◌, IsTrue, IfOk, IsSome, None, Ok, OnOk, OnErr, false};
+ghost use Rattle.pam_room.specs.pam_outside.specs.Files.{counted};
 ghost use Rattle.account_files.specs.Act.{StepsTo, reads_file, replaces_file};
 ghost use Rattle.account_files.specs.Content.{IsWithin, content_at, is_rooted};
 
-use pam_base::{NoMemory, Text};
-use pam_outside::{ReplaceFault, Vault, VaultFault, path_of, read_file, replace_file};
+use pam_base::{Failed, NoMemory, Text};
 use pam_room::Process;
+use pam_room::pam_outside::{
+    Held, LockKind, ReplaceFault, Vault, VaultFault, hold_file, path_of, read_file, replace_file,
+};
 use std::alloc::Global;
 
 /// What a module finds where it looks for a file.
@@ -100,6 +102,33 @@ pub fn replace_named(
         Ok(()) => Ok(true),
         Err(ReplaceFault::Failed) => Ok(false),
         Err(ReplaceFault::NoMemory) => Err(NoMemory),
+    }
+}
+
+/// Holds what is behind this name until the answer is dropped; None where the outside failed. It is no counted call,
+/// changes no file, and where the vault tells it is never None. Where the name isn't a path from the root, nothing is
+/// held.
+pub fn hold_named(
+    alloc: Global,
+    vault: &mut dyn Vault,
+    process: &Process,
+    name: &[u8],
+    kind: LockKind,
+) -> Result<Option<Held>, NoMemory>
+    ensures tells { vault_tells vault.new ≡ vault_tells vault.old }
+    ensures told { IsTrue (vault_tells vault.old) →
+        vault_holds vault.new ≡ vault_holds vault.old }
+    ensures held { IsTrue (vault_tells vault.old) → IfOk result (λ held. IsSome held) }
+    ensures faults { vault_faults vault.old ≤ vault_faults vault.new }
+    ensures no_fault { result ≢ Ok None → vault_faults vault.new ≡ vault_faults vault.old }
+{
+    if !is_rooted(name) {
+        return Ok(Some(Held::nothing()));
+    }
+    let path = path_of(alloc, process.root.bytes(), name)?;
+    match hold_file(vault, path.bytes(), kind) {
+        Ok(held) => Ok(Some(held)),
+        Err(Failed) => Ok(None),
     }
 }
 

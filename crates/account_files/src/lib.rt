@@ -9,4 +9,6 @@ pub mod laws;
 
 pub use accounts::{Account, Accounts, read_shells};
 pub use arguments::has_argument;
-pub use content::{Content, is_rooted, read_named, replace_named};
+pub use content::{Content, hold_named, is_rooted, read_named, replace_named};
+pub use pam_room;
+pub use pam_room::data_cleanup;

@@ -24,7 +24,7 @@ call_of func flags args = record { func = func; flags = flags; args = args }
 abbrev start : List Offer → ℕ → State
 start offers caller = state_of
     (room_of (new_transaction 1) (record { offers = offers; waits = false; handed = [] }))
-    (world_of (record { files = []; calls = 0; fails = [] }) (record { moment = 0; word = 0 }) (record { waits = 0; sum = 0 }) (record { ledger = record { births = []; filed = [] }; root = []; caller = caller }))
+    (world_of (record { files = []; calls = 0; fails = [] }) (record { moment = 0; word = 0; draws = 0 }) (record { waits = 0; sum = 0 }) (record { ledger = record { births = []; filed = [] }; root = []; caller = caller }))
 
 abbrev play : Plays → PlainCall → State → Played
 play plays call s = plays call (seen_of s.room) [] (sight_of (scene_in s))

@@ -99,6 +99,7 @@ played_so p args sight = record {
   births = p.births;
   files = sight.files;
   calls = 0;
+  draws = 0;
 }
 
 abbrev pub probe_plays : Plays

@@ -9,8 +9,11 @@ mod probe;
 mod request;
 mod rootok;
 
+pub use conv_port;
+pub use data_cleanup;
 pub use debug::Debug;
 pub use deny::Deny;
+pub use pam_room;
 pub use permit::Permit;
 pub use probe::Probe;
 pub use rootok::Rootok;

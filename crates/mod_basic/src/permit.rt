@@ -5,9 +5,9 @@ ghost use Rattle.mod_basic.specs.Permit.{permit_plays};
 
 use conv_port::Conv;
 use data_cleanup::{Datum, Receipt};
-use item_store::Items;
 use pam_base::{Code, Func, ItemName, NoMemory};
 use pam_outside::{Clock, Vault};
+use pam_room::item_store::Items;
 use pam_room::{Call, Module, Process, Transaction, get_item, laws, set_item, spend_by_length};
 use std::alloc::Global;
 

@@ -17,8 +17,8 @@ use Rattle.account_db.specs.declared.shadow.Shadow.{Shadow}
 use Rattle.account_files.specs.declared.content.Content.{Content}
 use Rattle.account_files.specs.Accounts.{Known}
 use Rattle.account_files.specs.Act.{Act, Acts, Came, Leads, reads_file, replaces_file, stage_of}
-use Rattle.module_acts.specs.Comes.{Comes, lent}
-use Rattle.module_acts.specs.Steps.{sees_caller}
+use Rattle.mod_unix.specs.module_acts.specs.Comes.{Comes, lent}
+use Rattle.mod_unix.specs.module_acts.specs.Steps.{sees_caller}
 use Rattle.mod_unix.specs.declared.look.Look.{Look}
 use Rattle.mod_unix.specs.declared.look.Look.TheVariants.{Unknown, Unavailable, Plain, Shadowed}
 use Rattle.mod_unix.specs.Change.{by_done}

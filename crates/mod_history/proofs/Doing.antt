@@ -19,7 +19,7 @@ use Rattle.account_files.specs.declared.content.Content.TheVariants as content
 use Rattle.account_files.specs.Accounts.{account_limit, nothing_known, passwds_in}
 use Rattle.account_files.specs.Act.{Act, Stage, answers, asks_user, called, in_room, later, reads_file, replaced as seen_after, replaces_file, sees_items, shows, unless_answered}
 use Rattle.account_files.specs.Content.{content_of}
-use Rattle.module_acts.specs.Steps.{exchanges, sees_caller, sets_item, with_replies}
+use Rattle.mod_unix.specs.module_acts.specs.Steps.{exchanges, sees_caller, sets_item, with_replies}
 use Rattle.mod_unix.specs.declared.look.Look.{Look}
 use Rattle.mod_unix.specs.declared.look.Look.TheVariants.{Unknown, Unavailable, Plain, Shadowed}
 use Rattle.account_files.specs.Arguments.{has_argument}

@@ -15,7 +15,7 @@ use Rattle.account_db.specs.Entries.{entries_of}
 use Rattle.account_db.specs.Shells.{without_end}
 use Rattle.account_files.specs.Content.{content_of}
 use Rattle.account_files.specs.Act.{answers, asks_user, reads_file, reads_groups, reads_passwds, replaces_file, sees_items}
-use Rattle.module_acts.specs.Steps.{sees_caller}
+use Rattle.mod_unix.specs.module_acts.specs.Steps.{sees_caller}
 use Rattle.mod_unix.specs.Change.{takes_token}
 use Rattle.mod_unix.specs.Look.{looks}
 use Rattle.mod_history.specs.declared.history.Remembered.{Remembered}
@@ -39,7 +39,7 @@ room_with user tty = let t = new_transaction 1 in
 -- with these files below /r/, a caller, and the numbers of the vault's calls that are to fail
 abbrev play : Plays → PlainCall → PlainRoom → List File → ℕ → List ℕ → Played
 play plays call room files caller fails =
-    plays call (seen_of room) [] (sight_of (scene_of room (record { files = files; calls = 0; fails = fails }) (record { moment = 0; word = 0 }) (record { ledger = record { births = []; filed = [] }; root = codes "/r/"; caller = caller })))
+    plays call (seen_of room) [] (sight_of (scene_of room (record { files = files; calls = 0; fails = fails }) (record { moment = 0; word = 0; draws = 0 }) (record { ledger = record { births = []; filed = [] }; root = codes "/r/"; caller = caller })))
 
 abbrev passwd : File
 passwd = file (codes "/etc/passwd") (codes "root:x:0:0::/root:/bin/sh\njoe:H:1000:1000:Joe:/home/joe:/bin/sh\nann:x:1001:1001::/:/bin/sh\n")

@@ -5,8 +5,8 @@ use Rattle.pam_base.specs.declared.fault.NoMemory.{NoMemory}
 use Rattle.pam_room.specs.State.{Scene}
 use Rattle.account_files.specs.Accounts.{Known, nothing_known}
 use Rattle.account_files.specs.Act.{Act, Acts}
-use Rattle.module_acts.specs.Comes.{Goes}
-use Rattle.module_acts.specs.Steps.{sees_caller}
+use Rattle.mod_unix.specs.module_acts.specs.Comes.{Goes}
+use Rattle.mod_unix.specs.module_acts.specs.Steps.{sees_caller}
 
 -- whose process it is was seen
 pub seen : ((act : ℕ → Act) (known : Known) (s : Scene) (code : Code) (new : Scene) → Acts (act s.process.caller) known s code new → Acts (sees_caller act) known s code new)

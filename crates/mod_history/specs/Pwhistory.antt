@@ -16,7 +16,7 @@ use Rattle.pam_room.specs.Module.{Plays}
 use Rattle.account_files.specs.declared.content.Content.{Content}
 use Rattle.account_files.specs.declared.content.Content.TheVariants.{Absent, Unreadable, Holds}
 use Rattle.account_files.specs.Act.{Act, answers, asks_user, in_room, plays_by, reads_file, replaces_file, shows, unless_answered}
-use Rattle.module_acts.specs.Steps.{sees_caller}
+use Rattle.mod_unix.specs.module_acts.specs.Steps.{sees_caller}
 use Rattle.sha_crypt.specs.declared.setting.SettingFault.{SettingFault}
 use Rattle.sha_crypt.specs.Hash.{crypted}
 use Rattle.mod_unix.specs.declared.look.Look.{Look}

@@ -12,7 +12,7 @@ use Rattle.account_db.specs.declared.group.Group.{Group}
 use Rattle.account_db.specs.Members.{group_of, is_member}
 use Rattle.account_db.specs.Passwd.{entry_of, entry_of_uid}
 use Rattle.account_files.specs.Act.{Act, answers, asks_user, plays_by, reads_groups, reads_passwds, unless_answered}
-use Rattle.module_acts.specs.Steps.{sees_caller}
+use Rattle.mod_unix.specs.module_acts.specs.Steps.{sees_caller}
 use Rattle.account_files.specs.Arguments.{has_argument}
 
 -- ---- who is tested

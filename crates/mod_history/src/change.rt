@@ -2,20 +2,20 @@ ghost use Rattle.std.specs.Prelude.{◌≡◌, ◌≤◌, ◌<◌, IsTrue, IfOk,
 ghost use Rattle.pam_outside.specs.Time.{ClockState};
 ghost use Rattle.pam_room.specs.Plain.{plain_call, plain_process};
 ghost use Rattle.account_files.specs.Act.{Came};
-ghost use Rattle.module_acts.specs.Comes.{Comes, lent};
-ghost use Rattle.module_acts.specs.Talks.{Talks};
+ghost use Rattle.mod_unix.specs.module_acts.specs.Comes.{Comes, lent};
+ghost use Rattle.mod_unix.specs.module_acts.specs.Talks.{Talks};
 ghost use Rattle.mod_history.specs.Pwhistory.{by_history, by_look, checks_token, remember_of, remembers, renews, short_number};
 
 use crate::file::{HISTORY_LIMIT, HISTORY_NAME, history_in, store_text};
 use crate::history::{History, hashes_of};
 use crate::refusal::{is_refused, refuse_token};
 use crate::renewal::renewed_text;
-use account_files::read_named;
+use account_files::{hold_named, read_named};
 use conv_port::Conv;
+use mod_unix::module_acts::{laws, require_user, user_of};
 use mod_unix::{Look, look_up, take_token};
-use module_acts::{laws, require_user, user_of};
 use pam_base::{Code, ConvErr, NoMemory, Refuse, Text, number_in};
-use pam_outside::Vault;
+use pam_outside::{Held, LockKind, Vault};
 use pam_room::{Call, Process, Transaction};
 use std::alloc::Global;
 
@@ -142,7 +142,8 @@ fn renew(
     Ok(code)
 }
 
-// Remembers the hash of the present token, if there is a new one that the user hasn't and hadn't.
+// Remembers the hash of the present token, if there is a new one that the user hasn't and hadn't. The account files
+// are locked from the read to the replacement, as lckpwdf(3) locks them.
 fn remember(
     alloc: Global,
     call: &Call,
@@ -174,6 +175,10 @@ fn remember(
     if remember_of(call) == 0 {
         return Ok(Code::Success);
     }
+    let held = match hold_named(alloc, vault, process, b"/etc/.pwd.lock", LockKind::Record)? {
+        Some(held) => held,
+        None => return Ok(Code::AuthtokErr),
+    };
     let content = read_named(alloc, vault, process, HISTORY_NAME, HISTORY_LIMIT)?;
     let history = history_in(alloc, content)?;
     let code = by_history(
@@ -183,6 +188,7 @@ fn remember(
         hash,
         token.bytes(),
         history,
+        held,
         transaction,
         process,
         conv,
@@ -191,7 +197,8 @@ fn remember(
     Ok(code)
 }
 
-// By what the history holds, unless it can't be read.
+// By what the history holds, unless it can't be read. The lock is let go before the user is told anything, so that
+// nobody's terminal keeps others out.
 fn by_history(
     alloc: Global,
     call: &Call,
@@ -199,6 +206,7 @@ fn by_history(
     hash: &[u8],
     token: &[u8],
     history: Option<History>,
+    held: Held,
     transaction: &mut Transaction,
     process: &Process,
     conv: &mut dyn Conv,
@@ -227,6 +235,7 @@ fn by_history(
     let hashes = hashes_of(user, &history);
     let refused = is_refused(alloc, call, process.caller, token, hash, hashes)?;
     if refused {
+        drop(held);
         refuse_token(alloc, transaction, conv)?;
         return Ok(Code::AuthtokErr);
     }

@@ -13,6 +13,7 @@ mod securetty;
 mod wheel;
 
 pub use history::{Damaged, History, Remembered, read_history};
+pub use mod_unix;
 pub use pwhistory::Pwhistory;
 pub use securetty::Securetty;
 pub use wheel::Wheel;

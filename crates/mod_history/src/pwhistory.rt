@@ -2,13 +2,13 @@ ghost use Rattle.std.specs.Prelude.{◌≡◌, IfOk, codes};
 ghost use Rattle.pam_room.specs.Module.{leaves_anything, length_note};
 ghost use Rattle.pam_room.specs.Plain.{plain_call};
 ghost use Rattle.pam_room.specs.State.{Scene};
-ghost use Rattle.module_acts.specs.Comes.{Comes, Goes};
+ghost use Rattle.mod_unix.specs.module_acts.specs.Comes.{Comes, Goes};
 ghost use Rattle.mod_history.specs.Pwhistory.{at_once, pwhistory_plays};
 
 use crate::change::check_token;
 use conv_port::Conv;
 use data_cleanup::{Datum, Receipt};
-use module_acts::{ended, laws};
+use mod_unix::module_acts::{ended, laws};
 use pam_base::{Code, Func, NoMemory, PRELIM_CHECK};
 use pam_outside::{Clock, Vault};
 use pam_room::{Call, Module, Process, Transaction, spend_by_length};

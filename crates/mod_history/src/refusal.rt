@@ -5,14 +5,14 @@ ghost use Rattle.pam_outside.specs.Files.{VaultState};
 ghost use Rattle.pam_outside.specs.Time.{ClockState};
 ghost use Rattle.pam_room.specs.State.{PlainProcess};
 ghost use Rattle.account_files.specs.Act.{Came, Leads};
-ghost use Rattle.module_acts.specs.Comes.{lent};
-ghost use Rattle.module_acts.specs.Talks.{Talks};
+ghost use Rattle.mod_unix.specs.module_acts.specs.Comes.{lent};
+ghost use Rattle.mod_unix.specs.module_acts.specs.Talks.{Talks};
 ghost use Rattle.mod_history.specs.Pwhistory.{has_hash, is_enforced, is_refused, refuses_token, unsets_item, was_used};
 
 use account_files::has_argument;
 use conv_port::Conv;
 use item_store::Items;
-use module_acts::show;
+use mod_unix::module_acts::show;
 use pam_base::{Code, ItemName, NoMemory, Refuse, Style, Text};
 use pam_room::{Call, Transaction};
 use sha_crypt::crypt;
@@ -89,7 +89,7 @@ pub(crate) fn refuse_token(
         (lent transaction.new (conv_holds conv.new) vault clock process)) }
     ensures talks { Talks transaction.old transaction.new }
 {
-    module_acts::laws::talking();
+    mod_unix::module_acts::laws::talking();
     unset_token(transaction);
     show(
         alloc,

@@ -5,15 +5,15 @@ ghost use Rattle.pam_outside.specs.Time.{ClockState};
 ghost use Rattle.pam_room.specs.Module.{keeps_files, length_note};
 ghost use Rattle.account_files.specs.Accounts.{Known, nothing_known};
 ghost use Rattle.account_files.specs.Act.{Acts, standing};
-ghost use Rattle.module_acts.specs.Comes.{Finishes};
-ghost use Rattle.module_acts.specs.Talks.{Talks};
+ghost use Rattle.mod_unix.specs.module_acts.specs.Comes.{Finishes};
+ghost use Rattle.mod_unix.specs.module_acts.specs.Talks.{Talks};
 ghost use Rattle.mod_history.specs.Securetty.{at_once, by_list, checks_root, checks_terminal, is_secure, is_terminal, securetty_plays, terminal_name};
 
 use account_db::without_end;
 use account_files::{Account, Accounts, Content, laws, read_named};
 use conv_port::Conv;
 use data_cleanup::{Datum, Receipt};
-use module_acts::{ended, require_user, user_of};
+use mod_unix::module_acts::{ended, require_user, user_of};
 use pam_base::{Code, ConvErr, Func, ItemName, Lines, NoMemory, Refuse};
 use pam_outside::{Clock, Vault};
 use pam_room::{Call, Module, Process, Transaction, get_item, spend_by_length, value_in};
@@ -57,7 +57,7 @@ impl Module for Securetty {
         _clock: &mut dyn Clock,
     ) -> Result<Code, NoMemory> {
         laws::act_steps();
-        module_acts::laws::talking();
+        mod_unix::module_acts::laws::talking();
         pam_room::laws::files_stay();
         match at_once(call.func) {
             Some(code) => Ok(code),

@@ -4,15 +4,15 @@ ghost use Rattle.pam_outside.specs.Time.{ClockState};
 ghost use Rattle.pam_room.specs.Module.{keeps_files, length_note};
 ghost use Rattle.account_files.specs.Accounts.{nothing_known};
 ghost use Rattle.account_files.specs.Act.{Acts, standing};
-ghost use Rattle.module_acts.specs.Comes.{Finishes};
-ghost use Rattle.module_acts.specs.Talks.{Talks};
+ghost use Rattle.mod_unix.specs.module_acts.specs.Comes.{Finishes};
+ghost use Rattle.mod_unix.specs.module_acts.specs.Talks.{Talks};
 ghost use Rattle.mod_history.specs.Wheel.{at_once, by_group, by_membership, checks_wheel, code_by_groups, code_by_passwds, group_of_gid, is_passed_over, trusted, wheel_group, wheel_plays};
 
 use account_db::{Group, Groups, Passwd, PasswdFile, entry_of, entry_of_uid, group_of, is_member};
 use account_files::{Accounts, has_argument, laws};
 use conv_port::Conv;
 use data_cleanup::{Datum, Receipt};
-use module_acts::{ended, require_user, user_of};
+use mod_unix::module_acts::{ended, require_user, user_of};
 use pam_base::{Code, ConvErr, Func, NoMemory, Refuse, Texts};
 use pam_outside::{Clock, Vault};
 use pam_room::{Call, Module, Process, Transaction, spend_by_length};
@@ -54,8 +54,8 @@ impl Module for Wheel {
         _clock: &mut dyn Clock,
     ) -> Result<Code, NoMemory> {
         laws::act_steps();
-        module_acts::laws::talking();
-        module_acts::laws::acting();
+        mod_unix::module_acts::laws::talking();
+        mod_unix::module_acts::laws::acting();
         pam_room::laws::files_stay();
         match at_once(call.func) {
             Some(code) => Ok(code),

@@ -5,8 +5,8 @@ use Rattle.pam_base.specs.declared.code.Code.{Code}
 use Rattle.pam_base.specs.declared.code.Code.TheVariants.{Success, Ignore}
 use Rattle.item_store.specs.Items.{ItemTexts}
 use Rattle.pam_outside.specs.Files.{File, file_at}
-use Rattle.pam_room.specs.Call.{PlainCall}
-use Rattle.pam_room.specs.Module.{NamedData, Played, SeenRoom, Sight}
+use Rattle.module_acts.specs.pam_room.specs.Call.{PlainCall}
+use Rattle.module_acts.specs.pam_room.specs.Module.{NamedData, Played, SeenRoom, Sight}
 use Rattle.mod_tally.specs.declared.tally.Failure.{Failure}
 use Rattle.mod_tally.specs.declared.settings.Task.TheVariants.{AuthFail, AuthSucc, Clear}
 use Rattle.mod_tally.specs.Settings.{PlainSettings, settings_of, task_among}

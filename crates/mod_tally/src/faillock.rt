@@ -1,23 +1,23 @@
-ghost use Rattle.std.specs.Prelude.{◌≡◌, ◌≢◌, ◌==◌, ◌&&◌, not, None, IsTrue, IfOk, codes, unwrap_or, []};
+ghost use Rattle.std.specs.Prelude.{◌≡◌, ◌≢◌, ◌==◌, ◌&&◌, not, false, None, IsTrue, IfOk, codes, unwrap_or, []};
 ghost use Rattle.conv_port.specs.Conv.{ConvState};
-ghost use Rattle.pam_room.specs.Module.{leaves_anything, length_note};
-ghost use Rattle.account_files.specs.Accounts.{Known, nothing_known};
-ghost use Rattle.account_files.specs.Act.{Acts, standing};
+ghost use Rattle.module_acts.specs.pam_room.specs.Module.{leaves_anything, length_note};
+ghost use Rattle.module_acts.specs.account_files.specs.Accounts.{Known, nothing_known};
+ghost use Rattle.module_acts.specs.account_files.specs.Act.{Acts, standing};
 ghost use Rattle.module_acts.specs.Comes.{Finishes};
 ghost use Rattle.module_acts.specs.Talks.{Talks};
 ghost use Rattle.mod_tally.specs.Settings.{plain_settings};
 ghost use Rattle.mod_tally.specs.Faillock.{by_name, by_spared, checks_tally, faillock_plays, is_no_file, spared_answer, task_of};
 
 use crate::settings::{Settings, Task, settings_of, task_among};
-use crate::tally_file::{is_no_file, read_tally, tally_name};
+use crate::tally_file::{hold_tallies, is_no_file, read_tally, tally_name};
 use crate::task::by_task;
-use account_files::{Account, Accounts, laws};
 use conv_port::Conv;
-use data_cleanup::{Datum, Receipt};
+use module_acts::account_files::{Account, Accounts, laws};
+use module_acts::data_cleanup::{Datum, Receipt};
+use module_acts::pam_room::{Call, Module, Process, Transaction, spend_by_length};
 use module_acts::{ended, require_user, user_of};
 use pam_base::{Code, ConvErr, Func, NoMemory, Refuse};
 use pam_outside::{Clock, Vault};
-use pam_room::{Call, Module, Process, Transaction, spend_by_length};
 use std::alloc::Global;
 
 /// `pam_faillock(8)`: the failures of each user are counted in a file, and a user who failed too often is locked.
@@ -189,7 +189,7 @@ fn spared_answer(task: Task) -> Code
     }
 }
 
-// Reads the user's file, unless the user is spared.
+// Reads the user's file, unless the user is spared, and holds it until it is done with.
 fn by_spared(
     alloc: Global,
     spared: bool,
@@ -215,6 +215,46 @@ fn by_spared(
     if spared {
         return Ok(spared_answer(task));
     }
+    match hold_tallies(alloc, task, process, vault, settings.folder)? {
+        Some(_held) => {
+            let code = by_file(
+                alloc,
+                task,
+                settings,
+                user,
+                transaction,
+                process,
+                vault,
+                clock,
+            )?;
+            Ok(code)
+        }
+        None => Ok(Code::ServiceErr),
+    }
+}
+
+// Reads the user's file.
+fn by_file(
+    alloc: Global,
+    task: Task,
+    settings: &Settings<'_>,
+    user: &[u8],
+    transaction: &Transaction,
+    process: &Process,
+    vault: &mut dyn Vault,
+    clock: &dyn Clock,
+) -> Result<Code, NoMemory>
+    ensures tells { vault_tells vault.new ≡ vault_tells vault.old }
+    ensures told { IsTrue (vault_tells vault.old) → IsTrue (clock_tells clock.now) →
+        (conv : ConvState) (known : Known) →
+        IfOk result (λ code. Acts (by_spared false task (plain_settings settings.now) user.now)
+        known
+        (standing transaction.now conv (vault_holds vault.old) (clock_holds clock.now) process.now)
+        code
+        (standing transaction.now conv (vault_holds vault.new) (clock_holds clock.now)
+        process.now)) }
+{
+    laws::act_steps();
     let name = tally_name(alloc, settings.folder, user)?;
     match read_tally(alloc, process, vault, name.bytes())? {
         Some(failures) => {

@@ -6,8 +6,8 @@ ghost use Rattle.mod_tally.specs.Faillock.{from, from_host, new_failure};
 
 use crate::tally::Failure;
 use item_store::Items;
+use module_acts::pam_room::{first_bytes, get_item};
 use pam_base::{ItemName, NoMemory, Text};
-use pam_room::{first_bytes, get_item};
 use std::alloc::Global;
 
 /// A failure, and where it comes from: the remote host, else the terminal, else the service.

@@ -1,7 +1,7 @@
 ghost use Rattle.std.specs.Prelude.{◌≡◌, ◌≢◌, ◌<◌, ◌^◌, ℕ, true, false, List, [], Option, Some, unwrap_or};
 ghost use Rattle.std.specs.List.{AllByRecursion};
-ghost use Rattle.pam_room.specs.Call.{PlainCall};
-ghost use Rattle.pam_room.specs.Module.{NamedData, SeenRoom, Sight};
+ghost use Rattle.module_acts.specs.pam_room.specs.Call.{PlainCall};
+ghost use Rattle.module_acts.specs.pam_room.specs.Module.{NamedData, SeenRoom, Sight};
 ghost use Rattle.mod_tally.specs.declared.tally.Failure.{Failure};
 ghost use Rattle.mod_tally.specs.Source.{spelled, unspelled};
 ghost use Rattle.mod_tally.specs.Tally.{IsFailure, counts, failures_of, latest, tally_text};

@@ -1,19 +1,20 @@
-ghost use Rattle.std.specs.Prelude.{◌≡◌, ◌==◌, ◌&&◌, ◌||◌, codes, nat_le, length, if◌then◌else◌, IsTrue, IfOk};
+ghost use Rattle.std.specs.Prelude.{◌≡◌, ◌==◌, ◌&&◌, ◌||◌, codes, nat_le, length, if◌then◌else◌, IsTrue, IfOk, IsSome};
 ghost use Rattle.std.specs.List.{list_any};
 ghost use Rattle.std.specs.Str.{bytes_eq};
 ghost use Rattle.pam_outside.specs.Time.{ClockState};
-ghost use Rattle.pam_room.specs.Plain.{plain_process};
-ghost use Rattle.pam_room.specs.State.{PlainRoom, scene_of};
-ghost use Rattle.account_files.specs.Accounts.{Known};
-ghost use Rattle.account_files.specs.Content.{is_rooted};
-ghost use Rattle.account_files.specs.Act.{Acts, StepsTo};
+ghost use Rattle.module_acts.specs.pam_room.specs.Plain.{plain_process};
+ghost use Rattle.module_acts.specs.pam_room.specs.State.{PlainRoom, scene_of};
+ghost use Rattle.module_acts.specs.account_files.specs.Accounts.{Known};
+ghost use Rattle.module_acts.specs.account_files.specs.Content.{is_rooted};
+ghost use Rattle.module_acts.specs.account_files.specs.Act.{Acts, StepsTo};
 ghost use Rattle.mod_tally.specs.Faillock.{failures_in, is_no_file, reads_tally, sets_text, tally_limit, tally_name};
 
+use crate::settings::Task;
 use crate::tally::{Failures, failures};
-use account_files::{Content, is_rooted, laws, read_named, replace_named};
+use module_acts::account_files::{Content, hold_named, is_rooted, laws, read_named, replace_named};
+use module_acts::pam_room::Process;
 use pam_base::{Code, NoMemory, Refuse, Text};
-use pam_outside::Vault;
-use pam_room::Process;
+use pam_outside::{Held, LockKind, Vault};
 use std::alloc::Global;
 
 /// The most bytes of a tally file.
@@ -49,6 +50,30 @@ pub(crate) fn tally_name(alloc: Global, folder: &[u8], user: &[u8]) -> Result<Te
         name.extend_from_slice(user)?;
     }
     Ok(Text::from_vec(name))
+}
+
+/// Holds the tallies in the folder until the answer is dropped, where the task may change one; None where the outside
+/// failed. Where the vault tells, nothing of it changes, and it is never None.
+pub(crate) fn hold_tallies(
+    alloc: Global,
+    task: Task,
+    process: &Process,
+    vault: &mut dyn Vault,
+    folder: &[u8],
+) -> Result<Option<Held>, NoMemory>
+    ensures tells { vault_tells vault.new ≡ vault_tells vault.old }
+    ensures told { IsTrue (vault_tells vault.old) →
+        vault_holds vault.new ≡ vault_holds vault.old }
+    ensures held { IsTrue (vault_tells vault.old) → IfOk result (λ held. IsSome held) }
+{
+    match task {
+        Task::Preauth => Ok(Some(Held::nothing())),
+        Task::AuthFail | Task::AuthSucc | Task::Clear => {
+            let name = tally_name(alloc, folder, b".pamsess-lock")?;
+            let held = hold_named(alloc, vault, process, name.bytes(), LockKind::Whole)?;
+            Ok(held)
+        }
+    }
 }
 
 /// Reads the failures in the file with this name; None where it can't be read.

@@ -1,10 +1,10 @@
 ghost use Rattle.std.specs.Prelude.{◌≡◌, IsTrue, IfOk, ◌∷◌, [], ◌++◌};
 ghost use Rattle.conv_port.specs.Conv.{ConvState};
 ghost use Rattle.pam_outside.specs.Time.{ClockState};
-ghost use Rattle.pam_room.specs.Plain.{plain_process};
-ghost use Rattle.pam_room.specs.State.{PlainRoom, scene_of};
-ghost use Rattle.account_files.specs.Accounts.{Known};
-ghost use Rattle.account_files.specs.Act.{Acts, standing};
+ghost use Rattle.module_acts.specs.pam_room.specs.Plain.{plain_process};
+ghost use Rattle.module_acts.specs.pam_room.specs.State.{PlainRoom, scene_of};
+ghost use Rattle.module_acts.specs.account_files.specs.Accounts.{Known};
+ghost use Rattle.module_acts.specs.account_files.specs.Act.{Acts, standing};
 ghost use Rattle.mod_tally.specs.Settings.{plain_settings};
 ghost use Rattle.mod_tally.specs.Tally.{counting, tally_text};
 ghost use Rattle.mod_tally.specs.Faillock.{by_task, clears, new_failure, writes_tally};
@@ -14,10 +14,10 @@ use crate::failure::new_failure;
 use crate::settings::{Settings, Task};
 use crate::tally::{Failure, Failures};
 use crate::tally_file::set_text;
-use account_files::laws;
+use module_acts::account_files::laws;
+use module_acts::pam_room::{Process, Transaction};
 use pam_base::{Code, NoMemory, Text};
 use pam_outside::{Clock, Vault, current_moment};
-use pam_room::{Process, Transaction};
 use std::alloc::Global;
 
 /// Does what is to be done with the failures that stand.

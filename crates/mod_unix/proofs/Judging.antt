@@ -1,7 +1,7 @@
 -- By the day on which an account is checked.
 use Rattle.std.proofs.Common.{◌≡◌}
 use Rattle.pam_base.specs.declared.code.Code.{Code}
-use Rattle.pam_outside.specs.Time.{ClockState}
+use Rattle.pam_outside.specs.Time.{Time, time_of}
 use Rattle.pam_room.specs.State.{Scene}
 use Rattle.account_db.specs.declared.shadow.Shadow.{Shadow}
 use Rattle.account_files.specs.Act.{Act, Acts}
@@ -12,7 +12,7 @@ use Rattle.mod_unix.specs.Aging.{aged, day_of}
 same_code : (act : Code → Act) (answer is : Code) (known : Known) (s : Scene) (code : Code) (end : Scene) → answer ≡ is → Acts (act answer) known s code end → Acts (act is) known s code end
 same_code act answer is known s code end e rest = rw (← e) rest
 
-pub judged : ((act : ClockState → Act) (known : Known) (s : Scene) (code : Code) (new : Scene) → Acts (act s.clock) known s code new → Acts (sees_clock act) known s code new)
+pub judged : ((act : Time → Act) (known : Known) (s : Scene) (code : Code) (new : Scene) → Acts (act (time_of s.clock)) known s code new → Acts (sees_clock act) known s code new)
     → (entry : Shadow) (act : Code → Act) (answer : Code) (known : Known) (s : Scene) (code : Code) (end : Scene) → answer ≡ aged (day_of s.clock.moment) entry → Acts (act answer) known s code end
     → Acts (sees_clock (λ clock. act (aged (day_of clock.moment) entry))) known s code end
 judged seeing entry act answer known s code end e rest =

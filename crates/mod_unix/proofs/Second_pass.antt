@@ -6,7 +6,7 @@ use Rattle.conv_port.specs.declared.conv.ConvFault.{ConvFault}
 use Rattle.item_store.specs.Items.{ItemTexts}
 use Rattle.conv_port.specs.declared.message.Reply.{Reply}
 use Rattle.pam_outside.specs.Files.{File, file_at, file_put}
-use Rattle.pam_outside.specs.Time.{ClockState}
+use Rattle.pam_outside.specs.Time.{Time}
 use Rattle.pam_room.specs.Call.{PlainCall, has_flag, prelim_check}
 use Rattle.pam_room.specs.Module.{Played, SeenRoom}
 use Rattle.pam_room.specs.Say.{speak}
@@ -16,7 +16,7 @@ use Rattle.account_db.specs.Replace.{unless_faulty_file, with_hash}
 use Rattle.account_db.specs.Shadow.{shadow_of, shadows_of}
 use Rattle.account_files.specs.declared.content.Content.{Content}
 use Rattle.account_files.specs.Accounts.{account_limit}
-use Rattle.account_files.specs.Act.{Stage, answers, called, content_seen, in_room, later, reads_file, replaced, replaces_file, sees_items}
+use Rattle.account_files.specs.Act.{Stage, answers, called, content_seen, draws_word, in_room, later, reads_file, replaced, replaces_file, sees_items}
 use Rattle.account_files.specs.Content.{content_of}
 use Rattle.module_acts.specs.Steps.{exchanges, sees_clock, sets_item, with_replies}
 use Rattle.mod_unix.specs.declared.look.Field.{Field}
@@ -36,7 +36,7 @@ use Rattle.mod_unix.specs.declared.look.Field.TheVariants as field
 -- ---- what was played
 
 -- shadow was replaced by one with the hash of AUTHTOK
-pub record Written (user root : List ℕ) (clock : ClockState) (before : List File) (room : SeenRoom) (after : List File) : Type 0 where
+pub record Written (user root : List ℕ) (clock : Time) (before : List File) (room : SeenRoom) (after : List File) : Type 0 where
   pub token : List ℕ
   pub token_is : room.items.auth_tok ≡ Some token
   pub short : length token ≤ 512
@@ -126,7 +126,7 @@ module _ (call : PlainCall) (user : List ℕ) where
 
   stored : (token : List ℕ) (stage : Stage) → length token ≤ 512 → stage.room.items.auth_tok ≡ Some token → (stores_token call user (Some token) answers stage).code ≡ returns.Success
       → Done stage (stores_token call user (Some token) answers stage)
-  unfolding stores_token sees_clock
+  unfolding stores_token sees_clock draws_word
   stored token stage short is e =
       let r = changed user (hashed_token call.args stage.sight.clock.word token) (day_of stage.sight.clock.moment) stage e in
       record {

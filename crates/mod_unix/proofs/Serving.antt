@@ -7,9 +7,7 @@ use Rattle.pam_base.specs.declared.fault.NoMemory.{NoMemory}
 use Rattle.std.specs.Prelude.{List}
 use Rattle.pam_room.specs.Call.{PlainCall}
 use Rattle.pam_room.specs.Module.{NamedData, named_data}
-use Rattle.pam_outside.specs.Files.{VaultState}
-use Rattle.pam_outside.specs.Time.{ClockState}
-use Rattle.pam_room.specs.State.{PlainProcess, PlainRoom, Scene, scene_of}
+use Rattle.pam_room.specs.State.{Scene}
 use Rattle.account_files.specs.Act.{Act, Acts, answers}
 use Rattle.module_acts.specs.Comes.{Goes}
 use Rattle.module_acts.specs.Steps.{sees_data}
@@ -23,8 +21,3 @@ pub set_cred : ((code : Code) (known : Known) (s : Scene) → Acts (answers code
     → ((act : List NamedData → Act) (known : Known) (s : Scene) (code : Code) (new : Scene) → Acts (act (named_data s.room.transaction.datums.live)) known s code new → Acts (sees_data act) known s code new)
     → (call : PlainCall) (s : Scene) (code : Code) → code ≡ kept_code (named_data s.room.transaction.datums.live) → Goes (by_func SetCred call) s code s
 set_cred answering seeing call s code e = seeing (λ held. answers (kept_code held)) nothing_known s code s (subst (λ x. Acts (answers x) nothing_known s code s) e (answering code nothing_known s))
-
--- a clock stays as it was while words are taken from it
-pub at_clock : (act : Act) (old : Scene) (room : PlainRoom) (vault : VaultState) (process : PlainProcess) (before after : ClockState) (r : Result Code NoMemory) → after ≡ before
-    → IfOk r (λ code. Goes act old code (scene_of room vault before process)) → IfOk r (λ code. Goes act old code (scene_of room vault after process))
-at_clock act old room vault process before after r e h = subst (λ k. IfOk r (λ code. Goes act old code (scene_of room vault k process))) (sym e) h

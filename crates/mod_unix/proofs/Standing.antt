@@ -6,7 +6,7 @@ use Rattle.pam_base.specs.Bytes.{has_byte}
 use Rattle.pam_base.specs.declared.call.Func.TheVariants.{ChAuthTok}
 use Rattle.pam_base.specs.declared.call.Func.{Func}
 use Rattle.pam_outside.specs.Files.{File, file_at}
-use Rattle.pam_outside.specs.Time.{ClockState}
+use Rattle.pam_outside.specs.Time.{Time}
 use Rattle.pam_room.specs.Call.{PlainCall, has_flag, prelim_check}
 use Rattle.pam_room.specs.Module.{NamedData, Played, SeenRoom, Sight, answered}
 use Rattle.pam_room.specs.Say.{Asked, user_asked}
@@ -56,7 +56,7 @@ module _ (read : (user hash : List ℕ) (day : ℕ) (text : List ℕ) (entries :
         verified = rw (no_lock hash token hash (again setting token hash is), le-ltb 512 (length token) short, again setting token hash is, same_text hash) refl;
       }
 
-  stands : (user root : List ℕ) (clock : ClockState) (before : List File) (room : SeenRoom) (after : List File) → clock.moment ≤ 1000000000000 → Written user root clock before room after → TokenStands root user before room after
+  stands : (user root : List ℕ) (clock : Time) (before : List File) (room : SeenRoom) (after : List File) → clock.moment ≤ 1000000000000 → Written user root clock before room after → TokenStands root user before room after
   stands user root clock before room after bound w =
       let hash = hashed_token w.args clock.word w.token in
       let day = day_of clock.moment in

@@ -8,13 +8,14 @@ use Rattle.pam_base.specs.declared.fault.Refuse.TheVariants.{NoMemory, Named}
 use Rattle.pam_base.specs.declared.item.ItemName.TheVariants.{AuthTok}
 use Rattle.conv_port.specs.declared.message.Reply.{Reply}
 use Rattle.item_store.specs.Items.{ItemTexts}
-use Rattle.pam_outside.specs.Time.{ClockState}
+use Rattle.pam_outside.specs.Time.{ClockState, Time, drawn, time_of}
 use Rattle.pam_room.specs.Call.{PlainCall, has_flag, prelim_check}
-use Rattle.pam_room.specs.State.{Scene}
+use Rattle.pam_outside.specs.Files.{VaultState}
+use Rattle.pam_room.specs.State.{PlainProcess, PlainRoom, Scene, scene_of}
 use Rattle.account_db.specs.declared.shadow.Shadow.{Shadow}
 use Rattle.account_files.specs.declared.content.Content.{Content}
 use Rattle.account_files.specs.Accounts.{Known, account_limit}
-use Rattle.account_files.specs.Act.{Act, Acts, Came, Leads, reads_file, replaces_file, sees_items}
+use Rattle.account_files.specs.Act.{Act, Acts, Came, Leads, draws_word, reads_file, replaces_file, sees_items}
 use Rattle.module_acts.specs.Comes.{Comes, Ends, early, then}
 use Rattle.module_acts.specs.Steps.{exchanges, sees_clock, sets_item}
 use Rattle.mod_unix.specs.declared.look.Look.{Look}
@@ -61,21 +62,29 @@ module _ (user hash : List ℕ) (today : ℕ) (content : Content) (s mid : Scene
   changed new text done e d = λ act known code end rest. read (λ c. by_text (changed_shadow user hash today c) act) known code end
       (subst (λ (x : Option (List ℕ)). Acts (by_text x act) known mid code end) e (d (λ b. act (by_done b)) known code end rest))
 
-module _ (seeing : (act : ClockState → Act) (known : Known) (s : Scene) (code : Code) (new : Scene) → Acts (act s.clock) known s code new → Acts (sees_clock act) known s code new) (call : PlainCall) (user : List ℕ) (s new : Scene) where
+-- a word is drawn for the salt
+module _ (seeing : (act : Time → Act) (known : Known) (s : Scene) (code : Code) (new : Scene) → Acts (act (time_of s.clock)) known s code new → Acts (sees_clock act) known s code new)
+    (drawing : (act : ℕ → Act) (known : Known) (room : PlainRoom) (vault : VaultState) (clock : ClockState) (process : PlainProcess) (code : Code) (new : Scene)
+    → Acts (act clock.word) known (scene_of room vault (drawn clock) process) code new → Acts (draws_word act) known (scene_of room vault clock process) code new)
+    (call : PlainCall) (user : List ℕ) (room : PlainRoom) (vault : VaultState) (clock : ClockState) (process : PlainProcess) (new : Scene)
+    (token : List ℕ) (today word : ℕ) (day : today ≡ day_of clock.moment) (random : word ≡ clock.word) where
+  pub made : (hash : List ℕ) (code : Code) → hash ≡ hashed_token call.args word token → Came code (changes_shadow user hash today) (scene_of room vault (drawn clock) process) new
+      → Came code (stores_token call user (Some token)) (scene_of room vault clock process) new
+  unfolding stores_token
+  made hash code e h = λ act known c end rest.
+      let before = scene_of room vault (drawn clock) process in
+      let is : hash ≡ hashed_token call.args clock.word token = e ∙ ap (λ w. hashed_token call.args w token) random in
+      let written = subst (λ (m : List ℕ). Acts (changes_shadow user m (day_of clock.moment) act) known before c end) is (subst (λ t. Acts (changes_shadow user hash t act) known before c end) day (h act known c end rest)) in
+      seeing (λ time. draws_word (λ w. changes_shadow user (hashed_token call.args w token) (day_of time.moment) act)) known (scene_of room vault clock process) c end
+      (drawing (λ w. changes_shadow user (hashed_token call.args w token) (day_of clock.moment) act) known room vault clock process c end written)
+
+module _ (seeing : (act : Time → Act) (known : Known) (s : Scene) (code : Code) (new : Scene) → Acts (act (time_of s.clock)) known s code new → Acts (sees_clock act) known s code new) (call : PlainCall) (user : List ℕ) (s new : Scene) where
   pub no_token : new ≡ s → (token : Option (List ℕ)) → token ≡ None → Came returns.AuthtokErr (stores_token call user token) s new
   unfolding stores_token
   no_token same token e = rw (e, same) (λ act known code end rest. rest)
 
   pub with_token : (found : Option (List ℕ)) (token : List ℕ) (code : Code) → found ≡ Some token → Came code (stores_token call user (Some token)) s new → Came code (stores_token call user found) s new
   with_token found token code e h = subst (λ (x : Option (List ℕ)). Came code (stores_token call user x) s new) (sym e) h
-
-  module _ (token : List ℕ) (today word : ℕ) (day : today ≡ day_of s.clock.moment) (random : word ≡ s.clock.word) where
-    pub made : (hash : List ℕ) (code : Code) → hash ≡ hashed_token call.args word token → Came code (changes_shadow user hash today) s new → Came code (stores_token call user (Some token)) s new
-    unfolding stores_token
-    made hash code e h = λ act known c end rest.
-        let is : hash ≡ hashed_token call.args s.clock.word token = e ∙ ap (λ w. hashed_token call.args w token) random in
-        seeing (λ clock. changes_shadow user (hashed_token call.args clock.word token) (day_of clock.moment) act) known s c end
-        (subst (λ (m : List ℕ). Acts (changes_shadow user m (day_of s.clock.moment) act) known s c end) is (subst (λ t. Acts (changes_shadow user hash t act) known s c end) day (h act known c end rest)))
 
   -- ---- both passes
 

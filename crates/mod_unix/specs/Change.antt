@@ -15,7 +15,7 @@ use Rattle.account_db.specs.Replace.{hash_replaced}
 use Rattle.account_files.specs.declared.content.Content.{Content}
 use Rattle.account_files.specs.declared.content.Content.TheVariants as content
 use Rattle.account_files.specs.Accounts.{account_limit}
-use Rattle.account_files.specs.Act.{Act, asks_user, reads_file, sees_items, replaces_file}
+use Rattle.account_files.specs.Act.{Act, asks_user, draws_word, reads_file, sees_items, replaces_file}
 use Rattle.module_acts.specs.Steps.{asks_token, exchanges, sees_caller, sees_clock, sets_item}
 use Rattle.mod_unix.specs.declared.look.Look.{Look}
 use Rattle.mod_unix.specs.declared.look.Look.TheVariants.{Unknown, Unavailable, Plain, Shadowed}
@@ -116,8 +116,8 @@ changes_shadow user hash today act = reads_file (codes "/etc/shadow") account_li
     by_text (changed_shadow user hash today c) act)
 
 abbrev pub by_token : PlainCall → List ℕ → Option (List ℕ) → (Code → Act) → Act
-by_token call user (Some token) act = sees_clock (λ clock.
-    changes_shadow user (hashed_token call.args clock.word token) (day_of clock.moment) act)
+by_token call user (Some token) act = sees_clock (λ clock. draws_word (λ word.
+    changes_shadow user (hashed_token call.args word token) (day_of clock.moment) act))
 by_token call user None act = act returns.AuthtokErr
 
 unfoldable pub stores_token : PlainCall → List ℕ → Option (List ℕ) → (Code → Act) → Act

@@ -1,3 +1,4 @@
+pub use Rattle.module_acts
 pub mod Flags
 pub mod Look
 pub mod Verify

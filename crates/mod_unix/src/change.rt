@@ -1,7 +1,7 @@
 ghost use Rattle.std.specs.Prelude.{◌≡◌, ◌≤◌, ℕ, IsTrue, IfOk, IfSome, length};
 ghost use Rattle.std.specs.Option.{option_copied};
 ghost use Rattle.pam_outside.specs.Files.{VaultState};
-ghost use Rattle.pam_outside.specs.Time.{ClockState};
+ghost use Rattle.pam_outside.specs.Time.{ClockState, time_of};
 ghost use Rattle.pam_room.specs.Plain.{plain_call, plain_process};
 ghost use Rattle.pam_room.specs.State.{PlainProcess, PlainRoom, scene_of};
 ghost use Rattle.account_files.specs.Act.{Came};
@@ -39,14 +39,14 @@ pub(crate) fn change_token(
     ensures conv_tells { conv_tells conv.new ≡ conv_tells conv.old }
     ensures vault_tells { vault_tells vault.new ≡ vault_tells vault.old }
     ensures clock_tells { clock_tells clock.new ≡ clock_tells clock.old }
-    ensures clock_stays { IsTrue (clock_tells clock.old) → clock_holds clock.new
-        ≡ clock_holds clock.old }
+    ensures clock_stays { IsTrue (clock_tells clock.old) →
+        time_of (clock_holds clock.new) ≡ time_of (clock_holds clock.old) }
     ensures told { IsTrue (conv_tells conv.old) → IsTrue (vault_tells vault.old) →
         IsTrue (clock_tells clock.old) → today ≡ day_of (clock_holds clock.old).moment →
         Comes result (changes_token (plain_call call.now))
         (lent transaction.old (conv_holds conv.old) (vault_holds vault.old) (clock_holds clock.old)
         (plain_process process.now))
-        (lent transaction.new (conv_holds conv.new) (vault_holds vault.new) (clock_holds clock.old)
+        (lent transaction.new (conv_holds conv.new) (vault_holds vault.new) (clock_holds clock.new)
         (plain_process process.now)) }
     ensures talks { Talks transaction.old transaction.new }
 {
@@ -84,14 +84,14 @@ fn change_by(
     ensures conv_tells { conv_tells conv.new ≡ conv_tells conv.old }
     ensures vault_tells { vault_tells vault.new ≡ vault_tells vault.old }
     ensures clock_tells { clock_tells clock.new ≡ clock_tells clock.old }
-    ensures clock_stays { IsTrue (clock_tells clock.old) → clock_holds clock.new
-        ≡ clock_holds clock.old }
+    ensures clock_stays { IsTrue (clock_tells clock.old) →
+        time_of (clock_holds clock.new) ≡ time_of (clock_holds clock.old) }
     ensures told { IsTrue (conv_tells conv.old) → IsTrue (vault_tells vault.old) →
         IsTrue (clock_tells clock.old) → today ≡ day_of (clock_holds clock.old).moment →
         Comes result (change_by (plain_call call.now) user.now look.now)
         (lent transaction.old (conv_holds conv.old) (vault_holds vault.old) (clock_holds clock.old)
         (plain_process process.now))
-        (lent transaction.new (conv_holds conv.new) (vault_holds vault.new) (clock_holds clock.old)
+        (lent transaction.new (conv_holds conv.new) (vault_holds vault.new) (clock_holds clock.new)
         (plain_process process.now)) }
     ensures talks { Talks transaction.old transaction.new }
 {
@@ -131,14 +131,14 @@ fn change_entry(
     ensures conv_tells { conv_tells conv.new ≡ conv_tells conv.old }
     ensures vault_tells { vault_tells vault.new ≡ vault_tells vault.old }
     ensures clock_tells { clock_tells clock.new ≡ clock_tells clock.old }
-    ensures clock_stays { IsTrue (clock_tells clock.old) → clock_holds clock.new
-        ≡ clock_holds clock.old }
+    ensures clock_stays { IsTrue (clock_tells clock.old) →
+        time_of (clock_holds clock.new) ≡ time_of (clock_holds clock.old) }
     ensures told { IsTrue (conv_tells conv.old) → IsTrue (vault_tells vault.old) →
         IsTrue (clock_tells clock.old) → today ≡ day_of (clock_holds clock.old).moment →
         Comes result (changes_entry (plain_call call.now) user.now entry.now)
         (lent transaction.old (conv_holds conv.old) (vault_holds vault.old) (clock_holds clock.old)
         (plain_process process.now))
-        (lent transaction.new (conv_holds conv.new) (vault_holds vault.new) (clock_holds clock.old)
+        (lent transaction.new (conv_holds conv.new) (vault_holds vault.new) (clock_holds clock.new)
         (plain_process process.now)) }
     ensures talks { Talks transaction.old transaction.new }
 {

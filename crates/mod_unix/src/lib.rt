@@ -14,6 +14,7 @@ mod unix;
 mod verify;
 
 pub use look::{Look, look_up};
+pub use module_acts;
 pub use new_token::take_token;
 pub use unix::Unix;
 pub use verify::is_locked;

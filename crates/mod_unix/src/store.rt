@@ -1,4 +1,5 @@
 ghost use Rattle.std.specs.Prelude.{◌≡◌, ◌≤◌, IsTrue, IfOk, IfSome, length};
+ghost use Rattle.pam_outside.specs.Time.{time_of};
 ghost use Rattle.pam_room.specs.Plain.{plain_call, plain_process};
 ghost use Rattle.pam_room.specs.State.{PlainRoom, scene_of};
 ghost use Rattle.account_files.specs.Accounts.{account_limit};
@@ -10,10 +11,10 @@ ghost use Rattle.mod_unix.specs.Change.{by_done, changed_shadow, changes_shadow,
 use crate::look::ACCOUNT_LIMIT;
 use crate::new_hash::hashed_token;
 use account_db::{replace_hash, shadow_of, shadows};
-use account_files::{Content, read_named, replace_named};
+use account_files::{Content, hold_named, laws as act_laws, read_named, replace_named};
 use module_acts::laws;
 use pam_base::{Code, NoMemory, Refuse, Text};
-use pam_outside::{Clock, Vault, random_word};
+use pam_outside::{Clock, LockKind, Vault, random_word};
 use pam_room::{Call, Process};
 use std::alloc::Global;
 
@@ -31,15 +32,16 @@ pub(crate) fn store_token(
     requires { IfSome token (λ t. length t ≤ 512) }
     ensures vault_tells { vault_tells vault.new ≡ vault_tells vault.old }
     ensures clock_tells { clock_tells clock.new ≡ clock_tells clock.old }
-    ensures clock_stays { IsTrue (clock_tells clock.old) → clock_holds clock.new
-        ≡ clock_holds clock.old }
+    ensures clock_stays { IsTrue (clock_tells clock.old) →
+        time_of (clock_holds clock.new) ≡ time_of (clock_holds clock.old) }
     ensures told { IsTrue (vault_tells vault.old) → IsTrue (clock_tells clock.old) →
         (room : PlainRoom) → today ≡ day_of (clock_holds clock.old).moment →
         IfOk result (λ code. Came code (stores_token (plain_call call.now) user.now token)
         (scene_of room (vault_holds vault.old) (clock_holds clock.old) (plain_process process.now))
-        (scene_of room (vault_holds vault.new) (clock_holds clock.old)
+        (scene_of room (vault_holds vault.new) (clock_holds clock.new)
         (plain_process process.now))) }
 {
+    act_laws::act_steps();
     laws::acting();
     let token = match token {
         Some(token) => token,
@@ -50,8 +52,31 @@ pub(crate) fn store_token(
     Ok(code)
 }
 
-// Reads shadow again, and replaces it with the user's new hash in it.
+// Changes shadow, and holds the account files meanwhile as lckpwdf(3) does.
 fn change_shadow(
+    alloc: Global,
+    today: u64,
+    user: &[u8],
+    hash: &[u8],
+    process: &Process,
+    vault: &mut dyn Vault,
+) -> Result<Code, NoMemory>
+    ensures tells { vault_tells vault.new ≡ vault_tells vault.old }
+    ensures told { IsTrue (vault_tells vault.old) →
+        IfOk result (λ code. StepsTo (changes_shadow user.now hash.now today) code process.now
+        (vault_holds vault.old) (vault_holds vault.new)) }
+{
+    match hold_named(alloc, vault, process, b"/etc/.pwd.lock", LockKind::Record)? {
+        Some(_held) => {
+            let code = change_held(alloc, today, user, hash, process, vault)?;
+            Ok(code)
+        }
+        None => Ok(Code::AuthtokErr),
+    }
+}
+
+// Reads shadow again, and replaces it with the user's new hash in it.
+fn change_held(
     alloc: Global,
     today: u64,
     user: &[u8],

@@ -9,21 +9,21 @@ use Rattle.pam_base.specs.declared.fault.Refuse.TheVariants as refusals
 use Rattle.pam_base.specs.declared.fault.ConvErr.{ConvErr as NoReply}
 use Rattle.pam_base.specs.declared.item.ItemName.{ItemName}
 use Rattle.pam_base.specs.declared.style.Style.{Style}
-use Rattle.item_store.specs.Items.{ItemTexts, text_of, with_text}
+use Rattle.account_files.specs.item_store.specs.Items.{ItemTexts, text_of, with_text}
 use Rattle.conv_port.specs.Conv.{ConvState}
 use Rattle.conv_port.specs.declared.conv.ConvFault.{ConvFault}
 use Rattle.conv_port.specs.declared.message.Message.{Message}
 use Rattle.conv_port.specs.declared.message.Reply.{Reply}
-use Rattle.data_cleanup.specs.DataList.{PlainDataList, hold_all}
-use Rattle.data_cleanup.specs.Ledger.{PlainLedger}
-use Rattle.fail_delay.specs.Delay.{counted_request}
+use Rattle.account_files.specs.data_cleanup.specs.DataList.{PlainDataList, hold_all}
+use Rattle.account_files.specs.data_cleanup.specs.Ledger.{PlainLedger}
+use Rattle.account_files.specs.fail_delay.specs.Delay.{counted_request}
 use Rattle.pam_outside.specs.Files.{VaultState}
-use Rattle.pam_outside.specs.Time.{ClockState}
-use Rattle.pam_room.specs.declared.transaction.Transaction.{Transaction}
-use Rattle.pam_room.specs.Plain.{plain_transaction}
-use Rattle.pam_room.specs.State.{PlainProcess, PlainTransaction, Scene, room_of, scene_of}
-use Rattle.pam_room.specs.Module.{HasSet, NamedData, Played, SeenRoom, births_of, named_data, seen_of, with_played}
-use Rattle.pam_room.specs.Say.{Asked, Asks, Says, asked, speak, token_asked, token_of, user_asked}
+use Rattle.pam_outside.specs.Time.{ClockState, Time, time_of}
+use Rattle.account_files.specs.pam_room.specs.declared.transaction.Transaction.{Transaction}
+use Rattle.account_files.specs.pam_room.specs.Plain.{plain_transaction}
+use Rattle.account_files.specs.pam_room.specs.State.{PlainProcess, PlainTransaction, Scene, room_of, scene_of}
+use Rattle.account_files.specs.pam_room.specs.Module.{HasSet, NamedData, Played, SeenRoom, births_of, named_data, seen_of, with_played}
+use Rattle.account_files.specs.pam_room.specs.Say.{Asked, Asks, Says, asked, speak, token_asked, token_of, user_asked}
 use Rattle.account_files.specs.Accounts.{Known}
 use Rattle.account_files.specs.Act.{Act, Acts, Leads, Stage, answers, asks_user, in_room, shown, shows, stage_of}
 use Rattle.module_acts.specs.Comes.{Comes, ComesTo, Goes, lent}
@@ -41,9 +41,9 @@ module _ (known : Known) (s : Scene) (code : Code) (new : Scene) where
   unfolding sees_data
   seeing_data act a = carried (sees_data act) (act (named_data s.room.transaction.datums.live)) known known s s code new refl (λ p. refl) a
 
-  pub seeing_clock : (act : ClockState → Act) → Acts (act s.clock) known s code new → Acts (sees_clock act) known s code new
+  pub seeing_clock : (act : Time → Act) → Acts (act (time_of s.clock)) known s code new → Acts (sees_clock act) known s code new
   unfolding sees_clock
-  seeing_clock act a = carried (sees_clock act) (act s.clock) known known s s code new refl (λ p. refl) a
+  seeing_clock act a = carried (sees_clock act) (act (time_of s.clock)) known known s s code new refl (λ p. refl) a
 
   pub seeing_caller : (act : ℕ → Act) → Acts (act s.process.caller) known s code new → Acts (sees_caller act) known s code new
   unfolding sees_caller

@@ -4,7 +4,7 @@ use Rattle.pam_base.specs.declared.code.Code.TheVariants as returns
 use Rattle.pam_base.specs.declared.fault.ConvErr.{ConvErr}
 use Rattle.pam_base.specs.declared.fault.Refuse.{Refuse}
 use Rattle.pam_base.specs.declared.fault.Refuse.TheVariants.{Named}
-use Rattle.pam_room.specs.State.{Scene}
+use Rattle.account_files.specs.pam_room.specs.State.{Scene}
 use Rattle.account_files.specs.Accounts.{nothing_known}
 use Rattle.account_files.specs.Act.{Act}
 use Rattle.module_acts.specs.Comes.{Ends, Finishes, Goes}

@@ -3,14 +3,14 @@ use Rattle.std.specs.Prelude.{ℕ, max, Bool, if◌then◌else◌, List, [], ◌
 use Rattle.pam_base.specs.declared.code.Code.{Code}
 use Rattle.pam_base.specs.declared.code.Code.TheVariants.{ConvErr}
 use Rattle.pam_base.specs.declared.item.ItemName.{ItemName}
-use Rattle.item_store.specs.Items.{text_of, with_text}
+use Rattle.account_files.specs.item_store.specs.Items.{text_of, with_text}
 use Rattle.conv_port.specs.declared.conv.ConvFault.{ConvFault}
 use Rattle.conv_port.specs.declared.message.Message.{Message}
 use Rattle.conv_port.specs.declared.message.Reply.{Reply}
-use Rattle.fail_delay.specs.Delay.{counted_request}
-use Rattle.pam_outside.specs.Time.{ClockState}
-use Rattle.pam_room.specs.Module.{NamedData, SeenRoom, answered}
-use Rattle.pam_room.specs.Say.{Asked, speak, token_asked, token_of}
+use Rattle.account_files.specs.fail_delay.specs.Delay.{counted_request}
+use Rattle.pam_outside.specs.Time.{Time}
+use Rattle.account_files.specs.pam_room.specs.Module.{NamedData, SeenRoom, answered}
+use Rattle.account_files.specs.pam_room.specs.Say.{Asked, speak, token_asked, token_of}
 use Rattle.account_files.specs.Act.{Act, in_room}
 
 -- ---- asking
@@ -41,7 +41,7 @@ unfoldable pub sees_data : (List NamedData → Act) → Act
 sees_data act stage = act stage.held stage
 
 -- the moment and the random word are seen
-unfoldable pub sees_clock : (ClockState → Act) → Act
+unfoldable pub sees_clock : (Time → Act) → Act
 sees_clock act stage = act stage.sight.clock stage
 
 -- whose process it is is seen

@@ -1,7 +1,7 @@
 -- What a module that talks with the user does to a transaction, in any world (this project's own).
 use Rattle.std.specs.Prelude.{◌≡◌, ◌≤◌, List, ◌++◌}
 use Rattle.conv_port.specs.declared.message.Message.{Message}
-use Rattle.pam_room.specs.declared.transaction.Transaction.{Transaction}
+use Rattle.account_files.specs.pam_room.specs.declared.transaction.Transaction.{Transaction}
 
 -- SERVICE stays, the longest request for a delay doesn't shrink, what was said is only added to, it may be put off; of the
 -- rest the items alone may change

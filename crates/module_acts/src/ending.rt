@@ -1,6 +1,6 @@
 ghost use Rattle.std.specs.Prelude.{◌≡◌, Err, IfOk, OnErr};
 ghost use Rattle.pam_base.specs.declared.code.Code.{Code};
-ghost use Rattle.pam_room.specs.State.{Scene};
+ghost use Rattle.account_files.specs.pam_room.specs.State.{Scene};
 ghost use Rattle.account_files.specs.Act.{Act, answers};
 ghost use Rattle.module_acts.specs.Comes.{Comes, Finishes, Goes};
 

@@ -1,13 +1,13 @@
 ghost use Rattle.std.specs.Prelude.{◌≡◌, ℕ, List};
 ghost use Rattle.pam_base.specs.declared.code.Code.{Code};
-ghost use Rattle.data_cleanup.specs.Ledger.{PlainLedger};
-ghost use Rattle.data_cleanup.specs.Sets.{Sets};
-ghost use Rattle.pam_outside.specs.Time.{ClockState};
-ghost use Rattle.pam_room.specs.declared.transaction.Transaction.{Transaction};
-ghost use Rattle.pam_room.specs.Module.{NamedData, named_data};
-ghost use Rattle.pam_room.specs.Plain.{plain_transaction};
-ghost use Rattle.pam_room.specs.State.{PlainProcess, Scene};
-ghost use Rattle.pam_room.specs.Stays.{Stays};
+ghost use Rattle.account_files.specs.data_cleanup.specs.Ledger.{PlainLedger};
+ghost use Rattle.account_files.specs.data_cleanup.specs.Sets.{Sets};
+ghost use Rattle.pam_outside.specs.Time.{Time, time_of};
+ghost use Rattle.account_files.specs.pam_room.specs.declared.transaction.Transaction.{Transaction};
+ghost use Rattle.account_files.specs.pam_room.specs.Module.{NamedData, named_data};
+ghost use Rattle.account_files.specs.pam_room.specs.Plain.{plain_transaction};
+ghost use Rattle.account_files.specs.pam_room.specs.State.{PlainProcess, Scene};
+ghost use Rattle.account_files.specs.pam_room.specs.Stays.{Stays};
 ghost use Rattle.account_files.specs.Accounts.{Known};
 ghost use Rattle.account_files.specs.Act.{Act, Acts};
 ghost use Rattle.module_acts.specs.Steps.{sees_caller, sees_clock, sees_data};
@@ -19,9 +19,9 @@ pub fn acting()
         (new : Scene) →
         Acts (act (named_data s.room.transaction.datums.live)) known s code new →
         Acts (sees_data act) known s code new }
-    ensures clock { (act : ClockState → Act) (known : Known) (s : Scene) (code : Code)
+    ensures clock { (act : Time → Act) (known : Known) (s : Scene) (code : Code)
         (new : Scene) →
-        Acts (act s.clock) known s code new → Acts (sees_clock act) known s code new }
+        Acts (act (time_of s.clock)) known s code new → Acts (sees_clock act) known s code new }
     ensures caller { (act : ℕ → Act) (known : Known) (s : Scene) (code : Code) (new : Scene) →
         Acts (act s.process.caller) known s code new → Acts (sees_caller act) known s code new }
 {}

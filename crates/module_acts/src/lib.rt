@@ -8,6 +8,8 @@ mod ending;
 pub mod laws;
 mod speech;
 
+pub use account_files;
+pub use account_files::{data_cleanup, pam_room};
 pub use asking::{exchange, require_token, require_user};
 pub use changing::{answer_and_keep, request_delay, set_token};
 pub use ending::ended;

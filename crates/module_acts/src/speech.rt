@@ -2,17 +2,17 @@ ghost use Rattle.std.specs.Prelude.{◌≡◌, ◌≢◌, ◌++◌, None, IsTrue
 ghost use Rattle.conv_port.specs.declared.message.Message.{Message};
 ghost use Rattle.pam_outside.specs.Files.{VaultState};
 ghost use Rattle.pam_outside.specs.Time.{ClockState};
-ghost use Rattle.pam_room.specs.Say.{signs};
-ghost use Rattle.pam_room.specs.State.{PlainProcess, room_of};
-ghost use Rattle.pam_room.specs.Module.{seen_of};
-ghost use Rattle.pam_room.specs.Plain.{plain_transaction};
+ghost use Rattle.account_files.specs.pam_room.specs.Say.{signs};
+ghost use Rattle.account_files.specs.pam_room.specs.State.{PlainProcess, room_of};
+ghost use Rattle.account_files.specs.pam_room.specs.Module.{seen_of};
+ghost use Rattle.account_files.specs.pam_room.specs.Plain.{plain_transaction};
 ghost use Rattle.account_files.specs.Act.{Leads, shown, shows};
 ghost use Rattle.module_acts.specs.Comes.{lent};
 ghost use Rattle.module_acts.specs.Talks.{Talks};
 
+use account_files::pam_room::{Transaction, first_bytes, get_item, send};
 use conv_port::Conv;
 use pam_base::{ItemName, NoMemory, Refuse, Style, Text};
-use pam_room::{Transaction, first_bytes, get_item, send};
 use std::alloc::Global;
 
 /// The user, who is set.

@@ -1,5 +1,5 @@
 use Rattle.std.proofs.Common.{Err, rules, ◌≡◌}
-use Rattle.account_files.specs.Act.{asks_user}
+use Rattle.module_acts.specs.account_files.specs.Act.{asks_user}
 use Rattle.module_acts.specs.Comes.{finished_early}
 use Rattle.mod_tally.proofs.faillock.check_tally.Goals as goal
 

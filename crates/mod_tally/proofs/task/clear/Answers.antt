@@ -1,9 +1,9 @@
 use Rattle.std.proofs.Common.{ℕ, ◌<◌, ◌≤◌, List, [], ◌∷◌, length, arith}
-use Rattle.account_files.specs.Accounts.{Known}
-use Rattle.account_files.specs.Act.{Acts}
+use Rattle.module_acts.specs.account_files.specs.Accounts.{Known}
+use Rattle.module_acts.specs.account_files.specs.Act.{Acts}
 use Rattle.pam_base.specs.declared.code.Code.{Code}
 use Rattle.pam_base.specs.declared.code.Code.TheVariants.{Success}
-use Rattle.pam_room.specs.State.{Scene}
+use Rattle.module_acts.specs.pam_room.specs.State.{Scene}
 use Rattle.mod_tally.specs.declared.tally.Failure.{Failure}
 use Rattle.mod_tally.specs.Faillock.{clears, writes_tally}
 use Rattle.mod_tally.proofs.task.clear.Goals as goal

@@ -1,6 +1,6 @@
 use Rattle.std.proofs.Common.{Ok}
 use Rattle.mod_tally.specs.Faillock.{faillock_act}
-use Rattle.account_files.specs.Tells.{clock_of, conv_of, vault_of}
+use Rattle.module_acts.specs.account_files.specs.Tells.{clock_of, conv_of, vault_of}
 use Rattle.mod_tally.proofs.faillock.FaillockModule.serve.Goals as goal
 
 pub returns-in-Err-clause-told : goal.returns-in-Err-clause-told

@@ -9,7 +9,7 @@ use Rattle.mod_unix.specs.Change.{changes_token}
 use Rattle.mod_unix.specs.Unix.{unix_act}
 use Rattle.mod_unix.proofs.Keeping.{keeping_sets, keeping_stays}
 use Rattle.account_files.specs.Tells.{clock_of, conv_of, vault_of}
-use Rattle.mod_unix.proofs.Serving.{at_clock, by_this, set_cred}
+use Rattle.mod_unix.proofs.Serving.{by_this, set_cred}
 use Rattle.mod_unix.proofs.unix.UnixModule.serve.Goals as goal
 
 pub returns-in-Authenticate-clause-told : goal.returns-in-Authenticate-clause-told
@@ -56,12 +56,10 @@ returns-in-ChAuthTok-clause-told g c = λ told.
     let clock_tells = (goal.Clock-dyn g clock).clock_tells clock.1 in
     let call = plain_call c.args.call.now in
     let ticks = clock_of ((goal.Conv-dyn g c.args.conv.now).conv_tells c.args.conv.now.1) vault_tells clock_tells told in
-    let stays = c.change_token-answer.ensures.clock_stays ticks in
     c.act_steps.ensures.playing unix_act call _ _ c.ended-in-ChAuthTok.result
     (by_this _ ChAuthTok call c.ended-in-ChAuthTok.result _ _ c.in-ChAuthTok.is
-    (at_clock _ _ _ _ _ _ _ c.ended-in-ChAuthTok.result stays
     (c.ended-in-ChAuthTok.ensures.told (changes_token call) _ _ (c.change_token-answer.ensures.told (conv_of _ vault_tells clock_tells told) (vault_of _ vault_tells clock_tells told) ticks
-    (c.day_of-today.ensures ∙ ap day_of (c.current_moment.ensures.told ticks))))))
+    (c.day_of-today.ensures ∙ ap day_of (c.current_moment.ensures.told ticks)))))
 
 pub returns-in-OpenSession-clause-told : goal.returns-in-OpenSession-clause-told
 returns-in-OpenSession-clause-told g c = λ told.
