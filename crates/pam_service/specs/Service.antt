@@ -1,0 +1,28 @@
+-- What `pam_service` is asked for, and how it ends (this project's own).
+use Rattle.std.specs.Prelude.{◌≡◌, ◌⊎◌, ℕ, Bool, if◌then◌else◌, List, [], ◌∷◌, Option, Some, None, String, codes}
+use Rattle.std.specs.declared.alloc.Global.{Global}
+use Rattle.session_program.specs.Command.{Request, runs, checks, logs_in, generates, tallies, audits, wires, wire_request}
+use Rattle.session_program.specs.Wire.{IsWireStatus}
+
+-- The frames of a front end, under `/` if there is no argument. A process that has no rights but its
+-- caller's may be given another root.
+abbrev pub service_request : Bool → List (String Global) → Option Request
+service_request has_own_ids [] = Some (wires (codes "/"))
+service_request has_own_ids (root ∷ []) = if has_own_ids then wire_request (root ∷ []) else None
+service_request has_own_ids words = None
+
+-- frames, or no command
+abbrev pub IsOfFrames : Option Request → Type 0
+IsOfFrames None = Unit {0}
+IsOfFrames (Some (wires root)) = Unit {0}
+IsOfFrames (Some (runs root)) = ⊥
+IsOfFrames (Some (checks root service)) = ⊥
+IsOfFrames (Some (logs_in root service user)) = ⊥
+IsOfFrames (Some (generates seed lines)) = ⊥
+IsOfFrames (Some (tallies root user)) = ⊥
+IsOfFrames (Some (audits root service)) = ⊥
+
+-- the exit status of a run of frames, or 2 or 6 without a command
+abbrev pub StatusOf : Option Request → ℕ → Type 0
+StatusOf None status = (status ≡ 2) ⊎ (status ≡ 6)
+StatusOf (Some request) status = IsWireStatus status

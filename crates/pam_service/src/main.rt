@@ -1,0 +1,296 @@
+//! `pam_service [ROOT]`: the frames of docs/wire.md for programs that really let somebody in, such as the C library of
+//! clients/libpam. It is `pamsess wire` with the system's clock and random words, with the process's real user as the
+//! caller, and with a conversation that waits for the front end. It never sleeps: after a failure the answer says how
+//! long to wait, and the front end waits.
+//!
+//! Begin at `run`; `answer_frames` has the contract.
+#![tactic(auto)]
+
+ghost use Rattle.std.specs.Prelude.{◌≡◌, ◌≢◌, ◌≤◌, ◌<◌, ◌^◌, ℕ, nat_eq, [], IfOk, OnErr, length};
+ghost use Rattle.pam_base.specs.declared.code.Code.{Code};
+ghost use Rattle.pam_outside.specs.Counts.{Rose};
+ghost use Rattle.fail_delay.specs.DelayFn.{GivesOneNumber};
+ghost use Rattle.data_cleanup.specs.Cleanup.{Notes};
+ghost use Rattle.session_program.specs.Command.{request_of};
+ghost use Rattle.session_program.specs.CleanedUp.{IsCleanedUp, MayEnd};
+ghost use Rattle.pam_service.specs.Service.{IsOfFrames, StatusOf, service_request};
+
+use data_cleanup::Ledger;
+use fail_delay::{DelayRule, LONGEST_ASKED};
+use front_conv::FrontConv;
+use mod_basic::conv_port::{Conv, TermConv, WireConv};
+use mod_basic::{Debug, Deny, Permit, Probe, Rootok};
+use mod_env::Env as EnvModule;
+use mod_history::mod_unix::Unix;
+use mod_history::{Pwhistory, Securetty, Wheel};
+use mod_lists::{Listfile, Nologin, Shells, SucceedIf};
+use pam_base::{Code, Text};
+use pam_outside::{FolderVault, NapSum, ReaderSource, RealClock, Sink, Source, Vault, WriterSink};
+use pam_room::{Module, Process, World};
+use session_program::mod_tally::Faillock;
+use session_program::{Desk, pamsess};
+use std::alloc::Global;
+use std::io::ErrorKind;
+use std::process::ExitCode;
+use std::rt::Env;
+use std::{env, io};
+
+/// The exit status if there is no memory for the objects that the program is given.
+const NO_MEMORY: u8 = 4;
+
+/// How many transactions may be open at a time, each with a conversation.
+const TRANSACTIONS: usize = 16;
+
+/// The longest wait that the delay function returns, in microseconds.
+const LONGEST_WAIT: u32 = 60_000_000;
+
+/// Where the system tells a process its own user and group IDs.
+const STATUS: &str = "/proc/self/status";
+
+/// The most bytes of that file that are read.
+const MAX_STATUS: u32 = 65_536;
+
+/// The caller if the system doesn't tell: nobody.
+const NOBODY: u32 = 65_534;
+
+// What the program brings: its modules, a conversation for each transaction, and one that is never used.
+struct Brought {
+    mods: Vec<Box<dyn Module>>,
+    convs: Vec<Box<dyn Conv>>,
+    term: Box<dyn Conv>,
+}
+
+// The real and the effective ID.
+#[derive(Drop)]
+struct Ids {
+    real: u32,
+    effective: u32,
+}
+
+impl Ids {
+    fn are_one(&self) -> bool
+        ensures { result ≡ nat_eq self.now.real self.now.effective }
+    {
+        self.real == self.effective
+    }
+}
+
+fn main(rt: HostRuntime) -> ExitCode {
+    ExitCode::from(exit_status(run(rt)))
+}
+
+// The status that the program returned, or 4 if it couldn't be called.
+fn exit_status(answered: io::Result<u8>) -> u8
+    ensures answered { IfOk answered (λ status. result ≡ status) }
+    ensures not_called { OnErr answered (result ≡ NO_MEMORY) }
+{
+    match answered {
+        Ok(status) => status,
+        Err(_) => NO_MEMORY,
+    }
+}
+
+// Makes the streams, the conversation with the front end for transaction 1, and the world, and calls the program.
+fn run(rt: HostRuntime) -> io::Result<u8> {
+    let alloc = rt.alloc();
+    let status = own_status(rt);
+    let user = ids_in(&status, "Uid:");
+    let group = ids_in(&status, "Gid:");
+    let words = words_for(alloc, &words(&rt)?, has_own_ids(&user, &group))?;
+    let mut script = ReaderSource::new(rt.reader());
+    let mut out = WriterSink::new(io::writer(&rt));
+    let term: Box<dyn Conv> = Box::new(alloc, TermConv::new(rt.stdin(), rt.stderr()))?;
+    let mut convs: Vec<Box<dyn Conv>> = Vec::new(alloc);
+    for _ in 0..TRANSACTIONS {
+        let conv: Box<dyn Conv> = Box::new(alloc, WireConv::new(alloc))?;
+        convs.push(conv)?;
+    }
+    convs[0] = Box::new(alloc, FrontConv::new(rt.stdin(), rt.stdout()))?;
+    let mut world = World {
+        vault: Box::new(alloc, FolderVault::new(rt))?,
+        clock: Box::new(alloc, RealClock::new(rt))?,
+        nap: Box::new(alloc, NapSum::new())?,
+        process: process_of(alloc, caller_of(&user)),
+    };
+    serve(
+        alloc,
+        &words,
+        convs,
+        term,
+        &mut script,
+        &mut out,
+        &mut world,
+    )
+}
+
+// A process of a caller, with a ledger in which nothing was entered.
+fn process_of(alloc: Global, caller: u32) -> Process
+    ensures caller { result.caller ≡ caller }
+    ensures no_births { result.ledger.births ≡ [] }
+    ensures no_receipts { result.ledger.filed ≡ [] }
+{
+    Process {
+        ledger: Ledger::new(alloc),
+        root: Text::new(alloc),
+        caller,
+    }
+}
+
+// What the system says of the process; empty if it can't be read.
+fn own_status(rt: HostRuntime) -> Text {
+    let alloc = rt.alloc();
+    FolderVault::new(rt)
+        .read(alloc, STATUS.as_bytes(), MAX_STATUS)
+        .unwrap_or(Text::new(alloc))
+}
+
+// The first two numbers of the first line that begins so: the real and the effective ID.
+fn ids_in(status: &Text, name: &str) -> Option<Ids> {
+    let text = str::from_utf8(status.bytes()).ok()?;
+    let line = text.lines().find_map(|line| line.strip_prefix(name))?;
+    let mut numbers = line.split_ascii_whitespace();
+    let real = numbers.next()?.parse::<u32>().ok()?;
+    let effective = numbers.next()?.parse::<u32>().ok()?;
+    Some(Ids { real, effective })
+}
+
+// The process's real user ID; nobody's if it isn't known.
+fn caller_of(user: &Option<Ids>) -> u32 {
+    match user {
+        Some(ids) => ids.real,
+        None => NOBODY,
+    }
+}
+
+// Whether the process is known to have no rights but its caller's.
+fn has_own_ids(user: &Option<Ids>, group: &Option<Ids>) -> bool {
+    match (user, group) {
+        (Some(user), Some(group)) => user.are_one() && group.are_one(),
+        _ => false,
+    }
+}
+
+// The arguments for the program: `wire /`, or `wire ROOT` if one argument names a root and the process has no rights
+// but its caller's. Otherwise none, which is no command.
+fn words_for(alloc: Global, words: &[String], has_own_ids: bool) -> io::Result<Vec<String>>
+    ensures request { IfOk result (λ asked. request_of asked.items
+        ≡ service_request has_own_ids words.now) }
+    ensures frames { IfOk result (λ asked. IsOfFrames (request_of asked.items)) }
+{
+    let mut asked = Vec::new(alloc);
+    match words {
+        [] => {
+            asked.push(String::from_str(alloc, "wire")?)?;
+            asked.push(String::from_str(alloc, "/")?)?;
+        }
+        [root] if has_own_ids => {
+            asked.push(String::from_str(alloc, "wire")?)?;
+            asked.push(root.clone()?)?;
+        }
+        _ => {}
+    }
+    Ok(asked)
+}
+
+// Serves the calls of a front end with the shipped modules, and with a delay function that returns the requested delay, at
+// most 60 seconds, and 0 after SUCCESS.
+fn serve<S: Source, K: Sink>(
+    alloc: Global,
+    words: &[String],
+    convs: Vec<Box<dyn Conv>>,
+    term: Box<dyn Conv>,
+    script: &mut S,
+    out: &mut K,
+    world: &mut World,
+) -> io::Result<u8>
+    requires frames { IsOfFrames (request_of words.now) }
+    requires sixteen { length convs.items ≡ TRANSACTIONS }
+    requires no_births { world.old.process.ledger.births ≡ [] }
+    requires no_receipts { world.old.process.ledger.filed ≡ [] }
+    ensures status { IfOk result (λ status. StatusOf (request_of words.now) status) }
+{
+    let mut mods: Vec<Box<dyn Module>> = Vec::new(alloc);
+    mods.push(Box::new(alloc, Permit::new())?)?;
+    mods.push(Box::new(alloc, Deny::new())?)?;
+    mods.push(Box::new(alloc, Debug::new())?)?;
+    mods.push(Box::new(alloc, Rootok::new())?)?;
+    mods.push(Box::new(alloc, Probe::new())?)?;
+    mods.push(Box::new(alloc, Nologin::new())?)?;
+    mods.push(Box::new(alloc, Listfile::new())?)?;
+    mods.push(Box::new(alloc, Shells::new())?)?;
+    mods.push(Box::new(alloc, SucceedIf::new())?)?;
+    mods.push(Box::new(alloc, EnvModule::new())?)?;
+    mods.push(Box::new(alloc, Unix::new())?)?;
+    mods.push(Box::new(alloc, Faillock::new())?)?;
+    mods.push(Box::new(alloc, Wheel::new())?)?;
+    mods.push(Box::new(alloc, Securetty::new())?)?;
+    mods.push(Box::new(alloc, Pwhistory::new())?)?;
+    let delay = |code: Code, asked: u32| -> u32 {
+        if code == Code::Success {
+            0
+        } else {
+            asked.min(LONGEST_WAIT)
+        }
+    };
+    let delay: DelayRule = Box::new(alloc, delay)?;
+    let brought = Brought { mods, convs, term };
+    Ok(answer_frames(alloc, words, script, out, world, brought, delay))
+}
+
+// `pamsess` over frames, whatever the objects are. It returns the exit status: 0 at the end of the input, 4 out of memory, 5
+// and 6 if input or output failed, 13 at a bad frame, 14 at one frame too many; 2 without a command, or 6 if the usage line
+// couldn't be written. On every way out all transactions are ended, and each module data is cleaned up once, with the
+// status that is due.
+fn answer_frames<S: Source, K: Sink>(
+    alloc: Global,
+    words: &[String],
+    script: &mut S,
+    out: &mut K,
+    world: &mut World,
+    brought: Brought,
+    delay: DelayRule,
+) -> u8
+    requires frames { IsOfFrames (request_of words.now) }
+    requires sixteen { length brought.convs.items ≡ 16 }
+    requires few { length brought.mods.items < 2 ^ 32 }
+    requires callable { (code : Code) (asked : ℕ) → asked ≤ LONGEST_ASKED →
+        DelayRule.pre delay code asked }
+    requires one_number { GivesOneNumber (DelayRule.post delay) }
+    requires no_births { world.old.process.ledger.births ≡ [] }
+    requires no_receipts { world.old.process.ledger.filed ≡ [] }
+    ensures status { StatusOf (request_of words.now) result }
+    ensures read_fault { result ≡ 5 → Rose (S.source_faults script.old)
+        (S.source_faults script.new) }
+    ensures write_fault { result ≡ 6 → Rose (K.sink_faults out.old) (K.sink_faults out.new) }
+    ensures no_write_fault { result ≢ 6 → K.sink_faults out.new ≡ K.sink_faults out.old }
+    ensures cleaned_up { (notes : Notes) × IsCleanedUp (MayEnd (request_of words.now)
+        (S.source_tells script.old) (S.source_holds script.old).left result) notes
+        world.new.process.ledger }
+{
+    let Brought { mods, convs, term } = brought;
+    let desk = Desk {
+        mods,
+        convs,
+        term,
+        delay,
+    };
+    pamsess(alloc, words, script, out, world, desk)
+}
+
+// The arguments of the command line; one that names no root if one of them isn't UTF-8.
+fn words<R: Env + AllocGlobal>(rt: &R) -> io::Result<Vec<String>> {
+    let mut words = Vec::new(rt.alloc());
+    match env::args(rt) {
+        Ok(all) => {
+            for word in all.skip(1) {
+                words.push(word)?;
+            }
+            Ok(words)
+        }
+        Err(error) if error.kind() == ErrorKind::InvalidData => {
+            words.push(String::new(rt.alloc()))?;
+            Ok(words)
+        }
+        Err(error) => Err(error),
+    }
+}
