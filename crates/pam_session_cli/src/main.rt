@@ -1,23 +1,29 @@
-//! `pamsess`: applies the calls of a script or of a front end to the transactions of a configuration and reports what
-//! each answers, logs somebody in, or prints what a configuration or a tally comes to.
+//! `pamsess`: makes the calls of a script or of a front end in the transactions of a configuration and reports what each
+//! returns, logs a user in, audits a report, or prints a configuration or a tally.
+//!
+//! Begin at `main`: `run` and `run_in_world` make the objects that objects.rt names for a command, and `serve` calls
+//! `session_program::pamsess` with them.
 #![tactic(auto)]
+
+mod objects;
 
 ghost use Rattle.std.specs.Prelude.{◌≡◌, [], IfOk, OnErr, length};
 
-use conv_port::{Conv, QueueConv, TermConv, WireConv};
-use data_cleanup::Ledger;
+use crate::objects::{Files, Objects, Replies, Time, objects_of};
+use mod_basic::conv_port::{Conv, QueueConv, TermConv, WireConv};
+use mod_basic::data_cleanup::Ledger;
+use mod_basic::pam_room::{Module, Process, World};
 use mod_basic::{Debug, Deny, Permit, Probe, Rootok};
 use mod_env::Env as EnvModule;
+use mod_history::mod_unix::Unix;
 use mod_history::{Pwhistory, Securetty, Wheel};
 use mod_lists::{Listfile, Nologin, Shells, SucceedIf};
-use mod_tally::Faillock;
-use mod_unix::Unix;
 use pam_base::{Code, Numbers, Text};
 use pam_outside::{
     Clock, FixedClock, FolderVault, MemVault, Nap, NapSum, ReaderSource, RealClock, Sink, SleepNap,
     Source, Vault, WriterSink,
 };
-use pam_room::{Module, Process, World};
+use session_program::mod_tally::Faillock;
 use session_program::{Desk, pamsess};
 use std::alloc::Global;
 use std::io::ErrorKind;
@@ -28,35 +34,34 @@ use std::{env, io};
 #[cfg(test)]
 mod tests;
 
-/// The status where there is no memory for the objects that the program is given.
+/// The status if the objects that the program gets can't be allocated.
 const NO_MEMORY: u8 = 4;
 
 /// How many transactions may be open at a time, each with a conversation.
 const TRANSACTIONS: usize = 16;
 
-/// The caller whose process the transactions are in: nobody.
+/// The user ID of the process that the transactions are in: nobody.
 const CALLER: u32 = 65534;
 
-/// The longest wait that the delay function gives, in microseconds.
+/// The longest wait that the delay function returns, in microseconds.
 const LONGEST_WAIT: u32 = 3_000_000;
 
 fn main(rt: HostRuntime) -> ExitCode {
     ExitCode::from(exit_status(run(rt)))
 }
 
-// The status that the program answered, or that of want of memory where it couldn't be called.
-fn exit_status(answered: io::Result<u8>) -> u8
-    ensures answered { IfOk answered (λ status. result ≡ status) }
-    ensures not_called { OnErr answered (result ≡ NO_MEMORY) }
+// The status that the program returned, or NO_MEMORY if it couldn't be called.
+fn exit_status(returned: io::Result<u8>) -> u8
+    ensures answered { IfOk returned (λ status. result ≡ status) }
+    ensures not_called { OnErr returned (result ≡ NO_MEMORY) }
 {
-    match answered {
+    match returned {
         Ok(status) => status,
         Err(_) => NO_MEMORY,
     }
 }
 
-// Makes the streams, a conversation without replies for each transaction, which waits where a front end is to answer,
-// and the terminal, and calls the program with them.
+// Makes the streams, a conversation for each transaction and one for the terminal, and calls the program with them.
 fn run(rt: HostRuntime) -> io::Result<u8> {
     let alloc = rt.alloc();
     let words = words(&rt)?;
@@ -64,22 +69,21 @@ fn run(rt: HostRuntime) -> io::Result<u8> {
     let mut out = WriterSink::new(io::writer(&rt));
     let term: Box<dyn Conv> = Box::new(alloc, TermConv::new(rt.stdin(), rt.stderr()))?;
     let mut convs: Vec<Box<dyn Conv>> = Vec::new(alloc);
-    let waits = begins_with("wire", &words);
+    let objects = objects_of(&words);
     for _ in 0..TRANSACTIONS {
-        let conv: Box<dyn Conv> = if waits {
-            Box::new(alloc, WireConv::new(alloc))?
-        } else {
-            Box::new(alloc, QueueConv::new(alloc))?
+        let conv: Box<dyn Conv> = match objects.replies {
+            Replies::Awaited => Box::new(alloc, WireConv::new(alloc))?,
+            Replies::Queued => Box::new(alloc, QueueConv::new(alloc))?,
         };
         convs.push(conv)?;
     }
-    run_in_world(rt, &words, convs, term, &mut script, &mut out)
+    run_in_world(rt, objects, &words, convs, term, &mut script, &mut out)
 }
 
-// Calls it in the world that the first word wants: somebody who logs in has the real clock, and waits; what is drawn stands in
-// memory alone.
+// Calls it in the world that the command gets.
 fn run_in_world<S: Source, K: Sink>(
     rt: HostRuntime,
+    objects: Objects,
     words: &[String],
     convs: Vec<Box<dyn Conv>>,
     term: Box<dyn Conv>,
@@ -89,21 +93,17 @@ fn run_in_world<S: Source, K: Sink>(
     requires { length convs.items ≡ TRANSACTIONS }
 {
     let alloc = rt.alloc();
-    let is_login = begins_with("login", words);
-    let clock: Box<dyn Clock> = if is_login {
-        Box::new(alloc, RealClock::new(rt))?
-    } else {
-        Box::new(alloc, FixedClock::new(0, 0))?
+    let clock: Box<dyn Clock> = match objects.time {
+        Time::Real => Box::new(alloc, RealClock::new(rt))?,
+        Time::Fixed => Box::new(alloc, FixedClock::new(0, 0))?,
     };
-    let nap: Box<dyn Nap> = if is_login {
-        Box::new(alloc, SleepNap::new(rt))?
-    } else {
-        Box::new(alloc, NapSum::new())?
+    let nap: Box<dyn Nap> = match objects.time {
+        Time::Real => Box::new(alloc, SleepNap::new(rt))?,
+        Time::Fixed => Box::new(alloc, NapSum::new())?,
     };
-    let vault: Box<dyn Vault> = if begins_with("generate", words) {
-        Box::new(alloc, MemVault::new(alloc, Numbers::new(alloc)))?
-    } else {
-        Box::new(alloc, FolderVault::new(rt))?
+    let vault: Box<dyn Vault> = match objects.files {
+        Files::InMemory => Box::new(alloc, MemVault::new(alloc, Numbers::new(alloc)))?,
+        Files::OnDisk => Box::new(alloc, FolderVault::new(rt))?,
     };
     let mut world = World {
         vault,
@@ -114,7 +114,7 @@ fn run_in_world<S: Source, K: Sink>(
     serve(alloc, words, convs, term, script, out, &mut world)
 }
 
-// A process of nobody, with a ledger in which nothing was entered.
+// A process of nobody, with an empty cleanup log.
 fn process_of_nobody(alloc: Global) -> Process
     ensures caller { result.caller ≡ CALLER }
     ensures no_births { result.ledger.births ≡ [] }
@@ -127,15 +127,8 @@ fn process_of_nobody(alloc: Global) -> Process
     }
 }
 
-fn begins_with(command: &str, words: &[String]) -> bool {
-    match words {
-        [first, ..] => first.as_str() == command,
-        [] => false,
-    }
-}
-
-// Calls it with the shipped modules, and a delay function that waits as long as it is asked to, but three seconds at most, and not
-// after SUCCESS.
+// Calls it with the shipped modules, and a delay function that waits as long as requested, at most three seconds, and
+// doesn't wait after SUCCESS.
 fn serve<S: Source, K: Sink>(
     alloc: Global,
     words: &[String],
@@ -181,7 +174,7 @@ fn serve<S: Source, K: Sink>(
     Ok(pamsess(alloc, words, script, out, world, desk))
 }
 
-/// The words of the command line; none where one of them isn't UTF-8.
+/// The arguments of the command line; none if one of them isn't UTF-8.
 fn words<R: Env + AllocGlobal>(rt: &R) -> io::Result<Vec<String>> {
     let mut words = Vec::new(rt.alloc());
     match env::args(rt) {

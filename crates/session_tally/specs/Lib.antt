@@ -1,1 +1,2 @@
+pub use Rattle.mod_tally
 pub mod Tally

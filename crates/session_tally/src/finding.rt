@@ -13,11 +13,11 @@ use std::alloc::Global;
 /// What was found of a user's failures.
 #[derive(Clone, Copy, Debug, PartialEq, Eq)]
 pub enum Tallied {
-    /// They were listed.
+    /// The failures were listed.
     Listed,
-    /// The file hasn't the form of a tally, or has more than 65,536 bytes.
+    /// The file isn't a tally, or has more than 65,536 bytes.
     Damaged,
-    /// The outside failed.
+    /// Reading the file failed.
     Unread,
 }
 

@@ -1,19 +1,18 @@
-ghost use Rattle.std.specs.Prelude.{◌≡◌, ◌≢◌, ◌⊎◌, ◌≤◌, IsTrue, Ok, Err};
+ghost use Rattle.std.specs.Prelude.{◌≡◌, ◌≢◌, ◌⊎◌, ◌≤◌, IsTrue, IfOk, Ok, Err};
 ghost use Rattle.pam_outside.specs.Counts.{RisesIf, Rose};
 ghost use Rattle.pam_outside.specs.Files.{counted};
 ghost use Rattle.item_stream.specs.Turns.{has_write_fault};
+ghost use Rattle.item_stream.specs.Written.{WritesText};
 ghost use Rattle.session_tally.specs.Tally.{Lists, tally_of};
 
 use crate::finding::{Tallied, find};
 use item_stream::Stop;
-use pam_base::{Failed, NoMemory};
 use pam_outside::{Sink, Vault, write_all};
 use std::alloc::Global;
 
-/// Lists the failures that stand in the file of a user under a root, `/var/run/faillock/USER`: each in the form of the
-/// file, and then how many they are; or it says that the file is damaged or can't be read. A file that isn't there has
-/// none. Of the world only what the vault counts changes: it is called once. The text is made whole before it is
-/// written.
+/// Lists the failures in the file of a user under a root, `/var/run/faillock/USER`: each in the form of the file, and
+/// then their number; or writes that the file is damaged or can't be read. A file that doesn't exist has none. Of the
+/// world only the vault's counts change: it is called once. The text is complete before its first byte is written.
 pub fn list_failures<K: Sink>(
     alloc: Global,
     root: &[u8],
@@ -26,12 +25,17 @@ pub fn list_failures<K: Sink>(
     ensures told { IsTrue (K.sink_tells out.old) → IsTrue (vault_tells vault.old) →
         Lists result (tally_of (vault_holds vault.old) root.now user.now) (K.sink_holds out.old)
         (K.sink_holds out.new) }
-    // One call of the vault, or, where there was no memory for its path, none.
+    // What was found, if the vault is modelled, whatever becomes of the text; and what was written, if the sink is.
+    ensures found { IsTrue (vault_tells vault.old) → IfOk result (λ tallied.
+        tallied ≡ (tally_of (vault_holds vault.old) root.now user.now).tallied) }
+    ensures writes { IsTrue (K.sink_tells out.old) →
+        WritesText (K.sink_holds out.old) (K.sink_holds out.new) }
+    // One call of the vault, or none if the memory for its path can't be allocated.
     ensures one_call { IsTrue (vault_tells vault.old) →
         (vault_holds vault.new ≡ counted (vault_holds vault.old)) ⊎ ((result ≡ Err Stop.NoMemory)
         × (vault_holds vault.new ≡ vault_holds vault.old)) }
-    // The causes, in any world: it is unread only where the vault failed, and the vault fails with no other answer but
-    // where the line that says so can't be written.
+    // The causes, with real objects too: Unread is returned only if the vault failed; otherwise the vault failed only
+    // if the line that says so couldn't be written.
     ensures unread { result ≡ Ok Tallied.Unread →
         Rose (vault_faults vault.old) (vault_faults vault.new) }
     ensures read { (result ≡ Ok Tallied.Listed) ⊎ (result ≡ Ok Tallied.Damaged) →
@@ -39,11 +43,7 @@ pub fn list_failures<K: Sink>(
     ensures faults { RisesIf (has_write_fault result) (K.sink_faults out.old)
         (K.sink_faults out.new) }
 {
-    match find(alloc, root, user, vault) {
-        Err(NoMemory) => Err(Stop::NoMemory),
-        Ok(finding) => match write_all(out, finding.text.bytes()) {
-            Ok(()) => Ok(finding.tallied),
-            Err(Failed) => Err(Stop::WriteFault),
-        },
-    }
+    let finding = find(alloc, root, user, vault)?;
+    write_all(out, finding.text.bytes())?;
+    Ok(finding.tallied)
 }

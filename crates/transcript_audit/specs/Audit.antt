@@ -1,18 +1,18 @@
 -- The audit of a transcript against the stacks of a service (this project's own): what is found, and what is written
 -- of it.
-use Rattle.std.specs.Prelude.{◌≡◌, ◌⊎◌, ℕ, ◌+◌, ◌≤◌, nat_lt, if◌then◌else◌, Bool, true, false, List, [], ◌++◌, length, codes, decimal, Option, Some, None, Result, Ok, Err, OnOk, IfOk}
+use Rattle.std.specs.Prelude.{◌≡◌, ◌⊎◌, ℕ, ◌+◌, ◌<◌, ◌≤◌, nat_lt, if◌then◌else◌, Bool, true, false, List, [], ◌++◌, length, codes, decimal, Option, Some, None, Result, Ok, Err, OnOk, IfOk}
 use Rattle.pam_outside.specs.Files.{VaultState}
 use Rattle.pam_outside.specs.Streams.{SinkState}
-use Rattle.control_words.specs.Stack.{Stack}
-use Rattle.service_load.specs.declared.load_fault.LoadFault.{LoadFault}
-use Rattle.service_load.specs.declared.rule_type.RuleType.{RuleType}
-use Rattle.service_load.specs.FirstFault.{Counts, Stop}
-use Rattle.service_load.specs.Load.{loaded, has_folder}
-use Rattle.service_load.specs.Loading.{texts_of}
-use Rattle.service_load.specs.Stacks.{Stacks, stacks_of}
-use Rattle.service_load.specs.Tree.{tree}
-use Rattle.report_lines.specs.Line.{refused_words}
-use Rattle.report_reader.specs.Guess.{read_line}
+use Rattle.session_audit.specs.control_words.specs.Stack.{Stack}
+use Rattle.session_audit.specs.service_load.specs.declared.load_fault.LoadFault.{LoadFault}
+use Rattle.session_audit.specs.service_load.specs.declared.rule_type.RuleType.{RuleType}
+use Rattle.session_audit.specs.service_load.specs.FirstFault.{Counts, Stop}
+use Rattle.session_audit.specs.service_load.specs.Load.{loaded, has_folder}
+use Rattle.session_audit.specs.service_load.specs.Loading.{texts_of}
+use Rattle.session_audit.specs.service_load.specs.Stacks.{Stacks, stacks_of}
+use Rattle.session_audit.specs.service_load.specs.Tree.{tree}
+use Rattle.session_audit.specs.report_lines.specs.Line.{refused_words}
+use Rattle.session_audit.specs.report_reader.specs.Guess.{read_line}
 use Rattle.session_audit.specs.Differs.{differs}
 use Rattle.session_audit.specs.Whole.{lines_read}
 use Rattle.item_stream.specs.declared.ending.Stop.{Stop as Stopped}
@@ -87,6 +87,19 @@ pub record Audits (result : Result Audited Stopped) (a : Audit) (old new : SinkS
   pub none : result ≡ Err NoMemory → front ≡ []
   pub found : IfOk result (λ found. found ≡ a.found)
   pub writes : new.calls ≤ old.calls + length front + 1
+
+-- the transcript was compared with the stacks
+abbrev pub IsVerdict : Audited → Type 0
+IsVerdict found = (found ≡ Fits) ⊎ (found ≡ Differs)
+
+-- how far the transcript was read, by what was found: to its end where there is a verdict, past the most bytes that one
+-- may have where it is too long, and not at all where the configuration is refused
+abbrev pub ReadsUpTo : Audited → List ℕ → List ℕ → Type 0
+ReadsUpTo Fits before left = left ≡ []
+ReadsUpTo Differs before left = left ≡ []
+ReadsUpTo Refused before left = left ≡ before
+ReadsUpTo TooLong before left = length left + 1048576 < length before
+ReadsUpTo Unread before left = Unit {0}
 
 -- whether the transcript couldn't be read
 abbrev pub is_unread : Audited → Bool

@@ -5,17 +5,25 @@ use Rattle.pam_outside.specs.Streams.{SourceState}
 use Rattle.transcript_audit.specs.declared.transcript.Transcript.{Transcript}
 use Rattle.transcript_audit.specs.declared.transcript.Transcript.TheVariants.{Whole, TooLong, Unread}
 
--- at most 1,048,577 bytes were taken
+-- At most 1,048,577 bytes were taken, with at most one read more than they are, and at most one where none was left.
 pub record Takes (old new : SourceState) : Type 0 where
   pub taken : List ℕ
   pub parts : old.left ≡ taken ++ new.left
   pub few : length taken ≤ 1048577
+  pub reads : new.calls ≤ old.calls + length taken + 1
+  pub ends : new.reads_at_end ≤ old.reads_at_end + 1
 
 -- what was read of a source that held these bytes
 abbrev pub IsRead : Transcript → List ℕ → Type 0
 IsRead (Whole text) left = text ≡ left
 IsRead TooLong left = 1048576 < length left
 IsRead Unread left = Unit {0}
+
+-- how far the source was read: to its end, or past the most that a transcript may have
+abbrev pub ReadsTo : Transcript → List ℕ → List ℕ → Type 0
+ReadsTo (Whole text) before left = left ≡ []
+ReadsTo TooLong before left = length left + 1048576 < length before
+ReadsTo Unread before left = Unit {0}
 
 abbrev pub IsShort : Transcript → Type 0
 IsShort (Whole text) = length text ≤ 1048576
@@ -34,3 +42,6 @@ pub record ReadsMore (result : Result (Option ℕ) NoMemory) (before after : Lis
   pub room : length before + length got ≤ 1048577
   pub held : OnOk result (after ≡ before ++ got)
   pub end : result ≡ Ok (Some 0) → new.left ≡ []
+  pub calls : new.calls ≤ old.calls + 1
+  pub at_end : new.reads_at_end ≤ old.reads_at_end + 1
+  pub within : (n : ℕ) → result ≡ Ok (Some n) → 0 < n → new.reads_at_end ≡ old.reads_at_end

@@ -1,21 +1,25 @@
 ghost use Rattle.std.specs.Prelude.{◌≡◌, ◌≢◌, ◌⊎◌, [], Ok, Err, Some, None, IfOk, IsTrue};
 ghost use Rattle.pam_outside.specs.Counts.{RisesIf};
-ghost use Rattle.service_load.specs.Load.{loaded};
-ghost use Rattle.service_load.specs.Loading.{OnlyCalls};
+ghost use Rattle.session_audit.specs.service_load.specs.Load.{loaded};
+ghost use Rattle.session_audit.specs.service_load.specs.Loading.{OnlyCalls};
 ghost use Rattle.item_stream.specs.Turns.{has_write_fault};
-ghost use Rattle.transcript_audit.specs.Audit.{Audit, Audits, IsAudit, audit_of, calls_of, has_read_fault};
+ghost use Rattle.item_stream.specs.Written.{WritesText};
+ghost use Rattle.transcript_audit.specs.Audit.{Audit, Audits, IsAudit, ReadsUpTo, audit_of, calls_of, has_read_fault};
 ghost use Rattle.transcript_audit.specs.Transcript.{Takes};
 
 use crate::finding::{Audited, Finding, find};
 use item_stream::Stop;
-use pam_base::{Failed, NoMemory};
 use pam_outside::{Sink, Source, Vault, write_all};
 use std::alloc::Global;
 
-/// Whether the transcript of a run, read from a source, fits the stacks of a service under a root; the line that says
-/// so is written. The service is loaded first: where its configuration is refused, the line of its first fault is
-/// written, and the source isn't read. Of the transcript at most 1,048,577 bytes are taken. Where it can't be read
-/// nothing is written. Of the world only what the vault counts changes. The text is made whole before it is written.
+/// Audits the transcript of a run, which is read from a source, against the stacks of a service under a root, and
+/// writes the verdict on one line.
+///
+/// The service is loaded first. If its configuration is refused, the line of its first fault is written, and the
+/// source isn't read. A transcript with a verdict was read to its end; of one that is too long 1,048,577 bytes are
+/// read; if the source fails, nothing is written. The source is read at most once more than bytes were taken, the
+/// sink is written at most once more than bytes were written. Of the world only the vault's counts change. The text
+/// is complete before the first byte is written.
 pub fn audit_transcript<S: Source, K: Sink>(
     alloc: Global,
     root: &[u8],
@@ -34,7 +38,7 @@ pub fn audit_transcript<S: Source, K: Sink>(
         (Some (S.source_holds source.old).left)) (K.sink_holds out.old) (K.sink_holds out.new)
         ⊎ Audits result (audit_of (vault_holds vault.old) root.now service.now None)
         (K.sink_holds out.old) (K.sink_holds out.new) }
-    // Without memory the vault may have been called less often.
+    // If an allocation fails, the vault may have been called less often.
     ensures asked { IsTrue (vault_tells vault.old) → result ≢ Err Stop.NoMemory →
         (vault_holds vault.new).calls
         ≡ calls_of (loaded (vault_holds vault.old) root.now service.now) }
@@ -42,25 +46,30 @@ pub fn audit_transcript<S: Source, K: Sink>(
         OnlyCalls (vault_holds vault.old) (vault_holds vault.new) }
     ensures takes { IsTrue (S.source_tells source.old) →
         Takes (S.source_holds source.old) (S.source_holds source.new) }
+    ensures reads_up_to { IsTrue (S.source_tells source.old) → IfOk result (λ found.
+        ReadsUpTo found (S.source_holds source.old).left (S.source_holds source.new).left) }
     ensures refused { result ≡ Ok Audited.Refused → source.new ≡ source.old }
-    // The causes, in any world.
+    // What was written, if the sink alone is modelled.
+    ensures writes { IsTrue (K.sink_tells out.old) →
+        WritesText (K.sink_holds out.old) (K.sink_holds out.new) }
+    // The causes, with real objects too.
     ensures unread { RisesIf (has_read_fault result) (S.source_faults source.old)
         (S.source_faults source.new) }
     ensures faults { RisesIf (has_write_fault result) (K.sink_faults out.old)
         (K.sink_faults out.new) }
 {
-    match find(alloc, root, service, source, vault) {
-        Err(NoMemory) => Err(Stop::NoMemory),
-        Ok(finding) => write_finding(&finding, out),
-    }
+    let finding = find(alloc, root, service, source, vault)?;
+    write_finding(&finding, out)
 }
 
-// Writes what was found. Of a transcript that couldn't be read there is nothing to write.
+// Writes what was found. If the transcript couldn't be read, there is nothing to write.
 fn write_finding<K: Sink>(finding: &Finding, out: &mut K) -> Result<Audited, Stop>
     requires silent { finding.now.audited ≡ Audited.Unread → finding.now.text ≡ [] }
     ensures tells { K.sink_tells out.new ≡ K.sink_tells out.old }
     ensures told { IsTrue (K.sink_tells out.old) → (a : Audit) → IsAudit finding.now a →
         Audits result a (K.sink_holds out.old) (K.sink_holds out.new) }
+    ensures writes { IsTrue (K.sink_tells out.old) →
+        WritesText (K.sink_holds out.old) (K.sink_holds out.new) }
     ensures found { IfOk result (λ found. found ≡ finding.now.audited) }
     ensures memory { result ≢ Err Stop.NoMemory }
     ensures unread { finding.now.audited ≡ Audited.Unread → result ≡ Ok Audited.Unread }
@@ -70,8 +79,6 @@ fn write_finding<K: Sink>(finding: &Finding, out: &mut K) -> Result<Audited, Sto
     if finding.audited == Audited::Unread {
         return Ok(Audited::Unread);
     }
-    match write_all(out, finding.text.bytes()) {
-        Ok(()) => Ok(finding.audited),
-        Err(Failed) => Err(Stop::WriteFault),
-    }
+    write_all(out, finding.text.bytes())?;
+    Ok(finding.audited)
 }

@@ -1,17 +1,17 @@
 ghost use Rattle.std.specs.Prelude.{◌≡◌, ◌≢◌, ◌≤◌, [], Some, false, IsTrue, IfOk, OnOk, OnErr, length};
 ghost use Rattle.pam_outside.specs.Counts.{RisesIf};
-ghost use Rattle.service_load.specs.Load.{AreBounded, loaded};
-ghost use Rattle.service_load.specs.Loading.{OnlyCalls};
-ghost use Rattle.pass_replay.specs.Retold.{stacks_in};
+ghost use Rattle.session_audit.specs.service_load.specs.Load.{AreBounded, loaded};
+ghost use Rattle.session_audit.specs.service_load.specs.Loading.{OnlyCalls};
+ghost use Rattle.session_audit.specs.pass_replay.specs.Retold.{stacks_in};
 ghost use Rattle.session_audit.specs.Checked.{line_of};
-ghost use Rattle.transcript_audit.specs.Audit.{IsAudit, IsAuditOf, audit_by, audit_of, calls_of, is_unread, judged, refused, too_long, unread};
+ghost use Rattle.transcript_audit.specs.Audit.{IsAudit, IsAuditOf, IsVerdict, ReadsUpTo, audit_by, audit_of, calls_of, is_unread, judged, refused, too_long, unread};
 ghost use Rattle.transcript_audit.specs.Transcript.{Takes};
 
 use crate::transcript::{Transcript, read_transcript};
 use pam_base::{NoMemory, Refuse, Text};
 use pam_outside::{Source, Vault};
-use report_lines::write_refused;
-use service_load::{LoadFault, Trees, load};
+use session_audit::report_lines::write_refused;
+use session_audit::service_load::{LoadFault, Trees, load};
 use session_audit::{Verdict, audit};
 use std::alloc::Global;
 
@@ -57,6 +57,9 @@ pub(crate) fn find<S: Source>(
         OnlyCalls (vault_holds vault.old) (vault_holds vault.new) }
     ensures takes { IsTrue (S.source_tells source.old) →
         Takes (S.source_holds source.old) (S.source_holds source.new) }
+    ensures reads_up_to { IsTrue (S.source_tells source.old) → IfOk result (λ finding.
+        ReadsUpTo finding.audited (S.source_holds source.old).left
+        (S.source_holds source.new).left) }
     ensures refused { IfOk result (λ finding. finding.audited ≡ Audited.Refused →
         source.new ≡ source.old) }
     ensures unread { IfOk result (λ finding. RisesIf (is_unread finding.audited)
@@ -80,6 +83,9 @@ fn find_by<S: Source>(alloc: Global, trees: &Trees, source: &mut S) -> Result<Fi
         IsAuditOf finding (audit_by (stacks_in trees.now)) (S.source_holds source.old).left) }
     ensures takes { IsTrue (S.source_tells source.old) →
         Takes (S.source_holds source.old) (S.source_holds source.new) }
+    ensures reads_up_to { IsTrue (S.source_tells source.old) → IfOk result (λ finding.
+        ReadsUpTo finding.audited (S.source_holds source.old).left
+        (S.source_holds source.new).left) }
     ensures accepted { IfOk result (λ finding. finding.audited ≢ Audited.Refused) }
     ensures unread { IfOk result (λ finding. RisesIf (is_unread finding.audited)
         (S.source_faults source.old) (S.source_faults source.new)) }
@@ -100,6 +106,7 @@ fn find_in(alloc: Global, trees: &Trees, text: &[u8]) -> Result<Finding, NoMemor
     requires short { length text.now ≤ 1048576 }
     ensures told { IfOk result (λ finding. IsAudit finding
         (audit_by (stacks_in trees.now) (Some text.now))) }
+    ensures verdict { IfOk result (λ finding. IsVerdict finding.audited) }
     ensures accepted { IfOk result (λ finding. finding.audited ≢ Audited.Refused) }
     ensures read { IfOk result (λ finding. is_unread finding.audited ≡ false) }
 {
@@ -108,6 +115,7 @@ fn find_in(alloc: Global, trees: &Trees, text: &[u8]) -> Result<Finding, NoMemor
 
 fn judged(alloc: Global, verdict: Verdict) -> Result<Finding, NoMemory>
     ensures told { IfOk result (λ finding. IsAudit finding (judged (line_of verdict))) }
+    ensures verdict { IfOk result (λ finding. IsVerdict finding.audited) }
     ensures accepted { IfOk result (λ finding. finding.audited ≢ Audited.Refused) }
     ensures read { IfOk result (λ finding. is_unread finding.audited ≡ false) }
 {

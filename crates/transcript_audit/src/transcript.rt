@@ -1,6 +1,6 @@
 ghost use Rattle.std.specs.Prelude.{◌≡◌, ◌<◌, ◌≤◌, ◌+◌, IsTrue, IfOk, IfSome, OnErr, is_none, length, vec_len};
 ghost use Rattle.pam_outside.specs.Counts.{RisesIf};
-ghost use Rattle.transcript_audit.specs.Transcript.{IsRead, IsShort, ReadsMore, Takes, is_unread};
+ghost use Rattle.transcript_audit.specs.Transcript.{IsRead, IsShort, ReadsMore, ReadsTo, Takes, is_unread};
 
 use pam_base::{Failed, NoMemory, Text};
 use pam_outside::Source;
@@ -9,7 +9,7 @@ use std::alloc::Global;
 // How many bytes are read at once.
 const CHUNK: usize = 4096;
 
-// One byte more than a transcript may have.
+// One byte more than a transcript may have: so much is read of one that is too long.
 const MOST: usize = 1_048_577;
 
 /// What was read of a transcript.
@@ -30,6 +30,9 @@ pub fn read_transcript<S: Source>(alloc: Global, source: &mut S) -> Result<Trans
         IfOk result (λ transcript. IsRead transcript (S.source_holds source.old).left) }
     ensures takes { IsTrue (S.source_tells source.old) →
         Takes (S.source_holds source.old) (S.source_holds source.new) }
+    ensures reads_to { IsTrue (S.source_tells source.old) →
+        IfOk result (λ transcript. ReadsTo transcript (S.source_holds source.old).left
+        (S.source_holds source.new).left) }
     ensures short { IfOk result (λ transcript. IsShort transcript) }
     ensures unread { IfOk result (λ transcript. RisesIf (is_unread transcript)
         (S.source_faults source.old) (S.source_faults source.new)) }
@@ -47,7 +50,7 @@ pub fn read_transcript<S: Source>(alloc: Global, source: &mut S) -> Result<Trans
     Ok(Transcript::TooLong)
 }
 
-// Reads once, and adds what it read to the text, so that it has at most 1,048,577 bytes. None where the source failed.
+// Reads once, and adds what it read to the text, which then has at most 1,048,577 bytes. None if the source failed.
 fn read_more<S: Source>(
     source: &mut S,
     piece: &mut [u8; CHUNK],

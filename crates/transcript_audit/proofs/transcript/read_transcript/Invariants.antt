@@ -1,4 +1,4 @@
-use Rattle.std.proofs.Common.{◌≡◌, ◌≤◌, ◌-◌, ◌++◌, true}
+use Rattle.std.proofs.Common.{◌≡◌, ◌≤◌, ◌-◌, ◌+◌, ◌++◌, length, true}
 use Rattle.std.specs.Vec.{vec_len}
 use Rattle.transcript_audit.proofs.transcript.read_transcript.Given as goal
 
@@ -9,6 +9,10 @@ invariant-loop-piece g l = record {
   faults : g.S.Source.source_faults l.source ≡ g.S.Source.source_faults l.fn.source;
   taken : g.S.Source.source_tells l.fn.source ≡ true
       → (g.S.Source.source_holds l.fn.source).left ≡ l.text.items ++ (g.S.Source.source_holds l.source).left;
+  calls : g.S.Source.source_tells l.fn.source ≡ true
+      → (g.S.Source.source_holds l.source).calls ≤ (g.S.Source.source_holds l.fn.source).calls + length l.text.items;
+  ends : g.S.Source.source_tells l.fn.source ≡ true
+      → (g.S.Source.source_holds l.source).reads_at_end ≡ (g.S.Source.source_holds l.fn.source).reads_at_end;
 }
 
 abbrev pub decreases-loop-piece : goal.decreases-loop-piece
