@@ -146,7 +146,7 @@ fold-append stacks places [] two next is = let e : places ≡ next = cc in ap (�
 fold-append stacks places (b ∷ one) two next is = by_first stacks (behind_block stacks places b) one two next (λ first is'. fold-append stacks first one two next is') is
 
 module _ (by : ByRemainders) (setting : Setting) (stacks : Stacks) where
-  -- what a line comes to, and its blocks: they fit, and their text is its report
+  -- the result of a line, and its blocks: they fit, and their text is its report
   abbrev LineFits : RunState → Result (RunState × List ℕ) ScriptKind → List Block → Type 0
   LineFits s (Ok x) blocks = (fold stacks (places_of s.slots) blocks ≡ Some (places_of x.0.slots)) × (blocks_text blocks ≡ x.1)
   LineFits s (Err kind) blocks = blocks ≡ []

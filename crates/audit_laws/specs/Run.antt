@@ -96,13 +96,13 @@ last_of Done n = None
 last_of ReadFault n = Some unread
 last_of (Refused kind) n = Some (refused_at (long_of (n + 1)) kind)
 
--- all blocks of a run that came to its end after some lines
+-- all blocks of a run that ended after some lines
 abbrev pub blocks_of_run : Setting → Ending → RunState → RunState → List ℕ → List ℕ → List Block
 blocks_of_run setting ending start last input taken =
     run_blocks setting 0 start (lines_looked setting ending input taken) ++ closing_blocks setting.players (ending_status ending) [] last.slots last.world
 
--- A run that came to its end, from sixteen closed places, each of whose starts that succeeds finds these stacks, whose lines can be
--- printed: its report fits them.
+-- A run that ended, from sixteen closed transactions, each of whose successful starts finds these
+-- stacks, whose lines can be printed: its report fits them.
 abbrev pub RunsFit : Type 0
 RunsFit = (setting : Setting) (stacks : Stacks) (ending : Ending) (start end : RunState) (input taken left text : List ℕ) →
     (e : EndsAs setting ending start end input taken left text) →
@@ -111,7 +111,7 @@ RunsFit = (setting : Setting) (stacks : Stacks) (ending : Ending) (start end : R
     StartsFind setting stacks 0 start (lines_looked setting ending input taken) →
     Fits stacks text
 
--- The same of what a run writes to a told sink, whichever way it came to its end.
+-- The same of what a run writes to a modelled sink, whichever way it ended.
 abbrev pub ScriptsFit : Type 0
 ScriptsFit = (setting : Setting) (stacks : Stacks) (ending : Ending) (start end : RunState) (x y : SourceState) (p q : SinkState) →
     (r : RunsScript setting (Ok ending) start end x y p q) →

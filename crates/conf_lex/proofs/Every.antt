@@ -79,7 +79,7 @@ pub which_join : (o : Option Join) → (o ≡ None) ⊎ ((j : Join) × (o ≡ So
 which_join None = inl refl
 which_join (Some j) = inr (j, refl)
 
--- a byte that isn't the end, a join or an escape stands for itself
+-- a byte that isn't the end, a join or an escape means itself
 pub is_single_by : (b : ℕ) (bs : List ℕ) → join_at (b ∷ bs) ≡ None → (eqb b 92 && begins_with 93 bs) ≡ false → eqb b 93 ≡ false → eqb b 10 ≡ false
     → is_single (b ∷ bs) ≡ true
 is_single_by b bs no_join_at no_escape no_close no_newline =

@@ -20,12 +20,13 @@ abbrev pub before_nul : List ℕ → List ℕ
 before_nul [] = []
 before_nul (b ∷ bs) = if b == 0 then [] else b ∷ before_nul bs
 
--- the physical line of the first NUL byte, if there is one, where the text begins in line n
+-- the physical line of the first NUL byte, if there is one, for a text that begins in line n
 abbrev pub nul_line : ℕ → List ℕ → Option ℕ
 nul_line n [] = None
 nul_line n (b ∷ bs) = if b == 0 then Some n else nul_line (n + newlines (b ∷ [])) bs
 
--- some of the text was left behind, but no NUL byte: the first is in the same line, and as much stands after it
+-- part of the text was read, without a NUL byte: the first one is in the same line, and as much
+-- follows it
 pub record Moves (before after : List ℕ) (old_line new_line : ℕ) : Type 0 where
   pub nul : nul_line new_line after ≡ nul_line old_line before
   pub behind : length after + length (before_nul before) ≡ length before + length (before_nul after)
@@ -36,17 +37,17 @@ abbrev pub is_bracket_end : List ℕ → Bool
 is_bracket_end [] = true
 is_bracket_end (b ∷ bs) = b == 93 || b == 10
 
--- whether a `\]` stands here
+-- whether a `\]` comes next
 abbrev pub is_escape : List ℕ → Bool
 is_escape [] = false
 is_escape (b ∷ bs) = b == 92 && begins_with 93 bs
 
--- whether white space stands here
+-- whether white space comes next
 abbrev pub begins_white : List ℕ → Bool
 begins_white [] = false
 begins_white (b ∷ bs) = is_white b
 
--- a join was taken from the front, or none stands there
+-- a join was taken from the beginning, or there is none
 abbrev pub TakesJoin : Bool → List ℕ → List ℕ → ℕ → ℕ → Type 0
 TakesJoin true before after old_line new_line = (j : Join) × (before ≡ join_bytes j ++ after)
     × (new_line ≡ old_line + 1)
@@ -61,7 +62,7 @@ pub record UnitTaken (byte : ℕ) (before after : List ℕ) (old_line new_line :
   pub gives : unit_text unit ≡ byte ∷ []
   pub lines : new_line ≡ old_line + newlines (unit_bytes unit)
 
--- the unit at the front was taken, if one stands there
+-- the unit at the beginning was taken, if there is one
 abbrev pub TakesUnit : Option ℕ → List ℕ → List ℕ → ℕ → ℕ → Type 0
 TakesUnit (Some byte) before after old_line new_line = UnitTaken byte before after old_line new_line
 TakesUnit None before after old_line new_line = (unit_at before ≡ None) × (after ≡ before)
@@ -117,16 +118,16 @@ fault_at first length opened =
     else if opened then Some (record { line = first; kind = OpenBracket })
     else None
 
--- the answer for joined lines: their rules, or their first fault
+-- the result for joined lines: their rules, or their first fault
 abbrev pub given : Option LexFault → List RawRule → Result (List RawRule) LexFault
 given None rules = Ok rules
 given (Some f) rules = Err f
 
--- the answer for these joined lines
+-- the result for these joined lines
 abbrev pub answer_of : List JoinedLine → Result (List RawRule) LexFault
 answer_of lines = given (first_fault lines) (flat_map line_rules lines)
 
--- the answer for what is left of a text, in physical line n
+-- the result for the rest of a text, in physical line n
 unfoldable pub answer_at : ℕ → List ℕ → Result (List RawRule) LexFault
 answer_at n text = answer_of (numbered n (lines_of_pieces (pieces_of text)))
 
@@ -143,7 +144,7 @@ GivesLine (Ok tokens) all first left = all ≡ with_front (rule_at first tokens)
 GivesLine (Err (refusals.Named f)) all first left = all ≡ Err f
 GivesLine (Err refusals.NoMemory) all first left = Unit {0}
 
--- unless memory ran out, what was returned is the answer
+-- unless an allocation failed, the result is what was returned
 abbrev pub Gives : {A : Type 0} → Result A (Refuse LexFault) → Result A LexFault → Type 0
 Gives (Ok x) answer = answer ≡ Ok x
 Gives (Err (refusals.Named f)) answer = answer ≡ Err f

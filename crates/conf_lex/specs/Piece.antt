@@ -1,6 +1,6 @@
--- The pieces that a service file's text is spelled by: pam.conf(5), "DESCRIPTION", and where a line says so
--- this project's own. Bytes are numbers: 9 tab, 10 newline, 13 carriage return, 32 space, 35 `#`, 91 `[`,
--- 92 backslash, 93 `]`.
+-- The pieces that spell a service file's text: pam.conf(5), "DESCRIPTION", and this project's own
+-- if a line says so. Bytes are numbers: 9 tab, 10 newline, 13 carriage return, 32 space, 35 `#`, 91
+-- `[`, 92 backslash, 93 `]`.
 use Rattle.std.specs.Prelude.{◌≡◌, ℕ, Bool, true, false, not, List, [], ◌∷◌, ◌++◌, Option, Some, None, ◌==◌, ◌||◌, ◌&&◌, if◌then◌else◌}
 use Rattle.std.specs.List.{flat_map}
 use Rattle.pam_base.specs.Bytes.{has_byte}
@@ -18,7 +18,8 @@ abbrev pub join_bytes : Join → List ℕ
 join_bytes feed = 92 ∷ 10 ∷ []
 join_bytes return_feed = 92 ∷ 13 ∷ 10 ∷ []
 
--- what stands inside brackets (pam.conf(5), on arguments in brackets): `\]`, a join, or any other byte
+-- what may be inside brackets (pam.conf(5), on arguments in brackets): `\]`, a join, or any other
+-- byte
 pub data BracketUnit : Type 0 where
   escaped : BracketUnit
   joined : Join → BracketUnit
@@ -101,13 +102,14 @@ abbrev pub at_line_end : List ℕ → Bool
 at_line_end [] = true
 at_line_end (b ∷ bs) = b == 10
 
--- the join whose backslash stands before these bytes, if they make one (pam.conf(5), as above)
+-- the join whose backslash comes before these bytes, if they make one (pam.conf(5), as above)
 abbrev pub join_after_backslash : List ℕ → Option Join
 join_after_backslash [] = None
 join_after_backslash (b ∷ bs) = if b == 10 then Some feed else if b == 13 && begins_with 10 bs
     then Some return_feed else None
 
--- the join at the front of a text, if one stands there (own: a backslash as the last byte makes none)
+-- the join at the beginning of a text, if there is one (own: a backslash as the last byte makes
+-- none)
 abbrev pub join_at : List ℕ → Option Join
 join_at [] = None
 join_at (b ∷ bs) = if b == 92 then join_after_backslash bs else None
@@ -132,26 +134,26 @@ abbrev pub all_go_on : List ℕ → List ℕ → Bool
 all_go_on [] rest = true
 all_go_on (b ∷ bs) rest = goes_on (b ∷ (bs ++ rest)) && all_go_on bs rest
 
--- a byte in brackets that stands for itself (pam.conf(5), own): no `]`, no newline, no backslash before `]`, and it
--- begins no join
+-- a byte in brackets that means itself (pam.conf(5), own): no `]`, no newline, no backslash before
+-- `]`, and it begins no join
 abbrev pub is_single : List ℕ → Bool
 is_single [] = false
 is_single (b ∷ bs) = not (b == 93 || b == 10 || (b == 92 && begins_with 93 bs)
     || begins_join (b ∷ bs))
 
--- whether a unit may stand before the rest (own)
+-- whether a unit may come before the rest (own)
 abbrev pub unit_stands : BracketUnit → List ℕ → Bool
 unit_stands (single b) rest = is_single (b ∷ rest)
 unit_stands _ rest = true
 
--- whether each of these units may stand before what follows it (own)
+-- whether each of these units may come before what follows it (own)
 abbrev pub units_stand : List BracketUnit → List ℕ → Bool
 units_stand [] rest = true
 units_stand (u ∷ us) rest = unit_stands u (units_bytes us ++ rest) && units_stand us rest
 
--- whether a piece may stand before the rest (pam.conf(5), own): a plain token is as long as it can be and begins with
--- no `[`, a bracket is closed by the first `]` that no backslash stands before, and a comment or an open bracket goes
--- on to the line's end
+-- whether a piece may come before the rest (pam.conf(5), own): a plain token is as long as possible
+-- and doesn't begin with `[`, a bracket is closed by the first `]` that has no backslash before it,
+-- and a comment or an open bracket goes on to the line's end
 abbrev pub stands : Piece → List ℕ → Bool
 stands newline rest = true
 stands (white b) rest = is_white b
@@ -162,12 +164,12 @@ stands (bracket us) rest = units_stand us (93 ∷ rest)
 stands (open_bracket us) rest = units_stand us rest && at_line_end rest
 stands (comment text) rest = not (has_byte 10 text) && at_line_end rest
 
--- whether each of these pieces may stand before what follows it (own)
+-- whether each of these pieces may come before what follows it (own)
 abbrev pub all_stand : List Piece → List ℕ → Bool
 all_stand [] rest = true
 all_stand (p ∷ ps) rest = stands p (spelling ps ++ rest) && all_stand ps rest
 
--- a front of the text is spelled by these pieces, where this rest follows it (own)
+-- these pieces spell a prefix of the text, which this rest follows (own)
 pub record Reads (text : List ℕ) (pieces : List Piece) (rest : List ℕ) : Type 0 where
   pub spelled : text ≡ spelling pieces ++ rest
   pub stand : all_stand pieces rest ≡ true

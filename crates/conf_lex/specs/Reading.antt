@@ -1,10 +1,10 @@
--- The pieces of a text by a plain function on lists, a piece at a time from the front (this project's own; the law
--- `one_reading` says that they are the text's only reading).
+-- The pieces of a text by a plain function on lists, one piece at a time from the beginning (this
+-- project's own; the law `one_reading` says that they are the text's only reading).
 use Rattle.std.specs.Prelude.{ℕ, zero, suc, ◌-◌, ◌||◌, List, [], ◌∷◌, length, drop, Option, Some, None, ◌==◌, ◌&&◌, if◌then◌else◌}
 use Rattle.pam_base.specs.White.{is_white}
 use Rattle.conf_lex.specs.Piece.{Join, BracketUnit, escaped, joined, single, unit_bytes, units_bytes, Piece, newline, white, join, plain, bracket, open_bracket, comment, piece_bytes, begins_with, join_at, goes_on}
 
--- the plain token at the front, without a look at its first byte (own)
+-- the plain token at the beginning, whatever its first byte (own)
 abbrev pub run_of : List ℕ → List ℕ
 run_of [] = []
 run_of (b ∷ bs) = if goes_on (b ∷ bs) then b ∷ run_of bs else []
@@ -14,13 +14,13 @@ abbrev pub rest_of_line : List ℕ → List ℕ
 rest_of_line [] = []
 rest_of_line (b ∷ bs) = if b == 10 then [] else b ∷ rest_of_line bs
 
--- the unit at a byte, if no join stands there (own)
+-- the unit at a byte that begins no join (own)
 abbrev pub unit_without_join : Option Join → ℕ → List ℕ → Option BracketUnit
 unit_without_join (Some j) b bs = Some (joined j)
 unit_without_join None b bs = if b == 92 && begins_with 93 bs then Some escaped
     else if b == 93 || b == 10 then None else Some (single b)
 
--- the unit at the front of a text, or None where a bracket's units end (own)
+-- the unit at the beginning of a text, or None at the end of a bracket's units (own)
 abbrev pub unit_at : List ℕ → Option BracketUnit
 unit_at [] = None
 unit_at (b ∷ bs) = unit_without_join (join_at (b ∷ bs)) b bs
@@ -37,7 +37,7 @@ abbrev pub bracket_of : List BracketUnit → List ℕ → Piece
 bracket_of us text = if begins_with 93 (drop (length (units_bytes us)) text) then bracket us
     else open_bracket us
 
--- the piece at a byte, if no join stands there (own)
+-- the piece at a byte that begins no join (own)
 abbrev pub piece_without_join : Option Join → ℕ → List ℕ → Piece
 piece_without_join (Some j) b bs = join j
 piece_without_join None b bs =
@@ -47,7 +47,7 @@ piece_without_join None b bs =
     else if b == 91 then bracket_of (units_behind 0 bs) bs
     else plain (b ∷ run_of bs)
 
--- the piece at the front of a text (own)
+-- the piece at the beginning of a text (own)
 unfoldable pub first_piece : List ℕ → Piece
 first_piece [] = newline
 first_piece (b ∷ bs) = piece_without_join (join_at (b ∷ bs)) b bs

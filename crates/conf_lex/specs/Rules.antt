@@ -13,7 +13,7 @@ use Rattle.conf_lex.specs.Piece.{Piece, spelling, tokens_of, is_newline, is_open
 abbrev pub newlines : List ℕ → ℕ
 newlines text = count_by (λ b. b == 10) text
 
--- a piece in front of the first line (own)
+-- a piece before the first line (own)
 abbrev pub in_front : Piece → List (List Piece) → List (List Piece)
 in_front p [] = (p ∷ []) ∷ []
 in_front p (l ∷ ls) = (p ∷ l) ∷ ls
@@ -30,7 +30,7 @@ pub record JoinedLine : Type 0 where
   pub first : ℕ
   pub pieces : List Piece
 
--- these joined lines with their numbers, where the first begins in physical line n (own)
+-- these joined lines with their numbers, if the first begins in physical line n (own)
 abbrev pub numbered : ℕ → List (List Piece) → List JoinedLine
 numbered n [] = []
 numbered n (l ∷ ls) = record { first = n; pieces = l } ∷ numbered (n + newlines (spelling l) + 1) ls

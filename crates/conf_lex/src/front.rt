@@ -5,14 +5,14 @@ ghost use Rattle.conf_lex.specs.Lexing.{before_nul, is_bracket_end, is_escape};
 
 use pam_base::is_white;
 
-/// Whether nothing is left to read.
+/// Whether all of the text has been read.
 pub fn at_end(text: &[u8]) -> bool
     ensures { result ≡ (length (before_nul text.now) == 0) }
 {
     matches!(text, [] | [0, ..])
 }
 
-/// How many bytes the join at the front of the text has, if one stands there.
+/// The length in bytes of the join at the beginning of the text, if there is one.
 pub fn join_length(text: &[u8]) -> Option<usize>
     ensures { result ≡ option_map (λ j. length (join_bytes j)) (join_at (before_nul text.now)) }
 {
@@ -38,7 +38,7 @@ pub fn goes_on(text: &[u8]) -> bool
     }
 }
 
-/// How many bytes the plain token at the front of the text has.
+/// The length in bytes of the plain token at the beginning of the text.
 pub fn run_length(text: &[u8]) -> usize
     ensures { result ≡ length (run_of (before_nul text.now)) }
 {
@@ -49,7 +49,7 @@ pub fn run_length(text: &[u8]) -> usize
     text.len() - rest.len()
 }
 
-/// Whether a bracket ends here: by its `]`, or open, with the line.
+/// Whether a bracket ends here: by its `]`, or still open at the end of the line.
 pub fn is_bracket_end(text: &[u8]) -> bool
     ensures { result ≡ is_bracket_end (before_nul text.now) }
 {
@@ -62,7 +62,7 @@ pub fn is_escape(text: &[u8]) -> bool
     matches!(text, [b'\\', b']', ..])
 }
 
-/// How many bytes stand before the end of the physical line.
+/// How many bytes come before the end of the physical line.
 pub fn line_length(text: &[u8]) -> usize
     ensures { result ≡ length (rest_of_line (before_nul text.now)) }
 {

@@ -17,8 +17,8 @@ pub fn one_first_fault()
         IsFirstFault text fault → IsFirstFault text other → fault ≡ other }
 {}
 
-/// Every text has one reading, that of the plain function: so a text without an open bracket is spelled by
-/// some rules.
+/// Every text has exactly one reading, that of the plain function; so a text without an open
+/// bracket is spelled by some rules.
 pub fn one_reading()
     ensures reading { (text : List ℕ) → IsReading text (pieces_of text) }
     ensures only { (text : List ℕ) (pieces : List Piece) →

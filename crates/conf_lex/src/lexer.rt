@@ -11,28 +11,29 @@ use crate::token::{LexFault, RawRule, RawRules, Token, Tokens};
 use pam_base::{FaultKind, NoMemory, Refuse, Text, is_white};
 use std::alloc::Global;
 
-/// The most bytes of a joined line, its ending newline not counted.
+/// The maximum length of a joined line in bytes, without its ending newline.
 const MAX_LINE: usize = 4096;
 
-/// What is left of a text, and the number of the physical line that it stands in. It reads up to the first NUL
-/// byte, as if the text ended there, and never past it.
+/// The rest of a text, and the number of the physical line in which it begins. It is read up to the
+/// first NUL byte, as if the text ended there, and never past it.
 #[derive(Drop)]
 pub struct Lexer<'a> {
     pub rest: &'a [u8],
     pub line: u32,
 }
 
-/// What a piece of a joined line is.
+/// A piece of a joined line.
 #[derive(Drop)]
 pub enum Found {
     /// White space, a join or a comment.
     Blank,
     Token(Token),
-    /// A bracket that is still open at the line's end.
+    /// A bracket that is still open at the end of the line.
     OpenBracket,
 }
 
-/// A joined line as far as it was read: its tokens, and whether a bracket is open at its end.
+/// The part of a joined line that has been read: its tokens, and whether a bracket is open at its
+/// end.
 #[derive(Drop)]
 pub struct Line {
     pub tokens: Tokens,
@@ -59,7 +60,7 @@ fn line_fault(first: u32, length: usize, opened: bool) -> Option<LexFault>
 }
 
 impl Line {
-    /// Adds what the next piece is.
+    /// Adds the next piece.
     fn add(&mut self, found: Found) -> Result<(), NoMemory>
         ensures tokens { OnOk result (self.new.tokens ≡ self.old.tokens ++ found_tokens found) }
         ensures opened { OnOk result (self.new.opened ≡ (self.old.opened || found_open found)) }
@@ -74,7 +75,7 @@ impl Line {
 }
 
 impl<'a> Lexer<'a> {
-    /// Leaves the first n bytes behind, which have this many newlines.
+    /// Skips the first n bytes, which contain this many newlines.
     fn skip(&mut self, n: usize, lines: u32)
         requires within { n ≤ length (before_nul self.old.rest.now) }
         requires lines { lines ≡ newlines (take n (before_nul self.old.rest.now)) }
@@ -87,7 +88,7 @@ impl<'a> Lexer<'a> {
         self.line += lines;
     }
 
-    /// Takes the join at the front, if one stands there.
+    /// Skips the join at the beginning, if there is one.
     fn join(&mut self) -> bool
         requires { self.old.line + length self.old.rest.now < 2 ^ 32 }
         ensures taken { TakesJoin result (before_nul self.old.rest.now)
@@ -104,8 +105,8 @@ impl<'a> Lexer<'a> {
         }
     }
 
-    /// Takes the unit of a bracket at the front, and answers the byte that it gives. None stands at the
-    /// bracket's end and at the line's.
+    /// Reads one unit of a bracket, and returns the byte that it means; None at the end of the
+    /// bracket or of the line.
     fn unit(&mut self) -> Option<u8>
         requires { self.old.line + length self.old.rest.now < 2 ^ 32 }
         ensures taken { TakesUnit result (before_nul self.old.rest.now)
@@ -128,7 +129,7 @@ impl<'a> Lexer<'a> {
         Some(byte)
     }
 
-    /// Takes the units of a bracket, up to its end or the line's, and gives their bytes.
+    /// Reads the units of a bracket, up to its end or that of the line, and returns their bytes.
     fn units(&mut self, alloc: Global) -> Result<Text, NoMemory>
         requires { self.old.line + length self.old.rest.now < 2 ^ 32 }
         ensures taken { IfOk result (λ text. TakesUnits text (before_nul self.old.rest.now)
@@ -143,7 +144,7 @@ impl<'a> Lexer<'a> {
         Ok(text)
     }
 
-    /// Takes a bracket.
+    /// Reads a bracket.
     fn bracket(&mut self, alloc: Global) -> Result<Found, NoMemory>
         requires fits { self.old.line + length self.old.rest.now < 2 ^ 32 }
         requires bracket { IsTrue (begins_with 91 (before_nul self.old.rest.now)) }
@@ -163,7 +164,7 @@ impl<'a> Lexer<'a> {
         }))
     }
 
-    /// Takes a plain token.
+    /// Reads a plain token.
     fn plain(&mut self, alloc: Global) -> Result<Found, NoMemory>
         requires fits { self.old.line + length self.old.rest.now < 2 ^ 32 }
         requires on { goes_on (before_nul self.old.rest.now) ≡ true }
@@ -181,7 +182,7 @@ impl<'a> Lexer<'a> {
         }))
     }
 
-    /// Takes a comment.
+    /// Skips a comment.
     fn comment(&mut self) -> Found
         requires fits { self.old.line + length self.old.rest.now < 2 ^ 32 }
         requires hash { IsTrue (begins_with 35 (before_nul self.old.rest.now)) }
@@ -195,7 +196,7 @@ impl<'a> Lexer<'a> {
         Found::Blank
     }
 
-    /// Takes white space.
+    /// Skips white space.
     fn white(&mut self) -> Found
         requires fits { self.old.line + length self.old.rest.now < 2 ^ 32 }
         requires white { IsTrue (begins_white (before_nul self.old.rest.now)) }
@@ -208,7 +209,7 @@ impl<'a> Lexer<'a> {
         Found::Blank
     }
 
-    /// Takes the next piece of a joined line.
+    /// Reads the next piece of a joined line.
     fn piece(&mut self, alloc: Global) -> Result<Found, NoMemory>
         requires fits { self.old.line + length self.old.rest.now < 2 ^ 32 }
         requires within { at_line_end (before_nul self.old.rest.now) ≡ false }
@@ -227,7 +228,7 @@ impl<'a> Lexer<'a> {
         }
     }
 
-    /// Takes a joined line, up to its ending newline or the end.
+    /// Reads a joined line, up to its ending newline or the end.
     fn pieces(&mut self, alloc: Global) -> Result<Line, NoMemory>
         requires { self.old.line + length self.old.rest.now < 2 ^ 32 }
         ensures taken { IfOk result (λ line. TakesPieces line (before_nul self.old.rest.now)
@@ -246,7 +247,7 @@ impl<'a> Lexer<'a> {
         Ok(line)
     }
 
-    /// Takes the newline that ends a joined line, if this isn't the end.
+    /// Skips the newline that ends a joined line, unless this is the end.
     fn newline(&mut self)
         requires fits { self.old.line + length self.old.rest.now < 2 ^ 32 }
         requires ends { at_line_end (before_nul self.old.rest.now) ≡ true }
@@ -259,7 +260,7 @@ impl<'a> Lexer<'a> {
         }
     }
 
-    /// Takes a joined line with its newline, and answers its tokens or its fault.
+    /// Reads a joined line with its newline, and returns its tokens or its fault.
     fn rule(&mut self, alloc: Global) -> Result<Tokens, Refuse<LexFault>>
         requires fits { self.old.line + length self.old.rest.now < 2 ^ 32 }
         requires some { 0 < length (before_nul self.old.rest.now) }
@@ -282,7 +283,8 @@ impl<'a> Lexer<'a> {
         }
     }
 
-    /// Takes the joined lines up to the end, and answers their rules, or stops at the first that has a fault.
+    /// Reads the joined lines up to the end, and returns their rules; stops at the first line that
+    /// has a fault.
     pub fn rules(&mut self, alloc: Global) -> Result<RawRules, Refuse<LexFault>>
         requires { self.old.line + length self.old.rest.now < 2 ^ 32 }
         ensures given { Gives result (answer_at self.old.line (before_nul self.old.rest.now)) }
@@ -297,7 +299,7 @@ impl<'a> Lexer<'a> {
         Ok(rules)
     }
 
-    /// The physical line of the first NUL byte in what is left, if it has one.
+    /// The physical line of the first NUL byte in the rest of the text, if there is one.
     pub fn nul_line(&self) -> Option<u32>
         requires { self.now.line + length self.now.rest.now < 2 ^ 32 }
         ensures { result ≡ nul_line self.now.line self.now.rest.now }

@@ -1,5 +1,6 @@
-//! Service files as text: the rules of a file of `/etc/pam.d` or of `pam.conf(5)`, as tokens with the number
-//! of the line that they begin in, or the first fault of the text. What the tokens mean is left to others.
+//! Service files as text: the rules of a file of `/etc/pam.d` or of `pam.conf(5)`, as tokens with
+//! the number of the line in which they begin, or the first fault of the text. What the tokens mean
+//! is decided elsewhere. Begin at `service_file.rt`.
 #![tactic(auto)]
 
 mod front;

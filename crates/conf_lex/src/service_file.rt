@@ -12,29 +12,33 @@ use crate::token::{LexFault, RawRules};
 use pam_base::{FaultKind, Refuse};
 use std::alloc::Global;
 
-/// The most bytes of a text.
+/// The maximum length of a text in bytes.
 const MAX_TEXT: usize = 65536;
 
-/// The rules of a service file's text (`pam.conf(5)`), or its first fault.
+/// Returns the rules of a service file's text (`pam.conf(5)`; libpam: `_pam_parse_conf_file`,
+/// `_pam_assemble_line`), or its first fault. A text with a fault has no rules.
 ///
-/// White space is a space, a tab or a carriage return, and a backslash before a line's end joins the next
-/// line. The faults, in the order in which they are looked for: `FileTooLong` at line 0, the text has more
-/// than 65,536 bytes; `NulByte` at the physical line of the first NUL byte; then, joined line by joined line
-/// and at the first physical line of each, `RuleTooLong`, it has more than 4,096 bytes before its ending
-/// newline, with comments and joins, and `OpenBracket`, a bracket is still open at its end. A text with a
-/// fault has no rules. Without memory nothing is given; but a text that is too long or has a NUL byte is
-/// refused for that, also then.
+/// White space is a space, a tab or a carriage return, and a backslash before a line's end joins
+/// the next line. The faults are looked for in this order: `FileTooLong` at line 0, if the text has
+/// more than 65,536 bytes; `NulByte` at the physical line of the first NUL byte; then for each
+/// joined line, at its first physical line, `RuleTooLong`, if it has more than 4,096 bytes before
+/// its ending newline, comments and joins included, and `OpenBracket`, if a bracket is still open
+/// at its end.
 ///
-/// Each byte is looked at a fixed number of times, so time is linear: a run of plain bytes is scanned and then
-/// copied, a join is looked for ahead. After a line with a fault only a NUL byte is looked for.
+/// If an allocation fails, NoMemory is returned; but a text that is too long or has a NUL byte is
+/// refused for that even then.
+///
+/// Each byte is read a bounded number of times, so the time is linear in the length of the text: a
+/// run of plain bytes is scanned and then copied, and a join is looked for ahead. After a line with
+/// a fault only a NUL byte is searched for.
 pub fn rules(alloc: Global, text: &[u8]) -> Result<RawRules, Refuse<LexFault>>
     ensures read { IfOk result (λ rules. HasNoFault text.now × Spells text.now rules) }
     ensures tokens { IfOk result (λ rules. All (λ rule. 0 < length rule.tokens) rules) }
-    // Such rules are the answer, unless memory runs out.
+    // If some rules spell the text, they are returned, unless an allocation fails.
     ensures spelled { (rules : List RawRule) → HasNoFault text.now → Spells text.now rules →
         Gives result (Ok rules) }
     ensures fault { IfNamed result (λ fault. IsFirstFault text.now fault) }
-    // A first fault is the answer, unless memory runs out.
+    // If the text has a first fault, it is returned, unless an allocation fails.
     ensures first { (fault : LexFault) → IsFirstFault text.now fault → Gives result (Err fault) }
     ensures whole { Gives result (answer_to text.now) }
     ensures file_too_long { (result ≡ Err (refusals.Named

@@ -1,4 +1,4 @@
--- The entries of a text are cut off its front, one after another.
+-- The entries of a text are cut off its beginning, one after another.
 use Rattle.std.proofs.Common.{◌≡◌, ◌<◌, ◌≤◌, ℕ, zero, suc, ◌+◌, ◌-◌, Bool, true, false, not, eqb, List, [], ◌∷◌, length, drop, refl, sym, ap, subst, ◌∙◌, arith, length-drop}
 use Rattle.std.specs.List.{position_or_len, before_first}
 use Rattle.std.proofs.lemmas.List.{drop-drop, nil_from_length}
@@ -123,7 +123,7 @@ entries-later : (b : ℕ) (bs : List ℕ) → is_white b ≡ true → entries_in
 unfolding entries_in entries_behind
 entries-later b bs space = rw (space, entries_behind) refl
 
--- whether no white space stands at the front
+-- whether there is no white space at the beginning
 abbrev pub starts : List ℕ → Bool
 starts [] = true
 starts (b ∷ bs) = is_other b
@@ -133,7 +133,7 @@ entries-behind_space-by : (b : ℕ) (bs : List ℕ) (is : Bool) → is_white b �
 entries-behind_space-by b bs true e h = entries-later b bs e ∙ h ∙ ap entries_in (sym (from_first-later is_other b bs (ap not e)))
 entries-behind_space-by b bs false e h = ap entries_in (sym (from_first-here is_other b bs (ap not e)))
 
--- white space at the front is no part of an entry
+-- white space at the beginning is no part of an entry
 pub entries-behind_space : (text : List ℕ) → entries_in text ≡ entries_in (behind_space text)
 entries-behind_space [] = refl
 entries-behind_space (b ∷ bs) = entries-behind_space-by b bs (is_white b) refl (entries-behind_space bs)

@@ -45,7 +45,7 @@ action_of_word word = elim (named_action word) [
       then jump_of (value_of_digits word) else Err (fault BadAction)
 ]
 
--- `default`, in any case, stands for the codes that no entry names (pam.conf(5))
+-- `default`, in any case, is for the codes that no entry names (pam.conf(5))
 abbrev pub is_default : List ℕ → Bool
 is_default name = str_eq_ignore_ascii_case name (codes "default")
 
@@ -79,7 +79,8 @@ action_among entries code =
     unwrap_or (option_or (last_action (names code) entries) (last_action is_default entries))
     actions.Bad
 
--- the control of some entries where none has a fault, else the first of the faults (this project's own)
+-- the control of some entries if none has a fault, else the first of the faults (this project's
+-- own)
 abbrev pub control_unless : List ControlFault → List Entry → Result (List Action) ControlFault
 control_unless [] entries = Ok (map (action_among entries) all_codes)
 control_unless (first ∷ more) entries = Err first
@@ -89,7 +90,7 @@ control_unless (first ∷ more) entries = Err first
 abbrev pub control_of_entries : List Entry → Result (List Action) ControlFault
 control_of_entries entries = control_unless (filter_map fault_of_entry entries) entries
 
--- the control that a token stands for, by whether it is bracketed and by its text (pam.conf(5)); a word
+-- the control that a token names, by whether it is bracketed and by its text (pam.conf(5)); a word
 -- outside brackets is a keyword
 abbrev pub control_of : Bool → List ℕ → Result (List Action) ControlFault
 control_of true text = control_of_entries (entries_in text)

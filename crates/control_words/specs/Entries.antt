@@ -1,5 +1,6 @@
--- The entries of a bracketed control (pam.conf(5): `[value1=action1 value2=action2 ...]`). What white space
--- is, where it may stand and where a name and an action end are this project's own rules.
+-- The entries of a bracketed control (pam.conf(5): `[value1=action1 value2=action2 ...]`). What
+-- white space is, where it is allowed and where a name and an action end are this project's own
+-- rules.
 use Rattle.std.specs.Prelude.{ℕ, zero, suc, ◌-◌, Bool, true, false, List, [], ◌∷◌, length, drop, ◌==◌, ◌||◌, not, if◌then◌else◌}
 use Rattle.std.specs.List.{position_or_len, before_first}
 use Rattle.pam_base.specs.White.{is_white}
@@ -12,21 +13,21 @@ ends_name byte = is_white byte || byte == 61
 abbrev pub is_other : ℕ → Bool
 is_other byte = not (is_white byte)
 
--- a text from the first byte on that passes the test, or nothing where none does (this project's own)
+-- a text from the first byte on that passes the test, or nothing if none does (this project's own)
 abbrev pub from_first : (ℕ → Bool) → List ℕ → List ℕ
 from_first test text = drop (position_or_len test text) text
 
--- an entry as it is written (pam.conf(5)); where it has no `=`, its action is empty (this project's own)
+-- an entry as it is written (pam.conf(5)); without a `=`, its action is empty (this project's own)
 pub record Entry : Type 0 where
   pub name : List ℕ
   pub action : List ℕ
 
--- the entry at the front of a text, and what follows it (this project's own)
+-- the entry at the beginning of a text, and what follows it (this project's own)
 pub record FirstEntry : Type 0 where
   pub entry : Entry
   pub rest : List ℕ
 
--- a text without the white space at its front (this project's own)
+-- a text without the white space at its beginning (this project's own)
 abbrev pub behind_space : List ℕ → List ℕ
 behind_space text = from_first is_other text
 
@@ -50,8 +51,8 @@ abbrev pub first_entry : List ℕ → FirstEntry
 first_entry text = with_name (before_first ends_name text)
     (behind_space (from_first ends_name text))
 
--- the entries after the first n bytes of a text, which were passed; white space stands between
--- entries (pam.conf(5))
+-- the entries after the first n bytes of a text, which were skipped; white space separates entries
+-- (pam.conf(5))
 unfoldable pub entries_behind : ℕ → List ℕ → List Entry
 entries_behind passed [] = []
 entries_behind (suc passed) (b ∷ bs) = entries_behind passed bs

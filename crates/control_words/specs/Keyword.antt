@@ -1,4 +1,4 @@
--- The four keywords, each as the control that pam.conf(5) says it stands for.
+-- The four keywords, each with the control that it is short for by pam.conf(5).
 use Rattle.std.specs.Prelude.{ℕ, List, [], ◌∷◌, Option, option_map, codes}
 use Rattle.std.specs.List.{find}
 use Rattle.std.specs.Str.{str_eq_ignore_ascii_case}
@@ -31,7 +31,7 @@ keyword_word Requisite = codes "requisite"
 keyword_word Sufficient = codes "sufficient"
 keyword_word Optional = codes "optional"
 
--- the control that a keyword stands for
+-- the control that a keyword is short for
 abbrev pub keyword_control : Keyword → List Action
 keyword_control Required = required
 keyword_control Requisite = requisite
@@ -46,6 +46,6 @@ abbrev pub keyword_of_word : List ℕ → Option Keyword
 keyword_of_word word =
     find (λ keyword. str_eq_ignore_ascii_case word (keyword_word keyword)) all_keywords
 
--- the control that a word stands for
+-- the control that a word names
 abbrev pub control_of_word : List ℕ → Option (List Action)
 control_of_word word = option_map keyword_control (keyword_of_word word)

@@ -1,3 +1,4 @@
+pub use Rattle.conf_lex
 pub mod Bracket
 pub mod Control
 pub mod Entries

@@ -3,7 +3,7 @@ use Rattle.std.specs.Prelude.{ℕ, ◌-◌, List, [], ◌∷◌, length, take, c
 use Rattle.std.specs.List.{ends_with}
 use Rattle.pam_base.specs.Bytes.{has_byte}
 
--- what follows the last slash, or all where there is none
+-- what follows the last slash, or everything if there is none
 abbrev pub last_part : List ℕ → List ℕ
 last_part [] = []
 last_part (b ∷ bs) = if has_byte 47 (b ∷ bs) then last_part bs else b ∷ bs

@@ -15,13 +15,13 @@ joined none more = more
 joined (line rule rest) more = line rule (joined rest more)
 joined (sub inner rest) more = sub inner (joined rest more)
 
--- how many nodes stand in the list itself
+-- how many nodes the list itself has
 abbrev pub count : Stack → ℕ
 count none = 0
 count (line rule rest) = count rest + 1
 count (sub inner rest) = count rest + 1
 
--- how many lines stand in it, those of its substacks too
+-- how many lines it has, including those of its substacks
 abbrev pub lines_in : Stack → ℕ
 lines_in none = 0
 lines_in (line rule rest) = lines_in rest + 1
@@ -34,7 +34,7 @@ depth (line rule rest) = depth rest
 depth (sub inner rest) = max (depth inner + 1) (depth rest)
 
 abbrev mutual
-  -- the stack with a node in front of it
+  -- the stack with a node before it
   pub node_on : Node → Stack → Stack
   node_on (Line rule) rest = line rule rest
   node_on (Sub' shape all) rest = sub (row_stack all) rest

@@ -36,6 +36,6 @@ filled table entry =
       default = table.default;
     }
 
--- the control that a table comes to
+-- the control that a table gives
 abbrev pub settled : Table → List Action
 settled table = map (λ action. unwrap_or (option_or action table.default) Bad) table.named

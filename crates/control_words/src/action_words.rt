@@ -20,7 +20,7 @@ const PLAIN_ACTIONS: [Action; 6] = [
     Action::Reset,
 ];
 
-/// The action that a word in brackets stands for (`pam.conf(5)`).
+/// The action that a word in brackets names (`pam.conf(5)`).
 pub(crate) fn action_named(word: &[u8]) -> Result<Action, ControlFault>
     ensures { result ≡ action_of_word word.now }
 {
@@ -52,7 +52,7 @@ fn is_word_of(action: Action, word: &[u8]) -> bool
     word.eq_ignore_ascii_case(action.word().as_bytes())
 }
 
-// The value of some digits, or 256 where it is above 255.
+// The value of some digits, or 256 if it is above 255.
 fn capped_value(digits: &[u8]) -> u32
     requires { list_all is_ascii_digit digits.now ≡ true }
     ensures { result ≡ min (value_of_digits digits.now) 256 }

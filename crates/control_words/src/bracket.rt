@@ -9,7 +9,7 @@ use crate::table::Table;
 use conf_lex::Token;
 use pam_base::FaultKind;
 
-/// Why a token is no control.
+/// Why a token isn't a control.
 #[derive(Clone, Copy, Debug, PartialEq, Eq)]
 pub struct ControlFault {
     pub kind: FaultKind,
@@ -23,17 +23,18 @@ impl ControlFault {
     }
 }
 
-/// The control that a token stands for (`pam.conf(5)`): one of the four keywords, or in brackets a list of
-/// entries `name=action` with white space between them and on both sides of `=`, all in any case. It takes
-/// no memory.
+/// Returns the control that a token names (`pam.conf(5)`; libpam: `_pam_parse_control`): one of the
+/// four keywords, or in brackets a list of entries `name=action` with white space between them and
+/// on both sides of `=`, all in any case. It does not allocate.
 ///
-/// A name is a code's word or `default`, which stands for the codes that no entry names. An action is
-/// `ignore`, `bad`, `die`, `ok`, `done`, `reset` or a number from 1 to 255, a jump. Of two entries of one
-/// name the last one holds, and a code without an entry is bad.
+/// A name is the word of a return code or `default`, for the codes that no entry names. An action
+/// is `ignore`, `bad`, `die`, `ok`, `done`, `reset`, or a number from 1 to 255, a jump. If two
+/// entries have the same name, the last one holds; a code that no entry covers is bad.
 ///
-/// The fault is that of the first entry that has one: `BadControl` where it has no `=`, an empty name or an
-/// empty action, else `BadReturnName` for another name, else `ZeroJump` for a number that is zero, else
-/// `BadAction` for any other action. A word without brackets that is no keyword is `BadControl`.
+/// The fault is that of the first faulty entry: `BadControl` if it has no `=`, an empty name or an
+/// empty action, else `BadReturnName` if the name is unknown, else `ZeroJump` if the action is the
+/// number zero, else `BadAction` if it is anything else. A word without brackets that isn't a
+/// keyword is `BadControl`.
 pub fn control_of(token: &Token) -> Result<Control, ControlFault>
     ensures { result ≡ control_of token.now.bracketed token.now.text }
 {

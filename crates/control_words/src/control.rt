@@ -3,7 +3,8 @@ ghost use Rattle.std.specs.Prelude.{◌≡◌};
 use pam_base::Code;
 use std::marker::Model;
 
-/// What a line does to the state of its stack, by the answer that decides (`pam.conf(5)`).
+/// What a line does to the state of its stack, given its deciding return code (`pam.conf(5)`;
+/// libpam: `_PAM_ACTION_IGNORE` to `_PAM_ACTION_RESET`, and jumps).
 #[derive(Clone, Copy, Debug, PartialEq, Eq)]
 pub enum Action {
     Ignore,
@@ -12,14 +13,14 @@ pub enum Action {
     Ok,
     Done,
     Reset,
-    /// Passes over n nodes of the list, from 1 to 255.
+    /// Skips n lines or substacks of the list, from 1 to 255.
     Jump(u8),
 }
 
 impl Action {
     ghost use Rattle.control_words.specs.Control.{action_name};
 
-    /// The word of the action (`pam.conf(5)`), in small letters. A jump has none, and gives the empty text.
+    /// The word of the action (`pam.conf(5)`), in lower case; the empty text for a jump.
     pub fn word(self) -> &'static str
         ensures { result.now ≡ action_name self }
     {
@@ -35,8 +36,8 @@ impl Action {
     }
 }
 
-/// A control: one action for each of the 32 codes. Contracts see the list of the actions, in the order of
-/// the codes' numbers.
+/// A control: one action for each of the 32 return codes. Contracts see the list of the actions, in
+/// the order of the codes' numbers.
 #[derive(Clone, Copy, Debug)]
 pub struct Control {
     actions: [Action; 32],

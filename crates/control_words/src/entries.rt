@@ -5,7 +5,7 @@ ghost use Rattle.control_words.specs.Entries.{behind_space, ends_name, first_ent
 
 use pam_base::is_white;
 
-/// An entry `name=action` as it is written, and what follows it. Where it has no `=`, its action is
+/// An entry `name=action` as it is written, and the text after it. Without a `=` its action is
 /// empty.
 #[derive(Clone, Copy)]
 pub(crate) struct Entry<'a> {
@@ -14,7 +14,7 @@ pub(crate) struct Entry<'a> {
     pub(crate) rest: &'a [u8],
 }
 
-/// The entry at the front of a text, whose first byte is no white space.
+/// The entry at the beginning of a text, whose first byte isn't white space.
 pub(crate) fn first_entry(text: &[u8]) -> Entry
     ensures name { result.name.now ≡ (first_entry text.now).entry.name }
     ensures action { result.action.now ≡ (first_entry text.now).entry.action }
@@ -34,7 +34,7 @@ pub(crate) fn first_entry(text: &[u8]) -> Entry
     }
 }
 
-/// The text without the white space at its front.
+/// The text without the white space at its beginning.
 pub(crate) fn behind_space(text: &[u8]) -> &[u8]
     ensures { result.now ≡ behind_space text.now }
 {

@@ -4,7 +4,7 @@ ghost use Rattle.control_words.specs.Keyword.{control_of_word, keyword_control, 
 
 use crate::control::{Action, Control};
 
-/// A word that stands for a control (`pam.conf(5)`).
+/// A keyword for a control (`pam.conf(5)`).
 #[derive(Clone, Copy, Debug, PartialEq, Eq)]
 pub enum Keyword {
     Required,
@@ -22,7 +22,7 @@ pub const ALL_KEYWORDS: [Keyword; 4] = [
 ];
 
 impl Keyword {
-    /// The word, in small letters.
+    /// The word, in lower case.
     pub fn word(self) -> &'static str
         ensures { result.now ≡ keyword_word self }
     {
@@ -34,7 +34,7 @@ impl Keyword {
         }
     }
 
-    /// The control that it stands for.
+    /// The control that it is short for.
     pub fn control(self) -> Control
         ensures { result ≡ keyword_control self }
     {
@@ -47,7 +47,8 @@ impl Keyword {
     }
 }
 
-/// The control that a word stands for, in any case (`pam.conf(5)`). None exactly where it is no keyword.
+/// The control that a keyword names, in any case (`pam.conf(5)`); None if and only if the word
+/// isn't a keyword.
 pub fn control_named(word: &[u8]) -> Option<Control>
     ensures { result ≡ control_of_word word.now }
 {

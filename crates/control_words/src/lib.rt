@@ -1,5 +1,6 @@
-//! The words of a stack: what a line makes of each return code (`pam.conf(5)`'s controls with their
-//! keywords), the rule of a line, and the nested lists of lines and substacks.
+//! The words of a stack: what a line makes of each return code (the controls and keywords of
+//! `pam.conf(5)`), the rule of a line, and the nested lists of lines and substacks. Begin at
+//! `control.rt`.
 #![tactic(auto)]
 
 mod action_words;
@@ -12,6 +13,7 @@ mod nodes;
 mod table;
 
 pub use bracket::{ControlFault, control_of};
+pub use conf_lex;
 pub use control::{Action, Control};
 pub use keywords::{ALL_KEYWORDS, Keyword, control_named};
 pub use module::module_name;

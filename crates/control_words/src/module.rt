@@ -3,7 +3,7 @@ ghost use Rattle.control_words.specs.Module.{last_part, without_suffix, name_of_
 
 use pam_base::first_place;
 
-/// The name of the module that a path of a line names: the path's last part, with `.so` taken off.
+/// The name of the module that the path in a line names: the last part of the path, without `.so`.
 pub fn module_name(path: &[u8]) -> &[u8]
     ensures { result.now ≡ name_of_module path.now }
 {
@@ -20,7 +20,7 @@ fn last_part(path: &[u8]) -> &[u8]
     part
 }
 
-// What follows the first slash.
+// The part after the first slash.
 fn after_slash(path: &[u8]) -> Option<&[u8]>
     ensures shorter { IfSome result (λ rest. length rest.now < length path.now) }
     ensures same_end { IfSome result (λ rest. last_part path.now ≡ last_part rest.now) }

@@ -5,10 +5,10 @@ use crate::control::Control;
 use pam_base::{NoMemory, SharedText, Texts};
 use std::alloc::Global;
 
-/// What a line of a service names: its module, with the module's arguments, and its control.
+/// What a line of a service names: its module, the module's arguments, and its control.
 #[derive(Debug, Drop)]
 pub struct Rule {
-    /// Whether a missing module is passed over in silence (a `-` before the type).
+    /// Whether no note is made of a missing module (a `-` before the type).
     pub silent: bool,
     pub control: Control,
     /// The module's path, as it is written.
@@ -24,7 +24,7 @@ pub enum Node {
     Sub(Nodes),
 }
 
-/// The nodes of a stack, in order. Contracts see a list of lines and of substacks.
+/// The nodes of a stack, in order. Contracts see a list of lines and substacks.
 #[cycle(nodes)]
 #[derive(Debug, Drop)]
 pub struct Nodes {
@@ -40,7 +40,7 @@ impl Nodes {
         }
     }
 
-    /// Adds a node at the end. Without memory the list stays as it was.
+    /// Adds a node at the end. If an allocation fails, the list is unchanged.
     pub fn push(&mut self, node: Node) -> Result<(), NoMemory>
         ensures ok { OnOk result (stack_of self.new.vec.items
             ≡ joined (stack_of self.old.vec.items) (node_on node none)) }
@@ -50,7 +50,7 @@ impl Nodes {
         Ok(())
     }
 
-    /// How many nodes stand in the list itself.
+    /// How many nodes the list itself has.
     pub fn len(&self) -> usize
         ensures counted { result ≡ count (stack_of self.now.vec.items) }
         ensures nodes { result ≡ length self.now.vec.items }

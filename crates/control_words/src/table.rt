@@ -8,8 +8,8 @@ use crate::bracket::ControlFault;
 use crate::control::{Action, Control};
 use pam_base::{Code, FaultKind, code_named};
 
-/// What the entries say that were read so far: an action for each code that one of them names, in the order
-/// of the codes' numbers, and the action of `default`.
+/// What the entries that were read say: an action for each code that one of them names, in the
+/// order of the codes' numbers, and the action of `default`.
 #[derive(Clone, Copy)]
 pub(crate) struct Table {
     named: [Option<Action>; 32],
@@ -26,7 +26,7 @@ impl Table {
         }
     }
 
-    /// Adds what an entry says. After a fault the table is of no use.
+    /// Adds an entry. After a fault the table must not be used.
     pub(crate) fn fill(&mut self, name: &[u8], action: &[u8]) -> Result<(), ControlFault>
         ensures fine { OnOk result (fault_of_entry (record { name = name.now; action = action.now })
             ≡ None) }
@@ -49,7 +49,7 @@ impl Table {
         Ok(())
     }
 
-    /// The control that the entries come to.
+    /// The control that the entries give.
     pub(crate) fn control(&self) -> Control
         ensures { result ≡ settled self.now }
     {
@@ -61,7 +61,7 @@ impl Table {
     }
 }
 
-// The place of a code among the 32, from 0.
+// The index of a code among the 32, from 0.
 fn place_of(code: Code) -> usize
     ensures number { result ≡ number_of code }
     ensures inside { result < 32 }

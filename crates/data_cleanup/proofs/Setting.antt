@@ -121,7 +121,7 @@ added_length : (before after : PlainLedger) (added : List Birth) → after.birth
     → length after.births ≡ length before.births + length added
 added_length before after added e = ap length e ∙ length-append before.births added
 
--- Data that were set are open, and so are those that they replacements.
+-- Data that were set are open, and so are those that they replaced.
 pub sets_await : (modules owner : ℕ) (old : PlainDataList) (before : PlainLedger) (new : PlainDataList) (after : PlainLedger)
     → IsSound before.births before.filed → AreNumbered 0 after.births → owner < modules
     → AwaitCleanup modules before (old.gone ++ old.live) → Sets owner old before new after → AwaitCleanup modules after (new.gone ++ new.live)

@@ -7,11 +7,11 @@ use Rattle.data_cleanup.specs.DataList.{PlainDataList}
 use Rattle.data_cleanup.specs.Ledger.{PlainLedger, IsOutstanding}
 use Rattle.data_cleanup.specs.declared.receipt.Filed.{Filed}
 
--- PAM_DATA_REPLACE, the status of a datum that was replaced
+-- PAM_DATA_REPLACE, the status passed to the cleanup of replaced data
 abbrev pub data_replace : ℕ
 data_replace = 0x20000000
 
--- what a cleanup comes to, by the number of the datum's owner, its payload and the status
+-- the note that a cleanup gives, by the number of the data's owner, its payload and the status
 abbrev pub Notes : Type 0
 Notes = ℕ → List ℕ → ℕ → ℕ
 
@@ -61,7 +61,7 @@ pub record AwaitsCleanup (modules : ℕ) (ledger : PlainLedger) (d : PlainDatum)
   pub outstanding : IsOutstanding ledger d.id
   pub owner : d.owner < modules
 
--- how often an id stands in a list
+-- how often an id is in a list
 abbrev pub times : ℕ → List PlainDatum → ℕ
 times id [] = 0
 times id (d ∷ ds) = (if nat_eq d.id id then 1 else 0) + times id ds

@@ -1,4 +1,5 @@
--- What a call does to the data of a transaction and to the ledger, in any world (this project's own).
+-- What a call does to the data of a transaction and to the ledger, with real objects too (this
+-- project's own).
 use Rattle.std.specs.Prelude.{◌≡◌, ℕ, ◌<◌, ◌≤◌, List, [], ◌∷◌, ◌++◌, length, map}
 use Rattle.std.specs.List.{AllByRecursion}
 use Rattle.data_cleanup.specs.Datum.{PlainDatum}

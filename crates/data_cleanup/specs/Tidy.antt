@@ -1,4 +1,4 @@
--- A ledger in order (pam_set_data(3), pam_end(3)): what holds of it in any world.
+-- A ledger in order (pam_set_data(3), pam_end(3)): what holds of it with real objects too.
 use Rattle.std.specs.Prelude.{◌≡◌, ◌<◌, ◌≤◌, nat_eq, List, length}
 use Rattle.std.specs.List.{AllByRecursion, IsDistinct}
 use Rattle.data_cleanup.specs.Ledger.{PlainLedger, AreNumbered, filed_ids}

@@ -10,7 +10,7 @@ use std::alloc::Global;
 use std::marker::Model;
 use std::mem;
 
-/// The data of one transaction, by their names (`pam_set_data(3)`), and those that were replaced and wait for
+/// The data of one transaction, by name (`pam_set_data(3)`), and the replaced data that wait for
 /// their cleanup. It can't be dropped while it may hold data: `dismiss` gives it up.
 pub struct DataList {
     handle: u32,
@@ -35,7 +35,8 @@ fn place_of(data: &[Datum], name: &[u8]) -> Option<usize>
 }
 
 impl DataList {
-    /// The empty list of the transaction with this number. It takes no memory before the first datum is set.
+    /// The empty list of the transaction with this number. It does not allocate before the first
+    /// data is set.
     pub fn new(alloc: Global, handle: u32) -> DataList
         ensures { result ≡ record { handle = handle; live = []; gone = [] } }
     {
@@ -46,9 +47,10 @@ impl DataList {
         }
     }
 
-    /// Sets a datum under a name, and adds its birth to the ledger, with this list's transaction and this owner
-    /// (`pam_set_data(3)`). A name that is set keeps its place, and its old datum goes to the end of those that
-    /// were replaced; a new name goes last. Without memory list and ledger stay as they were.
+    /// Sets data under a name, and records that in the ledger, with this list's transaction and
+    /// this owner (`pam_set_data(3)`). A name that is set keeps its position, and its old data goes
+    /// to the end of those that were replaced; a new name goes last. If an allocation fails, list
+    /// and ledger are unchanged.
     pub fn set(
         &mut self,
         alloc: Global,
@@ -68,7 +70,7 @@ impl DataList {
         ensures err_list { OnErr result (self.new ≡ self.old) }
         ensures err_ledger { OnErr result (ledger.new ≡ ledger.old) }
     {
-        // What may fail comes first, so that a datum is made only when there is a place for it.
+        // What may fail comes first, so that the data is made only once there is room for it.
         match place_of(&self.live, name) {
             Some(i) => {
                 self.gone.reserve(1)?;
@@ -85,8 +87,8 @@ impl DataList {
         Ok(())
     }
 
-    /// The payload of the datum with this name (`pam_get_data(3)`). NoModuleData comes exactly where the name
-    /// isn't set.
+    /// The payload of the data with this name (`pam_get_data(3)`). Returns NoModuleData if and only
+    /// if the name isn't set.
     pub fn get(&self, name: &[u8]) -> Result<&[u8], NoModuleData>
         ensures { MatchResult result
             (λ payload. payloads_of (data_named self.now.live name.now) ≡ payload.now ∷ [])
@@ -98,7 +100,8 @@ impl DataList {
         }
     }
 
-    /// Takes the oldest of the data that were replaced; None exactly where there is none. It takes no memory.
+    /// Takes the oldest of the replaced data; None if and only if there is none. It does not
+    /// allocate.
     pub fn take_gone(&mut self) -> Option<Datum>
         ensures { MatchOption result ((self.old.gone ≡ []) × (self.new ≡ self.old))
             (λ d. (self.old.gone ≡ d ∷ self.new.gone) × (self.new
@@ -110,7 +113,8 @@ impl DataList {
         Some(self.gone.remove(0))
     }
 
-    /// Takes the datum whose name was set last; None exactly where no name is set. It takes no memory.
+    /// Takes the data whose name was set last; None if and only if no name is set. It does not
+    /// allocate.
     pub fn take_newest(&mut self) -> Option<Datum>
         ensures { MatchOption result ((self.old.live ≡ []) × (self.new ≡ self.old))
             (λ d. (self.old.live ≡ self.new.live ++ d ∷ []) × (self.new
@@ -119,7 +123,7 @@ impl DataList {
         self.live.pop()
     }
 
-    /// Gives up a list without data. It takes no memory.
+    /// Gives up a list without data. It does not allocate.
     pub fn dismiss(self)
         requires live { self.live ≡ [] }
         requires gone { self.gone ≡ [] }

@@ -4,8 +4,8 @@ use crate::receipt::Receipt;
 use pam_base::{Sequence, Text};
 use std::marker::Model;
 
-/// What a module keeps in a transaction under a name (`pam_set_data(3)`). It can't be dropped or copied: `spend`
-/// alone uses it up.
+/// What a module keeps in a transaction under a name (module data, `pam_set_data(3)`). It can't be
+/// dropped or copied: only `spend` uses it up.
 pub struct Datum {
     id: u64,
     owner: u32,
@@ -21,10 +21,10 @@ impl Model for Datum {
     ghost view = { λ d. record { id = d.id; owner = d.owner; name = d.name; payload = d.payload } };
 }
 
-/// The record of a datum as it was set, which stays in the ledger.
+/// The record in the ledger that module data was set.
 #[derive(Debug, Drop)]
 pub struct Birth {
-    /// How many data were set before it, in all transactions.
+    /// How many data were set before, in all transactions.
     pub id: u64,
     /// The number of the transaction.
     pub handle: u32,
@@ -34,11 +34,11 @@ pub struct Birth {
     pub payload: Text,
 }
 
-/// Births, the oldest first.
+/// These records, the oldest first.
 pub type Births = Sequence<Birth>;
 
 impl Datum {
-    /// Takes no memory.
+    /// It does not allocate.
     pub(crate) fn new(id: u64, owner: u32, name: Text, payload: Text) -> Datum
         ensures { result ≡ record { id = id; owner = owner; name = name; payload = payload } }
     {
@@ -69,8 +69,8 @@ impl Datum {
         self.payload.bytes()
     }
 
-    /// Gives the datum up, and with it its text: the receipt has its id, and the status and note that are given.
-    /// It takes no memory.
+    /// Gives up the data, and with it its text: the receipt has its id, and the given status and
+    /// note. It does not allocate.
     pub fn spend(self, status: u32, note: u32) -> Receipt
         ensures { result ≡ record { id = self.id; status = status; note = note } }
     {

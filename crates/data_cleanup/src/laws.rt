@@ -9,9 +9,11 @@ ghost use Rattle.data_cleanup.specs.declared.receipt.Receipt.{Receipt};
 
 use crate::ledger::Ledger;
 
-// Each of these does nothing: its contract is a law about the definitions, for those who call it in a proof.
+// Each of these is a law about the definitions: its contract states it, for those who call it in a
+// proof.
 
-/// What holds of every ledger: its births and receipts fit, and its births are numbered in order.
+/// What every ledger satisfies: its records and receipts fit, and its records are numbered in
+/// order.
 pub fn ledger_is_sound(ledger: &Ledger)
     ensures sound { IsSound ledger.now.births ledger.now.filed }
     ensures numbered { AreNumbered 0 ledger.now.births }
@@ -25,7 +27,7 @@ pub fn growth_is_transitive()
         Grows note modules x a y b → Grows note modules y b z c → Grows note modules x a z c }
 {}
 
-/// Where nothing was replaced and is left, nothing happening is growth.
+/// If nothing that was replaced is left, no change at all is growth.
 pub fn nothing_grows()
     ensures { (note : Notes) (modules : ℕ) (list : PlainDataList) (ledger : PlainLedger) →
         list.gone ≡ [] → Grows note modules list ledger list ledger }

@@ -8,8 +8,8 @@ use pam_base::{NoMemory, Sequence, Text};
 use std::alloc::Global;
 use std::marker::Model;
 
-/// Every datum that was ever set, in all transactions, and the receipt of each that was cleaned up. It keeps
-/// names and payloads as a record.
+/// Every module data that was ever set, in all transactions, and the receipt of each that was
+/// cleaned up. It keeps names and payloads as a record.
 #[derive(Debug, Drop)]
 pub struct Ledger {
     births: Births,
@@ -29,7 +29,7 @@ impl Model for Ledger {
 }
 
 impl Ledger {
-    /// An empty ledger. It takes no memory before the first datum is set.
+    /// An empty ledger. It does not allocate before the first data is set.
     pub fn new(alloc: Global) -> Ledger
         ensures { result ≡ record { births = []; filed = [] } }
     {
@@ -46,14 +46,14 @@ impl Ledger {
         &self.births
     }
 
-    /// All receipts with their marks, the oldest first.
+    /// All receipts with their positions in the ledger, the oldest first.
     pub fn filed(&self) -> &[Filed]
         ensures { result.now ≡ self.now.filed }
     {
         &self.filed
     }
 
-    // It does nothing: the field that it reads brings the model's invariant.
+    // A law: the field that it reads brings the model's invariant.
     pub(crate) fn sound(&self)
         ensures sound { IsSound self.now.births self.now.filed }
         ensures numbered { AreNumbered 0 self.now.births }
@@ -61,8 +61,8 @@ impl Ledger {
         let _births = &self.births;
     }
 
-    /// Adds a birth, which gets the number of births so far as its id, and keeps room for its receipt. Without
-    /// memory the ledger stays as it was.
+    /// Adds the record of new data, whose id is the number of records so far, and keeps room for
+    /// its receipt. If an allocation fails, the ledger is unchanged.
     pub(crate) fn add_birth(
         &mut self,
         alloc: Global,
@@ -99,8 +99,9 @@ impl Ledger {
         Ok(Datum::new(id as u64, owner, own_name, own_payload))
     }
 
-    /// Files a receipt, with the present number of births as its mark. There is room for it since its datum was
-    /// set, so this takes no memory and can't fail. The datum was set, and has no receipt yet.
+    /// Files a receipt, with the present number of records as its position. Room for it was kept
+    /// when its data was set, so this does not allocate and can't fail. The data was set, and has
+    /// no receipt yet.
     pub fn file(&mut self, receipt: Receipt)
         requires { IsOutstanding self.old receipt.id }
         ensures { self.new ≡ record self.old {

@@ -1,6 +1,6 @@
-//! The data that modules keep in a transaction (`pam_set_data(3)`, `pam_get_data(3)`), and the ledger that
-//! shows that each is cleaned up once. A datum can't be dropped: its module's cleanup spends it, and what that
-//! gives, a receipt, is filed.
+//! The data that modules keep in a transaction (`pam_set_data(3)`, `pam_get_data(3)`), and the
+//! ledger that shows that each is cleaned up once. Module data can't be dropped: its module's
+//! cleanup spends it and gives a receipt, which is filed. Begin at `data_list.rt`.
 #![tactic(auto)]
 
 mod data_list;

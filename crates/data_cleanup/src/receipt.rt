@@ -1,5 +1,5 @@
-/// That a datum was cleaned up: its id, the status that its cleanup was called with (the third argument of
-/// `cleanup` in `pam_set_data(3)`), and its owner's note on it.
+/// The record of a cleanup: the id of the data, the status that was passed to its cleanup function
+/// (the third argument of `cleanup` in `pam_set_data(3)`), and its owner's note on it.
 #[derive(Clone, Copy, Debug, PartialEq, Eq)]
 pub struct Receipt {
     pub id: u64,
@@ -7,7 +7,8 @@ pub struct Receipt {
     pub note: u32,
 }
 
-/// A receipt in the ledger, with its mark: how many births stood when it was filed.
+/// A receipt in the ledger, with its position: how many records of data there were when it was
+/// filed.
 #[derive(Clone, Copy, Debug, PartialEq, Eq)]
 pub struct Filed {
     pub receipt: Receipt,

@@ -92,7 +92,7 @@ held_on_end note modules limit handle status before after lists next a lt is non
           (λ e. rw (same h e, births) (a.each h));
     }
 
--- what a handle holds may be receipts_for
+-- what a handle holds may have receipts
 pub held_ready : (modules limit handle : ℕ) (ledger : PlainLedger) (lists : ℕ → List PlainDatum) → HeldLive modules limit ledger lists
     → handle < limit → AwaitCleanup modules ledger (lists handle)
 held_ready modules limit handle ledger lists a lt =

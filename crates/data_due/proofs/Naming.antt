@@ -37,7 +37,7 @@ names_flip x y e = false_unless (bytes_eq y x) (λ s.
     let same : bytes_eq x y ≡ true = (bytes_eq-Decides x y).1 (sym there) in
     cc)
 
--- what a list says of a name after a datum was with_datum
+-- what a list says of a name after data was set
 pub data_named-with_datum : (live : List PlainDatum) (d : PlainDatum) (n : List ℕ)
     → data_named (with_datum live d) n ≡ (if bytes_eq d.name n then d ∷ [] else data_named live n)
 data_named-with_datum [] d n = refl

@@ -1,4 +1,4 @@
--- Each id stays filed once or data_held once.
+-- Each id stays filed once or held once.
 use Rattle.std.proofs.Common.{◌≡◌, ℕ, ◌+◌, ◌<◌, false, eqb, ltb, arith, if◌then◌else◌, List, [], ◌++◌, length, reverse, refl, ap, subst, ◌∙◌, length-append}
 use Rattle.std.proofs.lemmas.List.{map-append}
 use Rattle.data_cleanup.specs.Datum.{PlainDatum}

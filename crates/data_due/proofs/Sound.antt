@@ -39,7 +39,7 @@ distinct (f ∷ fs) most =
     let one : 1 + times_filed f.receipt.id (receipts_in fs) ≤ 1 = rw same at (most f.receipt.id) in
     (not_among f.receipt.id (filed_ids fs) (none_unfiled f.receipt.id fs (omega (arith, one))), distinct fs (λ id. own_gone _ (eqb f.receipt.id id) (most id)))
 
--- a datum is replacements by a later birth
+-- data is replaced by later data of its name
 each_now : (n id : ℕ) (live : List PlainDatum) (name : List ℕ) → id ≡ n → AllByRecursion (λ (d : PlainDatum). d.id < n) live
     → AllByRecursion (λ (r : PlainDatum × ℕ). r.0.id < r.1) (map (λ (d : PlainDatum). (d, id)) (data_named live name))
 each_now n id [] name e all = tt

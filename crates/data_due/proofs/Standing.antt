@@ -29,7 +29,7 @@ pub ids_below : (births : List Birth) → NumberedBack births → AllByRecursion
 ids_below [] is = tt
 ids_below (b ∷ before) is = (omega (arith, is.0), every _ _ (λ (c : Birth) (lt : c.id < length before). omega (arith, lt)) before (ids_below before is.1))
 
--- what holds of each after a datum was with_datum
+-- what holds of each after data was set
 placed_each : (P Q : PlainDatum → Type 0) (d : PlainDatum) (live : List PlainDatum) → Apart live → AllByRecursion P live → Q d
     → ((x : PlainDatum) → P x → bytes_eq x.name d.name ≡ false → Q x) → AllByRecursion Q (with_datum live d)
 placed_each P Q d [] apart all new old = (new, tt)

@@ -84,7 +84,7 @@ each_gone P live [] all new = tt
 each_gone P live (b ∷ bs) all new = every-append _ (map (λ (d : PlainDatum). (d, b.id)) (data_named live b.name)) (replacements (with_datum live (datum_of b)) bs)
     (each_named P live b.name b.id all) (each_gone P (with_datum live (datum_of b)) bs (each_placed P live (datum_of b) all new.0) new.1)
 
--- the receipts of data that were replacements
+-- the receipts of data that were replaced
 swept_tidy : (note : Notes) (births : List Birth) (limit : ℕ) (rs : List (PlainDatum × ℕ)) (fs : List Filed) → AreSwept note limit rs fs
     → AllByRecursion (λ (f : Filed). f.receipt.id < f.mark) fs → AllByRecursion (λ (f : Filed). f.mark ≤ length births) fs → AllByRecursion (λ (r : PlainDatum × ℕ). Known births r.0) rs → AllByRecursion (IsTidy note births) fs
 swept_tidy note births limit [] [] s low in_list known = tt

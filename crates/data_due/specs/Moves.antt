@@ -6,7 +6,8 @@ use Rattle.data_cleanup.specs.Due.{Event, birth}
 use Rattle.data_cleanup.specs.declared.datum.Birth.{Birth}
 use Rattle.data_due.specs.Stands.{Lists, StandFor}
 
--- Whatever they stood for, they stand for it and then the births that were added, in order, and then what ended.
+-- Whatever events they model, afterwards they model these, then the records that were added, in
+-- order, and then what ended.
 pub record Moves (note : Notes) (limit : ℕ) (ended : List Event) (before : PlainLedger)
     (lists : Lists) (after : PlainLedger) (next : Lists) : Type 0 where
   pub added : List Birth

@@ -33,12 +33,12 @@ abbrev pub times_filed : ℕ → List Receipt → ℕ
 times_filed id [] = 0
 times_filed id (r ∷ rs) = (if nat_eq r.id id then 1 else 0) + times_filed id rs
 
--- how often an id stands among the data of the transactions below a limit
+-- how often an id is among the data of the transactions below a limit
 unfoldable pub times_held : ℕ → ℕ → (ℕ → List PlainDatum) → ℕ
 times_held zero id data_of = 0
 times_held (suc limit) id data_of = times_held limit id data_of + times id (data_of limit)
 
--- What was born has one receipt, or stands once in one list; and nothing else has or does.
+-- What was set has one receipt, or is once in one list; nothing else has or is.
 abbrev pub EachOnce : ℕ → PlainLedger → (ℕ → List PlainDatum) → Type 0
 EachOnce limit ledger data_of = (id : ℕ) → times_filed id (receipts_in ledger.filed)
     + times_held limit id data_of ≡ (if nat_lt id (length ledger.births) then 1 else 0)

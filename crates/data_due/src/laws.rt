@@ -14,7 +14,8 @@ ghost use Rattle.data_due.specs.Latest.{AreLatest};
 ghost use Rattle.data_due.specs.Kept.{AreHeld};
 ghost use Rattle.data_due.specs.Moves.{Moves};
 
-// Each of these does nothing: its contract is a law about the definitions, for those who call it in a proof.
+// Each of these is a law about the definitions: its contract states it, for those who call it in a
+// proof.
 
 /// Births of one transaction make due the data that they replace in its list.
 pub fn births_make_due()
@@ -32,7 +33,8 @@ pub fn end_makes_due()
         ≡ due note events ++ receipts note status (reverse (data_held handle events)) }
 {}
 
-/// Each birth has one receipt that is due, or stands once in one transaction's list; and nothing else has or does.
+/// Each record of data has one receipt that is due, or is once in one transaction's list; nothing
+/// else has or is.
 pub fn each_is_due_once()
     ensures { (note : Notes) (limit : ℕ) (events : List Event) →
         AreNumbered 0 (births_of events) → AreBelow limit events → (id : ℕ) →
@@ -40,19 +42,19 @@ pub fn each_is_due_once()
         ≡ (if nat_lt id (length (births_of events)) then 1 else 0) }
 {}
 
-/// A transaction has no data exactly where it has no births since its last end.
+/// A transaction has no data if and only if none was set since its last end.
 pub fn no_data_where_no_births()
     ensures { (handle : ℕ) (events : List Event) →
         (data_held handle events ≡ []) ↔ (births_since handle events ≡ []) }
 {}
 
-/// A ledger without births, and lists without data, stand for no events.
+/// A ledger without records, and lists without data, model no events.
 pub fn nothing_stands_for_none()
     ensures { (note : Notes) (limit : ℕ) →
         StandFor note limit (record { births = []; filed = [] }) (λ (h : ℕ). clean_list h []) [] }
 {}
 
-/// Where the list of one transaction grows, the births that were added are the next events.
+/// If the list of one transaction grows, the records that were added are the next events.
 pub fn growth_stands()
     ensures { (note : Notes) (modules limit handle : ℕ) (events : List Event)
         (before after : PlainLedger) (lists next : Lists) →
@@ -62,7 +64,7 @@ pub fn growth_stands()
         StandFor note limit after next (events ++ map birth g.added) }
 {}
 
-/// Where the data of one transaction are cleaned up, the last name first, its end is the next event.
+/// If the data of one transaction are cleaned up, the last name first, its end is the next event.
 pub fn end_stands()
     ensures { (note : Notes) (limit handle status : ℕ) (events : List Event)
         (before after : PlainLedger) (lists next : Lists) →
@@ -73,7 +75,7 @@ pub fn end_stands()
         StandFor note limit after next (events ++ ends handle status ∷ []) }
 {}
 
-/// Growth of one transaction's list moves on by the births that were added.
+/// Growth of one transaction's list adds the events of the new records.
 pub fn growth_moves()
     ensures { (note : Notes) (modules limit handle : ℕ) (before after : PlainLedger)
         (lists next : Lists) →
@@ -82,7 +84,7 @@ pub fn growth_moves()
         Moves note limit [] before lists after next }
 {}
 
-/// The end of one transaction moves on by that end.
+/// The end of one transaction adds that end.
 pub fn end_moves()
     ensures { (note : Notes) (limit handle status : ℕ) (before after : PlainLedger)
         (lists next : Lists) →
@@ -92,14 +94,14 @@ pub fn end_moves()
         Moves note limit (ends handle status ∷ []) before lists after next }
 {}
 
-/// What changes no data moves on by nothing.
+/// What changes no data adds no event.
 pub fn nothing_moves()
     ensures { (note : Notes) (limit : ℕ) (before after : PlainLedger) (lists next : Lists) →
         after ≡ before → ((h : ℕ) → next h ≡ lists h) →
         Moves note limit [] before lists after next }
 {}
 
-/// What a transaction holds of what stands for some events is the latest of its names.
+/// The data that a transaction holds after some events are the latest of their names.
 pub fn held_data_are_latest()
     ensures { (note : Notes) (limit handle : ℕ) (ledger : PlainLedger) (lists : Lists)
         (events : List Event) →
@@ -154,14 +156,14 @@ pub fn held_data_await_cleanup()
         AwaitCleanup modules ledger (lists handle).live }
 {}
 
-/// What has no receipt stands, once, in the list of one transaction.
+/// Data without a receipt is once in the list of one transaction.
 pub fn outstanding_are_held()
     ensures { (limit : ℕ) (ledger : PlainLedger) (data_of : ℕ → List PlainDatum) →
         EachOnce limit ledger data_of →
         (id : ℕ) → IsOutstanding ledger id ↔ ((h : ℕ) × (h < limit) × (times id (data_of h) ≡ 1)) }
 {}
 
-/// Where no transaction has data, each birth has its receipt.
+/// If no transaction has data, each record has its receipt.
 pub fn all_are_filed()
     ensures { (limit : ℕ) (ledger : PlainLedger) (data_of : ℕ → List PlainDatum) →
         EachOnce limit ledger data_of →

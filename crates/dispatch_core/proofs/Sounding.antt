@@ -1,10 +1,10 @@
 -- What a pass does in any world, over several steps.
 use Rattle.std.proofs.Common.{ℕ, List, [], ◌++◌, refl, sym, ◌∙◌, ap, append_assoc, arith}
 use Rattle.std.proofs.lemmas.List.{append-nil}
-use Rattle.data_cleanup.specs.Cleanup.{Notes}
-use Rattle.data_cleanup.specs.DataList.{PlainDataList}
-use Rattle.data_cleanup.specs.Ledger.{PlainLedger}
-use Rattle.data_cleanup.specs.Grows.{Grows}
+use Rattle.pam_room.specs.data_cleanup.specs.Cleanup.{Notes}
+use Rattle.pam_room.specs.data_cleanup.specs.DataList.{PlainDataList}
+use Rattle.pam_room.specs.data_cleanup.specs.Ledger.{PlainLedger}
+use Rattle.pam_room.specs.data_cleanup.specs.Grows.{Grows}
 use Rattle.pam_room.specs.State.{PlainTransaction, PlainProcess}
 use Rattle.pam_room.specs.Stays.{Stays}
 use Rattle.pam_room.specs.declared.visits.Visit.{Visit}

@@ -1,7 +1,7 @@
 -- What a pass does to a transaction and to what its process shares in any world, also without memory.
 use Rattle.std.specs.Prelude.{◌≡◌, ℕ, List, ◌++◌}
-use Rattle.data_cleanup.specs.Cleanup.{Notes}
-use Rattle.data_cleanup.specs.Grows.{Grows}
+use Rattle.pam_room.specs.data_cleanup.specs.Cleanup.{Notes}
+use Rattle.pam_room.specs.data_cleanup.specs.Grows.{Grows}
 use Rattle.pam_room.specs.State.{PlainTransaction, PlainProcess}
 use Rattle.pam_room.specs.Stays.{Stays}
 use Rattle.pam_room.specs.declared.visits.Visit.{Visit}

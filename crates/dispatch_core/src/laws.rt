@@ -1,5 +1,5 @@
 ghost use Rattle.std.specs.Prelude.{ℕ};
-ghost use Rattle.data_cleanup.specs.Cleanup.{Notes};
+ghost use Rattle.pam_room.specs.data_cleanup.specs.Cleanup.{Notes};
 ghost use Rattle.pam_room.specs.State.{PlainTransaction, PlainProcess};
 ghost use Rattle.dispatch_core.specs.AnyWorld.{GoesSoundly};
 
@@ -10,6 +10,6 @@ pub fn soundness_is_transitive()
         GoesSoundly note modules x y a b → GoesSoundly note modules y z b c →
         GoesSoundly note modules x z a c }
 {
-    data_cleanup::laws::growth_is_transitive();
+    pam_room::data_cleanup::laws::growth_is_transitive();
     pam_room::laws::staying_is_transitive();
 }

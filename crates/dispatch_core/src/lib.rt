@@ -17,6 +17,12 @@ mod supplies;
 mod turn;
 mod walker;
 
+pub use control_words;
+pub use handler_chain;
+pub use pam_room;
+pub use pam_room::{conv_port, fail_delay, pam_outside};
 pub use pass::dispatch;
 pub use paused::Paused;
 pub use request::PassRequest;
+pub use service_load;
+pub use stack_walk;

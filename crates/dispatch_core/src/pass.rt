@@ -81,7 +81,7 @@ fn walk(
     ensures ready { IsReady (length mods.now) (plain_transaction room.new.transaction)
         (plain_process world.new.process) }
 {
-    data_cleanup::laws::nothing_grows();
+    pam_room::data_cleanup::laws::nothing_grows();
     laws::soundness_is_transitive();
     let mut walker = Walker::new();
     while walker.at < chain.len() {
@@ -156,7 +156,7 @@ fn walk_all(
     ensures ready { IsReady (length mods.now) (plain_transaction room.new.transaction)
         (plain_process world.new.process) }
 {
-    data_cleanup::laws::nothing_grows();
+    pam_room::data_cleanup::laws::nothing_grows();
     let mut supplies = Supplies::take(alloc, chain, paused, room)?;
     if request.kind == PassKind::Keep {
         keeps.open(alloc, chain.len())?;

@@ -1,4 +1,4 @@
--- The service files that a seed draws (this project's own).
+-- The random service files of a seed (this project's own).
 use Rattle.std.specs.Prelude.{ℕ, ◌+◌, ◌-◌, ◌*◌, ◌/◌, ◌%◌, min, Bool, nat_eq, nat_lt, ◌&&◌, if◌then◌else◌, List, [], ◌∷◌, ◌++◌, codes, map}
 use Rattle.std.specs.List.{flat_map, filter, range_with_len}
 use Rattle.std.specs.Fmt.{decimal}
@@ -19,7 +19,7 @@ substack_line k = codes "auth substack " ++ (name_of k ++ codes "\n")
 abbrev pub is_odd : ℕ → Bool
 is_odd k = nat_eq (k % 2) 1
 
--- the lines of a file; after those of an odd one the file after it is a substack, where there is one
+-- the lines of a file; after those of an odd one the file after it is a substack, if there is one
 abbrev pub text_of : ℕ → ℕ → ℕ → List ℕ
 text_of seed lines k =
     drawn_lines seed (32 * (k - 1)) (min (32 * k) lines - 32 * (k - 1))

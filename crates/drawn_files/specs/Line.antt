@@ -1,9 +1,9 @@
--- A drawn line of a service file (this project's own).
+-- A random line of a service file (this project's own).
 use Rattle.std.specs.Prelude.{ℕ, ◌+◌, ◌*◌, ◌%◌, List, [], ◌∷◌, ◌++◌, codes, length, get_or}
 use Rattle.std.specs.List.{flat_map, range_with_len}
 use Rattle.drawn_files.specs.Draws.{draw}
 
--- what is done at SUCCESS, what is done at any other code, and what the module answers
+-- what is done at SUCCESS, what is done at any other code, and what the module returns
 abbrev pub success_words : List (List ℕ)
 success_words = codes "ok" ∷ codes "ok" ∷ codes "done" ∷ codes "ignore" ∷ codes "reset" ∷ codes "1"
     ∷ codes "2" ∷ codes "3" ∷ []
@@ -14,7 +14,7 @@ default_words = codes "ignore" ∷ codes "bad" ∷ codes "die" ∷ codes "reset"
 abbrev pub answer_words : List (List ℕ)
 answer_words = codes "success" ∷ codes "success" ∷ codes "auth_err" ∷ codes "ignore" ∷ []
 
--- the word that a draw picks
+-- the word that a random number picks
 abbrev pub picked : List (List ℕ) → ℕ → List ℕ
 picked words n = get_or words (n % length words) []
 
@@ -24,7 +24,7 @@ line_text success default answer =
     ++ (success ++ (codes " new_authtok_reqd=ok default="
     ++ (default ++ (codes "] pam_debug.so auth=" ++ (answer ++ codes "\n")))))
 
--- the line that has n before it, by three draws
+-- the line after n others, by three random numbers
 abbrev pub drawn_line : ℕ → ℕ → List ℕ
 drawn_line seed n = line_text (picked success_words (draw seed (3 * n)))
     (picked default_words (draw seed (3 * n + 1))) (picked answer_words (draw seed (3 * n + 2)))

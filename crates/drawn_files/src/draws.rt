@@ -1,14 +1,14 @@
 ghost use Rattle.std.specs.Prelude.{◌≡◌, ◌/◌};
 ghost use Rattle.drawn_files.specs.Draws.{next_state};
 
-/// Where a generator of numbers stands: a linear congruential one modulo 2^32.
+/// The state of a generator of random numbers: a linear congruential one modulo 2^32.
 #[derive(Drop)]
 pub(crate) struct Draws {
     pub(crate) state: u32,
 }
 
 impl Draws {
-    /// The next draw: the upper half of the next state.
+    /// The next random number: the upper half of the next state.
     pub(crate) fn draw(&mut self) -> u32
         ensures state { self.new.state ≡ next_state self.old.state }
         ensures draw { result ≡ next_state self.old.state / 65536 }

@@ -7,20 +7,20 @@ use crate::line::push_lines;
 use pam_base::{NoMemory, Text};
 use std::alloc::Global;
 
-/// The most lines that are drawn.
+/// The maximum number of lines.
 pub const MAX_DRAWN: u32 = 4096;
 
-/// How many lines a file has, but for the last.
+/// How many lines a file has, except the last one.
 const LINES_OF_FILE: u32 = 32;
 
-/// A service file: its name in the folder of services, and its text.
+/// A service file: its name in the directory of services, and its text.
 #[derive(Debug, Drop)]
 pub struct DrawnFile {
     pub name: Text,
     pub text: Text,
 }
 
-/// How many files hold n lines.
+/// How many files n lines need.
 pub fn file_count(lines: u32) -> u32
     requires { lines ≤ MAX_DRAWN }
     ensures { result ≡ count_of lines }
@@ -28,7 +28,7 @@ pub fn file_count(lines: u32) -> u32
     lines.div_ceil(LINES_OF_FILE)
 }
 
-/// The files of n lines that a seed draws, in order, and after them the service `gen`.
+/// The files of n lines that a seed gives, in order, and after them the service `gen`.
 pub fn draw_files(alloc: Global, seed: u32, lines: u32) -> Result<Vec<DrawnFile>, NoMemory>
     requires { lines ≤ MAX_DRAWN }
     ensures { IfOk result (λ files. files.items ≡ drawn_files seed lines) }
@@ -69,7 +69,7 @@ fn draw_file(
     })
 }
 
-// The service, with each odd file as a substack.
+// The service, which has each odd file as a substack.
 fn service(alloc: Global, count: u32) -> Result<DrawnFile, NoMemory>
     requires { count < 2 ^ 31 }
     ensures { IfOk result (λ file. file ≡ service count) }
@@ -97,7 +97,7 @@ fn name_of(alloc: Global, number: u32) -> Result<Text, NoMemory>
     Ok(Text::from_vec(name.into_bytes()))
 }
 
-// Adds a file as a substack, where it is one.
+// Adds a file as a substack, if it is one.
 fn push_substack(text: &mut String, is_one: bool, number: u32) -> Result<(), NoMemory>
     ensures { OnOk result (string_bytes text.new ≡ string_bytes text.old
         ++ (if is_one then substack_line number else [])) }

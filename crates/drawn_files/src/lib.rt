@@ -1,4 +1,5 @@
-//! The service files that a seed draws: stacks of many lines, the same ones for the same seed, to measure a library with.
+//! Random service files: stacks of many lines, the same ones for the same seed, to measure a
+//! library with. Begin at `files.rt`.
 #![tactic(auto)]
 
 mod draws;

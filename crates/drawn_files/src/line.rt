@@ -5,16 +5,16 @@ ghost use Rattle.drawn_files.specs.Line.{drawn_line, drawn_lines, line_text, pic
 use crate::draws::Draws;
 use pam_base::NoMemory;
 
-/// What a line does at SUCCESS, by a draw.
+/// What a line does at SUCCESS, picked by a random number.
 const SUCCESS_WORDS: [&str; 8] = ["ok", "ok", "done", "ignore", "reset", "1", "2", "3"];
 
 /// What it does at any other code.
 const DEFAULT_WORDS: [&str; 4] = ["ignore", "bad", "die", "reset"];
 
-/// What its module answers.
+/// What its module returns.
 const ANSWER_WORDS: [&str; 4] = ["success", "success", "auth_err", "ignore"];
 
-// The word that a draw picks.
+// The word that a random number picks.
 fn pick(words: &'static [&'static str], draw: u32) -> &'static str
     requires { 0 < length words.now }
     ensures { result.now ≡ picked (map (λ word. word.now) words.now) draw }
@@ -22,7 +22,7 @@ fn pick(words: &'static [&'static str], draw: u32) -> &'static str
     words[draw as usize % words.len()]
 }
 
-/// Adds the next lines. They are those of any seed that led to where the generator stands.
+/// Adds the next lines. They are the same for every seed that led to this state of the generator.
 pub(crate) fn push_lines(text: &mut String, draws: &mut Draws, count: u32) -> Result<(), NoMemory>
     ensures { OnOk result ((seed before : ℕ) → draws.old.state ≡ state_after seed (3 * before) →
         (string_bytes text.new ≡ string_bytes text.old ++ drawn_lines seed before count)
@@ -34,7 +34,7 @@ pub(crate) fn push_lines(text: &mut String, draws: &mut Draws, count: u32) -> Re
     Ok(())
 }
 
-// Adds the next line, by three draws.
+// Adds the next line, by three random numbers.
 fn push_line(text: &mut String, draws: &mut Draws) -> Result<(), NoMemory>
     ensures { OnOk result ((seed before : ℕ) → draws.old.state ≡ state_after seed (3 * before) →
         (string_bytes text.new ≡ string_bytes text.old ++ drawn_line seed before)

@@ -19,11 +19,11 @@ is_named name variable = bytes_eq name variable.name
 abbrev pub is_set : List ℕ → List Variable → Bool
 is_set name variables = list_any (is_named name) variables
 
--- the value of a name, where it is set
+-- the value of a name, if it is set
 abbrev pub value_of : List ℕ → List Variable → Option (List ℕ)
 value_of name variables = option_map (λ variable. variable.value) (find (is_named name) variables)
 
--- the variables with this value for a name: one that is set keeps its place, a new one goes last
+-- the variables with this value for a name: one that is set keeps its position, a new one goes last
 abbrev pub with_value : List ℕ → List ℕ → List Variable → List Variable
 with_value name value variables =
     if is_set name variables
@@ -43,7 +43,7 @@ HaveDifferentNames variables = IsDistinct bytes_eq (map (λ variable. variable.n
 abbrev pub variable_text : Variable → List ℕ
 variable_text variable = variable.name ++ 61 ∷ variable.value
 
--- the name in a text: what stands before its first `=`
+-- the name in a text: what comes before its first `=`
 abbrev pub name_in : List ℕ → List ℕ
 name_in text = before_first (λ byte. byte == 61) text
 
@@ -55,7 +55,7 @@ value_in text = after_first (λ byte. byte == 61) text
 abbrev pub is_deletion : List ℕ → Bool
 is_deletion text = not (has_byte 61 text)
 
--- a text is refused where its name is empty, or where it deletes a name that isn't set
+-- a text is refused if its name is empty, or if it deletes a name that isn't set
 abbrev pub is_refused : List ℕ → List Variable → Bool
 is_refused text variables = length (name_in text) == 0
     || (is_deletion text && not (is_set (name_in text) variables))

@@ -8,7 +8,7 @@ use pam_base::{BadItem, NoMemory, Refuse, Text, Texts, first_place};
 use std::alloc::Global;
 use std::marker::Model;
 
-/// What stands between a name and its value.
+/// The byte between a name and its value.
 const EQUALS: u8 = b'=';
 
 /// The environment that the modules of one transaction hand to the session (`pam_getenvlist(3)`). Contracts
@@ -32,8 +32,8 @@ impl Model for EnvList {
 }
 
 impl EnvList {
-    /// No variable is set. It takes no memory; names and values that are set later are copied with this
-    /// allocator.
+    /// No variable is set. It does not allocate; names and values that are set later are copied
+    /// with this allocator.
     pub fn new(alloc: Global) -> Self
         ensures { result ≡ [] }
     {
@@ -43,11 +43,12 @@ impl EnvList {
         }
     }
 
-    /// `pam_putenv(3)`: `NAME=VALUE` sets a variable, `NAME=` sets it to the empty text, and `NAME` alone
-    /// deletes it. The name is what stands before the first `=`. A new name goes last, a name that is set keeps
-    /// its place, and where one is deleted those after it close up, in time that grows with their number.
-    /// BadItem exactly where the name is empty or an unset one is deleted. A deletion takes no memory. After a
-    /// refusal and without memory all is as it was.
+    /// `pam_putenv(3)`: `NAME=VALUE` sets a variable, `NAME=` sets it to the empty text, and `NAME`
+    /// alone deletes it. The name is what comes before the first `=`. A new name goes last; a name
+    /// that is set keeps its position; when one is deleted, those after it move up, in time that
+    /// grows with their number. Returns BadItem if and only if the name is empty or an unset name
+    /// is deleted. A deletion does not allocate. After BadItem, and if an allocation fails, nothing
+    /// has changed.
     pub fn put(&mut self, text: &[u8]) -> Result<(), Refuse<BadItem>>
         ensures ok { OnOk result (self.new ≡ after_put text.now self.old) }
         ensures err { OnErr result (self.new ≡ self.old) }
@@ -61,14 +62,14 @@ impl EnvList {
         }
     }
 
-    /// The value of a name; None where it isn't set (`pam_getenv(3)`).
+    /// The value of a name; None if it isn't set (`pam_getenv(3)`).
     pub fn get(&self, name: &[u8]) -> Option<&[u8]>
         ensures { option_copied result ≡ value_of name.now self.now }
     {
         self.value(name).map(|value| value.bytes())
     }
 
-    /// The number of variables; no two of them have one name.
+    /// The number of variables; no two have the same name.
     pub fn len(&self) -> usize
         ensures length { result ≡ length self.now }
         ensures names { HaveDifferentNames self.now }
@@ -134,7 +135,7 @@ impl EnvList {
         Ok(())
     }
 
-    // Answers whether the name was set.
+    // Returns whether the name was set.
     fn remove(&mut self, name: &[u8]) -> bool
         ensures removed { self.new ≡ without name.now self.old }
         ensures was_set { result ≡ is_set name.now self.old }

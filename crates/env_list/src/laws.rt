@@ -14,8 +14,8 @@ pub fn put_texts()
     ensures deleted { (name : List ℕ) → has_byte 61 name ≡ false → name_in name ≡ name }
 {}
 
-/// A name that was put has its value, and every other name the value that it had. A name that is set keeps its
-/// place among the names, and a new one goes last.
+/// A name that was put has its value, and every other name the value that it had. A name that is
+/// set keeps its position among the names, and a new one goes last.
 pub fn setting_keeps_the_place()
     ensures same { (name value : List ℕ) (variables : List Variable) →
         value_of name (with_value name value variables) ≡ Some value }
@@ -30,8 +30,8 @@ pub fn setting_keeps_the_place()
         with_value name value variables ≡ variables ++ record { name = name; value = value } ∷ [] }
 {}
 
-/// A name that was deleted is unset, and every other name has the value that it had. The variables after it
-/// close up, in their order.
+/// A name that was deleted is unset, and every other name has the value that it had. The variables
+/// after it move up, in their order.
 pub fn deleting_closes_up()
     ensures same { (name : List ℕ) (variables : List Variable) →
         value_of name (without name variables) ≡ None }

@@ -15,7 +15,7 @@ use guest::Guest;
 use mod_basic::{Permit, Probe};
 use pam_base::{Code, ESTABLISH_CRED, NoMemory, Text, code_name, code_number};
 use pam_handle::{Gear, GearTold, Handle};
-use pam_outside::{FixedClock, FolderVault, NapSum};
+use pam_outside::{FolderVault, RealClock, SleepNap};
 use pam_room::{Module, Process, Room, RoomTold, World, WorldTold};
 use std::alloc::Global;
 use std::io;
@@ -34,8 +34,8 @@ fn main(rt: HostRuntime) -> io::Result<ExitCode> {
     };
     let mut world = World {
         vault: Box::new(alloc, FolderVault::new(rt))?,
-        clock: Box::new(alloc, FixedClock::new(0, 0))?,
-        nap: Box::new(alloc, NapSum::new())?,
+        clock: Box::new(alloc, RealClock::new(rt))?,
+        nap: Box::new(alloc, SleepNap::new(rt))?,
         process: Process {
             ledger: Ledger::new(alloc),
             root: Text::from_vec(Vec::from_slice(alloc, b"r")?),

@@ -1,5 +1,5 @@
--- The delay that is asked for, pam_fail_delay(3): the longest of the requests, spread at random about it. The bounds,
--- and how far and by which word it is spread, are this project's own.
+-- The delay that is requested, pam_fail_delay(3): the longest of the requests, varied at random.
+-- The bounds, and how far and by which word it is varied, are this project's own.
 use Rattle.std.specs.Prelude.{ℕ, ◌+◌, ◌-◌, ◌*◌, ◌/◌, ◌%◌, List, [], ◌∷◌, max, min, nat_le, ◌==◌, if◌then◌else◌}
 
 -- a request counts as at most 60 seconds, in microseconds

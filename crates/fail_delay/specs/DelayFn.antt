@@ -1,5 +1,5 @@
--- What is known of an application's delay function (PAM_FAIL_DELAY of pam_fail_delay(3)). That it answers the wait is
--- this project's own: the page's function sleeps itself.
+-- What is known of an application's delay function (PAM_FAIL_DELAY of pam_fail_delay(3)). That it
+-- returns the wait is this project's own: the page's function sleeps itself.
 use Rattle.std.specs.Prelude.{◌≡◌, ℕ, ◌≤◌}
 use Rattle.pam_base.specs.declared.code.Code.{Code}
 

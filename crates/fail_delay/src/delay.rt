@@ -6,8 +6,8 @@ use std::marker::Model;
 /// The longest request that counts, 60 seconds, in microseconds.
 pub const LONGEST_REQUEST: u32 = 60_000_000;
 
-/// The longest of the delays that were requested and not yet forgotten, in microseconds (`pam_fail_delay(3)`).
-/// Contracts see that number, and 0 without a request.
+/// The longest of the delays that were requested and not yet forgotten, in microseconds
+/// (`pam_fail_delay(3)`). Contracts see that number, and 0 if there was no request.
 #[derive(Debug, Drop)]
 pub struct Delay {
     longest: u32,
@@ -32,14 +32,15 @@ impl Delay {
         Delay { longest: 0 }
     }
 
-    /// A request, in microseconds. Of all requests the longest counts, and one above 60 seconds as 60 seconds.
+    /// A request, in microseconds. The longest of all requests counts; one above 60 seconds counts
+    /// as 60 seconds.
     pub fn request(&mut self, micros: u32)
         ensures { self.new ≡ max (counted_request micros) self.old }
     {
         self.longest = self.longest.max(micros.min(LONGEST_REQUEST));
     }
 
-    /// The longest request, in microseconds; 0 without one.
+    /// The longest request, in microseconds; 0 if there was none.
     pub fn longest(&self) -> u32
         ensures longest { result ≡ self.now }
         ensures counted { result ≤ LONGEST_REQUEST }

@@ -6,21 +6,21 @@ ghost use Rattle.fail_delay.specs.DelayFn.{GivesOneNumber, IsNumberGiven};
 use crate::delay::LONGEST_REQUEST;
 use pam_base::Code;
 
-/// The longest delay that can be asked for, 90 seconds, in microseconds.
+/// The longest delay that can be requested, lengthened by half: 90 seconds, in microseconds.
 pub const LONGEST_ASKED: u32 = 90_000_000;
 
-/// A function from the code that an authentication answers and the asked delay to the wait, both in
-/// microseconds.
+/// A function from the return code of an authentication and the requested delay to the wait, both
+/// in microseconds.
 pub type DelayRule = Box<dyn Fn(Code, u32) -> u32>;
 
 /// What contracts see of a delay function.
 pub trait DelayTold {
-    // For a code and an asked delay up to 90 seconds the function gives this number.
+    // For a code and a requested delay of up to 90 seconds the function gives this number.
     ghost delay_is: { Self → (Code → ℕ → ℕ) → Type 0 };
 }
 
-/// An application's own delay function (PAM_FAIL_DELAY, `pam_fail_delay(3)`). Unlike that page's it doesn't
-/// sleep: it answers how long to wait.
+/// An application's own delay function (PAM_FAIL_DELAY, `pam_fail_delay(3)`). Unlike that page's it
+/// doesn't sleep: it returns how long to wait.
 #[derive(Drop)]
 pub struct DelayFn {
     rule: DelayRule,
@@ -34,8 +34,8 @@ impl DelayTold for DelayFn {
 }
 
 impl DelayFn {
-    /// The function may be called for every code and every asked delay up to 90 seconds. It gives one number
-    /// for each pair of them, always the same, and at most 60 seconds.
+    /// The function may be called for every code and every requested delay of up to 90 seconds. It
+    /// gives one number for each pair of them, always the same, and at most 60 seconds.
     pub fn new(rule: DelayRule) -> Self
         requires callable { (code : Code) (asked : ℕ) → asked ≤ LONGEST_ASKED →
             DelayRule.pre rule code asked }

@@ -5,8 +5,8 @@ ghost use Rattle.fail_delay.specs.Delay.{counted_request, longest_of, asked_dela
 use crate::delay::LONGEST_REQUEST;
 use crate::delay_fn::LONGEST_ASKED;
 
-/// The longest of some requests is no shorter than any of them, each counted to 60 seconds at most, and is
-/// one of them where there is one.
+/// The longest of some requests is no shorter than any of them, each counted to 60 seconds at most,
+/// and is one of them if there is one.
 pub fn longest_is_the_maximum()
     ensures no_shorter { (requests : List ℕ) → All (λ micros. counted_request micros
         ≤ longest_of requests) requests }
@@ -15,8 +15,8 @@ pub fn longest_is_the_maximum()
     ensures counted { (requests : List ℕ) → longest_of requests ≤ LONGEST_REQUEST }
 {}
 
-/// The asked delay lies within half of the longest request on both sides, and each delay there is asked for
-/// by some word.
+/// The requested delay lies within half of the longest request on both sides, and each delay there
+/// is given by some random word.
 pub fn asked_within_half()
     ensures above { (longest word : ℕ) → asked_delay longest word ≤ longest + longest / 2 }
     ensures below { (longest word : ℕ) → longest - longest / 2 ≤ asked_delay longest word }
@@ -27,7 +27,8 @@ pub fn asked_within_half()
         asked_delay longest word ≤ LONGEST_ASKED }
 {}
 
-/// With the word 0 the asked delay is the longest request, and it is 0 exactly where no delay was requested.
+/// With the word 0 the requested delay is the longest request; it is 0 if and only if no delay was
+/// requested.
 pub fn zero_asks_for_nothing()
     ensures word { (longest : ℕ) → asked_delay longest 0 ≡ longest }
     ensures nothing { (word : ℕ) → asked_delay 0 word ≡ 0 }

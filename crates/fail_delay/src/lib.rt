@@ -1,5 +1,6 @@
-//! The delay after an authentication, `pam_fail_delay(3)`: the longest request, the delay that is asked for, and
-//! what is waited, with and without an application's own delay function.
+//! The delay after an authentication, `pam_fail_delay(3)`: the longest request, the delay that is
+//! varied at random, and the wait, with and without an application's own delay function. Begin at
+//! `waiting.rt`.
 #![tactic(auto)]
 
 mod delay;

@@ -5,9 +5,9 @@ ghost use Rattle.fail_delay.specs.Wait.{wait_of};
 use crate::delay_fn::{DelayFn, DelayTold, LONGEST_ASKED};
 use pam_base::Code;
 
-/// How long to wait after an authentication that answered this code, both in microseconds: what the delay
-/// function answers, where it is on; else the asked delay, where the code isn't SUCCESS. None where nothing is
-/// waited and no function was called.
+/// How long to wait after an authentication that returned this code, in microseconds. With a delay
+/// function that is on, it is what that function returns, even after SUCCESS; otherwise the
+/// requested delay if the code isn't SUCCESS. None if there is no wait and no function was called.
 pub fn wait_after(delay_fn: Option<&DelayFn>, code: Code, asked: u32) -> Option<u32>
     requires { asked ≤ LONGEST_ASKED }
     ensures wait { (number : Code → ℕ → ℕ) → IfSome delay_fn.entry

@@ -78,7 +78,7 @@ module _ (settles : FrontSettles) where
       ∙ ap (λ (z : List (List ℕ)). take size (b ∷ bs) ∷ z)
       (same_most (length bs) (length (drop size (b ∷ bs))) (n + 1) (drop size (b ∷ bs)) ended (omega (arith, length-drop size (b ∷ bs), (whole_of (b ∷ bs) size e).some)) (omega arith)))
 
-  -- a frame in front, whatever follows
+  -- a frame at the beginning, whatever follows
   pub frame_front : (n : ℕ) (held : List ℕ) (size : ℕ) → n < 65536 → front_of held ≡ Whole size → IsItem looked n size size held
   frame_front n held size lt e =
       let w = whole_of held size e in
@@ -156,7 +156,7 @@ module _ (settles : FrontSettles) where
     after_refused n c (Ok x) f g k h e = ap (with_text x.1) (h x.0 e)
     after_refused n c (Err j) f g k h e = refl
 
-    -- by what stands in front, where fewer frames than the most stand before it
+    -- by what the bytes begin with, if fewer frames than the maximum come before it
     stay_front : (n : ℕ) (c : State) (taken more : List ℕ) (ended : Bool) (kind : FrameFault) (f : Front) → n < 65536 → 0 < length taken → front_of taken ≡ f
         → (run_of looked (step_at answers) n c taken false).refused ≡ Some kind
         → ((size : ℕ) (d : State) → 4 ≤ size → (run_of looked (step_at answers) (n + 1) d (drop size taken) false).refused ≡ Some kind

@@ -1,4 +1,4 @@
--- Which steps some bytes spell, and what a run over them comes to.
+-- Which steps some bytes spell, and the result of a run over them.
 use Rattle.std.proofs.Common.{◌≡◌, ℕ, zero, suc, ◌+◌, ◌≤◌, ◌<◌, ◌⊎◌, inl, inr, Bool, true, false, cond, List, [], ◌∷◌, ◌++◌, length, take, drop, Option, Some, None, Result, Ok, Err, refl, sym, ap, subst, ◌∙◌, arith, append_assoc, length-drop}
 use Rattle.std.specs.List.{concat}
 use Rattle.std.proofs.Math.Seq.{take-append_seam, drop-append_seam}
@@ -285,7 +285,7 @@ module _ (settles : FrontSettles) (reads : ReadsTable) (opens : OpensByTable) wh
         refused_ok : Err TooManyFrames ≡ Ok x → IsAccepted n s item x
         refused_ok e = absurd cc
 
-    -- it stands in front
+    -- it is at the beginning
     record IsFront (n : ℕ) (bytes item : List ℕ) (ended : Bool) (step : Step) (others : List (List ℕ)) : Type 0 where
       item_is : item ≡ frame_of step
       more : List ℕ

@@ -1,4 +1,4 @@
--- Which frames are looked at, and what a run over them comes to, in words that no reader uses.
+-- Which frames are read, and the result of a run over them, in definitions that no reader uses.
 use Rattle.std.specs.Prelude.{◌≡◌, ℕ, ◌+◌, ◌≤◌, Bool, true, List, ◌++◌, length, map, Option, None}
 use Rattle.std.specs.List.{concat}
 use Rattle.pam_base.specs.declared.call.Step.{Step}
@@ -10,13 +10,13 @@ use Rattle.frame_stream.specs.Looked.{looked}
 use Rattle.frame_stream.specs.Run.{CallStep, step_at}
 use Rattle.frame_stream.specs.Spelled.{SpellsFrom, answers_to, state_behind}
 
--- the frames of steps are looked at first, and then what stands after them
+-- the frames of steps are read first, and then what follows them
 abbrev pub StepsAreLookedAt : Type 0
 StepsAreLookedAt = (n : ℕ) (bytes : List ℕ) (steps : List Step) (rest : List ℕ) (ended : Bool)
     → AreFramesOf bytes steps rest → n + length steps ≤ 65536
     → looked n bytes ended ≡ map frame_of steps ++ looked (n + length steps) rest ended
 
--- where the input ends after some bytes, what is looked at is all of them, in order
+-- if the input ends after some bytes, all of them are read, in order
 abbrev pub AllAreLookedAt : Type 0
 AllAreLookedAt = (n : ℕ) (bytes : List ℕ) → concat (looked n bytes true) ≡ bytes
 
@@ -27,7 +27,7 @@ BytesSpell = (n : ℕ) (bytes : List ℕ) (ended : Bool) → n ≤ 65536 → Are
     × SpellsFrom n bytes ended steps rest fault
 
 module _ {State : Type 0} (answers : CallStep State) where
-  -- what a run over some bytes comes to is what the steps come to that these spell
+  -- the result of a run over some bytes is that of the steps that these spell
   abbrev pub RunIsOfSteps : Type 0
   RunIsOfSteps = (n : ℕ) (s : State) (bytes : List ℕ) (ended : Bool) (steps : List Step)
       (rest : List ℕ) (fault : Option FrameFault) → AreBytes bytes
@@ -35,7 +35,7 @@ module _ {State : Type 0} (answers : CallStep State) where
       → run_of looked (step_at answers) n s bytes ended
       ≡ come_to (answers_to answers s steps) (state_behind answers s steps) (n + length steps) fault
 
-  -- some frames stand at the front of some bytes; they are those of steps, which come to this
+  -- some bytes begin with some frames; they are those of steps, which have this result
   pub record FrontIsOfSteps (n m : ℕ) (s t : State) (bytes : List ℕ) (ended : Bool)
       (served behind : List (List ℕ)) (text : List ℕ) : Type 0 where
     pub steps : List Step
@@ -48,7 +48,7 @@ module _ {State : Type 0} (answers : CallStep State) where
     pub text_is : text ≡ answers_to answers s steps
     pub state_is : t ≡ state_behind answers s steps
 
-  -- items at the front of what is looked at that were not refused are the frames of steps
+  -- items at the beginning of what is read that were not refused are the frames of steps
   abbrev pub ServedAreSteps : Type 0
   ServedAreSteps = (n m : ℕ) (s t : State) (bytes : List ℕ) (ended : Bool)
       (served behind : List (List ℕ)) (text : List ℕ) → n ≤ 65536 → AreBytes bytes

@@ -4,14 +4,14 @@ use Rattle.pam_wire.specs.declared.front.Front.{Front}
 use Rattle.pam_wire.specs.declared.front.Front.TheVariants.{Open, OutOfRange, Whole}
 use Rattle.pam_wire.specs.Read.{front_of, step_of}
 
--- A frame that is whole is looked at, and then what stands after it. A length that no frame has is
--- looked at with all that stands after it, and the beginning of a frame where the input has ended.
+-- A frame that is whole is read, and then what follows it. A length that no frame has is read with
+-- everything after it, and so is the beginning of a frame when the input has ended.
 abbrev pub looked_by : Front → List ℕ → Bool → (ℕ → List (List ℕ)) → List (List ℕ)
 looked_by Open bytes ended behind = if ended then bytes ∷ [] else []
 looked_by OutOfRange bytes ended behind = bytes ∷ []
 looked_by (Whole size) bytes ended behind = take size bytes ∷ behind size
 
--- the frames among some bytes, where n stand before them; at most `most` of them
+-- the frames among some bytes after n others; at most `most` of them
 unfoldable pub looked_most : ℕ → ℕ → List ℕ → Bool → List (List ℕ)
 looked_most most n [] ended = []
 looked_most zero n (b ∷ bs) ended = []

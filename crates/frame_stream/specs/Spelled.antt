@@ -1,4 +1,4 @@
--- Which steps some bytes spell, and what stands after their frames, in words that no reader uses
+-- Which steps some bytes spell, and what follows their frames, in definitions that no reader uses
 -- (this project's own).
 use Rattle.std.specs.Prelude.{◌≡◌, ◌⊎◌, ℕ, ◌+◌, ◌<◌, ◌≤◌, Bool, true, List, [], ◌∷◌, ◌++◌, length, Option, Some, None}
 use Rattle.pam_base.specs.declared.call.Step.{Step}
@@ -7,18 +7,18 @@ use Rattle.frame_stream.specs.declared.fault.FrameFault.{FrameFault}
 use Rattle.frame_stream.specs.declared.fault.FrameFault.TheVariants.{BadFrame, TooManyFrames}
 use Rattle.frame_stream.specs.Run.{CallStep}
 
--- Whether what stands after n frames is refused; `ended` says that the input ends after it. It
--- isn't where nothing stands there, or the beginning of a frame that may still come. It is a bad
--- frame where no frame begins it, and the input ends or it is not even the beginning of one; and
--- one frame too many where it is anything after 65,536.
+-- Whether what follows n frames is refused; `ended` says that the input ends after it. It isn't if
+-- it is nothing, or the beginning of a frame that may still come. It is a bad frame if it doesn't
+-- begin with a frame, and the input ends or it is not even the beginning of one; and one frame too
+-- many if it is anything after 65,536.
 abbrev pub IsBehind : ℕ → List ℕ → Bool → Option FrameFault → Type 0
 IsBehind n rest ended None = IsOpen rest × (ended ≡ true → rest ≡ []) × (65536 ≤ n → rest ≡ [])
 IsBehind n rest ended (Some BadFrame) =
     (n < 65536) × HasNoFrame rest × (((ended ≡ true) × (0 < length rest)) ⊎ (IsOpen rest → ⊥))
 IsBehind n rest ended (Some TooManyFrames) = (65536 ≤ n) × (0 < length rest)
 
--- The bytes are the frames of these steps, at most 65,536 with those n that stand before them, and
--- a rest after them.
+-- The bytes are the frames of these steps, at most 65,536 with the n before them, and a rest after
+-- them.
 pub record SpellsFrom (n : ℕ) (bytes : List ℕ) (ended : Bool) (steps : List Step) (rest : List ℕ)
     (fault : Option FrameFault) : Type 0 where
   pub frames : AreFramesOf bytes steps rest

@@ -1,8 +1,8 @@
 /// Why a frame is refused.
 #[derive(Clone, Copy, Debug, PartialEq, Eq)]
 pub enum FrameFault {
-    /// It is no frame of a call, or the input ends within it.
+    /// It isn't the frame of a call, or the input ends inside it.
     BadFrame,
-    /// 65,536 frames stand before it.
+    /// It comes after 65,536 frames.
     TooManyFrames,
 }

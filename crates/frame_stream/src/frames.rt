@@ -6,7 +6,8 @@ use item_stream::{Front, Stepping};
 use pam_wire::laws;
 use std::marker::PhantomData;
 
-/// What the calls of a front end do, for those who state what a run over them comes to. It has ghost members alone.
+/// What the calls of a front end do, for those who state the result of a run over them. It has only
+/// ghost members.
 pub trait CallStepping {
     /// What stays the same in a run.
     ghost Setting: { Type 0 };
@@ -17,7 +18,7 @@ pub trait CallStepping {
     /// The state after a call, and the answer that is written for it.
     ghost answers: { Setting → State → Step → State × List ℕ };
 
-    /// The states that a frame may leave whose call found no memory.
+    /// The states that a frame may leave if its call runs out of memory.
     ghost fails: { Setting → State → List ℕ → State → Type 0 };
 }
 

@@ -5,8 +5,8 @@ use crate::limit::MAX_FRAMES;
 use item_stream::Front;
 use pam_wire::{Front as FrameFront, front_of, laws};
 
-/// What stands at the front of bytes after n frames: a frame, which may be no call; nothing
-/// yet; or a length that no frame has, or the first byte of one frame too many.
+/// What bytes begin with after n frames: a frame, which may not be a call; nothing yet; or a length
+/// that no frame has, or the first byte of one frame too many.
 pub fn front_of_frames(before: u32, held: &[u8]) -> Front
     ensures { IsFront looked refuses result before held.now }
 {

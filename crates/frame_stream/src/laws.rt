@@ -2,10 +2,10 @@ ghost use Rattle.frame_stream.specs.Laws.{AllAreLookedAt, BytesSpell, RunIsOfSte
 
 use crate::frames::CallStepping;
 
-// None of these does anything: its contract is a law about the definitions.
+// Each of these is a law about the definitions: its contract states it.
 
-/// Where some bytes are the frames of steps and a rest after them, these frames are looked at first, and then the
-/// rest.
+/// If some bytes are the frames of steps and a rest after them, these frames are read first, and
+/// then the rest.
 pub fn steps_are_looked_at()
     ensures { StepsAreLookedAt }
 {
@@ -13,7 +13,7 @@ pub fn steps_are_looked_at()
     pam_wire::laws::frame_is_read();
 }
 
-/// Where the input ends, all its bytes are looked at, in order.
+/// When the input ends, all its bytes are read, in order.
 pub fn all_are_looked_at()
     ensures { AllAreLookedAt }
 {
@@ -29,8 +29,8 @@ pub fn bytes_spell_steps()
     pam_wire::laws::front_opens_by_the_table();
 }
 
-/// A run over some bytes is one over the steps that they spell: its text is their answers, one after the other. Where
-/// it stops, what was served is the answers of the first steps.
+/// A run over some bytes is one over the steps that they spell: its text is their answers, one
+/// after the other. If it stops, what was written is the answers of the first steps.
 pub fn runs_are_of_steps<R: CallStepping>()
     ensures run { (setting : R.Setting) → RunIsOfSteps (R.answers setting) }
     ensures served { (setting : R.Setting) → ServedAreSteps (R.answers setting) }

@@ -1,5 +1,5 @@
-//! A stream of frames: how they are cut from its bytes, and what a run over them comes to, whatever a call does. It
-//! knows nothing of transactions.
+//! A stream of frames: how they are cut from its bytes, and the result of a run over them, whatever
+//! a call does. It knows nothing of transactions. Begin at `frames.rt`.
 #![tactic(auto)]
 
 mod fault;

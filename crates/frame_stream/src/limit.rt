@@ -1,2 +1,2 @@
-/// The most frames that are read.
+/// The maximum number of frames that are read.
 pub const MAX_FRAMES: u32 = 65536;

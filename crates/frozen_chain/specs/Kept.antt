@@ -1,4 +1,5 @@
--- Answers kept for the lines of a stack (this project's own): nothing is held, or a cell for each line.
+-- Return codes cached for the lines of a stack (this project's own): nothing is held, or a cell for
+-- each line.
 use Rattle.std.specs.Prelude.{ℕ, Option, Some, None, List, length, slice_get, slice_set, replicate}
 use Rattle.std.specs.Option.{option_flatten}
 use Rattle.pam_base.specs.declared.code.Code.{Code}

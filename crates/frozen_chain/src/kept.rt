@@ -5,8 +5,9 @@ use pam_base::{Code, NoMemory};
 use std::alloc::Global;
 use std::marker::Model;
 
-/// Answers kept for the lines of a stack, by their indices from 0. Contracts see None where none are held, else a cell
-/// for each line: None, or the answer that is kept for it.
+/// Return codes cached for the lines of a stack (libpam's `cached_retval`), by their indices from
+/// 0. Contracts see None if none are held, otherwise a cell for each line: None, or the code that
+/// is cached for it.
 #[derive(Debug, Drop)]
 pub struct Kept {
     cells: Option<Vec<Option<Code>>>,
@@ -22,22 +23,22 @@ impl Model for Kept {
 }
 
 impl Kept {
-    /// Nothing is held. It takes no memory.
+    /// Nothing is held. It does not allocate.
     pub fn none() -> Kept
         ensures { result ≡ None }
     {
         Kept { cells: None }
     }
 
-    /// Whether answers are held, be they of no line.
+    /// Whether codes are held, even for a stack without lines.
     pub fn held(&self) -> bool
         ensures { result ≡ is_some self.now }
     {
         self.cells.is_some()
     }
 
-    /// Makes room for the answers of n lines, and holds none of them yet. Earlier answers are forgotten, and
-    /// without memory nothing is held.
+    /// Makes room for the codes of n lines, none of which is cached yet. Earlier ones are
+    /// forgotten; if an allocation fails, nothing is held.
     pub fn open(&mut self, alloc: Global, lines: usize) -> Result<(), NoMemory>
         ensures ok { OnOk result (self.new ≡ Some (empty_cells lines)) }
         ensures lines { OnOk result (lines_kept self.new ≡ lines) }
@@ -49,7 +50,7 @@ impl Kept {
         Ok(())
     }
 
-    /// Keeps the answer of line i, in place of one that was kept for it. It takes no memory.
+    /// Caches the code of line i, in place of an earlier one. It does not allocate.
     pub fn keep(&mut self, i: usize, answer: Code)
         requires { i < lines_kept self.old }
         ensures new { self.new ≡ kept_at self.old i answer }
@@ -62,7 +63,7 @@ impl Kept {
         }
     }
 
-    /// The answer that is kept for line i: None where there is none, and where nothing is held.
+    /// The code that is cached for line i; None if there is none, or if nothing is held.
     pub fn at(&self, i: usize) -> Option<Code>
         ensures { result ≡ answer_at self.now i }
     {
@@ -72,7 +73,7 @@ impl Kept {
         }
     }
 
-    /// Forgets all answers: nothing is held.
+    /// Forgets all codes: nothing is held.
     pub fn drop_all(&mut self)
         ensures { self.new ≡ None }
     {

@@ -1,5 +1,6 @@
-//! The answers that a pass keeps for the passes that follow it: one cell for each line of its stack
-//! (the Module Writers' Guide on setcred: it takes the path of the authenticate before it).
+//! The return codes that a first run of a stack caches for the run that follows it, one cell for
+//! each line: libpam's frozen chain (`pam_dispatch.c`; the Module Writers' Guide: setcred takes the
+//! path of the authenticate before it).
 #![tactic(auto)]
 
 mod kept;

@@ -8,12 +8,12 @@ use Rattle.data_cleanup.specs.Sets.{Sets}
 use Rattle.env_list.specs.Environment.{Variable}
 use Rattle.pam_outside.specs.Files.{VaultState}
 use Rattle.pam_outside.specs.Time.{ClockState}
-use Rattle.pam_room.specs.declared.process.Process.{Process}
-use Rattle.pam_room.specs.declared.transaction.Transaction.{Transaction}
-use Rattle.pam_room.specs.Plain.{plain_transaction}
-use Rattle.pam_room.specs.State.{PlainProcess, Scene}
-use Rattle.pam_room.specs.Stays.{Stays}
-use Rattle.pam_room.specs.Module.{Played, with_played}
+use Rattle.account_files.specs.pam_room.specs.declared.process.Process.{Process}
+use Rattle.account_files.specs.pam_room.specs.declared.transaction.Transaction.{Transaction}
+use Rattle.account_files.specs.pam_room.specs.Plain.{plain_transaction}
+use Rattle.account_files.specs.pam_room.specs.State.{PlainProcess, Scene}
+use Rattle.account_files.specs.pam_room.specs.Stays.{Stays}
+use Rattle.account_files.specs.pam_room.specs.Module.{Played, with_played}
 use Rattle.account_files.specs.Accounts.{Known}
 use Rattle.account_files.specs.Act.{Act, Acts, stage_of, standing}
 use Rattle.mod_env.specs.Env.{put_in, puts_env, sees_env}

@@ -4,7 +4,7 @@ use Rattle.std.proofs.lemmas.List.{take_all}
 use Rattle.env_list.specs.Environment.{Variable}
 use Rattle.item_store.specs.Items.{ItemTexts}
 use Rattle.pam_base.specs.declared.code.Code.{Code}
-use Rattle.pam_room.specs.State.{Scene}
+use Rattle.account_files.specs.pam_room.specs.State.{Scene}
 use Rattle.account_db.specs.declared.passwd.Passwd.{Passwd}
 use Rattle.account_files.specs.Accounts.{Known, account_in, known_passwds}
 use Rattle.account_files.specs.Act.{Act, Acts, reads_passwds, sees_items}

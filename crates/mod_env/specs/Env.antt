@@ -6,8 +6,8 @@ use Rattle.pam_base.specs.declared.code.Code.TheVariants as returns
 use Rattle.pam_base.specs.declared.call.Func.{Func}
 use Rattle.pam_base.specs.declared.call.Func.TheVariants.{Authenticate, SetCred, AcctMgmt, OpenSession, CloseSession, ChAuthTok}
 use Rattle.env_list.specs.Environment.{Variable, after_put, is_refused}
-use Rattle.pam_room.specs.Call.{PlainCall, value_among}
-use Rattle.pam_room.specs.Module.{Plays}
+use Rattle.account_files.specs.pam_room.specs.Call.{PlainCall, value_among}
+use Rattle.account_files.specs.pam_room.specs.Module.{Plays}
 use Rattle.account_db.specs.declared.passwd.Passwd.{Passwd}
 use Rattle.account_files.specs.declared.content.Content.{Content}
 use Rattle.account_files.specs.declared.content.Content.TheVariants.{Absent, Unreadable, Holds}

@@ -3,7 +3,7 @@ ghost use Rattle.std.specs.Option.{option_copied};
 ghost use Rattle.conv_port.specs.Conv.{ConvState};
 ghost use Rattle.pam_outside.specs.Time.{ClockState};
 ghost use Rattle.pam_base.specs.declared.code.Code.{Code};
-ghost use Rattle.pam_room.specs.Module.{keeps_files, length_note};
+ghost use Rattle.account_files.specs.pam_room.specs.Module.{keeps_files, length_note};
 ghost use Rattle.account_files.specs.Accounts.{nothing_known};
 ghost use Rattle.account_files.specs.Act.{Acts, standing};
 ghost use Rattle.mod_env.specs.Env.{at_once, by_entries, by_first, by_fits, by_texts, env_plays, is_zero, reads_first, reads_second, sets_all, text_in};
@@ -14,12 +14,12 @@ ghost use Rattle.mod_env.specs.Puts.{Puts};
 use crate::conf::{Entries, conf_of};
 use crate::env_file::assignments_of;
 use crate::setting::{put_all, set_all};
+use account_files::pam_room::{Call, Module, Process, Transaction, spend_by_length};
 use account_files::{Accounts, Content, laws, read_named};
 use conv_port::Conv;
 use data_cleanup::{Datum, Receipt};
 use pam_base::{Code, Func, NoMemory, Text};
 use pam_outside::{Clock, Vault};
-use pam_room::{Call, Module, Process, Transaction, spend_by_length};
 use std::alloc::Global;
 
 /// The most bytes of either file.
@@ -63,7 +63,7 @@ impl Module for Env {
     ) -> Result<Code, NoMemory> {
         laws::act_steps();
         crate::laws::puts_alone();
-        pam_room::laws::files_stay();
+        account_files::pam_room::laws::files_stay();
         match at_once(call.func) {
             Some(code) => Ok(code),
             None => read_first(alloc, call, transaction, process, vault),

@@ -7,10 +7,10 @@ ghost use Rattle.mod_env.specs.Expand.{asks_account, expanded, fitting, home_of,
 use crate::conf::Entry;
 use crate::value::{Piece, Pieces};
 use account_db::Passwd;
+use account_files::pam_room::get_item;
 use env_list::EnvList;
 use item_store::Items;
 use pam_base::{ItemName, NoMemory, Text};
-use pam_room::get_item;
 use std::alloc::Global;
 
 /// The most bytes of a value.

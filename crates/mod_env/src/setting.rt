@@ -3,7 +3,7 @@ ghost use Rattle.std.specs.Option.{option_copied};
 ghost use Rattle.conv_port.specs.Conv.{ConvState};
 ghost use Rattle.pam_outside.specs.Files.{VaultState};
 ghost use Rattle.pam_outside.specs.Time.{ClockState};
-ghost use Rattle.pam_room.specs.declared.process.Process.{Process};
+ghost use Rattle.account_files.specs.pam_room.specs.declared.process.Process.{Process};
 ghost use Rattle.account_files.specs.Act.{Came, Leads, sees_items, standing};
 ghost use Rattle.account_files.specs.CameWith.{CameWith};
 ghost use Rattle.mod_env.specs.Env.{by_user, entry_known, entry_seen, looks_if, put_in, puts_all, puts_env, sets_all, sets_by, sets_variable};
@@ -12,12 +12,12 @@ ghost use Rattle.mod_env.specs.Puts.{Puts};
 use crate::conf::{Entries, Entry};
 use crate::expand::{Outcome, Sources, asks_account, outcome_of};
 use account_db::Passwd;
+use account_files::pam_room::{Process, Transaction, get_item};
 use account_files::{Account, Accounts, laws};
 use env_list::EnvList;
 use item_store::Items;
 use pam_base::{ItemName, NoMemory, Refuse, Texts};
 use pam_outside::Vault;
-use pam_room::{Process, Transaction, get_item};
 use std::alloc::Global;
 
 /// Sets the variables in order; false where a value is too long: those before it are set.

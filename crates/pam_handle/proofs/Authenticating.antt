@@ -1,24 +1,24 @@
 -- What an authentication comes to, of its pass and of the wait after it.
 use Rattle.std.proofs.Common.{◌≡◌, ℕ, List, [], Option, Some, None, Result, Ok, Err, IfOk, OnErr, Bool, true, false, ◌&&◌, IsTrue, refl, sym, ◌∙◌, ap, subst}
 use Rattle.std.specs.Prelude.{IfNone}
-use Rattle.fail_delay.specs.Delay.{asked_delay}
-use Rattle.fail_delay.specs.Wait.{wait_of}
+use Rattle.dispatch_core.specs.fail_delay.specs.Delay.{asked_delay}
+use Rattle.dispatch_core.specs.fail_delay.specs.Wait.{wait_of}
 use Rattle.item_store.specs.Items.{ItemTexts}
 use Rattle.pam_base.specs.declared.code.Code.{Code}
 use Rattle.pam_base.specs.declared.call.Func.{Func}
 use Rattle.pam_base.specs.declared.fault.NoMemory.{NoMemory}
 use Rattle.pam_base.specs.declared.call.Func.TheVariants.{Authenticate}
-use Rattle.stack_walk.specs.Route.{KeptAnswers}
+use Rattle.dispatch_core.specs.stack_walk.specs.Route.{KeptAnswers}
 use Rattle.pam_base.specs.declared.code.Code.TheVariants.{Abort}
-use Rattle.stack_walk.specs.declared.pass_kind.PassKind.TheVariants.{Keep}
-use Rattle.pam_room.specs.Module.{Player}
-use Rattle.pam_room.specs.State.{PlainRoom, PlainWorld, State, state_of}
+use Rattle.dispatch_core.specs.stack_walk.specs.declared.pass_kind.PassKind.TheVariants.{Keep}
+use Rattle.dispatch_core.specs.pam_room.specs.Module.{Player}
+use Rattle.dispatch_core.specs.pam_room.specs.State.{PlainRoom, PlainWorld, State, state_of}
 use Rattle.pam_handle.specs.declared.wait.Wait.{Wait}
 use Rattle.dispatch_core.specs.Pending.{Pending, is_other_pending, past_in, pending_behind, same_func}
 use Rattle.pam_handle.specs.Handle.{PlainHandle}
 use Rattle.pam_handle.specs.Items.{with_items}
 use Rattle.pam_handle.specs.Pass.{Passed, PassesTo, passed}
-use Rattle.pam_handle.specs.Call.{Called, CallsAs, WaitsBehind, called, code_at_end, begun_or_going_on, items_begun, request_forgotten, rested_by, tokens_cleared, waited_by}
+use Rattle.pam_handle.specs.Call.{Called, CallsAs, WaitsBehind, called, code_at_end, begun_or_going_on, drawn_by, items_begun, request_forgotten, rested_by, tokens_cleared, waited_by}
 use Rattle.pam_handle.specs.AnyWorld.{Waits, WaitsOnlyAtEnd}
 use Rattle.pam_handle.specs.StackCalls.{authenticate, authenticated, authentication}
 use Rattle.pam_handle.proofs.Calling.{runs}
@@ -54,13 +54,13 @@ passed_on number p h code kept paused room world e =
 waited_behind : (number : Code → ℕ → ℕ) (code : Code) (h : PlainHandle) (w last : PlainWorld) (longest : ℕ) (waited : Option Wait)
     → longest ≡ h.room.transaction.delay
     → (waited ≡ waited_by code (asked_delay longest w.clock.word) (wait_of h.delay_on number code (asked_delay longest w.clock.word)) h.waited)
-    × (last ≡ rested_by (wait_of h.delay_on number code (asked_delay longest w.clock.word)) w)
+    × (last ≡ rested_by (wait_of h.delay_on number code (asked_delay longest w.clock.word)) (drawn_by longest w))
     → CallsAs (authenticated number None code h w) code (record (request_forgotten (tokens_cleared h)) { waited = waited }) last
 waited_behind number code h w last longest waited l e = record {
   code_is = refl;
   handle_is = ap (λ (o : Option Wait). record (request_forgotten (tokens_cleared h)) { waited = o }) (e.0
       ∙ ap (λ (n : ℕ). waited_by code (asked_delay n w.clock.word) (wait_of h.delay_on number code (asked_delay n w.clock.word)) h.waited) l);
-  world_is = e.1 ∙ ap (λ (n : ℕ). rested_by (wait_of h.delay_on number code (asked_delay n w.clock.word)) w) l;
+  world_is = e.1 ∙ ap (λ (n : ℕ). rested_by (wait_of h.delay_on number code (asked_delay n w.clock.word)) (drawn_by n w)) l;
 }
 
 -- after a pass, put off or not

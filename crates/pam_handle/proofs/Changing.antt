@@ -1,21 +1,21 @@
 -- What a change of token comes to, of its passes.
 use Rattle.std.proofs.Common.{◌≡◌, ℕ, bit_or, List, [], Option, Some, None, Result, Ok, Err, IfOk, OnErr, if◌then◌else◌, Bool, true, false, ◌&&◌, is_some, IsTrue, refl, sym, ◌∙◌, ap, subst, arith}
-use Rattle.control_words.specs.Stack.{Stack}
+use Rattle.dispatch_core.specs.control_words.specs.Stack.{Stack}
 use Rattle.frozen_chain.specs.Kept.{Answers}
 use Rattle.dispatch_core.specs.Given.{past_of}
 use Rattle.pam_base.specs.declared.code.Code.{Code}
 use Rattle.pam_base.specs.declared.code.Code.TheVariants.{Abort, Success, SystemErr, Incomplete}
 use Rattle.pam_base.specs.declared.call.Func.TheVariants.{ChAuthTok}
 use Rattle.pam_base.specs.declared.fault.NoMemory.{NoMemory}
-use Rattle.stack_walk.specs.declared.pass_kind.PassKind.TheVariants.{Keep}
-use Rattle.stack_walk.specs.Route.{KeptAnswers}
-use Rattle.pam_room.specs.Call.{prelim_check}
-use Rattle.pam_room.specs.Module.{Player}
-use Rattle.pam_room.specs.State.{PlainRoom, PlainWorld, State, state_of}
+use Rattle.dispatch_core.specs.stack_walk.specs.declared.pass_kind.PassKind.TheVariants.{Keep}
+use Rattle.dispatch_core.specs.stack_walk.specs.Route.{KeptAnswers}
+use Rattle.dispatch_core.specs.pam_room.specs.Call.{prelim_check}
+use Rattle.dispatch_core.specs.pam_room.specs.Module.{Player}
+use Rattle.dispatch_core.specs.pam_room.specs.State.{PlainRoom, PlainWorld, State, state_of}
 use Rattle.data_cleanup.specs.Cleanup.{Notes}
 use Rattle.dispatch_core.specs.AnyWorld.{GoesSoundly}
 use Rattle.item_store.specs.Items.{ItemTexts}
-use Rattle.pam_room.specs.State.{PlainProcess}
+use Rattle.dispatch_core.specs.pam_room.specs.State.{PlainProcess}
 use Rattle.dispatch_core.specs.Pending.{Pending, first_in, is_other_pending, past_in, pending_behind, same_func}
 use Rattle.pam_handle.specs.Handle.{PlainHandle}
 use Rattle.pam_handle.specs.Items.{with_items}

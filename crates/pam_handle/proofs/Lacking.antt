@@ -1,14 +1,14 @@
 -- The modules that are missing in a stack, line by line.
 use Rattle.std.proofs.Common.{get_or, ◌≡◌, ℕ, zero, suc, ◌+◌, ◌<◌, ◌||◌, List, [], ◌∷◌, ◌++◌, Bool, true, false, Option, Some, None, is_some, if◌then◌else◌, length, drop, drop_of_length-le, ◌≤◌, refl, sym, ◌∙◌, ap, append_assoc, add-one, arith}
 use Rattle.std.proofs.lemmas.List.{append-nil, drop_more, length-append}
-use Rattle.control_words.specs.declared.nodes.Rule.{Rule}
-use Rattle.control_words.specs.Module.{name_of_module}
-use Rattle.control_words.specs.Stack.{Stack, none, line, sub, lines_in}
-use Rattle.handler_chain.specs.FlatLines.{FlatLine, flat_lines, module_at, module_of, no_rule, of_first, pending, rule_at}
-use Rattle.service_load.specs.declared.rule_type.RuleType.{RuleType}
-use Rattle.service_load.specs.declared.rule_type.RuleType.TheVariants.{Session}
-use Rattle.service_load.specs.RuleType.{all_types}
-use Rattle.service_load.specs.Stacks.{stacks_of}
+use Rattle.dispatch_core.specs.control_words.specs.declared.nodes.Rule.{Rule}
+use Rattle.dispatch_core.specs.control_words.specs.Module.{name_of_module}
+use Rattle.dispatch_core.specs.control_words.specs.Stack.{Stack, none, line, sub, lines_in}
+use Rattle.dispatch_core.specs.handler_chain.specs.FlatLines.{FlatLine, flat_lines, module_at, module_of, no_rule, of_first, pending, rule_at}
+use Rattle.dispatch_core.specs.service_load.specs.declared.rule_type.RuleType.{RuleType}
+use Rattle.dispatch_core.specs.service_load.specs.declared.rule_type.RuleType.TheVariants.{Session}
+use Rattle.dispatch_core.specs.service_load.specs.RuleType.{all_types}
+use Rattle.dispatch_core.specs.service_load.specs.Stacks.{stacks_of}
 use Rattle.pam_handle.specs.Items.{missing_from, missing_in, missing_of}
 
 -- what is missing of some lines

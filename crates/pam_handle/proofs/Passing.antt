@@ -4,18 +4,18 @@ use Rattle.std.proofs.Math.Path.{fun_ext}
 use Rattle.pam_base.specs.declared.code.Code.{Code}
 use Rattle.pam_base.specs.declared.call.Func.{Func}
 use Rattle.pam_base.specs.declared.fault.NoMemory.{NoMemory}
-use Rattle.control_words.specs.Stack.{Stack}
+use Rattle.dispatch_core.specs.control_words.specs.Stack.{Stack}
 use Rattle.frozen_chain.specs.Kept.{Answers}
-use Rattle.stack_walk.specs.declared.pass_kind.PassKind.{PassKind}
-use Rattle.stack_walk.specs.declared.pass_kind.PassKind.TheVariants.{Keep, Follow, Loose}
-use Rattle.stack_walk.specs.Pass.{PassState, Visit, kept_in, pass_after}
-use Rattle.stack_walk.specs.Walk.{Walked, code_of}
-use Rattle.stack_walk.specs.Route.{KeptAnswers}
+use Rattle.dispatch_core.specs.stack_walk.specs.declared.pass_kind.PassKind.{PassKind}
+use Rattle.dispatch_core.specs.stack_walk.specs.declared.pass_kind.PassKind.TheVariants.{Keep, Follow, Loose}
+use Rattle.dispatch_core.specs.stack_walk.specs.Pass.{PassState, Visit, kept_in, pass_after}
+use Rattle.dispatch_core.specs.stack_walk.specs.Walk.{Walked, code_of}
+use Rattle.dispatch_core.specs.stack_walk.specs.Route.{KeptAnswers}
 use Rattle.dispatch_core.specs.Failing.{StopsAt}
 use Rattle.dispatch_core.specs.Lines.{answers_by, names_of}
 use Rattle.dispatch_core.specs.Passes.{by_place, paused_after, KeepsAfter, KeepsAll, LeavesAs}
-use Rattle.pam_room.specs.State.{State}
-use Rattle.pam_room.specs.Module.{Breaks, Player, Plays, Note, player_of}
+use Rattle.dispatch_core.specs.pam_room.specs.State.{State}
+use Rattle.dispatch_core.specs.pam_room.specs.Module.{Breaks, Player, Plays, Note, player_of}
 use Rattle.dispatch_core.specs.Calls.{answers_held, kept_behind}
 use Rattle.pam_handle.specs.Pass.{PassesTo, kept_answers, passed}
 

@@ -1,8 +1,8 @@
 -- What was waited and told of it, by the delay that was asked for.
 use Rattle.std.proofs.Common.{◌≡◌, ℕ, Bool, Option, Some, sym, ◌∙◌, ap}
-use Rattle.fail_delay.specs.Wait.{wait_of}
+use Rattle.dispatch_core.specs.fail_delay.specs.Wait.{wait_of}
 use Rattle.pam_base.specs.declared.code.Code.{Code}
-use Rattle.pam_room.specs.State.{PlainWorld}
+use Rattle.dispatch_core.specs.pam_room.specs.State.{PlainWorld}
 use Rattle.pam_handle.specs.declared.wait.Wait.{Wait}
 use Rattle.pam_handle.specs.Call.{rested_by, waited_by}
 

@@ -1,14 +1,14 @@
 -- Worked rows, computed on the definitions, over small modules of their own.
 use Rattle.std.proofs.Common.{◌≡◌, ℕ, ◌+◌, ◌*◌, ◌%◌, Bool, true, false, List, [], ◌∷◌, map, Some, None, is_ok, length, min, codes, if◌then◌else◌, refl}
-use Rattle.env_list.specs.Environment.{after_put, is_refused, value_of}
-use Rattle.conv_port.specs.declared.offer.Offer.{Offer}
-use Rattle.conv_port.specs.declared.offer.Offer.TheVariants.{Answer, Later}
-use Rattle.control_words.specs.declared.control.Action.{Action}
-use Rattle.control_words.specs.declared.control.Action.TheVariants as actions
-use Rattle.control_words.specs.declared.nodes.Rule.{Rule}
-use Rattle.control_words.specs.Control.{usual}
-use Rattle.control_words.specs.Keyword.{required, sufficient, optional}
-use Rattle.control_words.specs.Stack.{Stack, none, line}
+use Rattle.dispatch_core.specs.env_list.specs.Environment.{after_put, is_refused, value_of}
+use Rattle.dispatch_core.specs.conv_port.specs.declared.offer.Offer.{Offer}
+use Rattle.dispatch_core.specs.conv_port.specs.declared.offer.Offer.TheVariants.{Answer, Later}
+use Rattle.dispatch_core.specs.control_words.specs.declared.control.Action.{Action}
+use Rattle.dispatch_core.specs.control_words.specs.declared.control.Action.TheVariants as actions
+use Rattle.dispatch_core.specs.control_words.specs.declared.nodes.Rule.{Rule}
+use Rattle.dispatch_core.specs.control_words.specs.Control.{usual}
+use Rattle.dispatch_core.specs.control_words.specs.Keyword.{required, sufficient, optional}
+use Rattle.dispatch_core.specs.control_words.specs.Stack.{Stack, none, line}
 use Rattle.dispatch_core.specs.Lines.{names_of}
 use Rattle.item_store.specs.Items.{text_of, with_text}
 use Rattle.pam_base.specs.declared.code.Code.{Code}
@@ -19,13 +19,13 @@ use Rattle.pam_base.specs.declared.item.ItemName.TheVariants.{Tty, User}
 use Rattle.pam_base.specs.declared.style.Style.TheVariants.{EchoOn}
 use Rattle.data_cleanup.specs.declared.receipt.Filed.{Filed}
 use Rattle.data_cleanup.specs.declared.receipt.Receipt.{Receipt}
-use Rattle.pam_room.specs.Call.{has_flag, prelim_check}
-use Rattle.pam_room.specs.Module.{NamedData, Note, Played, Player, Plays, Sight, answered, never_breaks, notes_of}
-use Rattle.pam_room.specs.Say.{Spoken, speak}
-use Rattle.pam_room.specs.State.{PlainWorld, world_of}
-use Rattle.pam_room.specs.declared.visits.Visit.{Visit}
+use Rattle.dispatch_core.specs.pam_room.specs.Call.{has_flag, prelim_check}
+use Rattle.dispatch_core.specs.pam_room.specs.Module.{NamedData, Note, Played, Player, Plays, Sight, answered, never_breaks, notes_of}
+use Rattle.dispatch_core.specs.pam_room.specs.Say.{Spoken, speak}
+use Rattle.dispatch_core.specs.pam_room.specs.State.{PlainWorld, world_of}
+use Rattle.dispatch_core.specs.pam_room.specs.declared.visits.Visit.{Visit}
 use Rattle.pam_handle.specs.declared.wait.Wait.{Wait}
-use Rattle.service_load.specs.Stacks.{Stacks}
+use Rattle.dispatch_core.specs.service_load.specs.Stacks.{Stacks}
 use Rattle.pam_handle.specs.Handle.{PlainHandle}
 use Rattle.dispatch_core.specs.Pending.{pending_func}
 use Rattle.pam_handle.specs.Call.{Called}
@@ -74,7 +74,7 @@ abbrev started_with : List Player → List Offer → Stacks → PlainHandle
 started_with players offers s = new_handle 1 (codes "t") (Some (codes "joe")) (record { offers = offers; waits = false; handed = [] }) (names_of players) s
 
 abbrev world : ℕ → PlainWorld
-world word = world_of (record { files = []; calls = 0; fails = [] }) (record { moment = 0; word = word }) (record { waits = 0; sum = 0 }) (record { ledger = record { births = []; filed = [] }; root = []; caller = 0 })
+world word = world_of (record { files = []; calls = 0; fails = [] }) (record { moment = 0; word = word; draws = 0 }) (record { waits = 0; sum = 0 }) (record { ledger = record { births = []; filed = [] }; root = []; caller = 0 })
 
 -- the application's delay function: at most 3 seconds
 abbrev three_seconds : Code → ℕ → ℕ

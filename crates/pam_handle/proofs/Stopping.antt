@@ -5,18 +5,18 @@ use Rattle.pam_base.specs.declared.code.Code.TheVariants.{Success}
 use Rattle.pam_base.specs.declared.call.Func.{Func}
 use Rattle.pam_base.specs.declared.call.Func.TheVariants.{ChAuthTok}
 use Rattle.pam_base.specs.declared.fault.NoMemory.{NoMemory}
-use Rattle.control_words.specs.Stack.{Stack}
+use Rattle.dispatch_core.specs.control_words.specs.Stack.{Stack}
 use Rattle.frozen_chain.specs.Kept.{Answers}
-use Rattle.stack_walk.specs.declared.pass_kind.PassKind.{PassKind}
-use Rattle.stack_walk.specs.declared.pass_kind.PassKind.TheVariants.{Keep, Follow}
-use Rattle.stack_walk.specs.Route.{KeptAnswers}
+use Rattle.dispatch_core.specs.stack_walk.specs.declared.pass_kind.PassKind.{PassKind}
+use Rattle.dispatch_core.specs.stack_walk.specs.declared.pass_kind.PassKind.TheVariants.{Keep, Follow}
+use Rattle.dispatch_core.specs.stack_walk.specs.Route.{KeptAnswers}
 use Rattle.dispatch_core.specs.AnyWorld.{GoesSoundly}
 use Rattle.dispatch_core.specs.Calls.{answers_held}
 use Rattle.dispatch_core.specs.Failing.{IsUntouched, StopsAt}
 use Rattle.dispatch_core.specs.Given.{past_of}
 use Rattle.dispatch_core.specs.Pending.{Pending, first_in, past_in}
-use Rattle.pam_room.specs.Module.{Player, notes_of}
-use Rattle.pam_room.specs.State.{PlainRoom, PlainWorld, State, state_of}
+use Rattle.dispatch_core.specs.pam_room.specs.Module.{Player, notes_of}
+use Rattle.dispatch_core.specs.pam_room.specs.State.{PlainRoom, PlainWorld, State, state_of}
 use Rattle.pam_handle.specs.Handle.{PlainHandle}
 use Rattle.pam_handle.specs.Pass.{PassesTo, kept_answers, passed}
 use Rattle.pam_handle.specs.StackCalls.{flags_seen, held_in}

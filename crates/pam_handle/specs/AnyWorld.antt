@@ -6,10 +6,10 @@ use Rattle.pam_base.specs.declared.call.Func.{Func}
 use Rattle.pam_base.specs.declared.call.Func.TheVariants.{Authenticate, SetCred, OpenSession, CloseSession, ChAuthTok}
 use Rattle.data_cleanup.specs.Cleanup.{Notes}
 use Rattle.item_store.specs.Items.{ItemTexts}
-use Rattle.fail_delay.specs.Wait.{wait_of}
+use Rattle.dispatch_core.specs.fail_delay.specs.Wait.{wait_of}
 use Rattle.dispatch_core.specs.AnyWorld.{GoesSoundly}
-use Rattle.pam_room.specs.State.{PlainProcess}
-use Rattle.stack_walk.specs.Route.{KeptAnswers}
+use Rattle.dispatch_core.specs.pam_room.specs.State.{PlainProcess}
+use Rattle.dispatch_core.specs.stack_walk.specs.Route.{KeptAnswers}
 use Rattle.pam_handle.specs.declared.wait.Wait.{Wait}
 use Rattle.dispatch_core.specs.Pending.{Pending}
 use Rattle.pam_handle.specs.Handle.{PlainHandle}

@@ -6,10 +6,10 @@ use Rattle.pam_base.specs.declared.code.Code.{Code}
 use Rattle.pam_base.specs.declared.call.Func.{Func}
 use Rattle.pam_base.specs.declared.fault.NoMemory.{NoMemory}
 use Rattle.item_store.specs.Items.{ItemTexts, without_tokens}
-use Rattle.fail_delay.specs.Delay.{asked_delay}
-use Rattle.fail_delay.specs.Wait.{wait_of}
-use Rattle.pam_outside.specs.Time.{rested}
-use Rattle.pam_room.specs.State.{PlainRoom, PlainWorld}
+use Rattle.dispatch_core.specs.fail_delay.specs.Delay.{asked_delay}
+use Rattle.dispatch_core.specs.fail_delay.specs.Wait.{wait_of}
+use Rattle.dispatch_core.specs.pam_outside.specs.Time.{drawn, rested}
+use Rattle.dispatch_core.specs.pam_room.specs.State.{PlainRoom, PlainWorld}
 use Rattle.pam_handle.specs.declared.wait.Wait.{Wait}
 use Rattle.dispatch_core.specs.Pending.{Pending, same_func}
 use Rattle.pam_handle.specs.Handle.{PlainHandle, in_room}
@@ -83,6 +83,10 @@ abbrev pub waited_by : Code → ℕ → Option ℕ → Option Wait → Option Wa
 waited_by code asked None before = before
 waited_by code asked (Some n) before = Some (record { code = code; asked = asked; wait = n })
 
+-- a random word is drawn only if a delay was requested
+abbrev pub drawn_by : ℕ → PlainWorld → PlainWorld
+drawn_by longest w = if longest == 0 then w else record w { clock = drawn w.clock }
+
 -- a wait of more than 0 is rested
 abbrev pub rested_by : Option ℕ → PlainWorld → PlainWorld
 rested_by None w = w
@@ -96,7 +100,8 @@ waits code asked wait h w =
 abbrev pub waits_after : (Code → ℕ → ℕ) → Code → PlainHandle → PlainWorld → Called
 waits_after number code h w =
     let asked = asked_delay h.room.transaction.delay w.clock.word in
-    waits code asked (wait_of h.delay_on number code asked) h w
+    waits code asked (wait_of h.delay_on number code asked) h
+    (drawn_by h.room.transaction.delay w)
 
 -- what was to be told of a wait and what the world is after a call that has ended with a code, or that hasn't
 abbrev pub WaitsBehind : (Code → ℕ → ℕ) → Option Code → ℕ → Bool → Option Wait → PlainWorld
@@ -105,4 +110,4 @@ WaitsBehind number None longest on before w after last = (after ≡ before) × (
 WaitsBehind number (Some code) longest on before w after last =
     let asked = asked_delay longest w.clock.word in
     (after ≡ waited_by code asked (wait_of on number code asked) before)
-    × (last ≡ rested_by (wait_of on number code asked) w)
+    × (last ≡ rested_by (wait_of on number code asked) (drawn_by longest w))

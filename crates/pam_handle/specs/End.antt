@@ -1,7 +1,7 @@
 -- The end of a transaction (pam_end(3)): its data are cleaned up by their owners, the last name first.
 use Rattle.std.specs.Prelude.{ℕ, reverse}
 use Rattle.data_cleanup.specs.Cleanup.{Notes, ledger_after}
-use Rattle.pam_room.specs.State.{PlainWorld, PlainProcess}
+use Rattle.dispatch_core.specs.pam_room.specs.State.{PlainWorld, PlainProcess}
 use Rattle.pam_handle.specs.Handle.{PlainHandle}
 
 abbrev pub process_after_end : Notes → ℕ → PlainHandle → PlainProcess → PlainProcess

@@ -1,9 +1,9 @@
 -- An open transaction as a plain record (pam_start(3)).
 use Rattle.std.specs.Prelude.{ℕ, Bool, List, Option}
-use Rattle.service_load.specs.Stacks.{Stacks}
+use Rattle.dispatch_core.specs.service_load.specs.Stacks.{Stacks}
 use Rattle.dispatch_core.specs.Pending.{Pending}
-use Rattle.stack_walk.specs.Route.{KeptAnswers}
-use Rattle.pam_room.specs.State.{PlainRoom}
+use Rattle.dispatch_core.specs.stack_walk.specs.Route.{KeptAnswers}
+use Rattle.dispatch_core.specs.pam_room.specs.State.{PlainRoom}
 use Rattle.pam_handle.specs.declared.wait.Wait.{Wait}
 
 -- The room, the stacks, the names of the modules that it was started with, the answers that the last authentication

@@ -2,15 +2,15 @@
 -- pam_putenv(3), pam_fail_delay(3); that missing modules are told is this project's own).
 use Rattle.std.specs.Prelude.{ℕ, Bool, ◌||◌, if◌then◌else◌, None, is_some, List, [], ◌∷◌, ◌++◌, max}
 use Rattle.item_store.specs.Items.{ItemTexts}
-use Rattle.env_list.specs.Environment.{Variable}
-use Rattle.fail_delay.specs.Delay.{counted_request}
-use Rattle.conv_port.specs.Conv.{ConvState}
-use Rattle.control_words.specs.declared.nodes.Rule.{Rule}
-use Rattle.control_words.specs.Module.{name_of_module}
-use Rattle.control_words.specs.Stack.{Stack, none, line, sub}
-use Rattle.handler_chain.specs.FlatLines.{module_of}
-use Rattle.pam_room.specs.State.{PlainTransaction}
-use Rattle.service_load.specs.Stacks.{Stacks}
+use Rattle.dispatch_core.specs.env_list.specs.Environment.{Variable}
+use Rattle.dispatch_core.specs.fail_delay.specs.Delay.{counted_request}
+use Rattle.dispatch_core.specs.conv_port.specs.Conv.{ConvState}
+use Rattle.dispatch_core.specs.control_words.specs.declared.nodes.Rule.{Rule}
+use Rattle.dispatch_core.specs.control_words.specs.Module.{name_of_module}
+use Rattle.dispatch_core.specs.control_words.specs.Stack.{Stack, none, line, sub}
+use Rattle.dispatch_core.specs.handler_chain.specs.FlatLines.{module_of}
+use Rattle.dispatch_core.specs.pam_room.specs.State.{PlainTransaction}
+use Rattle.dispatch_core.specs.service_load.specs.Stacks.{Stacks}
 use Rattle.pam_handle.specs.Handle.{PlainHandle, in_room}
 
 abbrev pub with_transaction : PlainTransaction → PlainHandle → PlainHandle

@@ -1,3 +1,12 @@
+pub use Rattle.dispatch_core.specs.conf_lex
+pub use Rattle.dispatch_core.specs.control_words
+pub use Rattle.dispatch_core
+pub use Rattle.dispatch_core.specs.env_list
+pub use Rattle.dispatch_core.specs.handler_chain
+pub use Rattle.item_store
+pub use Rattle.dispatch_core.specs.pam_room
+pub use Rattle.dispatch_core.specs.service_load
+pub use Rattle.dispatch_core.specs.stack_walk
 pub mod Handle
 pub mod Pass
 pub mod Call

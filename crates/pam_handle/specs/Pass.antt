@@ -2,17 +2,17 @@
 use Rattle.std.specs.Prelude.{◌≡◌, ℕ, Option, Some, None, List, is_some, if◌then◌else◌}
 use Rattle.pam_base.specs.declared.code.Code.{Code}
 use Rattle.pam_base.specs.declared.call.Func.{Func}
-use Rattle.control_words.specs.Stack.{Stack}
+use Rattle.dispatch_core.specs.control_words.specs.Stack.{Stack}
 use Rattle.frozen_chain.specs.Kept.{Answers}
-use Rattle.stack_walk.specs.declared.pass_kind.PassKind.{PassKind}
-use Rattle.stack_walk.specs.Route.{KeptAnswers}
-use Rattle.stack_walk.specs.Pass.{pass_after}
+use Rattle.dispatch_core.specs.stack_walk.specs.declared.pass_kind.PassKind.{PassKind}
+use Rattle.dispatch_core.specs.stack_walk.specs.Route.{KeptAnswers}
+use Rattle.dispatch_core.specs.stack_walk.specs.Pass.{pass_after}
 use Rattle.dispatch_core.specs.Lines.{answers_by}
 use Rattle.dispatch_core.specs.Passes.{by_place}
 use Rattle.dispatch_core.specs.Calls as calls
 use Rattle.dispatch_core.specs.Calls.{answers_held, passed_by}
-use Rattle.pam_room.specs.State.{State}
-use Rattle.pam_room.specs.Module.{Player}
+use Rattle.dispatch_core.specs.pam_room.specs.State.{State}
+use Rattle.dispatch_core.specs.pam_room.specs.Module.{Player}
 
 -- the answers that cells hold, by the places of lines, where any are held
 abbrev pub kept_answers : Answers → Option KeptAnswers

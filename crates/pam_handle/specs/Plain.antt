@@ -3,15 +3,15 @@ use Rattle.std.specs.Option.{option_map}
 use Rattle.std.specs.declared.alloc.Global.{Global}
 use Rattle.std.specs.declared.dyn_box.DynBox.{DynBox}
 use Rattle.dispatch_core.specs.Given.{past_of}
-use Rattle.pam_room.specs.State.{PlainRoom}
-use Rattle.pam_room.specs.declared.room.Room.{Room}
+use Rattle.dispatch_core.specs.pam_room.specs.State.{PlainRoom}
+use Rattle.dispatch_core.specs.pam_room.specs.declared.room.Room.{Room}
 use Rattle.pam_handle.specs.declared.chains.Chains.{Chains}
 use Rattle.pam_handle.specs.declared.handle.Handle.{Handle}
 use Rattle.pam_handle.specs.declared.put_off.PutOff.{PutOff}
-use Rattle.control_words.specs.Stack.{Stack}
-use Rattle.service_load.specs.declared.rule_type.RuleType.{RuleType}
-use Rattle.service_load.specs.declared.rule_type.RuleType.TheVariants.{Auth, Account, Password, Session}
-use Rattle.service_load.specs.Stacks.{Stacks}
+use Rattle.dispatch_core.specs.control_words.specs.Stack.{Stack}
+use Rattle.dispatch_core.specs.service_load.specs.declared.rule_type.RuleType.{RuleType}
+use Rattle.dispatch_core.specs.service_load.specs.declared.rule_type.RuleType.TheVariants.{Auth, Account, Password, Session}
+use Rattle.dispatch_core.specs.service_load.specs.Stacks.{Stacks}
 use Rattle.dispatch_core.specs.Pending.{Pending}
 use Rattle.pam_handle.specs.Handle.{PlainHandle}
 use Rattle.pam_handle.specs.Pass.{kept_answers}

@@ -1,9 +1,9 @@
 -- What has to hold between two calls of a transaction (this project's own).
 use Rattle.std.specs.Prelude.{◌≡◌, List, length}
 use Rattle.dispatch_core.specs.Lines.{names_of}
-use Rattle.pam_room.specs.Module.{Player}
-use Rattle.pam_room.specs.State.{PlainProcess}
-use Rattle.pam_room.specs.Stays.{IsReady}
+use Rattle.dispatch_core.specs.pam_room.specs.Module.{Player}
+use Rattle.dispatch_core.specs.pam_room.specs.State.{PlainProcess}
+use Rattle.dispatch_core.specs.pam_room.specs.Stays.{IsReady}
 use Rattle.pam_handle.specs.Handle.{PlainHandle}
 
 -- a transaction may be called with these modules in this process: it was started with them, and its data are sound

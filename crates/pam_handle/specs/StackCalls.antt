@@ -6,10 +6,10 @@ use Rattle.pam_base.specs.declared.code.Code.{Code}
 use Rattle.pam_base.specs.declared.code.Code.TheVariants as codes
 use Rattle.pam_base.specs.declared.call.Func.{Func}
 use Rattle.pam_base.specs.declared.call.Func.TheVariants.{Authenticate, SetCred, AcctMgmt, OpenSession, CloseSession, ChAuthTok}
-use Rattle.stack_walk.specs.Route.{KeptAnswers}
-use Rattle.pam_room.specs.Call.{has_flag, prelim_check}
-use Rattle.pam_room.specs.Module.{Player}
-use Rattle.pam_room.specs.State.{PlainWorld, State, state_of}
+use Rattle.dispatch_core.specs.stack_walk.specs.Route.{KeptAnswers}
+use Rattle.dispatch_core.specs.pam_room.specs.Call.{has_flag, prelim_check}
+use Rattle.dispatch_core.specs.pam_room.specs.Module.{Player}
+use Rattle.dispatch_core.specs.pam_room.specs.State.{PlainWorld, State, state_of}
 use Rattle.pam_handle.specs.Handle.{PlainHandle}
 use Rattle.dispatch_core.specs.Lines.{answers_by}
 use Rattle.dispatch_core.specs.Calls.{Asking, Held, held, held_behind, first_pass, second_pass}

@@ -3,18 +3,18 @@ use Rattle.std.specs.Prelude.{◌≡◌, ℕ, List, Option, Some, None, Result, 
 use Rattle.std.specs.Str.{str_to_ascii_lowercase}
 use Rattle.pam_base.specs.declared.fault.Refuse.{Refuse}
 use Rattle.pam_base.specs.declared.fault.Refuse.TheVariants.{NoMemory, Named}
-use Rattle.conv_port.specs.Conv.{ConvState}
-use Rattle.pam_outside.specs.Files.{VaultState}
-use Rattle.service_load.specs.declared.load_fault.LoadFault.{LoadFault}
-use Rattle.service_load.specs.FirstFault.{Counts, Stop}
-use Rattle.service_load.specs.Load.{loaded, has_folder}
-use Rattle.service_load.specs.Loading.{texts_of, CountsFaults}
-use Rattle.service_load.specs.Tree.{tree}
+use Rattle.dispatch_core.specs.conv_port.specs.Conv.{ConvState}
+use Rattle.dispatch_core.specs.pam_outside.specs.Files.{VaultState}
+use Rattle.dispatch_core.specs.service_load.specs.declared.load_fault.LoadFault.{LoadFault}
+use Rattle.dispatch_core.specs.service_load.specs.FirstFault.{Counts, Stop}
+use Rattle.dispatch_core.specs.service_load.specs.Load.{loaded, has_folder}
+use Rattle.dispatch_core.specs.service_load.specs.Loading.{texts_of, CountsFaults}
+use Rattle.dispatch_core.specs.service_load.specs.Tree.{tree}
 use Rattle.item_store.specs.Items.{ItemTexts, no_texts}
-use Rattle.pam_room.specs.State.{PlainWorld, new_transaction, room_of}
+use Rattle.dispatch_core.specs.pam_room.specs.State.{PlainWorld, new_transaction, room_of}
 use Rattle.pam_handle.specs.declared.chains.Chains.{Chains}
 use Rattle.pam_handle.specs.Plain.{stacks_in}
-use Rattle.service_load.specs.Stacks.{Stacks, stacks_of}
+use Rattle.dispatch_core.specs.service_load.specs.Stacks.{Stacks, stacks_of}
 use Rattle.pam_handle.specs.Handle.{PlainHandle}
 
 -- only SERVICE and, where it is known, USER are set

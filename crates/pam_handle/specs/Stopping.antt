@@ -4,17 +4,17 @@ use Rattle.pam_base.specs.declared.code.Code.{Code}
 use Rattle.pam_base.specs.declared.code.Code.TheVariants as codes
 use Rattle.pam_base.specs.declared.call.Func.{Func}
 use Rattle.pam_base.specs.declared.call.Func.TheVariants.{Authenticate, SetCred, AcctMgmt, OpenSession, CloseSession, ChAuthTok}
-use Rattle.control_words.specs.Stack.{Stack}
-use Rattle.service_load.specs.Stacks.{Stacks}
-use Rattle.stack_walk.specs.declared.pass_kind.PassKind.{PassKind}
-use Rattle.stack_walk.specs.declared.pass_kind.PassKind.TheVariants as kinds
-use Rattle.stack_walk.specs.Route.{KeptAnswers}
+use Rattle.dispatch_core.specs.control_words.specs.Stack.{Stack}
+use Rattle.dispatch_core.specs.service_load.specs.Stacks.{Stacks}
+use Rattle.dispatch_core.specs.stack_walk.specs.declared.pass_kind.PassKind.{PassKind}
+use Rattle.dispatch_core.specs.stack_walk.specs.declared.pass_kind.PassKind.TheVariants as kinds
+use Rattle.dispatch_core.specs.stack_walk.specs.Route.{KeptAnswers}
 use Rattle.dispatch_core.specs.AnyWorld.{GoesSoundly}
 use Rattle.dispatch_core.specs.Calls.{Held, answers_held, following}
 use Rattle.dispatch_core.specs.Failing.{StopsAt}
 use Rattle.dispatch_core.specs.Pending.{first_in, past_in}
-use Rattle.pam_room.specs.Module.{Player, notes_of}
-use Rattle.pam_room.specs.State.{PlainRoom, PlainWorld, State, state_of}
+use Rattle.dispatch_core.specs.pam_room.specs.Module.{Player, notes_of}
+use Rattle.dispatch_core.specs.pam_room.specs.State.{PlainRoom, PlainWorld, State, state_of}
 use Rattle.pam_handle.specs.Handle.{PlainHandle}
 use Rattle.pam_handle.specs.Call.{items_begun, without_its_tokens, without_request}
 use Rattle.pam_handle.specs.Pass.{PassesTo, passed}

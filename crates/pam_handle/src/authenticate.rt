@@ -1,6 +1,6 @@
 ghost use Rattle.std.specs.Prelude.{◌≡◌, ◌<◌, ◌^◌, ◌&&◌, ℕ, false, None, Ok, IfOk, OnErr, IsTrue, length};
 ghost use Rattle.pam_base.specs.declared.code.Code.{Code};
-ghost use Rattle.pam_room.specs.Module.{notes_of};
+ghost use Rattle.dispatch_core.specs.pam_room.specs.Module.{notes_of};
 ghost use Rattle.pam_handle.specs.AnyWorld.{FailsAs, LeavesOthers, LeavesPending, RunsSoundly, Waits};
 ghost use Rattle.dispatch_core.specs.Pending.{is_other_pending};
 ghost use Rattle.pam_handle.specs.Call.{CallsAs};
@@ -16,11 +16,11 @@ use crate::pass::pass;
 use crate::pending::{clear_unless_pending, clear_unless_put_off, code_at_end, taken_up};
 use data_cleanup::laws;
 use dispatch_core::PassRequest;
-use fail_delay::{DelayFn, DelayTold};
+use dispatch_core::fail_delay::{DelayFn, DelayTold};
+use dispatch_core::pam_room::{Room, RoomTold, World, WorldTold};
+use dispatch_core::stack_walk::PassKind;
 use frozen_chain::Kept;
 use pam_base::{Code, Func, NoMemory};
-use pam_room::{Room, RoomTold, World, WorldTold};
-use stack_walk::PassKind;
 use std::alloc::Global;
 
 impl Handle {

@@ -1,8 +1,8 @@
 ghost use Rattle.std.specs.Prelude.{◌≡◌};
 
-use handler_chain::Chain;
+use dispatch_core::handler_chain::Chain;
+use dispatch_core::service_load::RuleType;
 use pam_base::Texts;
-use service_load::RuleType;
 use std::alloc::Global;
 
 /// The stacks of a service, laid flat for one list of modules.
@@ -19,8 +19,8 @@ pub struct Chains {
 
 impl Chains {
     ghost use Rattle.std.specs.Prelude.{◌<◌, ◌^◌, length};
-    ghost use Rattle.control_words.specs.Stack.{none};
-    ghost use Rattle.service_load.specs.Stacks.{stacks_of, with_stack};
+    ghost use Rattle.dispatch_core.specs.control_words.specs.Stack.{none};
+    ghost use Rattle.dispatch_core.specs.service_load.specs.Stacks.{stacks_of, with_stack};
     ghost use Rattle.pam_handle.specs.Plain.{nodes_in, stacks_in};
 
     /// Stacks without a line, for modules with these names.

@@ -2,10 +2,10 @@ ghost use Rattle.std.specs.Prelude.{◌≡◌, ◌<◌, ◌^◌, ◌&&◌, false
 ghost use Rattle.dispatch_core.specs.AnyWorld.{GoesSoundly};
 ghost use Rattle.dispatch_core.specs.Given.{past_of};
 ghost use Rattle.dispatch_core.specs.Lines.{names_of};
-ghost use Rattle.pam_room.specs.Module.{notes_of};
-ghost use Rattle.pam_room.specs.Plain.{plain_process, plain_transaction};
-ghost use Rattle.pam_room.specs.State.{state_of};
-ghost use Rattle.pam_room.specs.Stays.{IsReady};
+ghost use Rattle.dispatch_core.specs.pam_room.specs.Module.{notes_of};
+ghost use Rattle.dispatch_core.specs.pam_room.specs.Plain.{plain_process, plain_transaction};
+ghost use Rattle.dispatch_core.specs.pam_room.specs.State.{state_of};
+ghost use Rattle.dispatch_core.specs.pam_room.specs.Stays.{IsReady};
 ghost use Rattle.pam_handle.specs.AnyWorld.{FailsAs, LeavesOthers, LeavesPending, RunsSoundly};
 ghost use Rattle.dispatch_core.specs.Pending.{is_other_pending, pending_behind};
 ghost use Rattle.pam_handle.specs.Call.{CallsAs};
@@ -21,12 +21,12 @@ use crate::gear::{Gear, GearTold};
 use crate::handle::Handle;
 use crate::pass::pass;
 use crate::pending::{clear_unless_pending, clear_unless_put_off, taken_up};
+use dispatch_core::handler_chain::Chain;
+use dispatch_core::pam_room::{Room, RoomTold, World, WorldTold};
+use dispatch_core::stack_walk::PassKind;
 use dispatch_core::{PassRequest, Paused};
 use frozen_chain::Kept;
-use handler_chain::Chain;
 use pam_base::{Code, Func, NoMemory, PRELIM_CHECK, UPDATE_AUTHTOK};
-use pam_room::{Room, RoomTold, World, WorldTold};
-use stack_walk::PassKind;
 use std::alloc::Global;
 
 impl Handle {

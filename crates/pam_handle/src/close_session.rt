@@ -1,5 +1,5 @@
 ghost use Rattle.std.specs.Prelude.{◌≡◌, ◌<◌, ◌^◌, ◌&&◌, false, None, Ok, IfOk, OnErr, IsTrue, length};
-ghost use Rattle.pam_room.specs.Module.{notes_of};
+ghost use Rattle.dispatch_core.specs.pam_room.specs.Module.{notes_of};
 ghost use Rattle.pam_handle.specs.AnyWorld.{FailsAs, LeavesOthers, LeavesPending, RunsSoundly};
 ghost use Rattle.dispatch_core.specs.Pending.{is_other_pending};
 ghost use Rattle.pam_handle.specs.Call.{CallsAs};
@@ -14,9 +14,9 @@ use crate::pass::{following, pass};
 use crate::pending::taken_up;
 use data_cleanup::laws;
 use dispatch_core::PassRequest;
+use dispatch_core::pam_room::{Room, RoomTold, World, WorldTold};
 use frozen_chain::Kept;
 use pam_base::{Code, Func, NoMemory};
-use pam_room::{Room, RoomTold, World, WorldTold};
 use std::alloc::Global;
 
 impl Handle {

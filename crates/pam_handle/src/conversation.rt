@@ -1,12 +1,12 @@
 ghost use Rattle.std.specs.Prelude.{◌≡◌, ◌≤◌, IsTrue, length};
-ghost use Rattle.conv_port.specs.Conv.{TakesOffer};
+ghost use Rattle.dispatch_core.specs.conv_port.specs.Conv.{TakesOffer};
 ghost use Rattle.pam_handle.specs.Items.{with_conversation};
 ghost use Rattle.pam_handle.specs.Plain.{in_box, plain_handle, room_in};
 
 use crate::handle::Handle;
-use conv_port::{Conv, offer_to};
+use dispatch_core::conv_port::{Conv, offer_to};
+use dispatch_core::pam_room::{Room, RoomTold};
 use pam_base::{MAX_TEXT, NoMemory};
-use pam_room::{Room, RoomTold};
 use std::alloc::Global;
 use std::mem;
 

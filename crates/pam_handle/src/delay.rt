@@ -3,7 +3,7 @@ ghost use Rattle.pam_handle.specs.Items.{with_delay_function, with_request};
 ghost use Rattle.pam_handle.specs.Plain.{plain_handle, room_in};
 
 use crate::handle::Handle;
-use pam_room::{Room, RoomTold};
+use dispatch_core::pam_room::{Room, RoomTold};
 
 impl Handle {
     /// `pam_fail_delay(3)`: a request, in microseconds. The longest since the last stack call that

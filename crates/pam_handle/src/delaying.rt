@@ -1,16 +1,18 @@
 ghost use Rattle.std.specs.Prelude.{◌≡◌, ◌≤◌, ℕ, false, Some, IfNone, IfSome, IsTrue};
-ghost use Rattle.fail_delay.specs.Delay.{asked_delay};
-ghost use Rattle.fail_delay.specs.Wait.{wait_of};
+ghost use Rattle.dispatch_core.specs.fail_delay.specs.Delay.{asked_delay};
+ghost use Rattle.dispatch_core.specs.fail_delay.specs.Wait.{wait_of};
 ghost use Rattle.pam_base.specs.declared.code.Code.{Code};
 ghost use Rattle.pam_handle.specs.AnyWorld.{WaitsFor, WaitsOnlyAtEnd};
-ghost use Rattle.pam_handle.specs.Call.{WaitsBehind, rested_by, waited_by};
+ghost use Rattle.pam_handle.specs.Call.{WaitsBehind, drawn_by, rested_by, waited_by};
 
 use crate::gear::Gear;
 use crate::wait::Wait;
-use fail_delay::{DelayFn, DelayTold, LONGEST_ASKED, LONGEST_REQUEST, asked, wait_after};
+use dispatch_core::fail_delay::{
+    DelayFn, DelayTold, LONGEST_ASKED, LONGEST_REQUEST, asked, wait_after,
+};
+use dispatch_core::pam_outside::{random_word, rest};
+use dispatch_core::pam_room::{World, WorldTold};
 use pam_base::Code;
-use pam_outside::{random_word, rest};
-use pam_room::{World, WorldTold};
 
 // Waits after the code of an authentication (`pam_fail_delay(3)`), by the longest request in microseconds and by the
 // delay function, where it is on. A wait takes the place of what was to be told of an earlier one.
@@ -32,7 +34,7 @@ fn wait(
         (waited.new ≡ waited_by code asked (wait_of delay_on number code asked) waited.old)
         × (⟦<World as WorldTold>⟧.plain world.new
         ≡ rested_by (wait_of delay_on number code asked)
-        (⟦<World as WorldTold>⟧.plain world.old))) }
+        (drawn_by longest (⟦<World as WorldTold>⟧.plain world.old)))) }
     ensures sound { WaitsFor code delay_on waited.old waited.new }
     ensures process { world.new.process ≡ world.old.process }
 {
@@ -77,8 +79,9 @@ fn asked_of(longest: u32, world: &mut World) -> u32
         ≡ ⟦<World as WorldTold>⟧.tells world.old }
     ensures told { IsTrue (⟦<World as WorldTold>⟧.tells world.old) →
         result ≡ asked_delay longest (⟦<World as WorldTold>⟧.plain world.old).clock.word }
-    ensures stays { IsTrue (⟦<World as WorldTold>⟧.tells world.old) →
-        ⟦<World as WorldTold>⟧.plain world.new ≡ ⟦<World as WorldTold>⟧.plain world.old }
+    ensures drawn { IsTrue (⟦<World as WorldTold>⟧.tells world.old) →
+        ⟦<World as WorldTold>⟧.plain world.new
+        ≡ drawn_by longest (⟦<World as WorldTold>⟧.plain world.old) }
     ensures bound { result ≤ LONGEST_ASKED }
     ensures process { world.new.process ≡ world.old.process }
 {

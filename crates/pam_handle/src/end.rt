@@ -1,14 +1,14 @@
 ghost use Rattle.std.specs.Prelude.{◌≡◌};
-ghost use Rattle.pam_room.specs.Module.{notes_of};
-ghost use Rattle.pam_room.specs.Plain.{plain_process};
+ghost use Rattle.dispatch_core.specs.pam_room.specs.Module.{notes_of};
+ghost use Rattle.dispatch_core.specs.pam_room.specs.Plain.{plain_process};
 ghost use Rattle.pam_handle.specs.End.{process_after_end, world_after_end};
 ghost use Rattle.pam_handle.specs.Plain.{plain_handle, room_in};
 ghost use Rattle.pam_handle.specs.Ready.{IsReadyFor};
 
 use crate::gear::{Gear, GearTold};
 use crate::handle::Handle;
-use conv_port::Conv;
-use pam_room::{Room, RoomTold, World, WorldTold, end_room};
+use dispatch_core::conv_port::Conv;
+use dispatch_core::pam_room::{Room, RoomTold, World, WorldTold, end_room};
 
 impl Handle {
     /// Ends the transaction (`pam_end(3)`), be a call pending or not: each datum is cleaned up by

@@ -1,13 +1,13 @@
 ghost use Rattle.std.specs.Prelude.{◌≡◌, ◌≢◌, ◌↔◌, Err, map, IfOk, OnOk, OnErr, IsTrue};
 ghost use Rattle.std.specs.Option.{option_copied};
-ghost use Rattle.env_list.specs.Environment.{after_put, is_deletion, is_refused, value_of, variable_text};
+ghost use Rattle.dispatch_core.specs.env_list.specs.Environment.{after_put, is_deletion, is_refused, value_of, variable_text};
 ghost use Rattle.pam_base.specs.Fault.{bad_item};
 ghost use Rattle.pam_handle.specs.Items.{with_environment};
 ghost use Rattle.pam_handle.specs.Plain.{plain_handle, room_in};
 
 use crate::handle::Handle;
+use dispatch_core::pam_room::{Room, RoomTold};
 use pam_base::{BadItem, NoMemory, Refuse, Texts};
-use pam_room::{Room, RoomTold};
 use std::alloc::Global;
 
 impl Handle {

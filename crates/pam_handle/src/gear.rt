@@ -1,7 +1,7 @@
 ghost use Rattle.std.specs.Prelude.{◌<◌, ◌^◌, length};
 
-use fail_delay::DelayFn;
-use pam_room::Module;
+use dispatch_core::fail_delay::DelayFn;
+use dispatch_core::pam_room::Module;
 
 /// What an application brings to all its transactions: the modules, which a line finds by their names, and its delay
 /// function (PAM_FAIL_DELAY of `pam_fail_delay(3)`).
@@ -15,7 +15,7 @@ pub struct Gear {
 /// Names the modules of a gear, for contracts.
 pub trait GearTold {
     ghost use Rattle.std.specs.Prelude.{List};
-    ghost use Rattle.pam_room.specs.Module.{Player};
+    ghost use Rattle.dispatch_core.specs.pam_room.specs.Module.{Player};
 
     /// Its modules, in order.
     ghost players: { Self → List Player };
@@ -23,7 +23,7 @@ pub trait GearTold {
 
 impl GearTold for Gear {
     ghost use Rattle.std.specs.Prelude.{map};
-    ghost use Rattle.pam_room.specs.Module.{player_of};
+    ghost use Rattle.dispatch_core.specs.pam_room.specs.Module.{player_of};
 
     ghost players = { λ g. map (player_of (λ b. (Module-box b).label b.value) (λ b.
         (Module-box b).plays b.value) (λ b. (Module-box b).note b.value) (λ b.

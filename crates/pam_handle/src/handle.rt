@@ -1,8 +1,8 @@
 use crate::chains::Chains;
 use crate::put_off::PutOff;
 use crate::wait::Wait;
+use dispatch_core::pam_room::Room;
 use frozen_chain::Kept;
-use pam_room::Room;
 
 /// A transaction (`pam_start(3)`), from its start to its end. It holds module data, so it can't be dropped: `end` alone
 /// uses it up.

@@ -8,8 +8,8 @@ ghost use Rattle.pam_handle.specs.Items.{with_items};
 ghost use Rattle.pam_handle.specs.Plain.{plain_handle, room_in};
 
 use crate::handle::Handle;
+use dispatch_core::pam_room::{Room, RoomTold};
 use pam_base::{BadItem, ItemName, Refuse};
-use pam_room::{Room, RoomTold};
 
 impl Handle {
     /// `pam_set_item(3)`: a copy of the value, or with None the item is unset, which takes no

@@ -30,6 +30,7 @@ mod start;
 mod take_told;
 mod wait;
 
+pub use dispatch_core::{pam_room, service_load};
 pub use flags::has_pass_flag;
 pub use gear::{Gear, GearTold};
 pub use handle::Handle;

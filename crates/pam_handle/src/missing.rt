@@ -1,15 +1,15 @@
 ghost use Rattle.std.specs.Prelude.{◌≡◌, ◌<◌, ◌++◌, IfOk, OnOk};
-ghost use Rattle.control_words.specs.Stack.{lines_in};
-ghost use Rattle.handler_chain.specs.FlatLines.{rule_at};
+ghost use Rattle.dispatch_core.specs.control_words.specs.Stack.{lines_in};
+ghost use Rattle.dispatch_core.specs.handler_chain.specs.FlatLines.{rule_at};
 ghost use Rattle.pam_handle.specs.Items.{missing_from, missing_in, missing_of};
 ghost use Rattle.pam_handle.specs.Plain.{plain_handle};
 
 use crate::handle::Handle;
-use control_words::module_name;
-use handler_chain::Chain;
+use dispatch_core::control_words::module_name;
+use dispatch_core::handler_chain::Chain;
+use dispatch_core::pam_room::{Room, RoomTold};
+use dispatch_core::service_load::ALL_TYPES;
 use pam_base::{NoMemory, Text, Texts};
-use pam_room::{Room, RoomTold};
-use service_load::ALL_TYPES;
 use std::alloc::Global;
 
 impl Handle {

@@ -3,21 +3,21 @@ ghost use Rattle.dispatch_core.specs.AnyWorld.{GoesSoundly};
 ghost use Rattle.dispatch_core.specs.Given.{past_of};
 ghost use Rattle.dispatch_core.specs.Lines.{names_of};
 ghost use Rattle.dispatch_core.specs.Passes.{kept_failed};
-ghost use Rattle.pam_room.specs.Module.{notes_of};
-ghost use Rattle.pam_room.specs.Plain.{plain_process, plain_transaction};
-ghost use Rattle.pam_room.specs.State.{state_of};
-ghost use Rattle.pam_room.specs.Stays.{IsReady};
+ghost use Rattle.dispatch_core.specs.pam_room.specs.Module.{notes_of};
+ghost use Rattle.dispatch_core.specs.pam_room.specs.Plain.{plain_process, plain_transaction};
+ghost use Rattle.dispatch_core.specs.pam_room.specs.State.{state_of};
+ghost use Rattle.dispatch_core.specs.pam_room.specs.Stays.{IsReady};
 ghost use Rattle.dispatch_core.specs.Calls.{answers_held, following};
 ghost use Rattle.dispatch_core.specs.Failing.{IsUntouched, StopsAt};
 ghost use Rattle.pam_handle.specs.Pass.{PassesTo, kept_answers, passed};
 
 use crate::gear::{Gear, GearTold};
+use dispatch_core::handler_chain::Chain;
+use dispatch_core::pam_room::{Room, RoomTold, World, WorldTold};
+use dispatch_core::stack_walk::PassKind;
 use dispatch_core::{PassRequest, Paused, dispatch};
 use frozen_chain::Kept;
-use handler_chain::Chain;
 use pam_base::{Code, NoMemory};
-use pam_room::{Room, RoomTold, World, WorldTold};
-use stack_walk::PassKind;
 use std::alloc::Global;
 
 /// One pass of a stack call over one of a transaction's stacks, with the answers that are kept for

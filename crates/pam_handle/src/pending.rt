@@ -9,10 +9,10 @@ ghost use Rattle.pam_handle.specs.Plain.{pending_of, plain_handle, room_in};
 use crate::handle::Handle;
 use crate::put_off::PutOff;
 use dispatch_core::Paused;
+use dispatch_core::pam_room::{Room, RoomTold};
 use frozen_chain::Kept;
 use item_store::Items;
 use pam_base::{Code, Func, NoMemory};
-use pam_room::{Room, RoomTold};
 
 impl Handle {
     /// The function of the stack call that is pending, if one is: one that was put off, and that goes on when it is

@@ -1,18 +1,18 @@
 ghost use Rattle.std.specs.Prelude.{◌≡◌, ◌<◌, ◌^◌, Some, map, length, IfOk};
 ghost use Rattle.std.specs.Option.{option_copied};
 ghost use Rattle.dispatch_core.specs.Lines.{names_of};
-ghost use Rattle.service_load.specs.Load.{AreBounded};
-ghost use Rattle.service_load.specs.Trees.{stacks_of_trees};
+ghost use Rattle.dispatch_core.specs.service_load.specs.Load.{AreBounded};
+ghost use Rattle.dispatch_core.specs.service_load.specs.Trees.{stacks_of_trees};
 ghost use Rattle.pam_handle.specs.Plain.{stacks_in};
 ghost use Rattle.pam_handle.specs.Start.{first_texts};
 
 use crate::chains::Chains;
 use crate::gear::{Gear, GearTold};
-use handler_chain::flatten;
+use dispatch_core::handler_chain::flatten;
+use dispatch_core::pam_room::{Module, name_of, set_item};
+use dispatch_core::service_load::{ALL_TYPES, Trees};
 use item_store::Items;
 use pam_base::{ItemName, NoMemory, Text, Texts, lowercase};
-use pam_room::{Module, name_of, set_item};
-use service_load::{ALL_TYPES, Trees};
 use std::alloc::Global;
 
 /// The items of a transaction that is started: SERVICE, in lower case, and where it is known USER.

@@ -2,9 +2,9 @@ ghost use Rattle.std.specs.Prelude.{◌≡◌, ◌<◌, ◌^◌, ◌+◌, ℕ, R
 ghost use Rattle.std.specs.Option.{option_copied};
 ghost use Rattle.pam_base.specs.ServiceName.{is_service_name};
 ghost use Rattle.dispatch_core.specs.Lines.{names_of};
-ghost use Rattle.service_load.specs.Load.{AreBounded};
-ghost use Rattle.service_load.specs.Trees.{stacks_of_trees};
-ghost use Rattle.service_load.specs.Loading.{CountsFaults, OnlyCalls};
+ghost use Rattle.dispatch_core.specs.service_load.specs.Load.{AreBounded};
+ghost use Rattle.dispatch_core.specs.service_load.specs.Trees.{stacks_of_trees};
+ghost use Rattle.dispatch_core.specs.service_load.specs.Loading.{CountsFaults, OnlyCalls};
 ghost use Rattle.pam_handle.specs.Plain.{in_box, plain_handle, room_in, stacks_in};
 ghost use Rattle.pam_handle.specs.Ready.{IsReadyFor};
 ghost use Rattle.pam_handle.specs.Start.{Opens, Prepares, RefusalCounts, Refuses, first_texts, handle_with, new_handle, started};
@@ -13,12 +13,12 @@ use crate::chains::Chains;
 use crate::gear::{Gear, GearTold};
 use crate::handle::Handle;
 use crate::prepare::{first_items, lay_flat, module_names};
-use conv_port::Conv;
+use dispatch_core::conv_port::Conv;
+use dispatch_core::pam_room::{Room, RoomTold, Transaction, World, WorldTold};
+use dispatch_core::service_load::{LoadFault, Trees, load};
 use frozen_chain::Kept;
 use item_store::Items;
 use pam_base::{NoMemory, Refuse};
-use pam_room::{Room, RoomTold, Transaction, World, WorldTold};
-use service_load::{LoadFault, Trees, load};
 use std::alloc::Global;
 
 /// A start that was refused: the conversation, as it was handed in, and why.

@@ -4,8 +4,8 @@ ghost use Rattle.pam_handle.specs.Plain.{plain_handle, room_in};
 
 use crate::handle::Handle;
 use crate::wait::Wait;
-use conv_port::Messages;
-use pam_room::{Room, RoomTold, Visits};
+use dispatch_core::conv_port::Messages;
+use dispatch_core::pam_room::{Room, RoomTold, Visits};
 use std::alloc::Global;
 use std::mem;
 

@@ -1,16 +1,16 @@
 -- Two walks over one stack whose states are related go side by side, whatever the states are.
 use Rattle.std.proofs.Common.{◌≡◌, ℕ, zero, suc, ◌+◌, Bool, true, false, if◌then◌else◌, List, [], ◌∷◌, refl, subst}
 use Rattle.pam_base.specs.declared.code.Code.{Code}
-use Rattle.control_words.specs.declared.control.Action.{Action}
-use Rattle.control_words.specs.declared.nodes.Rule.{Rule}
-use Rattle.control_words.specs.Control.{action_at}
-use Rattle.control_words.specs.Stack.{Stack, none, line, sub, count, lines_in}
-use Rattle.stack_walk.specs.declared.opinion.Opinion.{Opinion}
-use Rattle.stack_walk.specs.declared.pass_kind.PassKind.{PassKind}
-use Rattle.stack_walk.specs.Opinion.{acted, opening}
-use Rattle.stack_walk.specs.Walk.{Served, Serving, Walked, Next, after, stop, walked, halted, next_of, settled, onward, walk}
-use Rattle.stack_walk.specs.Pass.{Answered, Answering, PassState, Visit, pass_state, pass_after, served_now, served_past, serving}
-use Rattle.stack_walk.specs.Route.{KeptAnswers}
+use Rattle.pam_handle.specs.control_words.specs.declared.control.Action.{Action}
+use Rattle.pam_handle.specs.control_words.specs.declared.nodes.Rule.{Rule}
+use Rattle.pam_handle.specs.control_words.specs.Control.{action_at}
+use Rattle.pam_handle.specs.control_words.specs.Stack.{Stack, none, line, sub, count, lines_in}
+use Rattle.pam_handle.specs.stack_walk.specs.declared.opinion.Opinion.{Opinion}
+use Rattle.pam_handle.specs.stack_walk.specs.declared.pass_kind.PassKind.{PassKind}
+use Rattle.pam_handle.specs.stack_walk.specs.Opinion.{acted, opening}
+use Rattle.pam_handle.specs.stack_walk.specs.Walk.{Served, Serving, Walked, Next, after, stop, walked, halted, next_of, settled, onward, walk}
+use Rattle.pam_handle.specs.stack_walk.specs.Pass.{Answered, Answering, PassState, Visit, pass_state, pass_after, served_now, served_past, serving}
+use Rattle.pam_handle.specs.stack_walk.specs.Route.{KeptAnswers}
 
 -- ---- any walk
 

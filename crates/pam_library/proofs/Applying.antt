@@ -1,6 +1,8 @@
 -- A step on one place, seen in all places.
-use Rattle.std.proofs.Common.{◌≡◌, ℕ, zero, suc, ◌-◌, ◌<◌, ◌≤◌, Bool, true, false, ◌&&◌, if◌then◌else◌, is_ok, IsTrue, IsOk, IfOk, OnErr, List, [], ◌∷◌, length, map, get_or, slice_get, slice_set, Option, Some, None, option_map, Result, Ok, Err, refl, sym, ap, ◌∙◌, subst, arith}
-use Rattle.std.specs.List.{insert, remove, list_all}
+use Rattle.std.proofs.lemmas.Bool.Decides.{nat_tests}
+use Rattle.std.proofs.Common.{◌≡◌, ◌≢◌, ℕ, zero, suc, ◌+◌, ◌-◌, ◌<◌, ◌≤◌, ◌++◌, nat_eq, Bool, true, false, ◌&&◌, if◌then◌else◌, is_ok, IsTrue, IsOk, IfOk, OnErr, List, [], ◌∷◌, length, map, get_or, slice_get, slice_set, Option, Some, None, option_map, Result, Ok, Err, refl, sym, ap, ◌∙◌, subst, arith}
+use Rattle.std.specs.List.{SwappedAt, list_all}
+use Rattle.std.proofs.lemmas.List.{ext_get_or, get_or_append_left, get_or-set_other, get_or-set_same, length-set}
 use Rattle.std.proofs.lemmas.Option.{slice_get-map, slice_get_past, slice_get_read}
 use Rattle.pam_base.specs.declared.code.Code.{Code}
 use Rattle.pam_base.specs.declared.call.AppCall.{AppCall}
@@ -13,9 +15,9 @@ use Rattle.data_cleanup.specs.Cleanup.{AwaitCleanup, Notes}
 use Rattle.data_due.specs.Stands.{Lists}
 use Rattle.data_due.specs.Kept.{AreHeld}
 use Rattle.data_due.specs.Moves.{Moves}
-use Rattle.dispatch_core.specs.Lines.{names_of}
-use Rattle.pam_room.specs.Module.{Player, notes_of}
-use Rattle.pam_room.specs.State.{PlainWorld, PlainProcess}
+use Rattle.pam_handle.specs.dispatch_core.specs.Lines.{names_of}
+use Rattle.pam_handle.specs.pam_room.specs.Module.{Player, notes_of}
+use Rattle.pam_handle.specs.pam_room.specs.State.{PlainWorld, PlainProcess}
 use Rattle.pam_library.specs.declared.outcome.Answer.TheVariants as answers
 use Rattle.pam_library.specs.declared.outcome.Outcome.{Outcome}
 use Rattle.pam_library.specs.Outcome.{plain_outcome}
@@ -31,10 +33,9 @@ use Rattle.pam_library.proofs.Within.{failed_by}
 
 -- ---- an element that is taken out and put back
 
-put_back : {A : Type 0} (xs : List A) (i : ℕ) (y : A) → i < length xs → insert (remove xs i) i y ≡ slice_set xs i y
-put_back [] i y within = absurd (omega arith)
-put_back (x ∷ xs) zero y within = refl
-put_back (x ∷ xs) (suc i) y within = ap (λ (l : List _). x ∷ l) (put_back xs i y (omega arith))
+get_or_at_end : {A : Type 0} (xs : List A) (y : A) → get_or (xs ++ y ∷ []) (length xs) y ≡ y
+get_or_at_end [] y = refl
+get_or_at_end (x ∷ xs) y = get_or_at_end xs y
 
 set-map : {A B : Type 0} (f : A → B) (xs : List A) (i : ℕ) (y : A) → map f (slice_set xs i y) ≡ slice_set (map f xs) i (f y)
 set-map f [] i y = refl
@@ -68,15 +69,45 @@ chosen : {A : Type 0} (b : Bool) (xs ys : List A) → b ≡ true → (if b then 
 chosen true xs ys e = refl
 chosen false xs ys e = absurd (cc)
 
-pub replaced : {A T E : Type 0} (xs rest ys : List A) (number : ℕ) (x y : A) (result : Result T E) → 0 < number → number ≤ length xs
-    → x ≡ get_or xs (number - 1) x → rest ≡ remove xs (number - 1)
-    → ys ≡ (if is_ok result then insert rest (number - 1) y else rest) → is_ok result ≡ true → IsReplaced xs ys number x y
-replaced xs rest ys number x y result some within read rest_is ys_is ok =
+-- the last element stood in its place while it was out
+pub swapped_back : {A : Type 0} (xs rest ys : List A) (i : ℕ) (y : A) → i < length xs → length rest + 1 ≡ length xs → length ys ≡ length rest + 1
+    → ((d : A) → i + 1 < length xs → get_or rest i d ≡ get_or xs (length xs - 1) d)
+    → ((k : ℕ) (d : A) → k ≢ i → k + 1 < length xs → get_or rest k d ≡ get_or xs k d)
+    → SwappedAt (rest ++ y ∷ []) ys i (length rest) → ys ≡ slice_set xs i y
+swapped_back xs rest ys i y within shorter long last others swapped =
+    ext_get_or y ys (slice_set xs i y) (long ∙ shorter ∙ sym (length-set xs i y)) (λ k below.
+    elim (nat_eq k i) as (λ (b : Bool). nat_eq k i ≡ b → get_or ys k y ≡ get_or (slice_set xs i y) k y) [
+      | true ↦ λ e.
+          let here : k ≡ i = grind (arith, nat_tests) in
+          ap (λ (n : ℕ). get_or ys n y) here ∙ swapped.0 y ∙ get_or_at_end rest y ∙ sym (get_or-set_same xs i y y within) ∙ ap (λ (n : ℕ). get_or (slice_set xs i y) n y) (sym here)
+      | false ↦ λ e.
+          let away : k ≢ i = λ (same : k ≡ i). grind (arith, nat_tests) in
+          elim (nat_eq k (length rest)) as (λ (b : Bool). nat_eq k (length rest) ≡ b → get_or ys k y ≡ get_or (slice_set xs i y) k y) [
+            | true ↦ λ e2.
+                let at_last : k ≡ length rest = grind (arith, nat_tests) in
+                let last_of : length xs - 1 ≡ k = omega arith in
+                let inside : i < length rest = grind arith in
+                let fits : i + 1 < length xs = omega arith in
+                ap (λ (n : ℕ). get_or ys n y) at_last ∙ swapped.1 y ∙ get_or_append_left rest (y ∷ []) y i inside ∙ last y fits ∙ ap (λ (n : ℕ). get_or xs n y) last_of ∙ sym (get_or-set_other xs i k y y away)
+            | false ↦ λ e2.
+                let off : k ≢ length rest = λ (same : k ≡ length rest). grind (arith, nat_tests) in
+                let inside : k < length rest = grind arith in
+                let fits : k + 1 < length xs = omega arith in
+                swapped.2 k y away off ∙ get_or_append_left rest (y ∷ []) y k inside ∙ others k y away fits ∙ sym (get_or-set_other xs i k y y away)
+          ] refl
+    ] refl)
+
+pub replaced : {A : Type 0} (xs rest ys : List A) (number : ℕ) (x y : A) → 0 < number → number ≤ length xs
+    → x ≡ get_or xs (number - 1) x → length rest + 1 ≡ length xs → length ys ≡ length rest + 1
+    → ((d : A) → number - 1 + 1 < length xs → get_or rest (number - 1) d ≡ get_or xs (length xs - 1) d)
+    → ((k : ℕ) (d : A) → k ≢ number - 1 → k + 1 < length xs → get_or rest k d ≡ get_or xs k d)
+    → SwappedAt (rest ++ y ∷ []) ys (number - 1) (length rest) → IsReplaced xs ys number x y
+replaced xs rest ys number x y some within read shorter long last others swapped =
     let i : ℕ = number - 1 in
     let in_list : i < length xs = omega arith in
     record {
       there = slice_get_read xs (length xs) i x refl in_list read;
-      ys_is = ys_is ∙ chosen (is_ok result) (insert rest i y) rest ok ∙ ap (λ (l : List _). insert l i y) rest_is ∙ put_back xs i y in_list;
+      ys_is = swapped_back xs rest ys i y in_list shorter long last others swapped;
     }
 
 -- ---- the places

@@ -1,6 +1,6 @@
 -- The first open place, and its end.
-use Rattle.std.proofs.Common.{◌≡◌, ◌↔◌, ℕ, zero, suc, ◌+◌, ◌-◌, ◌<◌, ◌≤◌, true, false, if◌then◌else◌, is_ok, List, [], ◌∷◌, length, map, drop, get_or, slice_get, Option, Some, None, IsNone, is_some, option_map, Result, refl, sym, ap, ◌∙◌, subst, arith, add-one}
-use Rattle.std.specs.List.{insert, remove}
+use Rattle.std.proofs.Common.{◌≢◌, ◌++◌, slice_set, ◌≡◌, ◌↔◌, ℕ, zero, suc, ◌+◌, ◌-◌, ◌<◌, ◌≤◌, true, false, if◌then◌else◌, is_ok, List, [], ◌∷◌, length, map, drop, get_or, slice_get, Option, Some, None, IsNone, is_some, option_map, Result, refl, sym, ap, ◌∙◌, subst, arith, add-one}
+use Rattle.std.specs.List.{SwappedAt}
 use Rattle.std.proofs.lemmas.List.{drop_all, drop_more, length-map}
 use Rattle.std.proofs.lemmas.Option.{slice_get-map, slice_get_read, slice_get_within, some_pair_parts}
 use Rattle.pam_base.specs.declared.call.AppCall.TheVariants as calls
@@ -10,11 +10,11 @@ use Rattle.data_cleanup.specs.Cleanup.{Notes}
 use Rattle.data_cleanup.specs.Due.{ends}
 use Rattle.data_due.specs.Stands.{clean_list}
 use Rattle.data_due.specs.Moves.{Moves}
-use Rattle.pam_room.specs.State.{PlainWorld}
+use Rattle.pam_handle.specs.pam_room.specs.State.{PlainWorld}
 use Rattle.pam_handle.specs.End.{world_after_end}
 use Rattle.pam_library.specs.Sound.{IsSound}
 use Rattle.pam_library.specs.AnyWorld.{IsEndOf}
-use Rattle.pam_library.proofs.Applying.{IsPut, IsReplaced, MovesLaw, SoundLaw, replaced}
+use Rattle.pam_library.proofs.Applying.{IsPut, IsReplaced, MovesLaw, SoundLaw, swapped_back}
 use Rattle.pam_handle.specs.Handle.{PlainHandle}
 use Rattle.pam_library.specs.Slots.{NoneIsOpen, PlainSlot, closed, data_in, opened, is_open, lists_of, slot_at, with_slot}
 use Rattle.pam_library.specs.Closing.{ClosedOne, ClosesAs, IsFirstOpen, closed_one, ended_at, first_open}
@@ -114,12 +114,16 @@ module _ {A : Type 0} (f : A → PlainSlot) (xs : List A) (place : ℕ) (h : Pla
   place_there = at_place (map f xs) place ∙ open_place (map f xs) place h found
 
   -- another stands there now
-  pub put_there : (rest ys : List A) (x y : A) {T E : Type 0} (result : Result T E) → x ≡ get_or xs place x → rest ≡ remove xs place
-      → ys ≡ (if is_ok result then insert rest place y else rest) → is_ok result ≡ true → IsReplaced xs ys (place + 1) x y
-  put_there rest ys x y result read rest_is ys_is ok =
+  pub put_there : (rest ys : List A) (x y : A) → x ≡ get_or xs place x → length rest + 1 ≡ length xs → length ys ≡ length rest + 1
+      → ((d : A) → place + 1 < length xs → get_or rest place d ≡ get_or xs (length xs - 1) d)
+      → ((k : ℕ) (d : A) → k ≢ place → k + 1 < length xs → get_or rest k d ≡ get_or xs k d)
+      → SwappedAt (rest ++ y ∷ []) ys place (length rest) → IsReplaced xs ys (place + 1) x y
+  put_there rest ys x y read shorter long last others swapped =
       let same : place ≡ place + 1 - 1 = omega arith in
-      replaced xs rest ys (place + 1) x y result (omega arith) (omega (arith, place_within)) (read ∙ ap (λ (i : ℕ). get_or xs i x) same) (rest_is ∙ ap (remove xs) same)
-      (ys_is ∙ ap (λ (i : ℕ). if is_ok result then insert rest i y else rest) same) ok
+      record {
+        there = ap (slice_get xs) (sym same) ∙ slice_get_read xs (length xs) place x refl place_within read;
+        ys_is = swapped_back xs rest ys place y place_within shorter long last others swapped ∙ ap (λ (i : ℕ). slice_set xs i y) same;
+      }
 
 -- ---- the end of a transaction in its place
 

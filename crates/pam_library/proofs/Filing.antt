@@ -10,37 +10,38 @@ use Rattle.pam_base.specs.declared.call.Func.{Func}
 use Rattle.pam_base.specs.declared.call.Func.TheVariants as funcs
 use Rattle.pam_base.specs.declared.call.Step.{Step}
 use Rattle.conv_port.specs.Conv.{ConvState}
-use Rattle.control_words.specs.declared.nodes.Rule.{Rule}
-use Rattle.control_words.specs.Stack.{Stack, none, line, sub, lines_in}
-use Rattle.item_store.specs.Access.{is_refused as is_refused_item}
-use Rattle.item_store.specs.declared.access.Access.TheVariants.{ApplicationSets, ApplicationGets}
-use Rattle.env_list.specs.Environment.{is_refused as is_refused_text}
-use Rattle.stack_walk.specs.declared.opinion.Opinion.{Opinion}
-use Rattle.stack_walk.specs.declared.pass_kind.PassKind.{PassKind}
-use Rattle.stack_walk.specs.declared.pass_kind.PassKind.TheVariants as kinds
-use Rattle.stack_walk.specs.Opinion.{opening as first_opinion}
-use Rattle.stack_walk.specs.Walk.{Served, Serving, Walked, Next, after, stop, onward, walk}
-use Rattle.stack_walk.specs.Pass.{Answering, PassState, Visit as Passing, pass_state, pass_after, served_past, serving}
-use Rattle.stack_walk.specs.Route.{KeptAnswers}
-use Rattle.dispatch_core.specs.Lines.{answers_by, call_of, names_of}
-use Rattle.handler_chain.specs.FlatLines.{module_of}
+use Rattle.pam_handle.specs.control_words.specs.declared.nodes.Rule.{Rule}
+use Rattle.pam_handle.specs.control_words.specs.Stack.{Stack, none, line, sub, lines_in}
+use Rattle.pam_handle.specs.item_store.specs.Access.{is_refused as is_refused_item}
+use Rattle.pam_handle.specs.item_store.specs.declared.access.Access.TheVariants.{ApplicationSets, ApplicationGets}
+use Rattle.pam_handle.specs.env_list.specs.Environment.{is_refused as is_refused_text}
+use Rattle.pam_handle.specs.stack_walk.specs.declared.opinion.Opinion.{Opinion}
+use Rattle.pam_handle.specs.stack_walk.specs.declared.pass_kind.PassKind.{PassKind}
+use Rattle.pam_handle.specs.stack_walk.specs.declared.pass_kind.PassKind.TheVariants as kinds
+use Rattle.pam_handle.specs.stack_walk.specs.Opinion.{opening as first_opinion}
+use Rattle.pam_handle.specs.stack_walk.specs.Walk.{Served, Serving, Walked, Next, after, stop, onward, walk}
+use Rattle.pam_handle.specs.stack_walk.specs.Pass.{Answering, PassState, Visit as Passing, pass_state, pass_after, served_past, serving}
+use Rattle.pam_handle.specs.stack_walk.specs.Route.{KeptAnswers}
+use Rattle.pam_handle.specs.dispatch_core.specs.Lines.{answers_by, call_of, names_of}
+use Rattle.pam_handle.specs.handler_chain.specs.FlatLines.{module_of}
 use Rattle.pam_outside.specs.Files.{File}
-use Rattle.pam_room.specs.Call.{PlainCall, prelim_check}
-use Rattle.pam_room.specs.Module.{NamedData, Played, Player, SeenRoom, Sight}
-use Rattle.pam_room.specs.Serve.{answer_or_incomplete, serve_line, served_by, visited}
-use Rattle.pam_room.specs.declared.visits.Visit.{Visit}
-use Rattle.pam_room.specs.State.{PlainRoom, PlainWorld, State, state_of}
-use Rattle.service_load.specs.FirstFault.{Counts, Stop}
-use Rattle.service_load.specs.declared.load_fault.LoadFault.{LoadFault}
-use Rattle.pam_outside.specs.Time.{rested}
+use Rattle.pam_outside.specs.Time.{ClockState, after_draws, drawn}
+use Rattle.pam_handle.specs.pam_room.specs.Call.{PlainCall, prelim_check}
+use Rattle.pam_handle.specs.pam_room.specs.Module.{NamedData, Played, Player, SeenRoom, Sight, played_in}
+use Rattle.pam_handle.specs.pam_room.specs.Serve.{answer_or_incomplete, at_work, serve_line, served_by, visited}
+use Rattle.pam_handle.specs.pam_room.specs.declared.visits.Visit.{Visit}
+use Rattle.pam_handle.specs.pam_room.specs.State.{PlainRoom, PlainWorld, State, state_of, scene_in}
+use Rattle.pam_handle.specs.service_load.specs.FirstFault.{Counts, Stop}
+use Rattle.pam_handle.specs.service_load.specs.declared.load_fault.LoadFault.{LoadFault}
+use Rattle.pam_outside.specs.Time.{drawn, rested}
 use Rattle.fail_delay.specs.Delay.{asked_delay}
 use Rattle.fail_delay.specs.Wait.{wait_of}
-use Rattle.service_load.specs.Stacks.{Stacks}
-use Rattle.dispatch_core.specs.Pending.{Pending, pending_behind, same_func}
+use Rattle.pam_handle.specs.service_load.specs.Stacks.{Stacks}
+use Rattle.pam_handle.specs.dispatch_core.specs.Pending.{Pending, pending_behind, same_func}
 use Rattle.pam_handle.specs.Handle.{PlainHandle}
-use Rattle.dispatch_core.specs.Calls.{answers_held, following}
+use Rattle.pam_handle.specs.dispatch_core.specs.Calls.{answers_held, following}
 use Rattle.pam_handle.specs.Pass.{Passed, passed}
-use Rattle.pam_handle.specs.Call.{Called, begun_or_going_on, called, request_behind, rested_by, tokens_cleared}
+use Rattle.pam_handle.specs.Call.{Called, begun_or_going_on, called, drawn_by, request_behind, rested_by, tokens_cleared}
 use Rattle.pam_handle.specs.StackCalls.{account, acct_mgmt, authenticate, authenticated, authentication, behind_check, change_goes_on, changed, chauthtok, check, close_session, closing, credential_flags, credentials, has_pass_flag, open_session, opening, setcred, stack_call, update, update_authtok}
 use Rattle.pam_library.specs.Plays.{TimedVisit, VisitLeads, VisitsLead, module_of_path, player_numbered, timed, visits_at}
 use Rattle.pam_library.specs.SlotStep.{SlotStepped, answered, closed_step, filed_in, is_refused_for_flags, open_step, opened_by, other_pending, slot_step, stack_step, told_by, unless_pending}
@@ -96,6 +97,14 @@ KeepsVisit P place path None = (files : List File) (moment : ℕ) (trail : List 
 KeepsVisit P place path (Some p) = (call : PlainCall) (room : SeenRoom) (held : List NamedData) (sight : Sight) (trail : List Visit) → P sight.files sight.clock.moment trail
     → let a = p.plays call room held sight in P a.files sight.clock.moment (trail ++ visit_of place path (answer_or_incomplete a.room.put_off a.code) ∷ [])
 
+-- drawn words leave the moment
+moment_stays : (n : ℕ) (s : ClockState) → (after_draws n s).moment ≡ s.moment
+moment_stays zero s = refl
+moment_stays (suc n) s = moment_stays n (drawn s)
+
+behind_draws : (P : Kind) (files : List File) (trail : List Visit) (n : ℕ) (s : ClockState) → P files s.moment trail → P files (after_draws n s).moment trail
+behind_draws P files trail n s k = subst (λ (m : ℕ). P files m trail) (sym (moment_stays n s)) k
+
 module _ (P : Kind) (players : List Player) (keep : (place : ℕ) (path : List ℕ) → KeepsVisit P place path (module_of_path players path)) where
   -- of a world, and of a trail
   abbrev pub In : PlainWorld → List Visit → Type 0
@@ -107,7 +116,8 @@ module _ (P : Kind) (players : List Player) (keep : (place : ℕ) (path : List �
   by_player : (o : Option Player) (number place : ℕ) (path : List ℕ) (call : PlainCall) (s : State) → KeepsVisit P place path o → K s
       → K (visited place path (served_by players o number call s)).state
   by_player None number place path call s keeps k = keeps _ _ _ k
-  by_player (Some p) number place path call s keeps k = keeps call _ _ _ _ k
+  by_player (Some p) number place path call s keeps k =
+      behind_draws P _ _ (played_in p.plays call (scene_in (at_work number s))).draws s.world.clock (keeps call _ _ _ _ k)
 
   by_number : (number : Option ℕ) (place : ℕ) (path : List ℕ) (call : PlainCall) (s : State)
       → KeepsVisit P place path (player_numbered players number) → K s → K (serve_line players number place path call s).state
@@ -138,6 +148,9 @@ module _ (P : Kind) (players : List Player) (keep : (place : ℕ) (path : List �
   rested_keeps None w trail k = k
   rested_keeps (Some n) w trail k = elim (n == 0) as (λ (x : Bool). In (if x then w else record w { nap = rested w.nap n }) trail) [ true ↦ k | false ↦ k ]
 
+  drawn_keeps : (longest : ℕ) (w : PlainWorld) (trail : List Visit) → In w trail → In (drawn_by longest w) trail
+  drawn_keeps longest w trail k = elim (longest == 0) as (λ (x : Bool). In (if x then w else record w { clock = drawn w.clock }) trail) [ true ↦ k | false ↦ k ]
+
   behind_keeps : (paused : Option (List Code)) (r : PlainRoom) (w : PlainWorld) → In w r.transaction.trail → In w (request_behind paused r).transaction.trail
   behind_keeps None r w k = k
   behind_keeps (Some past) r w k = k
@@ -159,7 +172,8 @@ module _ (P : Kind) (players : List Player) (keep : (place : ℕ) (path : List �
     authenticated_keeps : (paused : Option (List Code)) (code : Code) (h : PlainHandle) (w : PlainWorld) → In w h.room.transaction.trail
         → Kept (authenticated number paused code h w)
     authenticated_keeps (Some past) code h w k = k
-    authenticated_keeps None code h w k = rested_keeps (wait_of h.delay_on number code (asked_delay h.room.transaction.delay w.clock.word)) w h.room.transaction.trail k
+    authenticated_keeps None code h w k = rested_keeps (wait_of h.delay_on number code (asked_delay h.room.transaction.delay w.clock.word)) (drawn_by h.room.transaction.delay w) h.room.transaction.trail
+        (drawn_keeps h.room.transaction.delay w h.room.transaction.trail k)
 
     authentication_keeps : (flags : ℕ) (past : List Code) (h : PlainHandle) (w : PlainWorld) → In w h.room.transaction.trail
         → Kept (authentication players number flags past h w)

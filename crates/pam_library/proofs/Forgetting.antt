@@ -6,7 +6,7 @@ use Rattle.std.specs.Str.{bytes_eq}
 use Rattle.data_cleanup.specs.Datum.{PlainDatum}
 use Rattle.data_cleanup.specs.DataList.{PlainDataList, birth_of, datum_of, with_datum, data_named, hold, hold_all}
 use Rattle.data_cleanup.specs.declared.datum.Birth.{Birth}
-use Rattle.pam_room.specs.Module.{NamedData, births_of, named_data}
+use Rattle.pam_handle.specs.pam_room.specs.Module.{NamedData, births_of, named_data}
 use Rattle.pam_library.specs.Alike.{birth_without_id, datum_without_id, data_without_ids, own_birth, births_on}
 
 placed : (ds : List PlainDatum) (d : PlainDatum) → map datum_without_id (with_datum ds d) ≡ with_datum (map datum_without_id ds) (datum_without_id d)

@@ -9,8 +9,8 @@ use Rattle.std.specs.List.{flat_map}
 use Rattle.data_cleanup.specs.declared.receipt.Filed.{Filed}
 use Rattle.data_cleanup.specs.Ledger.{PlainLedger}
 use Rattle.data_cleanup.specs.declared.datum.Birth.{Birth}
-use Rattle.pam_room.specs.Module.{Player}
-use Rattle.pam_room.specs.State.{PlainWorld}
+use Rattle.pam_handle.specs.pam_room.specs.Module.{Player}
+use Rattle.pam_handle.specs.pam_room.specs.State.{PlainWorld}
 use Rattle.pam_library.specs.Alike.{AreAlike, AreInOrder, Cleaned, ComeToSame, IsRecordedAt, Shown, births_on, cleaned_as, cleaned_behind, receipts_on, shown_to, slot_without_ids, told_in}
 use Rattle.pam_library.specs.Slots.{PlainSlot, closed, opened, slot_at, with_slot}
 use Rattle.pam_library.specs.SlotStep.{SlotStepped, filed_in, slot_step}

@@ -4,12 +4,12 @@ use Rattle.std.specs.Prelude.{nat_lt, nat_le}
 use Rattle.pam_base.specs.declared.fault.FaultKind.TheVariants.{TooDeep, TooManyLines, TooManyFiles, ReadFailed}
 use Rattle.pam_outside.specs.Counts.{next_count, fails_next}
 use Rattle.pam_outside.specs.Files.{File, VaultState, is_failing}
-use Rattle.service_load.specs.Entry.{entry_of, folder_name}
-use Rattle.service_load.specs.Files.{Held, absent, faulty, holds, held, is_in_folder}
-use Rattle.service_load.specs.FirstFault.{Counts, Stop, absent_file, asked, behind, checked_rule, fault_at, going_on, held_file, look, refused_opening, stop}
-use Rattle.service_load.specs.Load.{has_folder, loaded, loaded_from}
-use Rattle.service_load.specs.Loading.{texts_of}
-use Rattle.service_load.specs.Order.{Opener, as_service, as_other, as_last, by_rule, Item, begin, opening, checked, made, order}
+use Rattle.pam_handle.specs.service_load.specs.Entry.{entry_of, folder_name}
+use Rattle.pam_handle.specs.service_load.specs.Files.{Held, absent, faulty, holds, held, is_in_folder}
+use Rattle.pam_handle.specs.service_load.specs.FirstFault.{Counts, Stop, absent_file, asked, behind, checked_rule, fault_at, going_on, held_file, look, refused_opening, stop}
+use Rattle.pam_handle.specs.service_load.specs.Load.{has_folder, loaded, loaded_from}
+use Rattle.pam_handle.specs.service_load.specs.Loading.{texts_of}
+use Rattle.pam_handle.specs.service_load.specs.Order.{Opener, as_service, as_other, as_last, by_rule, Item, begin, opening, checked, made, order}
 use Rattle.pam_library.specs.Alike.{NoCallFails}
 use Rattle.pam_library.proofs.Quiet.{quiet_counted, quiet_now, quiet_with_files}
 

@@ -2,7 +2,7 @@
 use Rattle.std.proofs.Common.{◌≡◌, ℕ, Bool, true, false, nat_eq, if◌then◌else◌, List, [], ◌∷◌, Option, Some, None, refl, sym, ap, ◌∙◌, arith}
 use Rattle.std.proofs.lemmas.Bool.Decides.{nat_tests}
 use Rattle.pam_base.specs.declared.code.Code.{Code}
-use Rattle.pam_room.specs.Module.{Player}
+use Rattle.pam_handle.specs.pam_room.specs.Module.{Player}
 use Rattle.pam_library.specs.Outcome.{PlainOutcome}
 use Rattle.pam_library.specs.Slots.{PlainSlot, slot_at, with_slot}
 use Rattle.pam_library.specs.SlotStep.{slot_step}

@@ -10,20 +10,20 @@ use Rattle.pam_base.specs.declared.call.AppCall.TheVariants as calls
 use Rattle.conv_port.specs.Conv.{ConvState}
 use Rattle.data_cleanup.specs.Cleanup.{Notes, receipts_for}
 use Rattle.data_cleanup.specs.declared.receipt.Filed.{Filed}
-use Rattle.env_list.specs.Environment.{Variable, is_refused as is_refused_text, after_put, value_of, variable_text}
+use Rattle.pam_handle.specs.env_list.specs.Environment.{Variable, is_refused as is_refused_text, after_put, value_of, variable_text}
 use Rattle.fail_delay.specs.Delay.{counted_request}
-use Rattle.item_store.specs.Items.{text_of, with_text}
-use Rattle.item_store.specs.Access.{is_refused as is_refused_item}
-use Rattle.item_store.specs.declared.access.Access.TheVariants.{ApplicationSets, ApplicationGets}
-use Rattle.service_load.specs.declared.load_fault.LoadFault.{LoadFault}
-use Rattle.service_load.specs.FirstFault.{Counts, Stop}
-use Rattle.service_load.specs.Load.{loaded}
-use Rattle.dispatch_core.specs.Lines.{names_of}
-use Rattle.pam_room.specs.Module.{Player, notes_of}
-use Rattle.pam_room.specs.State.{PlainRoom, PlainWorld, State, state_of}
+use Rattle.pam_handle.specs.item_store.specs.Items.{text_of, with_text}
+use Rattle.pam_handle.specs.item_store.specs.Access.{is_refused as is_refused_item}
+use Rattle.pam_handle.specs.item_store.specs.declared.access.Access.TheVariants.{ApplicationSets, ApplicationGets}
+use Rattle.pam_handle.specs.service_load.specs.declared.load_fault.LoadFault.{LoadFault}
+use Rattle.pam_handle.specs.service_load.specs.FirstFault.{Counts, Stop}
+use Rattle.pam_handle.specs.service_load.specs.Load.{loaded}
+use Rattle.pam_handle.specs.dispatch_core.specs.Lines.{names_of}
+use Rattle.pam_handle.specs.pam_room.specs.Module.{Player, notes_of}
+use Rattle.pam_handle.specs.pam_room.specs.State.{PlainRoom, PlainWorld, State, state_of}
 use Rattle.pam_handle.specs.Call.{Called, called}
 use Rattle.pam_handle.specs.End.{world_after_end}
-use Rattle.service_load.specs.Stacks.{Stacks}
+use Rattle.pam_handle.specs.service_load.specs.Stacks.{Stacks}
 use Rattle.pam_handle.specs.Handle.{PlainHandle, in_room}
 use Rattle.pam_handle.specs.Items.{all_told, missing_from, with_delay_function, with_environment, with_items}
 use Rattle.pam_handle.specs.Start.{new_handle, stacks_under, started, started_by}

@@ -3,7 +3,7 @@ use Rattle.std.proofs.Common.{◌≡◌, ℕ, zero, suc, ◌-◌, ◌^◌, Bool,
 use Rattle.std.specs.Prelude.{nat_lt}
 use Rattle.pam_outside.specs.Counts.{fails_next}
 use Rattle.pam_outside.specs.Files.{File, VaultState, counted, is_failing}
-use Rattle.pam_room.specs.Module.{after_calls, failing_of}
+use Rattle.pam_handle.specs.pam_room.specs.Module.{after_calls, failing_of}
 use Rattle.pam_library.specs.Alike.{NoCallFails}
 
 pub quiet_now : (vault : VaultState) → NoCallFails vault → is_failing vault ≡ false

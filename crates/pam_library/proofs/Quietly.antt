@@ -5,7 +5,7 @@ use Rattle.pam_base.specs.declared.call.AppCall.TheVariants as calls
 use Rattle.pam_base.specs.declared.fault.NoMemory.{NoMemory}
 use Rattle.pam_base.specs.declared.fault.Refuse.{Refuse}
 use Rattle.pam_base.specs.declared.fault.Refuse.TheVariants as refusals
-use Rattle.service_load.specs.declared.load_fault.LoadFault.{LoadFault}
+use Rattle.pam_handle.specs.service_load.specs.declared.load_fault.LoadFault.{LoadFault}
 use Rattle.pam_handle.specs.Handle.{PlainHandle}
 use Rattle.pam_handle.specs.Start.{RefusalCounts}
 use Rattle.pam_library.specs.declared.outcome.Outcome.{Outcome}

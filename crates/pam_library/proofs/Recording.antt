@@ -11,7 +11,7 @@ use Rattle.data_cleanup.specs.Ledger.{PlainLedger}
 use Rattle.data_cleanup.specs.Cleanup.{Notes, receipts_for}
 use Rattle.data_cleanup.specs.declared.datum.Birth.{Birth}
 use Rattle.data_cleanup.specs.declared.receipt.Filed.{Filed}
-use Rattle.pam_room.specs.Module.{NamedData, births_of}
+use Rattle.pam_handle.specs.pam_room.specs.Module.{NamedData, births_of}
 use Rattle.pam_library.specs.Alike.{Cleaned, IsOfBirth, IsRecorded, birth_without_id, cleaned_as, cleaned_behind, cleaned_by, datum_without_id, own_filed, own_receipt, receipts_on}
 
 -- ---- lists

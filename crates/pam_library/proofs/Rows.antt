@@ -11,19 +11,19 @@ use Rattle.pam_base.specs.declared.call.Step.{Step}
 use Rattle.pam_base.specs.declared.item.ItemName.TheVariants.{Service, Tty}
 use Rattle.conv_port.specs.Conv.{ConvState}
 use Rattle.conv_port.specs.declared.offer.Offer.TheVariants.{Answer}
-use Rattle.control_words.specs.Keyword.{required}
-use Rattle.control_words.specs.Stack.{Stack, none, line}
-use Rattle.pam_room.specs.Module.{Player, SeenRoom, NamedData, Sight, length_note, never_breaks, notes_of}
-use Rattle.pam_room.specs.Call.{PlainCall}
-use Rattle.pam_room.specs.State.{PlainWorld}
-use Rattle.conf_lex.specs.Reading.{first_piece, pieces_behind}
-use Rattle.conf_lex.specs.Lexing.{answer_at}
-use Rattle.conf_lex.specs.Answer.{answer_to}
-use Rattle.service_load.specs.Entry.{entry_of}
-use Rattle.service_load.specs.Tree.{nodes}
-use Rattle.service_load.specs.Order.{items}
-use Rattle.service_load.specs.FirstFault.{look}
-use Rattle.service_load.specs.Stacks.{Stacks}
+use Rattle.pam_handle.specs.control_words.specs.Keyword.{required}
+use Rattle.pam_handle.specs.control_words.specs.Stack.{Stack, none, line}
+use Rattle.pam_handle.specs.pam_room.specs.Module.{Player, SeenRoom, NamedData, Sight, length_note, never_breaks, notes_of}
+use Rattle.pam_handle.specs.pam_room.specs.Call.{PlainCall}
+use Rattle.pam_handle.specs.pam_room.specs.State.{PlainWorld}
+use Rattle.pam_handle.specs.conf_lex.specs.Reading.{first_piece, pieces_behind}
+use Rattle.pam_handle.specs.conf_lex.specs.Lexing.{answer_at}
+use Rattle.pam_handle.specs.conf_lex.specs.Answer.{answer_to}
+use Rattle.pam_handle.specs.service_load.specs.Entry.{entry_of}
+use Rattle.pam_handle.specs.service_load.specs.Tree.{nodes}
+use Rattle.pam_handle.specs.service_load.specs.Order.{items}
+use Rattle.pam_handle.specs.service_load.specs.FirstFault.{look}
+use Rattle.pam_handle.specs.service_load.specs.Stacks.{Stacks}
 use Rattle.pam_handle.specs.Handle.{PlainHandle}
 use Rattle.pam_handle.specs.Start.{new_handle}
 use Rattle.pam_library.specs.declared.outcome.Answer.{Answer as StepAnswer}
@@ -39,7 +39,7 @@ use Rattle.pam_outside.specs.Paths.{path_of}
 abbrev sets_datum : Player
 sets_datum = record {
   name = codes "p";
-  plays = λ (call : PlainCall) (room : SeenRoom) (datums : List NamedData) (sight : Sight). record { code = codes.Success; room = room; births = record { name = codes "a"; payload = codes "x" } ∷ []; files = sight.files; calls = 0 };
+  plays = λ (call : PlainCall) (room : SeenRoom) (datums : List NamedData) (sight : Sight). record { code = codes.Success; room = room; births = record { name = codes "a"; payload = codes "x" } ∷ []; files = sight.files; calls = 0; draws = 0 };
   note = length_note;
   breaks = never_breaks;
 }
@@ -47,7 +47,7 @@ sets_datum = record {
 abbrev is_put_off : Player
 is_put_off = record {
   name = codes "q";
-  plays = λ (call : PlainCall) (room : SeenRoom) (datums : List NamedData) (sight : Sight). record { code = codes.Success; room = record room { put_off = true }; births = []; files = sight.files; calls = 0 };
+  plays = λ (call : PlainCall) (room : SeenRoom) (datums : List NamedData) (sight : Sight). record { code = codes.Success; room = record room { put_off = true }; births = []; files = sight.files; calls = 0; draws = 0 };
   note = length_note;
   breaks = never_breaks;
 }
@@ -70,7 +70,7 @@ all_closed = replicate 16 (closed no_offers)
 abbrev at_first : PlainWorld
 at_first = record {
   vault = record { files = record { path = codes "/r/etc/pam.d/t"; bytes = codes "auth required p" } ∷ []; calls = 0; fails = [] };
-  clock = record { moment = 0; word = 0 };
+  clock = record { moment = 0; word = 0; draws = 0 };
   nap = record { waits = 0; sum = 0 };
   process = record { ledger = record { births = []; filed = [] }; root = codes "/r"; caller = 65534 };
 }

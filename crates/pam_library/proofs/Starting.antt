@@ -7,10 +7,10 @@ use Rattle.pam_base.specs.declared.fault.NoMemory.{NoMemory}
 use Rattle.pam_base.specs.declared.fault.Refuse.{Refuse}
 use Rattle.pam_base.specs.declared.fault.Refuse.TheVariants as refusals
 use Rattle.conv_port.specs.Conv.{ConvState}
-use Rattle.service_load.specs.declared.load_fault.LoadFault.{LoadFault}
-use Rattle.dispatch_core.specs.Lines.{names_of}
-use Rattle.pam_room.specs.Module.{Player}
-use Rattle.pam_room.specs.State.{PlainWorld, PlainProcess}
+use Rattle.pam_handle.specs.service_load.specs.declared.load_fault.LoadFault.{LoadFault}
+use Rattle.pam_handle.specs.dispatch_core.specs.Lines.{names_of}
+use Rattle.pam_handle.specs.pam_room.specs.Module.{Player}
+use Rattle.pam_handle.specs.pam_room.specs.State.{PlainWorld, PlainProcess}
 use Rattle.pam_handle.specs.Handle.{PlainHandle}
 use Rattle.pam_handle.specs.Items.{missing_from}
 use Rattle.pam_handle.specs.Start.{Opens, Refuses, Started, new_handle, started}

@@ -1,34 +1,39 @@
 -- A transaction and the world, in two runs that are alike for its number: what a call makes of them on the way.
-use Rattle.std.proofs.Common.{◌≡◌, ℕ, false, nat_eq, List, [], ◌∷◌, ◌++◌, length, Option, Some, None, slice_get, refl, sym, ap, ◌∙◌, subst, append_assoc}
+use Rattle.std.proofs.Common.{◌≡◌, ℕ, zero, suc, false, nat_eq, List, [], ◌∷◌, ◌++◌, length, Option, Some, None, slice_get, refl, sym, ap, ◌∙◌, subst, append_assoc}
 use Rattle.std.proofs.Math.Path.{fun_ext}
 use Rattle.std.proofs.lemmas.List.{append-nil}
 use Rattle.std.specs.List.{AllByRecursion}
 use Rattle.pam_base.specs.declared.call.Func.{Func}
 use Rattle.pam_base.specs.declared.code.Code.{Code}
-use Rattle.control_words.specs.declared.nodes.Rule.{Rule}
+use Rattle.pam_handle.specs.control_words.specs.declared.nodes.Rule.{Rule}
 use Rattle.data_cleanup.specs.DataList.{PlainDataList, hold_all}
 use Rattle.data_cleanup.specs.Cleanup.{Notes, data_replace, swept_list, receipts_for}
 use Rattle.data_cleanup.specs.declared.datum.Birth.{Birth}
 use Rattle.data_cleanup.specs.declared.receipt.Filed.{Filed}
-use Rattle.dispatch_core.specs.Lines.{answers_by, call_of, names_of}
-use Rattle.handler_chain.specs.FlatLines.{module_of}
+use Rattle.pam_handle.specs.dispatch_core.specs.Lines.{answers_by, call_of, names_of}
+use Rattle.pam_handle.specs.handler_chain.specs.FlatLines.{module_of}
 use Rattle.pam_outside.specs.Files.{VaultState}
-use Rattle.pam_outside.specs.Time.{ClockState}
-use Rattle.pam_room.specs.Call.{PlainCall}
-use Rattle.pam_room.specs.Module.{Played, Player, Plays, after_calls, births_of, failing_of, named_data, notes_of, played_in, seen_of, with_played}
-use Rattle.pam_room.specs.Serve.{Answered, answer_or_incomplete, at_work, played_by, serve_line, served, served_by, swept, visited}
-use Rattle.pam_room.specs.State.{PlainProcess, PlainRoom, PlainWorld, State, scene_in, with_scene}
+use Rattle.pam_outside.specs.Time.{ClockState, after_draws, drawn, time_of}
+use Rattle.pam_handle.specs.pam_room.specs.Call.{PlainCall}
+use Rattle.pam_handle.specs.pam_room.specs.Module.{Played, Player, Plays, after_calls, births_of, failing_of, named_data, notes_of, played_in, seen_of, with_played}
+use Rattle.pam_handle.specs.pam_room.specs.Serve.{Answered, answer_or_incomplete, at_work, played_by, serve_line, served, served_by, swept, visited}
+use Rattle.pam_handle.specs.pam_room.specs.State.{PlainProcess, PlainRoom, PlainWorld, State, scene_in, with_scene}
 use Rattle.pam_library.specs.Alike.{AreRecorded, Cleaned, IsOfBirth, IsRecorded, NoCallFails, Shown, births_on, data_without_ids, receipts_on, room_without_ids, shown_to}
 use Rattle.pam_library.proofs.Forgetting.{births_added, named_without_ids, none_of_another, set_without_ids, unnumbered}
 use Rattle.pam_library.proofs.Quiet.{quiet_after, quiet_with_files}
 use Rattle.pam_library.proofs.Recording.{IsOwnFiled, cleanings, cleanings_without_ids, filed_of_births, filed_own, no_cleanings_of_another, receipts_filed, receipts_stay, set_recorded, still_of_births, still_own}
+
+-- drawn words leave the time
+draws_pass : (n : ℕ) (s : ClockState) → time_of (after_draws n s) ≡ time_of s
+draws_pass zero s = refl
+draws_pass (suc n) s = draws_pass n (drawn s)
 
 -- n is the number that looks, `number` that of the call
 module _ (n number : ℕ) where
   -- what a call keeps of the world in which it began, and what of its ledger another number sees
   pub record Kept (start : PlainWorld) (vault : VaultState) (clock : ClockState) (p : PlainProcess) : Type 0 where
     pub quiet : NoCallFails vault
-    pub clock_is : clock ≡ start.clock
+    pub clock_is : time_of clock ≡ time_of start.clock
     pub root_is : p.root ≡ start.process.root
     pub caller_is : p.caller ≡ start.process.caller
     pub filed : AllByRecursion (IsOfBirth p.ledger.births) p.ledger.filed
@@ -92,7 +97,7 @@ module _ (n number : ℕ) where
   played_is plays call s quiet =
       let names : named_data s.room.transaction.datums.live ≡ named_data (data_without_ids s.room.transaction.datums).live = sym (named_without_ids s.room.transaction.datums.live) in
       let failing : failing_of s.world.vault ≡ (λ (k : ℕ). false) = fun_ext quiet in
-      λ i. plays call (seen_of s.room) (names i) (record { files = s.world.vault.files; failing = failing i; clock = s.world.clock; root = s.world.process.root; caller = s.world.process.caller })
+      λ i. plays call (seen_of s.room) (names i) (record { files = s.world.vault.files; failing = failing i; clock = time_of s.world.clock; root = s.world.process.root; caller = s.world.process.caller })
 
   abbrev pub after_play : Notes → Played → State → State
   after_play notes p s = swept notes (with_scene (with_played p (scene_in s)) s)
@@ -167,13 +172,13 @@ module _ (n number : ℕ) where
       receipts_are start notes p s k d
       ∙ ap (λ (l : List Cleaned). receipts_on n s.world.process.ledger ++ l)
       (sym (cleanings_without_ids n number notes data_replace (list_after p s).gone) ∙ ap (λ (l : PlainDataList). cleanings n number notes data_replace l.gone) (list_is p s)) in
-      λ i. record { files = p.files; clock = s.world.clock; root = s.world.process.root; caller = s.world.process.caller; births = births i; receipts = receipts i }
+      λ i. record { files = p.files; clock = draws_pass p.draws s.world.clock i; root = s.world.process.root; caller = s.world.process.caller; births = births i; receipts = receipts i }
 
   kept_after : (start : PlainWorld) (notes : Notes) (p : Played) (s : State) → KeptIn start s.world → RecordedIn s.room s.world
       → KeptIn start (after_play notes p s).world
   kept_after start notes p s k d = record {
     quiet = quiet_with_files p.files (after_calls p.calls s.world.vault) (quiet_after p.calls s.world.vault k.quiet);
-    clock_is = k.clock_is;
+    clock_is = draws_pass p.draws s.world.clock ∙ k.clock_is;
     root_is = k.root_is;
     caller_is = k.caller_is;
     filed = filed_of_births number notes data_replace (length (births_after p s)) (births_after p s) s.world.process.ledger.filed (list_after p s).gone

@@ -5,27 +5,27 @@ use Rattle.pam_base.specs.declared.code.Code.{Code}
 use Rattle.pam_base.specs.declared.code.Code.TheVariants as codes
 use Rattle.pam_base.specs.declared.call.Func.{Func}
 use Rattle.pam_base.specs.declared.call.Func.TheVariants.{Authenticate, SetCred, AcctMgmt, OpenSession, CloseSession, ChAuthTok}
-use Rattle.control_words.specs.Stack.{Stack}
-use Rattle.dispatch_core.specs.Lines.{answers_by}
+use Rattle.pam_handle.specs.control_words.specs.Stack.{Stack}
+use Rattle.pam_handle.specs.dispatch_core.specs.Lines.{answers_by}
 use Rattle.fail_delay.specs.Delay.{asked_delay}
 use Rattle.fail_delay.specs.Wait.{wait_of}
-use Rattle.pam_outside.specs.Time.{rested}
-use Rattle.pam_room.specs.Call.{prelim_check}
-use Rattle.pam_room.specs.Module.{Player}
-use Rattle.pam_room.specs.State.{PlainRoom, PlainWorld, State, state_of}
-use Rattle.stack_walk.specs.declared.pass_kind.PassKind.{PassKind}
-use Rattle.stack_walk.specs.declared.pass_kind.PassKind.TheVariants as kinds
-use Rattle.stack_walk.specs.Pass.{PassState, pass_after}
-use Rattle.stack_walk.specs.Route.{KeptAnswers}
-use Rattle.stack_walk.specs.Walk.{Walked}
-use Rattle.dispatch_core.specs.Pending.{Pending, pending_behind, same_func}
+use Rattle.pam_outside.specs.Time.{drawn, rested}
+use Rattle.pam_handle.specs.pam_room.specs.Call.{prelim_check}
+use Rattle.pam_handle.specs.pam_room.specs.Module.{Player}
+use Rattle.pam_handle.specs.pam_room.specs.State.{PlainRoom, PlainWorld, State, state_of}
+use Rattle.pam_handle.specs.stack_walk.specs.declared.pass_kind.PassKind.{PassKind}
+use Rattle.pam_handle.specs.stack_walk.specs.declared.pass_kind.PassKind.TheVariants as kinds
+use Rattle.pam_handle.specs.stack_walk.specs.Pass.{PassState, pass_after}
+use Rattle.pam_handle.specs.stack_walk.specs.Route.{KeptAnswers}
+use Rattle.pam_handle.specs.stack_walk.specs.Walk.{Walked}
+use Rattle.pam_handle.specs.dispatch_core.specs.Pending.{Pending, pending_behind, same_func}
 use Rattle.pam_handle.specs.Handle.{PlainHandle, in_room}
-use Rattle.dispatch_core.specs.Calls.{answers_held, following, passed_by}
+use Rattle.pam_handle.specs.dispatch_core.specs.Calls.{answers_held, following, passed_by}
 use Rattle.pam_handle.specs.Pass.{Passed, passed}
-use Rattle.pam_handle.specs.Call.{Called, begun_or_going_on, called, request_behind, request_forgotten, rested_by, tokens_cleared, waits, without_its_tokens, without_request}
+use Rattle.pam_handle.specs.Call.{Called, begun_or_going_on, called, drawn_by, request_behind, request_forgotten, rested_by, tokens_cleared, waits, without_its_tokens, without_request}
 use Rattle.pam_handle.specs.StackCalls.{account, authenticated, authentication, behind_check, change_goes_on, changed, chauthtok, check, closing, credential_flags, credentials, ended, has_pass_flag, opening, stack_call, update, update_authtok}
 use Rattle.pam_library.proofs.Alongside.{PassTwins, WalkedTwins, pass_twins}
-use Rattle.pam_library.proofs.Twins.{Twins, asked_twins, touched}
+use Rattle.pam_library.proofs.Twins.{KeptIn, Twins, asked_twins, touched}
 
 module _ (n number : ℕ) (first second : PlainWorld) where
   abbrev Both : State → State → Type 0
@@ -57,6 +57,38 @@ module _ (n number : ℕ) (first second : PlainWorld) where
           world = t.world;
           first_kept = t.first_kept;
           second_kept = t.second_kept;
+          first_data = t.first_data;
+          second_data = t.second_data;
+        }
+      ]
+
+  kept_drawn : (start : PlainWorld) (w : PlainWorld) → KeptIn n number start w → KeptIn n number start (record w { clock = drawn w.clock })
+  kept_drawn start w k = record {
+    quiet = k.quiet;
+    clock_is = k.clock_is;
+    root_is = k.root_is;
+    caller_is = k.caller_is;
+    filed = k.filed;
+    added = k.added;
+    births = k.births;
+    more = k.more;
+    filed_is = k.filed_is;
+    more_own = k.more_own;
+    other_births = k.other_births;
+    other_receipts = k.other_receipts;
+  }
+
+  -- a word is drawn
+  drawn_twins : (longest : ℕ) (a b : State) → Both a b → Both (record a { world = drawn_by longest a.world }) (record b { world = drawn_by longest b.world })
+  drawn_twins longest a b t = elim (longest == 0) as (λ (x : Bool). Both
+      (record a { world = if x then a.world else record a.world { clock = drawn a.world.clock } })
+      (record b { world = if x then b.world else record b.world { clock = drawn b.world.clock } })) [
+        | true ↦ t
+        | false ↦ record {
+          room = t.room;
+          world = t.world;
+          first_kept = kept_drawn first a.world t.first_kept;
+          second_kept = kept_drawn second b.world t.second_kept;
           first_data = t.first_data;
           second_data = t.second_data;
         }
@@ -124,12 +156,19 @@ module _ (n number : ℕ) (first second : PlainWorld) where
         let asked : ℕ = asked_delay x.room.transaction.delay v.clock.word in
         let same : asked ≡ asked_delay r.transaction.delay w.clock.word = λ i. asked_delay (t.room i).transaction.delay (t.world i).clock.word in
         let wait : Option ℕ = wait_of x.delay_on delay code asked in
-        let rested : Both (state_of x.room (rested_by wait v)) (state_of r (rested_by wait w)) = rested_twins wait (state_of x.room v) (state_of r w) t in
-        let main : CalledTwins (behind_wait code x v asked) (behind_wait code (in_room r x) w asked) = record {
+        let longest : ℕ = x.room.transaction.delay in
+        let same_longest : longest ≡ r.transaction.delay = λ i. (t.room i).transaction.delay in
+        let va : PlainWorld = drawn_by longest v in
+        let wa : PlainWorld = drawn_by longest w in
+        let rested : Both (state_of x.room (rested_by wait va)) (state_of r (rested_by wait wa)) =
+        rested_twins wait (state_of x.room va) (state_of r wa) (drawn_twins longest (state_of x.room v) (state_of r w) t) in
+        let main : CalledTwins (behind_wait code x va asked) (behind_wait code (in_room r x) wa asked) = record {
           rest = refl;
-          state = no_request (state_of (without_its_tokens x.room) (rested_by wait v)) (state_of (without_its_tokens r) (rested_by wait w)) (no_tokens (state_of x.room (rested_by wait v)) (state_of r (rested_by wait w)) rested);
+          state = no_request (state_of (without_its_tokens x.room) (rested_by wait va)) (state_of (without_its_tokens r) (rested_by wait wa)) (no_tokens (state_of x.room (rested_by wait va)) (state_of r (rested_by wait wa)) rested);
         } in
-        subst (λ (m : ℕ). CalledTwins (behind_wait code x v asked) (behind_wait code (in_room r x) w m)) same main
+        let drawn_main : CalledTwins (behind_wait code x va asked) (behind_wait code (in_room r x) (drawn_by r.transaction.delay w) asked) =
+        subst (λ (l : ℕ). CalledTwins (behind_wait code x va asked) (behind_wait code (in_room r x) (drawn_by l w) asked)) same_longest main in
+        subst (λ (m : ℕ). CalledTwins (behind_wait code x va asked) (behind_wait code (in_room r x) (drawn_by r.transaction.delay w) m)) same drawn_main
 
   -- ---- the six calls, on a transaction in two rooms
 

@@ -8,9 +8,9 @@ use Rattle.data_cleanup.specs.DataList.{PlainDataList}
 use Rattle.data_cleanup.specs.Ledger.{PlainLedger}
 use Rattle.data_cleanup.specs.Cleanup.{Notes}
 use Rattle.data_cleanup.specs.Grows.{Grows}
-use Rattle.dispatch_core.specs.Lines.{names_of}
-use Rattle.pam_room.specs.Module.{Player, notes_of}
-use Rattle.pam_room.specs.State.{PlainWorld}
+use Rattle.pam_handle.specs.dispatch_core.specs.Lines.{names_of}
+use Rattle.pam_handle.specs.pam_room.specs.Module.{Player, notes_of}
+use Rattle.pam_handle.specs.pam_room.specs.State.{PlainWorld}
 use Rattle.pam_handle.specs.Handle.{PlainHandle}
 use Rattle.pam_handle.specs.Items.{all_told}
 use Rattle.pam_library.specs.declared.outcome.Answer.{Answer}

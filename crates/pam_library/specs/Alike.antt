@@ -10,9 +10,9 @@ use Rattle.data_cleanup.specs.declared.datum.Birth.{Birth}
 use Rattle.data_cleanup.specs.declared.receipt.Filed.{Filed}
 use Rattle.data_cleanup.specs.declared.receipt.Receipt.{Receipt}
 use Rattle.pam_outside.specs.Files.{File, VaultState}
-use Rattle.pam_outside.specs.Time.{ClockState}
-use Rattle.pam_room.specs.Module.{failing_of}
-use Rattle.pam_room.specs.State.{PlainRoom, PlainWorld}
+use Rattle.pam_outside.specs.Time.{Time, time_of}
+use Rattle.pam_handle.specs.pam_room.specs.Module.{failing_of}
+use Rattle.pam_handle.specs.pam_room.specs.State.{PlainRoom, PlainWorld}
 use Rattle.pam_handle.specs.Handle.{in_room}
 use Rattle.pam_library.specs.Outcome.{PlainOutcome}
 use Rattle.pam_library.specs.Slots.{PlainSlot, closed, opened, slot_at}
@@ -99,7 +99,7 @@ cleaned_behind filed_from ledger =
 
 pub record Shown : Type 0 where
   pub files : List File
-  pub clock : ClockState
+  pub clock : Time
   pub root : List ℕ
   pub caller : ℕ
   pub births : List Birth
@@ -108,7 +108,7 @@ pub record Shown : Type 0 where
 abbrev pub shown_to : ℕ → PlainWorld → Shown
 shown_to number w = record {
   files = w.vault.files;
-  clock = w.clock;
+  clock = time_of w.clock;
   root = w.process.root;
   caller = w.process.caller;
   births = births_on number w.process.ledger.births;

@@ -6,10 +6,10 @@ use Rattle.pam_base.specs.declared.call.Func.{Func}
 use Rattle.pam_base.specs.declared.call.Func.TheVariants as funcs
 use Rattle.pam_base.specs.declared.call.AppCall.{AppCall}
 use Rattle.pam_base.specs.declared.call.AppCall.TheVariants as calls
-use Rattle.item_store.specs.Access.{is_refused as is_refused_item}
-use Rattle.item_store.specs.declared.access.Access.TheVariants.{ApplicationSets, ApplicationGets}
-use Rattle.env_list.specs.Environment.{is_deletion}
-use Rattle.service_load.specs.Kinds.{KindCounts}
+use Rattle.pam_handle.specs.item_store.specs.Access.{is_refused as is_refused_item}
+use Rattle.pam_handle.specs.item_store.specs.declared.access.Access.TheVariants.{ApplicationSets, ApplicationGets}
+use Rattle.pam_handle.specs.env_list.specs.Environment.{is_deletion}
+use Rattle.pam_handle.specs.service_load.specs.Kinds.{KindCounts}
 use Rattle.conv_port.specs.Conv.{ConvState}
 use Rattle.data_cleanup.specs.DataList.{PlainDataList}
 use Rattle.data_cleanup.specs.Ledger.{PlainLedger}
@@ -17,7 +17,7 @@ use Rattle.data_cleanup.specs.Cleanup.{Notes, ledger_after}
 use Rattle.data_cleanup.specs.Grows.{Grows}
 use Rattle.data_cleanup.specs.Due.{Event, ends}
 use Rattle.data_due.specs.Stands.{clean_list}
-use Rattle.dispatch_core.specs.Pending.{Pending}
+use Rattle.pam_handle.specs.dispatch_core.specs.Pending.{Pending}
 use Rattle.pam_handle.specs.Items.{all_told, with_conversation}
 use Rattle.pam_handle.specs.AnyWorld.{FailsAs}
 use Rattle.pam_library.specs.declared.outcome.Answer.{Answer}

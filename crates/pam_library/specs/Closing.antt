@@ -3,7 +3,7 @@ use Rattle.std.specs.Prelude.{◌≡◌, ℕ, ◌+◌, List, [], ◌∷◌, Opti
 use Rattle.std.specs.Option.{option_map}
 use Rattle.data_cleanup.specs.Cleanup.{Notes}
 use Rattle.data_cleanup.specs.Due.{Event, ends}
-use Rattle.pam_room.specs.State.{PlainWorld}
+use Rattle.pam_handle.specs.pam_room.specs.State.{PlainWorld}
 use Rattle.pam_handle.specs.Handle.{PlainHandle}
 use Rattle.pam_handle.specs.End.{world_after_end}
 use Rattle.pam_library.specs.Slots.{PlainSlot, closed, opened, with_slot}

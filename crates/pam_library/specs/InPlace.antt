@@ -9,11 +9,11 @@ use Rattle.pam_base.specs.declared.call.Func.TheVariants as funcs
 use Rattle.pam_base.specs.declared.call.AppCall.{AppCall}
 use Rattle.pam_base.specs.declared.call.AppCall.TheVariants as calls
 use Rattle.pam_base.specs.declared.fault.NoMemory.{NoMemory}
-use Rattle.service_load.specs.declared.load_fault.LoadFault.{LoadFault}
-use Rattle.dispatch_core.specs.Lines.{names_of}
-use Rattle.pam_room.specs.Module.{Player, notes_of}
-use Rattle.pam_room.specs.State.{PlainWorld, PlainProcess}
-use Rattle.pam_room.specs.Stays.{IsReady}
+use Rattle.pam_handle.specs.service_load.specs.declared.load_fault.LoadFault.{LoadFault}
+use Rattle.pam_handle.specs.dispatch_core.specs.Lines.{names_of}
+use Rattle.pam_handle.specs.pam_room.specs.Module.{Player, notes_of}
+use Rattle.pam_handle.specs.pam_room.specs.State.{PlainWorld, PlainProcess}
+use Rattle.pam_handle.specs.pam_room.specs.Stays.{IsReady}
 use Rattle.pam_handle.specs.Handle.{PlainHandle}
 use Rattle.pam_handle.specs.Items.{missing_from}
 use Rattle.pam_library.specs.declared.outcome.Outcome.{Outcome}

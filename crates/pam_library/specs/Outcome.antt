@@ -1,7 +1,7 @@
 -- What a step on a transaction told and answered (this project's own).
 use Rattle.std.specs.Prelude.{ℕ, List, [], Option, None}
 use Rattle.conv_port.specs.declared.message.Message.{Message}
-use Rattle.pam_room.specs.declared.visits.Visit.{Visit}
+use Rattle.pam_handle.specs.pam_room.specs.declared.visits.Visit.{Visit}
 use Rattle.pam_handle.specs.declared.wait.Wait.{Wait}
 use Rattle.pam_library.specs.declared.outcome.Answer.{Answer}
 use Rattle.pam_library.specs.declared.outcome.Outcome.{Outcome}

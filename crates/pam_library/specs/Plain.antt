@@ -4,7 +4,7 @@ use Rattle.std.specs.List.{list_all}
 use Rattle.std.specs.declared.alloc.Global.{Global}
 use Rattle.std.specs.declared.dyn_box.DynBox.{DynBox}
 use Rattle.conv_port.specs.Conv.{ConvState}
-use Rattle.pam_room.specs.Plain.{plain_room}
+use Rattle.pam_handle.specs.pam_room.specs.Plain.{plain_room}
 use Rattle.pam_handle.specs.Plain.{plain_handle, room_in}
 use Rattle.pam_handle.specs.declared.gear.Gear.{Gear}
 use Rattle.pam_library.specs.declared.library.Library.{Library}

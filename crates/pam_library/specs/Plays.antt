@@ -4,14 +4,14 @@
 use Rattle.std.specs.Prelude.{◌≡◌, ℕ, List, [], ◌∷◌, map, Option, Some, None, slice_get}
 use Rattle.pam_base.specs.declared.code.Code.{Code}
 use Rattle.pam_base.specs.declared.code.Code.TheVariants.{ModuleUnknown}
-use Rattle.control_words.specs.Module.{name_of_module}
-use Rattle.handler_chain.specs.FlatLines.{number_of_name}
-use Rattle.dispatch_core.specs.Lines.{names_of}
+use Rattle.pam_handle.specs.control_words.specs.Module.{name_of_module}
+use Rattle.pam_handle.specs.handler_chain.specs.FlatLines.{number_of_name}
+use Rattle.pam_handle.specs.dispatch_core.specs.Lines.{names_of}
 use Rattle.pam_outside.specs.Files.{File}
-use Rattle.pam_room.specs.Call.{PlainCall}
-use Rattle.pam_room.specs.Module.{NamedData, Played, Player, SeenRoom, Sight}
-use Rattle.pam_room.specs.Serve.{answer_or_incomplete}
-use Rattle.pam_room.specs.declared.visits.Visit.{Visit}
+use Rattle.pam_handle.specs.pam_room.specs.Call.{PlainCall}
+use Rattle.pam_handle.specs.pam_room.specs.Module.{NamedData, Played, Player, SeenRoom, Sight}
+use Rattle.pam_handle.specs.pam_room.specs.Serve.{answer_or_incomplete}
+use Rattle.pam_handle.specs.pam_room.specs.declared.visits.Visit.{Visit}
 
 -- the module with this number, if there is one
 abbrev pub player_numbered : List Player → Option ℕ → Option Player

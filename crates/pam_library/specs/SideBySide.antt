@@ -2,8 +2,8 @@
 use Rattle.std.specs.Prelude.{ℕ, nat_eq, if◌then◌else◌, List, [], ◌∷◌, filter}
 use Rattle.pam_base.specs.declared.code.Code.{Code}
 use Rattle.pam_base.specs.declared.call.Step.{Step}
-use Rattle.pam_room.specs.Module.{Player}
-use Rattle.pam_room.specs.State.{PlainWorld}
+use Rattle.pam_handle.specs.pam_room.specs.Module.{Player}
+use Rattle.pam_handle.specs.pam_room.specs.State.{PlainWorld}
 use Rattle.pam_library.specs.Outcome.{PlainOutcome}
 use Rattle.pam_library.specs.Slots.{PlainSlot}
 use Rattle.pam_library.specs.SlotStep.{slot_step}

@@ -8,16 +8,16 @@ use Rattle.pam_base.specs.declared.call.Func.TheVariants as funcs
 use Rattle.pam_base.specs.declared.call.AppCall.{AppCall}
 use Rattle.pam_base.specs.declared.call.AppCall.TheVariants as calls
 use Rattle.data_cleanup.specs.Cleanup.{Notes}
-use Rattle.item_store.specs.Items.{text_of, with_text}
-use Rattle.item_store.specs.Access.{is_refused as is_refused_item}
-use Rattle.item_store.specs.declared.access.Access.TheVariants.{ApplicationSets, ApplicationGets}
-use Rattle.env_list.specs.Environment.{is_refused as is_refused_text, after_put, value_of, variable_text}
+use Rattle.pam_handle.specs.item_store.specs.Items.{text_of, with_text}
+use Rattle.pam_handle.specs.item_store.specs.Access.{is_refused as is_refused_item}
+use Rattle.pam_handle.specs.item_store.specs.declared.access.Access.TheVariants.{ApplicationSets, ApplicationGets}
+use Rattle.pam_handle.specs.env_list.specs.Environment.{is_refused as is_refused_text, after_put, value_of, variable_text}
 use Rattle.conv_port.specs.Conv.{ConvState, offer_taken}
-use Rattle.service_load.specs.declared.load_fault.LoadFault.{LoadFault}
-use Rattle.pam_room.specs.Module.{Player, notes_of}
-use Rattle.pam_room.specs.State.{PlainWorld}
-use Rattle.dispatch_core.specs.Lines.{names_of}
-use Rattle.dispatch_core.specs.Pending.{Pending, same_func}
+use Rattle.pam_handle.specs.service_load.specs.declared.load_fault.LoadFault.{LoadFault}
+use Rattle.pam_handle.specs.pam_room.specs.Module.{Player, notes_of}
+use Rattle.pam_handle.specs.pam_room.specs.State.{PlainWorld}
+use Rattle.pam_handle.specs.dispatch_core.specs.Lines.{names_of}
+use Rattle.pam_handle.specs.dispatch_core.specs.Pending.{Pending, same_func}
 use Rattle.pam_handle.specs.Handle.{PlainHandle}
 use Rattle.pam_handle.specs.Call.{Called}
 use Rattle.pam_handle.specs.StackCalls.{stack_call, has_pass_flag}

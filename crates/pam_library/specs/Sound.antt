@@ -4,8 +4,8 @@ use Rattle.std.specs.List.{AllByRecursion}
 use Rattle.data_cleanup.specs.Ledger.{PlainLedger}
 use Rattle.data_cleanup.specs.declared.datum.Birth.{Birth}
 use Rattle.data_due.specs.Kept.{AreHeld}
-use Rattle.dispatch_core.specs.Lines.{names_of}
-use Rattle.pam_room.specs.Module.{Player}
+use Rattle.pam_handle.specs.dispatch_core.specs.Lines.{names_of}
+use Rattle.pam_handle.specs.pam_room.specs.Module.{Player}
 use Rattle.pam_handle.specs.Handle.{PlainHandle}
 use Rattle.pam_library.specs.Slots.{PlainSlot, closed, handle_limit, lists_of, opened, slot_at}
 

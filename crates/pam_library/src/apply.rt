@@ -1,7 +1,7 @@
 ghost use Rattle.std.specs.Prelude.{◌≡◌, ◌&&◌, ℕ, true, IfOk, IsOk, OnErr, IsTrue, length};
 ghost use Rattle.pam_base.specs.declared.code.Code.{Code};
 ghost use Rattle.data_due.specs.Moves.{Moves};
-ghost use Rattle.pam_room.specs.Module.{notes_of};
+ghost use Rattle.pam_handle.specs.pam_room.specs.Module.{notes_of};
 ghost use Rattle.pam_handle.specs.Plain.{in_box};
 ghost use Rattle.pam_library.specs.Outcome.{plain_outcome};
 ghost use Rattle.pam_library.specs.Slots.{handle_limit, lists_of, slot_at};
@@ -13,12 +13,13 @@ ghost use Rattle.pam_library.specs.AnyWorld.{AnswersBy, CountsRefusal, FailsAt, 
 use crate::laws;
 use crate::library::{Library, LibraryTold};
 use crate::outcome::{Answer, Outcome};
+use crate::place::put_back;
 use crate::slot::Stepped;
 use crate::world::receipts_in;
 use fail_delay::{DelayFn, DelayTold};
 use pam_base::{NoMemory, Step};
+use pam_handle::pam_room::{World, WorldTold};
 use pam_handle::{Gear, GearTold};
-use pam_room::{World, WorldTold};
 use std::alloc::Global;
 
 impl Library {
@@ -138,9 +139,9 @@ impl Library {
             let filed_from = receipts_in(world);
             return Ok(Outcome::only(alloc, filed_from, Answer::BadNumber));
         }
-        let slot = self.slots.remove(number - 1);
+        let slot = self.slots.swap_remove(number - 1);
         let Stepped { slot, outcome } = slot.step(alloc, &self.gear, world, step);
-        self.slots.insert(number - 1, slot).unwrap();
+        put_back(&mut self.slots, number - 1, slot);
         data_cleanup::laws::ledger_is_sound(&world.process.ledger);
         outcome
     }

@@ -15,8 +15,8 @@ use crate::world::receipts_in;
 use data_cleanup::laws;
 use fail_delay::{DelayFn, DelayTold};
 use pam_base::{AppCall, Func, NoMemory};
+use pam_handle::pam_room::{Room, RoomTold, World, WorldTold};
 use pam_handle::{Gear, GearTold, Handle};
-use pam_room::{Room, RoomTold, World, WorldTold};
 use std::alloc::Global;
 
 // Any call but its end on a transaction that told all that it had to tell.

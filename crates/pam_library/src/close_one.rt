@@ -1,15 +1,16 @@
 ghost use Rattle.std.specs.Prelude.{◌≡◌, ◌↔◌, map, IsNone, IfSome, slice_get};
 ghost use Rattle.data_due.specs.Moves.{Moves};
-ghost use Rattle.pam_room.specs.Module.{notes_of};
+ghost use Rattle.pam_handle.specs.pam_room.specs.Module.{notes_of};
 ghost use Rattle.pam_library.specs.Slots.{NoneIsOpen, handle_limit, lists_of};
 ghost use Rattle.pam_library.specs.Sound.{IsSoundFor};
 ghost use Rattle.pam_library.specs.Closing.{ClosesAs, IsFirstOpen, closed_one, end_of, first_open};
 
 use crate::laws;
 use crate::library::{Library, LibraryTold};
+use crate::place::put_back;
 use crate::slot::{Slot, SlotTold};
+use pam_handle::pam_room::{World, WorldTold};
 use pam_handle::{Gear, GearTold};
-use pam_room::{World, WorldTold};
 
 // The place of the first open transaction, from 0.
 fn place_of_first_open(slots: &[Slot]) -> Option<usize>
@@ -63,10 +64,10 @@ impl Library {
         data_due::laws::nothing_moves();
         data_due::laws::held_data_await_cleanup();
         let place = place_of_first_open(&self.slots)?;
-        match self.slots.remove(place) {
+        match self.slots.swap_remove(place) {
             Slot::Open(handle) => {
                 let conv = handle.end(&self.gear, world, status);
-                self.slots.insert(place, Slot::Closed(conv)).unwrap();
+                put_back(&mut self.slots, place, Slot::Closed(conv));
                 data_cleanup::laws::ledger_is_sound(&world.process.ledger);
                 Some(place as u32 + 1)
             }

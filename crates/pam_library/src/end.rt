@@ -9,8 +9,8 @@ use crate::slot::{Slot, SlotTold, Stepped};
 use crate::world::receipts_in;
 use fail_delay::{DelayFn, DelayTold};
 use pam_base::{AppCall, Code};
+use pam_handle::pam_room::{Room, RoomTold, World, WorldTold};
 use pam_handle::{Gear, GearTold, Handle};
-use pam_room::{Room, RoomTold, World, WorldTold};
 use std::alloc::Global;
 
 // Ends a transaction; its conversation stays in its place. It takes no memory.

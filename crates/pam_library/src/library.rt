@@ -1,12 +1,12 @@
 ghost use Rattle.std.specs.Prelude.{◌≡◌, ◌<◌, ◌^◌, ◌≤◌, ◌&&◌, Some, map, length, slice_get, IfOk, IsTrue};
 ghost use Rattle.std.specs.List.{list_all};
-ghost use Rattle.dispatch_core.specs.Lines.{names_of};
+ghost use Rattle.pam_handle.specs.dispatch_core.specs.Lines.{names_of};
 
 use crate::slot::Slot;
 use conv_port::Conv;
 use pam_base::NoMemory;
+use pam_handle::pam_room::{Module, name_of};
 use pam_handle::{Gear, GearTold};
-use pam_room::{Module, name_of};
 use std::alloc::Global;
 use std::mem;
 

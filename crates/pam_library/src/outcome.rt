@@ -3,9 +3,9 @@ ghost use Rattle.pam_library.specs.Outcome.{answers_only, plain_outcome};
 
 use conv_port::Messages;
 use pam_base::{Code, Func, Text, Texts};
+use pam_handle::pam_room::Visits;
+use pam_handle::service_load::LoadFault;
 use pam_handle::{Told, Wait};
-use pam_room::Visits;
-use service_load::LoadFault;
 use std::alloc::Global;
 
 /// What a step answers.

@@ -8,7 +8,7 @@ use crate::outcome::{Answer, Outcome};
 use conv_port::{Conv, offer_to};
 use pam_base::{MAX_TEXT, NoMemory, Text};
 use pam_handle::Handle;
-use pam_room::{Room, RoomTold};
+use pam_handle::pam_room::{Room, RoomTold};
 use std::alloc::Global;
 
 // A reply for the conversation of an open transaction.

@@ -1,6 +1,6 @@
 ghost use Rattle.std.specs.Prelude.{◌≡◌, ◌<◌, ◌^◌, ◌&&◌, ℕ, false, true, None, Some, IfOk, OnErr, IsTrue, length};
 ghost use Rattle.pam_base.specs.declared.code.Code.{Code};
-ghost use Rattle.pam_room.specs.Module.{notes_of};
+ghost use Rattle.pam_handle.specs.pam_room.specs.Module.{notes_of};
 ghost use Rattle.pam_handle.specs.AnyWorld.{FailsAs, RunsSoundly};
 ghost use Rattle.pam_handle.specs.Call.{CallsAs};
 ghost use Rattle.pam_handle.specs.Items.{all_told};
@@ -17,8 +17,8 @@ use crate::world::receipts_in;
 use data_cleanup::laws;
 use fail_delay::{DelayFn, DelayTold};
 use pam_base::{Code, Func, NoMemory};
+use pam_handle::pam_room::{Room, RoomTold, World, WorldTold};
 use pam_handle::{Gear, GearTold, Handle, has_pass_flag};
-use pam_room::{Room, RoomTold, World, WorldTold};
 use std::alloc::Global;
 
 // What a stack call is answered before a stack is run: SYSTEM_ERR for the flags of the two passes

@@ -13,8 +13,8 @@ use crate::world::receipts_in;
 use conv_port::Conv;
 use fail_delay::{DelayFn, DelayTold};
 use pam_base::{AppCall, Code, NoMemory, Refuse, Text};
+use pam_handle::pam_room::{Room, RoomTold, World, WorldTold};
 use pam_handle::{Gear, GearTold, Handle, StartRefused};
-use pam_room::{Room, RoomTold, World, WorldTold};
 use std::alloc::Global;
 
 // Opens a place for a transaction that was started, and tells which modules are missing; without

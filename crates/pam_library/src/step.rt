@@ -1,6 +1,6 @@
 ghost use Rattle.std.specs.Prelude.{◌≡◌, ◌<◌, ◌^◌, true, Some, IfOk, IsTrue, OnErr, length};
-ghost use Rattle.dispatch_core.specs.Lines.{names_of};
-ghost use Rattle.pam_room.specs.Stays.{IsReady};
+ghost use Rattle.pam_handle.specs.dispatch_core.specs.Lines.{names_of};
+ghost use Rattle.pam_handle.specs.pam_room.specs.Stays.{IsReady};
 ghost use Rattle.pam_handle.specs.Plain.{in_box, plain_handle, room_in};
 ghost use Rattle.pam_library.specs.AnyWorld.{CountsRefusal, HidesNoFault, leaves_world};
 ghost use Rattle.pam_library.specs.InPlace.{GoesInPlace, IsReadyAt};
@@ -18,8 +18,8 @@ use crate::world::receipts_in;
 use conv_port::Conv;
 use fail_delay::{DelayFn, DelayTold};
 use pam_base::{AppCall, Step};
+use pam_handle::pam_room::{Room, RoomTold, World, WorldTold};
 use pam_handle::{Gear, GearTold, Handle};
-use pam_room::{Room, RoomTold, World, WorldTold};
 use std::alloc::Global;
 
 impl Slot {

@@ -7,7 +7,7 @@ use crate::outcome::{Answer, Outcome};
 use crate::texts::{bytes_of, copy_of};
 use pam_base::{AppCall, BadItem, Code, ItemName, NoMemory, Refuse, Text};
 use pam_handle::Handle;
-use pam_room::{Room, RoomTold};
+use pam_handle::pam_room::{Room, RoomTold};
 use std::alloc::Global;
 
 // Each of these calls is one on a transaction that told all that it had to tell.

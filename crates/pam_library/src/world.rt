@@ -1,7 +1,7 @@
 ghost use Rattle.std.specs.Prelude.{◌≡◌};
 ghost use Rattle.pam_library.specs.SlotStep.{filed_in};
 
-use pam_room::{World, WorldTold};
+use pam_handle::pam_room::{World, WorldTold};
 
 // How many receipts the ledger has.
 pub(crate) fn receipts_in(world: &World) -> u64

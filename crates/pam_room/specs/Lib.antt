@@ -1,3 +1,9 @@
+pub use Rattle.conv_port
+pub use Rattle.data_cleanup
+pub use Rattle.env_list
+pub use Rattle.fail_delay
+pub use Rattle.item_store
+pub use Rattle.pam_outside
 pub mod Trail
 pub mod State
 pub mod Stays

@@ -1,4 +1,4 @@
--- A frame in front of some bytes: it is read as its step, and what is read is a frame.
+-- Bytes that begin with a frame: it is read as its step, and what is read is a frame.
 use Rattle.std.proofs.Common.{◌≡◌, ℕ, zero, suc, ◌+◌, ◌-◌, ◌<◌, ◌≤◌, Bool, true, false, ◌&&◌, ◌||◌, cond, List, [], ◌∷◌, ◌++◌, length, take, drop, get_or, Option, Some, None, nat_lt, nat_le, codes, not, refl, sym, ap, subst, ◌∙◌, arith, length-append}
 use Rattle.std.proofs.Math.Seq.{take-append_seam}
 use Rattle.std.proofs.lemmas.Bool.{leb-true, le-leb, le-ltb, and_parts, and_from}
@@ -101,7 +101,7 @@ body-size step e =
 pub in_range : (said follow : ℕ) → 2 ≤ said → said ≤ 580 → front_by said follow ≡ cond (nat_le said follow) (Whole (said + 2)) Open
 in_range said follow low high = rw (le-ltb said 2 low, le-ltb 580 said high) refl
 
--- the length in front of a body
+-- the length before a body
 pub said-size : (body : List ℕ) → length body ≤ 580 → from_be_bytes w16 (to_be_bytes w16 (length body)) ≡ length body
 said-size body le = from_be_bytes-to_be_bytes_2 (length body) (omega (arith, le))
 
@@ -118,7 +118,7 @@ front-size body more =
     let n : length body + 2 - 2 ≡ length body = omega arith in
     rw n (take-append_seam body more)
 
--- a frame in front is read as its step
+-- a frame at the beginning is read as its step
 pub frame-read : (step : Step) (more : List ℕ) → has_frame step ≡ true → next_of (frame_of step ++ more) ≡ next.Frame step (length (body_of step) + 2)
 frame-read step more e =
     let whole = sized-whole (body_of step) more (body-size step e) in

@@ -59,7 +59,7 @@ unfolding some_step
 one_step = λ one other bytes f g.
     ap (some_step one) (sym (frame_alone one f.within) ∙ ap step_of (sym f.bytes_are) ∙ ap step_of g.bytes_are ∙ frame_alone other g.within)
 
--- two frames in front of the same bytes
+-- two frames at the beginning of the same bytes
 same_front : (one other : Step) (more left : List ℕ) → has_frame one ≡ true → has_frame other ≡ true → frame_of one ++ more ≡ frame_of other ++ left → one ≡ other
 same_front one other more left e f same = same_step one other _ _ (sym (frame-read one more e) ∙ ap next_of same ∙ frame-read other left f)
 

@@ -1,4 +1,4 @@
--- When the front of some bytes is open.
+-- When the beginning of some bytes is open.
 use Rattle.std.proofs.Common.{◌≡◌, ℕ, ◌+◌, ◌*◌, ◌-◌, ◌<◌, ◌≤◌, ◌/◌, ◌%◌, Bool, true, false, ◌||◌, cond, List, [], ◌∷◌, ◌++◌, length, take, drop, Option, Some, None, nat_lt, nat_le, refl, sym, ap, ◌∙◌, arith, length-append, append_assoc, replicate}
 use Rattle.std.proofs.lemmas.Bool.{leb-false, ltb-false, lt-leb, le-ltb}
 use Rattle.std.proofs.lemmas.List.{length-replicate}
@@ -115,7 +115,7 @@ not_frame rest step more size e f =
     let no : ◌≡◌ {A = Next} (next.Frame step size) next.Bad = sym f ∙ e in
     absurd cc
 
--- a frame in front, as it is said of steps
+-- a frame at the beginning, as it is said of steps
 pub one-read : (rest : List ℕ) (step : Step) (more : List ℕ) → AreFramesOf rest (step ∷ []) more → (size : ℕ) × (next_of rest ≡ next.Frame step size)
 one-read rest step more is =
     let parts : rest ≡ frame_of step ++ more = is.parts ∙ append_assoc (frame_of step) [] more in

@@ -1,6 +1,6 @@
--- Frames: which bytes stand for which step (this project's own; the calls are those of pam(3)). A
--- frame is two bytes, big-endian, that say how many follow, then the transaction's number, the
--- kind, and what the kind has after it.
+-- Frames: which bytes encode which step (this project's own; the calls are those of pam(3)). A
+-- frame is two bytes, big-endian, the number of bytes that follow, then the transaction's number,
+-- the kind, and what the kind has after it.
 use Rattle.std.specs.Prelude.{◌≡◌, ℕ, ◌<◌, ◌^◌, Bool, true, false, List, [], ◌∷◌, ◌++◌, length, Option, Some, None, All, IsTrue, nat_le, nat_lt, ◌&&◌}
 use Rattle.std.specs.Int.{w16, w32, w64, to_be_bytes}
 use Rattle.pam_base.specs.declared.call.AppCall.{AppCall}
@@ -83,7 +83,7 @@ has_frame step = nat_le step.number 255 && is_sound step.call
 
 -- ---- the frame of a step
 
--- what stands after its length
+-- what follows its length
 abbrev pub body_of : Step → List ℕ
 body_of step = step.number ∷ number_of (kind_of_call step.call) ∷ rest_of step.call
 

@@ -7,7 +7,7 @@ use Rattle.pam_wire.specs.Frame.{IsFrame, AreBytes}
 use Rattle.pam_wire.specs.Read.{front_of, step_of}
 use Rattle.pam_wire.specs.Stream.{AreFramesOf, HasNoFrame, IsOpen}
 
--- a frame by the table is read as its step, and where bytes are read as a step they are its frame
+-- a frame by the table is read as its step, and if bytes are read as a step they are its frame
 abbrev pub ReadsTable : Type 0
 ReadsTable = (bytes : List ℕ) (step : Step) → (IsFrame bytes step → step_of bytes ≡ Some step)
     × (AreBytes bytes → step_of bytes ≡ Some step → IsFrame bytes step)
@@ -27,15 +27,15 @@ abbrev pub BeginsNoOther : Type 0
 BeginsNoOther = (one other : Step) (bytes more : List ℕ) → IsFrame bytes one
     → IsFrame (bytes ++ more) other → more ≡ []
 
--- However some bytes are cut into steps' frames and a rest in whose front no frame stands, the
+-- However some bytes are cut into steps' frames and a rest that doesn't begin with a frame, the
 -- steps and the rest are the same.
 abbrev pub HasOneReading : Type 0
 HasOneReading = (bytes : List ℕ) (steps others : List Step) (rest left : List ℕ)
     → AreFramesOf bytes steps rest → HasNoFrame rest
     → AreFramesOf bytes others left → HasNoFrame left → (steps ≡ others) × (rest ≡ left)
 
--- What stands in front of some bytes stays, whatever follows them: a frame, and a length that no
--- frame has. An open front has at most 581 bytes.
+-- What some bytes begin with stays, whatever follows them: a frame, or a length that no frame has.
+-- The beginning of a frame that isn't whole has at most 581 bytes.
 abbrev pub Settles : Front → List ℕ → List ℕ → Type 0
 Settles (Whole size) bytes more =
     (4 ≤ size) × (size ≤ length bytes) × (front_of (bytes ++ more) ≡ Whole size)
@@ -45,8 +45,8 @@ Settles Open bytes more = length bytes ≤ 581
 abbrev pub FrontSettles : Type 0
 FrontSettles = (bytes more : List ℕ) → Settles (front_of bytes) bytes more
 
--- The front of some bytes is open exactly where a frame whose length is in range has begun, and
--- isn't whole.
+-- Some bytes begin a frame that isn't whole if and only if they are the beginning of one whose
+-- length is in range.
 abbrev pub OpensByTable : Type 0
 OpensByTable = (rest : List ℕ) → (AreBytes rest → front_of rest ≡ Open → IsOpen rest)
     × (IsOpen rest → front_of rest ≡ Open)

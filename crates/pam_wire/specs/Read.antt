@@ -91,7 +91,7 @@ call_of_kind (Some kind) rest = call_in kind rest
 abbrev pub step_with : ℕ → AppCall → Step
 step_with number call = record { number = number; call = call }
 
--- the step of what stands after a length
+-- the step of what follows a length
 abbrev pub step_in : List ℕ → Option Step
 step_in (number ∷ kind ∷ rest) =
     option_map (step_with number) (call_of_kind (kind_of_number kind) rest)
@@ -105,8 +105,8 @@ front_by said follow =
     if nat_lt said 2 || nat_lt 580 said then OutOfRange
     else if nat_le said follow then Whole (said + 2) else Open
 
--- what stands at the front of some bytes; where one byte is there, a length that it begins is at
--- least 256 times it
+-- what some bytes begin with; if there is one byte, a length that it begins is at least 256 times
+-- it
 abbrev pub front_of : List ℕ → Front
 front_of [] = Open
 front_of (a ∷ []) = if nat_lt 2 a then OutOfRange else Open

@@ -12,7 +12,7 @@ use Rattle.pam_wire.specs.declared.next.Next.TheVariants as next
 use Rattle.pam_wire.specs.Frame.{has_frame, sized, frames_of}
 use Rattle.pam_wire.specs.Read.{front_of, step_in}
 
--- how many bytes stand before the next frame, and the bytes from there on
+-- how many bytes come before the next frame, and the bytes from there on
 pub record FramesState : Type 0 where
   pub place : ℕ
   pub rest : List ℕ
@@ -32,14 +32,14 @@ next_by (Whole size) rest = next_in (step_in (take (size - 2) (drop 2 rest))) si
 abbrev pub next_of : List ℕ → Next
 next_of rest = next_by (front_of rest) rest
 
--- the frame of a step stands in front
+-- the bytes begin with the frame of a step
 abbrev pub IsStep : Next → Type 0
 IsStep (next.Frame step size) = Unit {0}
 IsStep next.Open = ⊥
 IsStep next.Bad = ⊥
 
--- the next step is taken, or there is none yet, or there is no frame; without memory all is as
--- before
+-- the next step is taken, or there is none yet, or there is no frame; if an allocation fails,
+-- nothing changes
 abbrev pub Nexts : Result (Option Step) (Refuse BadFrame) → FramesState → FramesState → Type 0
 Nexts (Ok (Some step)) old new =
     (size : ℕ) × (next_of old.rest ≡ next.Frame step size)
@@ -55,7 +55,7 @@ Nexts (Err NoMemory) old new = new ≡ old
 abbrev pub IsBody : List ℕ → Type 0
 IsBody body = (2 ≤ length body) × (length body ≤ 580)
 
--- nothing, or a front of a frame whose length is in range, and not all of it
+-- nothing, or a proper prefix of a frame whose length is in range
 pub record IsOpen (rest : List ℕ) : Type 0 where
   pub body : List ℕ
   pub more : List ℕ
@@ -68,7 +68,7 @@ pub record AreFramesOf (bytes : List ℕ) (steps : List Step) (rest : List ℕ) 
   pub framed : AllByRecursion (λ (step : Step). IsTrue (has_frame step)) steps
   pub parts : bytes ≡ frames_of steps ++ rest
 
--- no step's frame stands in front of it
+-- it doesn't begin with a step's frame
 abbrev pub HasNoFrame : List ℕ → Type 0
 HasNoFrame rest = (step : Step) (more : List ℕ) → IsTrue (has_frame step)
     → AreFramesOf rest (step ∷ []) more → ⊥
@@ -78,9 +78,9 @@ pub record Gave (fed : List ℕ) (steps : List Step) (now : FramesState) : Type 
   pub frames : AreFramesOf fed steps now.rest
   pub place : now.place ≡ length (frames_of steps)
 
--- The steps given are those at the front of the bytes fed, and a step is given where one more is
--- there; none is exactly where what is after them is open, and a fault names the first byte after
--- them.
+-- The steps returned are those that the bytes fed begin with, and a step is returned if there is
+-- one more; none if and only if what follows them is incomplete, and a fault names the first byte
+-- after them.
 abbrev pub GivesNext : Result (Option Step) (Refuse BadFrame) → List ℕ → List Step → FramesState
     → Type 0
 GivesNext (Ok (Some step)) fed steps new = Gave fed (steps ++ step ∷ []) new

@@ -5,8 +5,8 @@ use crate::kind::Kind;
 use pam_base::{AppCall, NoMemory, Step, Text};
 use std::alloc::Global;
 
-/// The frame of a step. The step's number is at most 255, a service's name is one, other texts have at most 512
-/// bytes, and the name of a variable has one at least.
+/// Returns the frame of a step. The step's number is at most 255, a service's name is valid, other
+/// texts have at most 512 bytes, and the name of a variable has at least one.
 pub fn frame_of(alloc: Global, step: &Step) -> Result<Text, NoMemory>
     requires { IsTrue (has_frame step.now) }
     ensures { IfOk result (λ frame. frame ≡ frame_of step.now) }
@@ -21,7 +21,8 @@ pub fn frame_of(alloc: Global, step: &Step) -> Result<Text, NoMemory>
     Ok(Text::from_vec(frame))
 }
 
-/// The answer to a step: the length of its report in eight bytes, big-endian, and the report.
+/// Returns the answer to a step: the length of its report in eight bytes, big-endian, and the
+/// report.
 pub fn answer_of(alloc: Global, report: &[u8]) -> Result<Text, NoMemory>
     ensures { IfOk result (λ answer. answer ≡ answer_of report.now) }
 {
@@ -31,7 +32,7 @@ pub fn answer_of(alloc: Global, report: &[u8]) -> Result<Text, NoMemory>
     Ok(Text::from_vec(answer))
 }
 
-// Adds what stands after the kind.
+// Adds what follows the kind.
 fn push_rest(body: &mut Vec<u8>, call: &AppCall) -> Result<(), NoMemory>
     requires { IsTrue (is_sound call.now) }
     ensures { OnOk result (body.new.items ≡ body.old.items ++ rest_of call.now) }

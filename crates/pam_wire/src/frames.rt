@@ -8,17 +8,17 @@ use pam_base::{NoMemory, Refuse, Step};
 use std::alloc::Global;
 use std::marker::Model;
 
-/// The bytes are no frame.
+/// The bytes aren't a frame.
 #[derive(Clone, Copy, Debug, PartialEq, Eq)]
 pub struct BadFrame {
-    /// The place of the first of them in all bytes fed, from 0.
+    /// The position of the first of them among all bytes fed, from 0.
     pub place: u64,
 }
 
-/// The steps of a stream of frames, which is fed piece by piece.
+/// The steps of a stream of frames, which is fed in pieces.
 #[derive(Debug, Drop)]
 pub struct Frames {
-    // how many bytes the steps given so far have
+    // how many bytes the steps returned so far have
     place: u64,
     held: Vec<u8>,
 }
@@ -32,7 +32,7 @@ impl Model for Frames {
 }
 
 impl Frames {
-    /// Frames of which nothing was fed. It takes no memory before the first piece.
+    /// A stream of which nothing was fed. It does not allocate before the first piece.
     pub fn new(alloc: Global) -> Self
         ensures empty { result ≡ record { place = 0; rest = [] } }
         ensures gave { Gave [] [] result }
@@ -43,8 +43,8 @@ impl Frames {
         }
     }
 
-    /// Adds a piece after what was fed before; all together has fewer than 2^63 bytes. Without memory all is as
-    /// before.
+    /// Adds a piece after what was fed before; all together has fewer than 2^63 bytes. If an
+    /// allocation fails, nothing changes.
     pub fn feed(&mut self, piece: &[u8]) -> Result<(), NoMemory>
         requires { self.old.place + length self.old.rest + length piece.now < 2 ^ 63 }
         ensures ok { OnOk result (self.new ≡ record {
@@ -59,10 +59,10 @@ impl Frames {
         Ok(())
     }
 
-    /// Takes the step of the first frame that wasn't taken yet. None exactly where nothing is left, or the beginning
-    /// of a frame whose length is in range. `BadFrame` exactly where the length is out of range, or the frame is whole
-    /// and no call; every later answer is the same then. Memory is taken for a step alone, and without it all is as
-    /// before.
+    /// Takes the step of the next frame. Returns None if and only if nothing is left, or the
+    /// beginning of a frame whose length is in range; `BadFrame` if and only if the length is out
+    /// of range, or the frame is whole and isn't a call, and then every later call returns the
+    /// same. Only a step allocates; if that fails, nothing changes.
     pub fn next(&mut self, alloc: Global) -> Result<Option<Step>, Refuse<BadFrame>>
         requires { self.old.place + length self.old.rest < 2 ^ 63 }
         ensures next { Nexts result self.old self.new }
@@ -82,7 +82,7 @@ impl Frames {
         }
     }
 
-    /// How many of the bytes fed belong to no step that was taken.
+    /// How many of the bytes fed don't belong to a step that was taken.
     pub fn rest(&self) -> usize
         ensures { result ≡ length self.now.rest }
     {

@@ -1,26 +1,26 @@
 ghost use Rattle.std.specs.Prelude.{◌≡◌, length};
 ghost use Rattle.pam_wire.specs.Read.{front_by, front_of};
 
-/// The least and the most bytes after a length.
+/// The minimum and maximum number of bytes after a length.
 const MIN_BODY: usize = 2;
 
 const MAX_BODY: usize = 580;
 
-/// The bytes of a length.
+/// The number of bytes of a length.
 pub(crate) const LENGTH: usize = 2;
 
-/// What stands at the front of some bytes.
+/// What some bytes begin with.
 #[derive(Clone, Copy, Debug, PartialEq, Eq)]
 pub enum Front {
     /// Nothing, or the beginning of a frame.
     Open,
     /// A length that no frame has.
     OutOfRange,
-    /// A frame of n bytes, its length among them. It may be no call.
+    /// A frame of n bytes, its length included. It may not be a call.
     Whole(usize),
 }
 
-/// What stands at the front of some bytes, by the length that they begin with alone.
+/// What some bytes begin with, judged by the length alone.
 pub fn front_of(bytes: &[u8]) -> Front
     ensures { result ≡ front_of bytes.now }
 {

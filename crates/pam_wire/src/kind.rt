@@ -50,7 +50,7 @@ impl Kind {
         self as u8
     }
 
-    /// The kind of this number. None exactly for all other numbers.
+    /// The kind of this number; None if and only if there is none.
     pub(crate) fn numbered(number: u8) -> Option<Kind>
         ensures { result ≡ kind_of_number number }
     {

@@ -1,8 +1,9 @@
 ghost use Rattle.pam_wire.specs.Laws.{ReadsTable, HasOneFrame, IsOneStep, BeginsNoOther, HasOneReading, FrontSettles, OpensByTable};
 
-// Each of these does nothing: its contract is a law about the definitions, for those who call it in a proof.
+// Each of these is a law about the definitions: its contract states it, for those who call it in a
+// proof.
 
-/// Bytes are read as a step exactly where they are its frame by the table.
+/// Bytes are read as a step if and only if they are its frame by the table.
 pub fn frame_is_read()
     ensures { ReadsTable }
 {}
@@ -18,18 +19,18 @@ pub fn no_frame_begins_another()
     ensures { BeginsNoOther }
 {}
 
-/// The steps that are read of some bytes, and what is left after them, depend on the bytes alone, and not on how they
-/// were cut into pieces.
+/// The steps that are read from some bytes, and what is left after them, depend on the bytes alone,
+/// and not on how they were cut into pieces.
 pub fn steps_are_those_of_the_bytes()
     ensures { HasOneReading }
 {}
 
-/// What stands in front of some bytes stays so, whatever follows them.
+/// What some bytes begin with stays the same, whatever follows them.
 pub fn front_settles()
     ensures { FrontSettles }
 {}
 
-/// What is read of the front of some bytes as the beginning of a frame is one by the table, and nothing else is.
+/// What is read as the beginning of a frame is one by the table, and nothing else is.
 pub fn front_opens_by_the_table()
     ensures { OpensByTable }
 {}

@@ -1,5 +1,5 @@
-//! A byte protocol: an application's calls and their answers as frames, for a front end on the other side of a pipe.
-//! It knows nothing of transactions.
+//! The byte protocol: an application's calls and their answers as frames, for a front end on the
+//! other side of a pipe. It knows nothing of transactions. Begin at `frames.rt`.
 #![tactic(auto)]
 
 mod frame;

@@ -6,12 +6,12 @@ use crate::step::step_in;
 use pam_base::{NoMemory, Step};
 use std::alloc::Global;
 
-/// What stands at the front of some bytes.
+/// What some bytes begin with.
 #[derive(Debug, Drop)]
 pub enum Next {
     /// Nothing, or the beginning of a frame.
     Open,
-    /// No frame, or one that is no call.
+    /// Not a frame, or one that isn't a call.
     Bad,
     /// The frame of a step, of n bytes.
     Frame(Step, usize),

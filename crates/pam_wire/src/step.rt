@@ -7,16 +7,16 @@ use crate::kind::Kind;
 use pam_base::{ALL_ITEMS, AppCall, ItemName, NoMemory, Step, Text, is_service_name};
 use std::alloc::Global;
 
-/// The most bytes of a text.
+/// The maximum length of a text in bytes.
 const MAX_TEXT: usize = 512;
 
-/// The step that these bytes are the frame of. None exactly where they are no frame, or one that is no call; memory is
-/// taken for a step alone.
+/// The step whose frame these bytes are; None if and only if they aren't a frame, or aren't that of
+/// a call. Only a step allocates.
 pub fn step_of(alloc: Global, frame: &[u8]) -> Result<Option<Step>, NoMemory>
     ensures step { IfOk result (λ step. step ≡ step_of frame.now) }
     ensures memory { OnErr result (is_some (step_of frame.now) ≡ true) }
 
-    // A start names a service, and a reply has at most 512 bytes.
+    // A start has the name of a service, and a reply has at most 512 bytes.
     ensures fit { IfOk result (λ found. IfSome found (λ step. IsTrue (is_fit step.call))) }
 {
     match front_of(frame) {
@@ -31,7 +31,7 @@ pub fn step_of(alloc: Global, frame: &[u8]) -> Result<Option<Step>, NoMemory>
     }
 }
 
-/// The step of what stands after a length. None exactly where it is no call.
+/// The step of the bytes after a length; None if and only if they aren't a call.
 pub(crate) fn step_in(alloc: Global, body: &[u8]) -> Result<Option<Step>, NoMemory>
     ensures step { IfOk result (λ step. step ≡ step_in body.now) }
     ensures memory { OnErr result (is_some (step_in body.now) ≡ true) }
@@ -164,7 +164,7 @@ fn setting_in(alloc: Global, rest: &[u8]) -> Result<Option<AppCall>, NoMemory>
     }
 }
 
-// One byte that says how long the service's name is, then the name, and perhaps a user.
+// One byte for the length of the service's name, then the name, and perhaps a user.
 fn start_in(alloc: Global, rest: &[u8]) -> Result<Option<AppCall>, NoMemory>
     ensures call { IfOk result (λ call. call ≡ start_in rest.now) }
     ensures memory { OnErr result (is_some (start_in rest.now) ≡ true) }

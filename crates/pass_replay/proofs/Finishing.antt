@@ -1,4 +1,4 @@
--- What a pass comes to, of its walk.
+-- The result of a pass, from its walk.
 use Rattle.std.proofs.Common.{◌≡◌, List, Option, Some, None, sym, ◌∙◌, ap}
 use Rattle.pam_base.specs.declared.code.Code.{Code}
 use Rattle.stack_walk.specs.declared.opinion.Opinion.{Opinion}

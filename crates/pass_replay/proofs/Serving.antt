@@ -1,4 +1,4 @@
--- A line of a pass that is gone over again: its answer, and the state after it.
+-- A line of a pass that is replayed: its answer, and the state after it.
 use Rattle.std.proofs.Common.{◌≡◌, ℕ, ◌+◌, Bool, false, if◌then◌else◌, List, [], ◌∷◌, ◌++◌, Option, Some, None, drop, sym, ◌∙◌, ap, subst}
 use Rattle.std.specs.List.{slice_get}
 use Rattle.pam_base.specs.declared.code.Code.{Code}

@@ -1,4 +1,4 @@
--- Answers kept for the places of lines, as cells (this project's own).
+-- Cached return codes of lines, as cells (this project's own).
 use Rattle.std.specs.Prelude.{List, [], ◌∷◌, Option, Some, None, slice_get}
 use Rattle.std.specs.Option.{option_flatten}
 use Rattle.pam_base.specs.declared.code.Code.{Code}
@@ -6,16 +6,16 @@ use Rattle.stack_walk.specs.Route.{KeptAnswers}
 use Rattle.stack_walk.specs.Pass.{Visit, visit}
 use Rattle.pass_replay.specs.declared.visited.Visited.{Visited}
 
--- a cell for each place from 0 on; after the last one nothing is kept
+-- a cell for each line from 0 on; after the last one nothing is cached
 abbrev pub answers_in : List (Option Code) → KeptAnswers
 answers_in cells place = option_flatten (slice_get cells place)
 
--- where nothing is held, and where cells are
+-- if nothing is held, and if cells are
 abbrev pub kept_answers : Option (List (Option Code)) → Option KeptAnswers
 kept_answers None = None
 kept_answers (Some cells) = Some (answers_in cells)
 
--- the visits of a pass
+-- the lines that a pass ran
 abbrev pub visits_of : List Visited → List Visit
 visits_of [] = []
 visits_of (v ∷ vs) = visit v.place v.answer ∷ visits_of vs

@@ -1,3 +1,4 @@
+pub use Rattle.dispatch_core
 pub mod Replay
 pub mod Told
 pub mod Kept

@@ -1,4 +1,4 @@
--- What a pass and a call came to, in the words of the calls (this project's own).
+-- The result of a pass and of a call, in the types of the calls (this project's own).
 use Rattle.std.specs.Prelude.{List, Option, Some, None}
 use Rattle.pam_base.specs.declared.code.Code.{Code}
 use Rattle.pam_base.specs.declared.code.Code.TheVariants.{Incomplete}
@@ -20,12 +20,12 @@ passed_of told p = record {
   state = telling_from told p.next p.astray;
 }
 
--- the code of a walk that ended with this opinion, or was put off
+-- the code of a walk that ended in this state, or is incomplete
 abbrev pub ended_code : Option Opinion → Code
 ended_code None = Incomplete
 ended_code (Some opinion) = verdict opinion
 
--- the answers to go on after, where it was put off
+-- the codes to resume with, if it is incomplete
 abbrev pub ended_paused : Option Opinion → List Visit → Option (List Code)
 ended_paused None visits = Some (answers_of visits)
 ended_paused (Some opinion) visits = None

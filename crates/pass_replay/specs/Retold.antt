@@ -1,8 +1,8 @@
--- What a stack call comes to that is gone over again, in the words of the calls (this project's own).
+-- The result of a replayed stack call, in the types of the calls (this project's own).
 use Rattle.std.specs.Prelude.{List, Option}
 use Rattle.control_words.specs.Stack.{stack_of}
-use Rattle.service_load.specs.Stacks.{Stacks}
-use Rattle.service_load.specs.declared.trees.Trees.{Trees}
+use Rattle.dispatch_core.specs.service_load.specs.Stacks.{Stacks}
+use Rattle.dispatch_core.specs.service_load.specs.declared.trees.Trees.{Trees}
 use Rattle.stack_walk.specs.declared.seen.Seen.{Seen}
 use Rattle.stack_walk.specs.Retell.{Telling}
 use Rattle.dispatch_core.specs.Calls.{Went, went}

@@ -1,22 +1,24 @@
--- The told lines of a call: a visit, or another line, of which nothing counts here (this project's own).
+-- The recorded lines of a call: a line that was run, or another, of which nothing matters here
+-- (this project's own).
 use Rattle.std.specs.Prelude.{ℕ, zero, suc, ◌+◌, Bool, List, [], ◌∷◌, Option, Some, None, drop}
 use Rattle.stack_walk.specs.declared.seen.Seen.{Seen}
 use Rattle.stack_walk.specs.Retell as retell
 use Rattle.stack_walk.specs.Seen.{seen_of}
 
--- the visits among told lines
+-- the lines that were run among recorded lines
 abbrev pub visits_in : List (Option Seen) → List retell.Seen
 visits_in [] = []
 visits_in (None ∷ told) = visits_in told
 visits_in (Some v ∷ told) = seen_of v ∷ visits_in told
 
--- how many told lines stand before the visit with this number, from 0; all of them where there is no such visit
+-- how many recorded lines come before the run line with this number, from 0; all of them if there
+-- is no such line
 abbrev pub lines_before : ℕ → List (Option Seen) → ℕ
 lines_before i [] = 0
 lines_before zero (Some v ∷ told) = 0
 lines_before (suc i) (Some v ∷ told) = lines_before i told + 1
 lines_before i (None ∷ told) = lines_before i told + 1
 
--- told lines from one on, and whether a line was met that isn't the next of their visits
+-- recorded lines from one on, and whether a line was run that isn't the next of them
 abbrev pub telling_from : List (Option Seen) → ℕ → Bool → retell.Telling
 telling_from told next astray = record { left = visits_in (drop next told); astray = astray }

@@ -1,4 +1,4 @@
--- A walk over lines that answer what was told of them (this project's own).
+-- A walk over lines that return what is recorded for them (this project's own).
 use Rattle.std.specs.Prelude.{◌≡◌, ℕ, List, drop, Option, Some, None}
 use Rattle.pam_base.specs.declared.code.Code.{Code}
 use Rattle.control_words.specs.Stack.{Stack}
@@ -13,21 +13,22 @@ use Rattle.pass_replay.specs.declared.replay.Replay.{Replay}
 use Rattle.pass_replay.specs.Kept.{visits_of}
 use Rattle.pass_replay.specs.Told.{telling_from}
 
--- how far a pass has come, by the answers of its earlier calls and the told lines
+-- how far a pass has got, by the codes of its earlier calls and the recorded lines
 abbrev pub state_in : List Code → List (Option Seen) → Replay → PassState Telling
 state_in past told r = pass_state (drop r.used past) (visits_of r.visits) (telling_from told r.next r.astray)
 
--- how many of n nodes that are left are passed over where their list goes on; all of them where it ends
+-- how many of the n nodes that are left are skipped where their list goes on; all of them if it
+-- ends
 abbrev pub skip_of : Next → ℕ → ℕ
 skip_of (after n) left = n
 skip_of stop left = left
 
--- what is left of a walk after a line: it goes on, or None where the line put it off
+-- what is left of a walk after a line: it goes on, or None if it pauses there
 abbrev pub after_line : {State : Type 0} → PassKind → Serving State → Stack → ℕ → Opinion → Opinion → Option Onward → State → Walked State
 after_line kind serve rest at entry opinion None state = halted opinion state
 after_line kind serve rest at entry opinion (Some onward) state = walk kind serve onward.skip rest at entry onward.opinion state
 
--- a walk ended with this opinion and state, or was put off at this state
+-- a walk ended in this state and with this replay, or paused at this replay
 abbrev pub Comes : {State : Type 0} → Walked State → Option Opinion → State → Type 0
 Comes w (Some opinion) state = w ≡ walked opinion state
 Comes w None state = w ≡ halted w.opinion state

@@ -8,8 +8,8 @@ use pam_base::{Code, NoMemory};
 use std::alloc::Global;
 use std::marker::Model;
 
-/// Answers kept for the places of lines. Contracts see a cell for each place from 0 on: None, or the answer that is
-/// kept for it. After the last cell nothing is kept.
+/// The cached return codes of lines. Contracts see a cell for each line from 0 on: None, or the
+/// code that is cached for it. After the last cell nothing is cached.
 #[derive(Debug, Drop)]
 pub struct Answers {
     cells: Vec<Option<Code>>,
@@ -25,7 +25,7 @@ impl Model for Answers {
 }
 
 impl Answers {
-    /// The answers of a pass's visits: of several at one place the first one's.
+    /// The codes of the lines that a pass ran; if one was run several times, the first code.
     pub fn of(alloc: Global, visits: &[Visited]) -> Result<Self, NoMemory>
         ensures { IfOk result (λ kept. answers_in kept ≡ kept_in (visits_of visits.now)) }
     {
@@ -36,7 +36,7 @@ impl Answers {
         Ok(Answers { cells })
     }
 
-    /// The answer that is kept for a place.
+    /// The code that is cached for a line.
     pub fn at(&self, place: usize) -> Option<Code>
         ensures { result ≡ answers_in self.now place }
     {
@@ -44,7 +44,7 @@ impl Answers {
     }
 }
 
-// Keeps an answer for a place where none is kept yet.
+// Caches a code for a line that has none yet.
 fn keep_first(cells: &mut Vec<Option<Code>>, place: usize, answer: Code) -> Result<(), NoMemory>
     ensures kept { OnOk result (answers_in cells.new.items place
         ≡ option_or (answers_in cells.old.items place) (Some answer)) }
@@ -58,7 +58,7 @@ fn keep_first(cells: &mut Vec<Option<Code>>, place: usize, answer: Code) -> Resu
     Ok(())
 }
 
-// Adds empty cells, so that this place has one.
+// Adds empty cells, so that this line has one.
 fn make_room(cells: &mut Vec<Option<Code>>, place: usize) -> Result<(), NoMemory>
     ensures within { OnOk result (place < length cells.new.items) }
     ensures same { OnOk result ((other : ℕ) →

@@ -6,18 +6,18 @@ ghost use Rattle.pass_replay.specs.Held.{held_of};
 use crate::answers::Answers;
 use pam_base::{Code, Func, Sequence};
 
-/// A stack call that was put off.
+/// An incomplete stack call.
 #[derive(Debug, Drop)]
 pub struct Pending {
     pub func: Func,
-    /// The answers that were given in the pass that was put off, over all its calls.
+    /// The return codes in the incomplete pass, over all its calls.
     pub past: Sequence<Code>,
-    /// Where that is the second pass of a change of token, what the first one kept.
+    /// If that is the second pass of chauthtok, the codes that the first one cached.
     pub first: Option<Answers>,
 }
 
-/// What a transaction holds between its calls: the answers that its last authentication and its last opening of a
-/// session kept, and the stack call that is pending. Contracts read it by `held_of`.
+/// What a transaction holds between its calls: the codes that its last authenticate and its last
+/// open_session cached, and the pending stack call. Contracts read it by `held_of`.
 #[derive(Debug, Drop)]
 pub struct Held {
     pub(crate) authenticated: Option<Answers>,
@@ -26,7 +26,7 @@ pub struct Held {
 }
 
 impl Held {
-    /// What a transaction holds that was just started. It takes no memory.
+    /// What a transaction holds that was just started. It does not allocate.
     pub fn nothing() -> Self
         ensures { held_of result ≡ nothing_held }
     {
@@ -37,7 +37,7 @@ impl Held {
         }
     }
 
-    /// The function of the stack call that is pending.
+    /// The function of the pending stack call.
     pub fn pending_func(&self) -> Option<Func>
         ensures { result ≡ pending_func (held_of self.now).pending }
     {

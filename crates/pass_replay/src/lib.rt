@@ -1,8 +1,9 @@
-//! A stack call gone over again by what a transcript told of it: each line answers what the next told visit says, where
-//! that is of this line. Whoever checks a transcript trusts nothing of the program that printed it, so this stands on
-//! the loaded stacks alone.
+//! Replays a stack call from its report: each line returns what the next recorded line has, if that
+//! is of this line. A checker of reports trusts nothing of the program that printed them, so this
+//! depends on the loaded stacks alone.
 //!
-//! Begin at retelling.rt; pass.rt is one pass, walk.rt the walk over a list, replay.rt the answer of a line.
+//! Begin at `retelling.rt`; `pass.rt` has one pass, `walk.rt` the walk over a list, `replay.rt` the
+//! code of a line.
 #![tactic(auto)]
 
 mod answers;

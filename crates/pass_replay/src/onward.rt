@@ -6,15 +6,15 @@ ghost use Rattle.pass_replay.specs.Walk.{skip_of};
 use control_words::Action;
 use stack_walk::Opinion;
 
-/// Where a list goes on after a line: the opinion, and how many of its nodes are passed over, all that are left where
-/// it ends.
+/// Where a list goes on after a line: the state, and how many of its nodes are skipped, which is
+/// all that are left if the list ends.
 #[derive(Clone, Copy, Debug)]
 pub struct Onward {
     pub opinion: Opinion,
     pub skip: usize,
 }
 
-/// Where a list of which `left` nodes are left goes on, after an action that came to an opinion.
+/// Where a list with `left` nodes left goes on, after an action that led to a state.
 pub fn onward_from(action: Action, left: usize, new: Opinion) -> Onward
     ensures opinion { result.opinion ≡ settled action left new }
     ensures skip { result.skip ≡ skip_of (next_of action left new) left }
@@ -26,7 +26,7 @@ pub fn onward_from(action: Action, left: usize, new: Opinion) -> Onward
     Onward { opinion: new, skip }
 }
 
-// Behind a jump; one over more nodes than are left ends the list.
+// After a jump; one over more nodes than are left ends the list.
 fn jumped(number: usize, left: usize, new: Opinion) -> Onward
     ensures opinion { result.opinion ≡ (if nat_le number left then new else overrun) }
     ensures skip { result.skip ≡ (if nat_le number left then number else left) }

@@ -19,7 +19,7 @@ use pam_base::{Code, NoMemory, Sequence};
 use stack_walk::{Opinion, PassKind, Seen};
 use std::alloc::Global;
 
-/// Goes over a pass again, after the answers that its earlier calls were given, by the told lines from one on.
+/// Replays a pass, after the codes of its earlier calls, by the recorded lines from one on.
 pub fn pass(
     alloc: Global,
     nodes: &Nodes,
@@ -42,7 +42,7 @@ pub fn pass(
     finish(alloc, kind, follows, end, replay)
 }
 
-// What a walk came to that ended with an opinion, or was put off.
+// The result of a walk that ended in a state, or is incomplete.
 fn finish(
     alloc: Global,
     kind: PassKind,
@@ -103,7 +103,7 @@ fn paused_after(
     }
 }
 
-// The answers of visits, in order.
+// The codes of lines that were run, in order.
 fn answers_of(alloc: Global, visits: &[Visited]) -> Result<Sequence<Code>, NoMemory>
     ensures { IfOk result (λ answers. answers ≡ answers_of (visits_of visits.now)) }
 {

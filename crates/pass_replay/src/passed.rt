@@ -1,16 +1,16 @@
 use crate::answers::Answers;
 use pam_base::{Code, Sequence};
 
-/// What a pass came to that is gone over again.
+/// The result of a replayed pass.
 #[derive(Debug, Drop)]
 pub struct Passed {
     pub code: Code,
-    /// What is kept after it: its own answers, what was kept before, or nothing.
+    /// What is cached after it: its own codes, what was cached before, or nothing.
     pub kept: Option<Answers>,
-    /// The answers to go on after, where it was put off.
+    /// The codes to resume with, if it is incomplete.
     pub paused: Option<Sequence<Code>>,
-    /// The told lines before this one were taken.
+    /// The recorded lines before this one were taken.
     pub next: usize,
-    /// Whether a line was met that isn't the next one that is told.
+    /// Whether a line was run that isn't the next recorded one.
     pub astray: bool,
 }

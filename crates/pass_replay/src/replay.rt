@@ -15,21 +15,21 @@ use pam_base::{Code, NoMemory, Sequence};
 use stack_walk::Seen;
 use std::alloc::Global;
 
-/// How far a pass has come that is gone over again by what was told of it.
+/// How far the replay of a pass has got.
 #[derive(Debug, Drop)]
 pub struct Replay {
     /// How many lines of the stack it has passed.
     pub at: usize,
-    /// How many of the answers that its earlier calls were given are used.
+    /// How many of the codes of its earlier calls are used.
     pub used: usize,
-    /// The told lines before this one were taken.
+    /// The recorded lines before this one were taken.
     pub next: usize,
-    /// Whether a line was met that isn't the next one that is told.
+    /// Whether a line was run that isn't the next recorded one.
     pub astray: bool,
     pub visits: Sequence<Visited>,
 }
 
-/// A pass that begins at a told line.
+/// A pass that begins at a recorded line.
 pub fn begun(alloc: Global, next: usize, astray: bool) -> Replay
     ensures { result ≡ record { at = 0; used = 0; next = next; astray = astray; visits = [] } }
 {
@@ -42,8 +42,8 @@ pub fn begun(alloc: Global, next: usize, astray: bool) -> Replay
     }
 }
 
-/// The answer of a line, the next one of the pass's earlier calls, else what is told of it. None where it puts the pass
-/// off.
+/// The code of a line: the next one of the pass's earlier calls, else what is recorded for it; None
+/// if the pass is incomplete here.
 pub fn next_answer(
     rule: &Rule,
     past: &[Code],
@@ -78,7 +78,7 @@ fn puts_off(answer: Code) -> bool
     answer == Code::Incomplete
 }
 
-// Adds the visit of the present line.
+// Adds the present line to those that were run.
 fn visit(answer: Code, replay: &mut Replay) -> Result<(), NoMemory>
     requires few { replay.old.at < 4096 }
     ensures added { OnOk result (replay.new ≡ record replay.old {
@@ -93,7 +93,7 @@ fn visit(answer: Code, replay: &mut Replay) -> Result<(), NoMemory>
     })
 }
 
-// The present line answers what is told next, where that is of it; else nothing goes on.
+// The present line returns the next recorded code, if that is of this line; else the replay stops.
 fn ask(rule: &Rule, told: &[Option<Seen>], replay: &mut Replay) -> Code
     requires few { replay.old.at < 4096 }
     ensures answers { AnswersAs (replaying rule.now (replay.old.at + 1)

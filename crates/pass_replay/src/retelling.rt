@@ -1,7 +1,7 @@
 ghost use Rattle.std.specs.Prelude.{◌≡◌, ◌≤◌, ◌-◌, IfOk, None, Some, [], false, drop, length};
 ghost use Rattle.dispatch_core.specs.Calls.{change, check, following, goes, one_pass, passes, update, went};
 ghost use Rattle.dispatch_core.specs.Pending.{first_in, past_in, pending_behind};
-ghost use Rattle.service_load.specs.Load.{AreBounded};
+ghost use Rattle.dispatch_core.specs.service_load.specs.Load.{AreBounded};
 ghost use Rattle.stack_walk.specs.Retell.{telling};
 ghost use Rattle.pass_replay.specs.Held.{held_of, pending_of};
 ghost use Rattle.pass_replay.specs.Kept.{kept_answers};
@@ -15,16 +15,18 @@ use crate::pass::pass;
 use crate::passed::Passed;
 use crate::retold::Retold;
 use crate::told::first_left;
+use dispatch_core::service_load::Trees;
 use pam_base::{Code, Func, NoMemory, Sequence};
-use service_load::Trees;
 use stack_walk::{PassKind, Seen};
 use std::alloc::Global;
 
-/// Goes over a stack call again, while no other one is pending, by the lines that were told of it: visits, and None for
-/// other lines. It goes on where it was put off before. Which told visits it took isn't a test: `astray` and `next` say
-/// whether they are all those that the call makes.
+/// Replays a stack call, while no other one is pending, by the recorded lines of its block: lines
+/// that were run, and None for others. An incomplete call is resumed. The call itself doesn't test
+/// which recorded lines it took: `astray` and `next` say whether they are all those that the call
+/// runs.
 ///
-/// Want of memory is the only refusal. Time is linear in the lines of its stack and in the told lines.
+/// Fails only if an allocation fails. The time is linear in the lines of the stack and in the
+/// recorded lines.
 pub fn retell(
     alloc: Global,
     trees: &Trees,
@@ -45,7 +47,7 @@ pub fn retell(
     Ok(retold)
 }
 
-// The same, but `next` is the line after the last visit that was taken.
+// The same, except that `next` is the line after the last recorded line that was taken.
 fn call(
     alloc: Global,
     trees: &Trees,
@@ -75,7 +77,7 @@ fn call(
     }
 }
 
-// The answers that the call that is pending was given, and those of the first pass of a change of token.
+// The codes of the pending call, and those of the first pass of chauthtok.
 fn taken_up(alloc: Global, pending: Option<Pending>) -> (Sequence<Code>, Option<Answers>)
     ensures past { result.0 ≡ past_in (pending_of pending) }
     ensures first { kept_answers result.1 ≡ first_in (pending_of pending) }
@@ -86,7 +88,7 @@ fn taken_up(alloc: Global, pending: Option<Pending>) -> (Sequence<Code>, Option<
     }
 }
 
-// A pass that goes by kept answers, where any are held.
+// A pass by cached codes, if any are held.
 fn following(kept: &Option<Answers>) -> PassKind
     ensures { result ≡ following (kept_answers kept.now) }
 {
@@ -96,7 +98,7 @@ fn following(kept: &Option<Answers>) -> PassKind
     }
 }
 
-// What is pending after a pass: its call, where it was put off.
+// What is pending after a pass: its call, if it is incomplete.
 fn pending_behind(
     func: Func,
     first: Option<Answers>,
@@ -110,7 +112,7 @@ fn pending_behind(
     }
 }
 
-// A call of one pass over the stack of auth.
+// A call of one pass over the auth stack.
 fn auth_call(
     alloc: Global,
     trees: &Trees,
@@ -161,7 +163,7 @@ fn auth_call(
     })
 }
 
-// A call of one pass over the stack of sessions.
+// A call of one pass over the session stack.
 fn session_call(
     alloc: Global,
     trees: &Trees,
@@ -235,7 +237,8 @@ fn account_call(
     })
 }
 
-// The passes of a change of token that are left: both, or the second one, where the answers of the first are held.
+// The passes of chauthtok that are left: both, or the second one if the codes of the first are
+// held.
 fn change(
     alloc: Global,
     trees: &Trees,
@@ -264,7 +267,7 @@ fn change(
     }
 }
 
-// The first pass of a change of token, and where that gave SUCCESS the second.
+// The first pass of chauthtok, and if that returned SUCCESS the second.
 fn check(
     alloc: Global,
     trees: &Trees,
@@ -306,7 +309,7 @@ fn check(
     })
 }
 
-// The second pass of a change of token, which follows the first, by the told lines from one on.
+// The second pass of chauthtok, by the codes that the first cached, from a recorded line on.
 fn update(
     alloc: Global,
     trees: &Trees,

@@ -6,14 +6,16 @@ ghost use Rattle.pass_replay.specs.Told.{lines_before, visits_in};
 use control_words::{Rule, module_name};
 use stack_walk::Seen;
 
-/// The index of the first told line that is a visit, from 0; how many there are where none is.
+/// The index, from 0, of the first recorded line of a rule; the number of recorded lines if there
+/// is none.
 pub fn first_visit(told: &[Option<Seen>]) -> usize
     ensures { result ≡ lines_before 0 told.now }
 {
     first_left(told, 0)
 }
 
-/// The index of the first visit among the told lines from one on; how many told lines there are where none is.
+/// The index of the first line of a rule among the recorded lines from one on; the number of
+/// recorded lines if there is none.
 pub fn first_left(told: &[Option<Seen>], from: usize) -> usize
     ensures same { visits_in (drop result told.now) ≡ visits_in (drop from told.now) }
     ensures within { result ≤ length told.now }
@@ -26,7 +28,7 @@ pub fn first_left(told: &[Option<Seen>], from: usize) -> usize
     }
 }
 
-/// The first visit among the told lines from one on, with its index.
+/// The first line of a rule among the recorded lines from one on, with its index.
 pub fn next_seen(told: &[Option<Seen>], from: usize) -> Option<(usize, &Seen)>
     ensures some { IfSome result (λ found. visits_in (drop from told.now)
         ≡ seen_of found.1.now ∷ visits_in (drop (found.0 + 1) told.now)) }
@@ -43,7 +45,7 @@ pub fn next_seen(told: &[Option<Seen>], from: usize) -> Option<(usize, &Seen)>
     None
 }
 
-/// Whether a visit tells of the line of a rule at a place.
+/// Whether a recorded line is that of a rule with this rule number.
 pub fn is_of(seen: &Seen, rule: &Rule, place: usize) -> bool
     ensures { result ≡ is_of (seen_of seen.now) rule.now place }
 {

@@ -1,9 +1,9 @@
 use pam_base::Code;
 
-/// The line of a place was visited in a pass, and gave this answer.
+/// The line with this rule number was run in a pass, and returned this code.
 #[derive(Clone, Copy, Debug)]
 pub struct Visited {
-    /// Its place in its stack, from 1.
+    /// Its rule number in the stack, from 1.
     pub place: usize,
     pub answer: Code,
 }

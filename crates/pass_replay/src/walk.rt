@@ -14,7 +14,7 @@ use control_words::{Node, Nodes, Rule};
 use pam_base::{Code, NoMemory};
 use stack_walk::{Opinion, PassKind, Seen};
 
-// How many lines stand in a list, those of its substacks too.
+// How many lines a list has, including those of its substacks.
 fn line_count(nodes: &Nodes) -> usize
     requires few { lines_in (stack_of nodes.now.vec.items) ≤ 4096 }
     ensures { result ≡ lines_in (stack_of nodes.now.vec.items) }
@@ -39,7 +39,7 @@ fn lines_of(node: &Node) -> usize
     }
 }
 
-// The answer that decides the action of the line at a place.
+// The code that decides the action of the line with this rule number.
 fn decide(kind: PassKind, follows: &Option<Answers>, place: usize, answer: Code) -> Code
     ensures { result ≡ decides kind (answers_held (kept_answers follows.now)) place answer }
 {
@@ -58,7 +58,8 @@ fn held_at(follows: &Option<Answers>, place: usize) -> Option<Code>
     }
 }
 
-// Walks the present line, after which `left` nodes of its list are left. None where it puts the walk off.
+// Walks the present line, after which `left` nodes of its list are left; None if the walk is
+// incomplete there.
 fn walk_line(
     rule: &Rule,
     left: usize,
@@ -90,7 +91,7 @@ fn walk_line(
     Ok(Some(onward_from(action, left, new)))
 }
 
-/// Walks a list from an opinion on, which is also that at its entry. None where the walk is put off.
+/// Walks a list from a state, which is also that at its entry; None if the walk is incomplete.
 ///
 /// Each line of the list is looked at once.
 pub fn walk_nodes(

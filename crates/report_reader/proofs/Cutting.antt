@@ -35,7 +35,7 @@ behind_space-all (b ∷ word) none =
     let both = neither (eqb b 32) (has_byte 32 word) none in
     ap (λ (c : Bool). if c then word else behind_space word) both.0 ∙ behind_space-all word both.1
 
--- a text that has a space is what stands round it
+-- a text that has a space is what is around it
 cut_if : (b : ℕ) (text : List ℕ) (c : Bool) → eqb b 32 ≡ c → (has_byte 32 text ≡ true → before_space text ++ 32 ∷ behind_space text ≡ text) → (c || has_byte 32 text) ≡ true
     → (if c then [] else b ∷ before_space text) ++ 32 ∷ (if c then text else behind_space text) ≡ b ∷ text
 cut_if b text true is more has = ap (λ (n : ℕ). n ∷ text) (sym (eqb-true b 32 is))

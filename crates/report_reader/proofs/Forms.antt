@@ -12,8 +12,8 @@ use Rattle.pam_base.specs.Fault.{fault_number, fault_name}
 use Rattle.pam_base.specs.Quote.{quoted_text}
 use Rattle.pam_base.specs.Style.{style_number}
 use Rattle.script_lang.specs.Command.{word_of_func}
-use Rattle.service_load.specs.declared.load_fault.LoadFault.{LoadFault}
-use Rattle.service_load.specs.FirstFault.{fault_at}
+use Rattle.report_lines.specs.service_load.specs.declared.load_fault.LoadFault.{LoadFault}
+use Rattle.report_lines.specs.service_load.specs.FirstFault.{fault_at}
 use Rattle.stack_walk.specs.Retell.{Seen, seen_at}
 use Rattle.report_lines.specs.Line.{Cleanup, Told, told_message, told_visit, told_cleanup, told_wait, told_missing, told_variable, Shown, shows_code, shows_fault, shows_value, shows_count, shows_not_open, shows_already_open, shows_bad_number, shows_pending, Result, answered, closed_by_program, command_word, number_words, code_words, status_words, shown_words, refused_words, pending_words, told_text, result_text, AreBytes, IsSeen, IsTold, IsShown}
 use Rattle.report_reader.specs.Says.{bare_told}
@@ -165,7 +165,8 @@ wait_is code asked wait is =
     ∙ ap (λ (x : ℕ). told_wait code x (guessed_number (behind_space tail))) a.value
     ∙ ap (λ (x : List ℕ). told_wait code asked (guessed_number x)) (behind_space-word (number_words asked) (number_words wait) a.one) ∙ ap (λ (x : ℕ). told_wait code asked x) w.value
 
--- what is guessed is printed alike, has a form, and is the same but for contents that don't count
+-- what is guessed is printed alike, has a form, and is the same except for contents that don't
+-- count
 pub record FoundTold (number : ℕ) (t : Told) : Type 0 where
   pub found : Told
   pub is : guessed_told (told_word t) (told_words t) ≡ Some found

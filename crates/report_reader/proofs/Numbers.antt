@@ -1,4 +1,4 @@
--- The numbers that words stand for.
+-- The numbers that words mean.
 use Rattle.std.proofs.Common.{◌≡◌, ℕ, zero, suc, ◌+◌, ◌-◌, ◌*◌, ◌/◌, ◌%◌, ◌<◌, ◌≤◌, ◌^◌, Bool, true, false, ◌&&◌, ◌||◌, nat_le, eqb, List, [], ◌∷◌, ◌++◌, length, replicate, refl, sym, ◌∙◌, ap, subst, arith, ne_eqb}
 use Rattle.std.specs.Char.{digit_value, is_ascii_digit}
 use Rattle.std.specs.List.{list_all}
@@ -32,7 +32,7 @@ digits_lack b (c ∷ word) lt all =
     let here = and_parts (nat_le 48 c) (nat_le c 57) both.0 in
     ap (λ (x : Bool). x || has_byte b word) (lacks_if b c lt here.0) ∙ digits_lack b word lt both.1
 
--- a word of decimal digits that stand for a number
+-- a word of decimal digits that mean a number
 pub record Writes (n : ℕ) (word : List ℕ) : Type 0 where
   pub all : list_all is_ascii_digit word ≡ true
   pub value : n < 2 ^ 64 → guessed_number word ≡ n

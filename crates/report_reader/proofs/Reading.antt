@@ -1,4 +1,4 @@
--- A line is read as a form exactly where one is printed as the line.
+-- A line is read as a form if and only if one is printed as the line.
 use Rattle.std.proofs.Common.{◌≡◌, ℕ, ◌+◌, ◌-◌, ◌*◌, ◌%◌, ◌<◌, ◌^◌, lit<, Bool, true, false, ◌||◌, eqb, eqb-true, nat_lt, lt-ltb, ltb-true, if◌then◌else◌, List, [], ◌∷◌, ◌++◌, codes, Option, Some, None, refl, sym, ◌∙◌, ap, subst, arith, append_assoc}
 use Rattle.std.specs.Char.{digit_value, is_ascii_digit}
 use Rattle.std.specs.Prelude.{fold}

@@ -1,4 +1,4 @@
--- Quoted texts stand for their bytes.
+-- Quoted texts mean their bytes.
 use Rattle.std.proofs.Common.{◌≡◌, ℕ, ◌+◌, ◌*◌, ◌/◌, ◌%◌, ◌<◌, ◌≤◌, Bool, true, false, ◌&&◌, ◌||◌, nat_eq, nat_le, nat_lt, eqb, if◌then◌else◌, List, [], ◌∷◌, ◌++◌, codes, refl, sym, ◌∙◌, ap, arith, eqb-true, ltb-true, ltb-false, append_assoc}
 use Rattle.std.specs.Char.{digit_value}
 use Rattle.std.proofs.Math.Nat.{mod-eq_of_lt}

@@ -5,7 +5,7 @@ use Rattle.pam_base.specs.declared.code.Code.TheVariants as codes
 use Rattle.pam_base.specs.declared.call.Func.TheVariants as funcs
 use Rattle.pam_base.specs.declared.fault.FaultKind.TheVariants.{OpenBracket}
 use Rattle.pam_base.specs.declared.fault.NoMemory.{NoMemory}
-use Rattle.service_load.specs.FirstFault.{fault_at}
+use Rattle.report_lines.specs.service_load.specs.FirstFault.{fault_at}
 use Rattle.stack_walk.specs.declared.seen.Seen.{Seen}
 use Rattle.stack_walk.specs.Seen.{seen_of}
 use Rattle.report_lines.specs.Line as lines
@@ -65,6 +65,6 @@ says_of forms.Last = lasts lines.unread
 abbrev pub IsRead : Option Form → Option Says → Type 0
 IsRead form s = option_map says_of form ≡ option_map bare s
 
--- and so it is where there was memory
+-- and so it is unless an allocation failed
 abbrev pub Reads : Result (Option Form) NoMemory → Option Says → Type 0
 Reads result s = IfOk result (λ form. IsRead form s)

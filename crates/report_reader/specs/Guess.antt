@@ -1,12 +1,12 @@
--- How a line of a report is read (this project's own): what it may say is guessed from its words, and it says so where
--- that is printed as the line.
+-- How a line of a report is read (this project's own): what it may say is guessed from its words,
+-- and is returned if that is printed as the line.
 use Rattle.std.specs.Prelude.{ℕ, ◌^◌, Bool, true, nat_lt, if◌then◌else◌, List, [], ◌∷◌, ◌++◌, codes, Option, Some, None}
 use Rattle.std.specs.Char.{is_ascii_digit}
 use Rattle.std.specs.List.{list_all}
 use Rattle.std.specs.Str.{bytes_eq}
 use Rattle.pam_base.specs.Bytes.{has_byte}
-use Rattle.service_load.specs.declared.load_fault.LoadFault.{LoadFault}
-use Rattle.service_load.specs.FirstFault.{fault_at}
+use Rattle.report_lines.specs.service_load.specs.declared.load_fault.LoadFault.{LoadFault}
+use Rattle.report_lines.specs.service_load.specs.FirstFault.{fault_at}
 use Rattle.stack_walk.specs.Retell.{Seen, seen_at}
 use Rattle.report_lines.specs.Line.{Cleanup, Told, told_message, told_visit, told_cleanup, told_wait, told_missing, told_variable, Shown, shows_code, shows_fault, shows_value, shows_count, shows_not_open, shows_already_open, shows_bad_number, shows_pending, Result, answered, closed_by_program, Last, unread, refused_at}
 use Rattle.report_reader.specs.Says.{Says, tells, results, lasts, says_text}
@@ -26,7 +26,7 @@ guessed_seen words =
     seen_at (guessed_number (before_space words)) (unquoted (before_last named))
     (guessed_code (last_word named))
 
--- ID STATUS NOTE MODULE DATUM; where a name holds spaces any of them may divide the two
+-- ID STATUS NOTE MODULE DATUM; if a name has spaces, any of them may separate the two
 abbrev pub guessed_cleanup : List ℕ → Cleanup
 guessed_cleanup words =
     let behind_id = behind_space words in
@@ -47,7 +47,7 @@ guessed_wait words =
     told_wait (guessed_code (before_space words)) (guessed_number (before_space behind_code))
     (guessed_number (behind_space behind_code))
 
--- by the line's word; None where the line is another one
+-- by the line's word; None if the line is another one
 abbrev pub guessed_told : List ℕ → List ℕ → Option Told
 guessed_told word words =
     if bytes_eq word (codes "say") then Some (guessed_message words)
@@ -112,7 +112,7 @@ guessed_last line =
 
 -- ---- a line, without its newline
 
--- what is guessed, where it is printed as the line
+-- what is guessed, if it is printed as the line
 unfoldable pub if_printed : List ℕ → Says → Option Says
 if_printed line s = if bytes_eq (says_text s) (line ++ 10 ∷ []) then Some s else None
 

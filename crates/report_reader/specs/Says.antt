@@ -3,7 +3,7 @@ use Rattle.std.specs.Prelude.{◌≡◌, ℕ, ◌<◌, ◌^◌, false, List, [],
 use Rattle.pam_base.specs.declared.code.Code.TheVariants as codes
 use Rattle.pam_base.specs.declared.fault.FaultKind.TheVariants.{OpenBracket}
 use Rattle.pam_base.specs.Bytes.{has_byte}
-use Rattle.service_load.specs.FirstFault.{fault_at}
+use Rattle.report_lines.specs.service_load.specs.FirstFault.{fault_at}
 use Rattle.report_lines.specs.Line.{Told, told_visit, told_missing, Shown, shows_fault, shows_value, shows_count, Result, answered, closed_by_program, Last, unread, told_text, result_text, last_text, IsTold, IsResult, IsLast}
 
 pub data Says : Type 0 where
@@ -58,8 +58,8 @@ pub record ReadAs (read : Option Says) (s : Says) : Type 0 where
   pub is : read ≡ Some found
   pub same : bare found ≡ bare s
 
--- A reader gives a form that is printed as the line, in the ranges of its values, where there is one; of several the
--- one is as good as the other.
+-- A reader returns a form that is printed as the line, in the ranges of its values, if there is
+-- one; if there are several, any of them.
 pub record ReadsLines (read : List ℕ → Option Says) : Type 0 where
   pub sound : (line : List ℕ) (s : Says) → read line ≡ Some s → (says_text s ≡ line ++ 10 ∷ [])
       × IsSays s

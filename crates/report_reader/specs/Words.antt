@@ -1,5 +1,6 @@
--- The words of a line (this project's own): where they are cut, and which number, bytes, code or command each may stand
--- for. Each gives something for any bytes; whether a line is so printed is tested after it.
+-- The words of a line (this project's own): where they are cut, and which number, bytes, code or
+-- command each may mean. Each is something for any bytes; whether a line is printed so is tested
+-- after it.
 use Rattle.std.specs.Prelude.{ℕ, ◌+◌, ◌-◌, ◌*◌, ◌%◌, ◌^◌, nat_eq, if◌then◌else◌, List, [], ◌∷◌, fold, reverse, unwrap_or}
 use Rattle.std.specs.Char.{digit_value}
 use Rattle.std.specs.List.{find}
@@ -20,7 +21,7 @@ use Rattle.pam_base.specs.Style.{style_number}
 use Rattle.script_lang.specs.Command.{word_of_func}
 use Rattle.report_lines.specs.Line.{Command, starts, ends, runs, sets_item, gets_item, puts_env, gets_env, lists_env, asks_delay, switches_delay, replies, command_word}
 
--- what stands before the first space, and after it
+-- what comes before the first space, and after it
 abbrev pub before_space : List ℕ → List ℕ
 before_space [] = []
 before_space (b ∷ bs) = if nat_eq b 32 then [] else b ∷ before_space bs
@@ -36,7 +37,8 @@ last_word text = reverse (before_space (reverse text))
 abbrev pub before_last : List ℕ → List ℕ
 before_last text = reverse (behind_space (reverse text))
 
--- the number of 64 bits that decimal digits may stand for, and the one of 32 bits that hexadecimal digits may
+-- the number of 64 bits that decimal digits may mean, and the one of 32 bits that hexadecimal
+-- digits may
 abbrev pub guessed_number : List ℕ → ℕ
 guessed_number digits = fold (λ value digit. (value * 10 % 2 ^ 64 + (digit - 48)) % 2 ^ 64) 0 digits
 
@@ -51,7 +53,7 @@ pub data Unquoting : Type 0 where
   coded : Unquoting
   half_coded : ℕ → Unquoting
 
--- the bytes that a quoted text may stand for
+-- the bytes that a quoted text may mean
 abbrev pub unquoted_from : Unquoting → List ℕ → List ℕ
 unquoted_from state [] = []
 unquoted_from between (b ∷ bs) =

@@ -1,7 +1,7 @@
 use pam_base::{Code, Func};
 use stack_walk::Seen;
 
-/// A command that speaks of a transaction.
+/// A command on a transaction.
 #[derive(Clone, Copy, Debug, PartialEq, Eq)]
 pub enum Spoken {
     Start,
@@ -17,8 +17,8 @@ pub enum Spoken {
     Reply,
 }
 
-/// What a command came to. What is checked for its form alone is left out: why a start was refused, the value, the
-/// count.
+/// The result of a command. What is only checked for its format is left out: why a start was
+/// refused, the value, the count.
 #[derive(Clone, Copy, Debug, PartialEq, Eq)]
 pub enum Answer {
     Code(Code),
@@ -38,12 +38,13 @@ pub enum Outcome {
     Closed,
 }
 
-/// What counts of a line.
+/// What a line says, as far as it matters.
 #[derive(Debug, Drop)]
 pub enum Form {
-    /// A line before the result, of the transaction with this number: a visit, or none.
+    /// A line before the result, of the transaction with this number: a line of a stack that was
+    /// run, or another.
     Told { number: u32, visit: Option<Seen> },
     Result { number: u32, outcome: Outcome },
-    /// The last line of a run that couldn't go on.
+    /// The last line of a run that ended early.
     Last,
 }

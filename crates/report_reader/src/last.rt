@@ -12,7 +12,7 @@ use pam_base::{NoMemory, ScriptKind};
 use report_lines::read_fault_line;
 use std::alloc::Global;
 
-/// Reads the last line of a run that couldn't go on.
+/// Reads the last line of a run that ended early.
 pub fn read_last(alloc: Global, line: &[u8]) -> Result<Option<Form>, NoMemory>
     ensures { Reads result (if_printed line.now (lasts (guessed_last line.now))) }
 {
@@ -25,7 +25,7 @@ pub fn read_last(alloc: Global, line: &[u8]) -> Result<Option<Form>, NoMemory>
     Ok(if_printed(text.as_str(), line, Form::Last))
 }
 
-// The line of a script that is refused at this line, whatever number that is.
+// The text for a script that is refused at this line, whatever number that is.
 fn script_line(alloc: Global, line: u64, kind: ScriptKind) -> Result<String, NoMemory>
     ensures { IfOk result (λ text. string_bytes text ≡ script_text line kind) }
 {

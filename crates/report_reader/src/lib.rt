@@ -1,5 +1,5 @@
-//! Reads the lines of a report: what a line says is guessed from its words, and it says so where that is printed as the
-//! line.
+//! Reads the lines of a report: what a line says is guessed from its words, and returned if that is
+//! printed as the line. Begin at `line.rt`.
 #![tactic(auto)]
 
 mod form;

@@ -10,7 +10,8 @@ use crate::words::{before_space, behind_space, number_of};
 use pam_base::{NoMemory, are_digits};
 use std::alloc::Global;
 
-/// What a line of a report says, which is handed in without its newline. None exactly where it has no form.
+/// What a line of a report says, given without its newline; None if and only if it has none of the
+/// forms.
 pub fn read_line(alloc: Global, line: &[u8]) -> Result<Option<Form>, NoMemory>
     ensures { Reads result (read_line line.now) }
 {

@@ -79,7 +79,7 @@ pub fn code_in(word: &[u8]) -> Code
     code_named(word).unwrap_or(Code::Success)
 }
 
-/// The style that a number may stand for.
+/// The style that a number may mean.
 pub fn style_in(number: u64) -> Style
     ensures { result ≡ guessed_style number }
 {

@@ -54,7 +54,7 @@ fn read_closed(
     ))
 }
 
-// Reads what a command came to, by the first of its words.
+// Reads the result of a command, by the first of its words.
 fn read_shown(
     alloc: Global,
     line: &[u8],

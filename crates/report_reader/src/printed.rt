@@ -1,7 +1,7 @@
 ghost use Rattle.std.specs.Prelude.{◌≡◌, ◌∷◌, ◌++◌, [], Some, OnOk, string_bytes};
 ghost use Rattle.std.specs.Str.{bytes_eq};
 ghost use Rattle.stack_walk.specs.Retell.{seen_at};
-ghost use Rattle.service_load.specs.FirstFault.{fault_at};
+ghost use Rattle.report_lines.specs.service_load.specs.FirstFault.{fault_at};
 ghost use Rattle.report_lines.specs.Line.{cleanup_text, code_words, names_text, refused_words, status_words, visit_text, wait_text, words_text};
 ghost use Rattle.report_reader.specs.Form.{IsRead};
 ghost use Rattle.report_reader.specs.Guess.{if_printed};
@@ -29,7 +29,8 @@ fn push_code(text: &mut String, code: Code) -> Result<(), AllocError>
     write!(text, "{name} {number}")
 }
 
-/// Adds the line of a visit, `H line PLACE MODULE NAME NUMBER`, whatever number the place is.
+/// Adds the line of a rule that was run, `H line PLACE MODULE NAME NUMBER`, whatever number the
+/// place is.
 pub fn push_visit(
     text: &mut String,
     number: u32,
@@ -48,7 +49,8 @@ pub fn push_visit(
     Ok(())
 }
 
-/// Adds the line of a datum that was cleaned up, `H clean ID STATUS NOTE MODULE DATUM`, whatever number the note is.
+/// Adds the line of module data that was cleaned up, `H clean ID STATUS NOTE MODULE DATUM`,
+/// whatever number the note is.
 pub fn push_cleaned(
     text: &mut String,
     number: u32,
@@ -91,7 +93,7 @@ fn push_status(text: &mut String, status: u32) -> Result<(), AllocError>
     write!(text, "{status:08x}")
 }
 
-/// Adds the line of a wait, `H wait NAME NUMBER ASKED WAIT`, whatever numbers these are.
+/// Adds the line of a delay, `H wait NAME NUMBER ASKED WAIT`, whatever numbers these are.
 pub fn push_waited(
     text: &mut String,
     number: u32,
@@ -128,7 +130,7 @@ pub fn push_refused(
     Ok(())
 }
 
-/// A form, where its text is the line.
+/// A form, if its text is the line.
 pub fn if_printed(text: &str, line: &[u8], form: Form) -> Option<Form>
     ensures { (s : Says) → says_text s ≡ text.now → IsRead (Some form) (Some s) →
         IsRead result (if_printed line.now s) }

@@ -6,7 +6,8 @@ use crate::words::digit_value;
 use pam_base::{NoMemory, Text};
 use std::alloc::Global;
 
-// Where a quoted text is read: between two bytes, after a backslash, after \x, after \x and a digit.
+// The state of reading a quoted text: between two bytes, after a backslash, after \x, after \x and
+// a digit.
 #[derive(Clone, Copy)]
 pub enum Reading {
     Between,
@@ -15,7 +16,7 @@ pub enum Reading {
     HalfCoded(u32),
 }
 
-/// The bytes that a quoted text may stand for.
+/// The bytes that a quoted text may mean.
 pub fn unquoted(alloc: Global, text: &[u8]) -> Result<Text, NoMemory>
     ensures { IfOk result (λ bytes. bytes ≡ unquoted text.now) }
 {

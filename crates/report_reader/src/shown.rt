@@ -186,7 +186,8 @@ pub fn read_bad_number(
     ))
 }
 
-/// Reads a code, or the call that another one waits for: `NAME NUMBER`, or `ABORT 26 pending NAME`.
+/// Reads a code, or the pending call that another one waits for: `NAME NUMBER`, or `ABORT 26
+/// pending NAME`.
 pub fn read_answer(
     alloc: Global,
     line: &[u8],

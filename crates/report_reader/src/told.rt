@@ -38,7 +38,7 @@ pub fn read_message(
     ))
 }
 
-/// Reads the line of a visit: `PLACE MODULE NAME NUMBER`.
+/// Reads the line of a rule that was run: `PLACE MODULE NAME NUMBER`.
 pub fn read_visit(
     alloc: Global,
     line: &[u8],
@@ -68,7 +68,7 @@ pub fn read_visit(
     ))
 }
 
-/// Reads the line of a datum that was cleaned up: `ID STATUS NOTE MODULE DATUM`.
+/// Reads the line of module data that was cleaned up: `ID STATUS NOTE MODULE DATUM`.
 pub fn read_cleanup(
     alloc: Global,
     line: &[u8],
@@ -101,7 +101,7 @@ pub fn read_cleanup(
     ))
 }
 
-/// Reads the line of a wait: `NAME NUMBER ASKED WAIT`.
+/// Reads the line of a delay: `NAME NUMBER ASKED WAIT`.
 pub fn read_wait(
     alloc: Global,
     line: &[u8],

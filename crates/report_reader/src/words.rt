@@ -5,7 +5,7 @@ ghost use Rattle.report_reader.specs.Words.{before_last, before_space, behind_sp
 
 use pam_base::first_place;
 
-/// What stands before the first space; all where there is none.
+/// What comes before the first space; everything if there is none.
 pub fn before_space(text: &[u8]) -> &[u8]
     ensures { result.now ≡ before_space text.now }
 {
@@ -15,7 +15,7 @@ pub fn before_space(text: &[u8]) -> &[u8]
     }
 }
 
-/// What follows the first space; nothing where there is none.
+/// What follows the first space; nothing if there is none.
 pub fn behind_space(text: &[u8]) -> &[u8]
     ensures { result.now ≡ behind_space text.now }
 {
@@ -25,7 +25,7 @@ pub fn behind_space(text: &[u8]) -> &[u8]
     }
 }
 
-/// What follows the last space; all where there is none.
+/// What follows the last space; everything if there is none.
 pub fn last_word(text: &[u8]) -> &[u8]
     ensures { result.now ≡ last_word text.now }
 {
@@ -33,7 +33,7 @@ pub fn last_word(text: &[u8]) -> &[u8]
     &text[n..]
 }
 
-/// What stands before the last space; nothing where there is none.
+/// What comes before the last space; nothing if there is none.
 pub fn before_last(text: &[u8]) -> &[u8]
     ensures { result.now ≡ before_last text.now }
 {
@@ -41,7 +41,7 @@ pub fn before_last(text: &[u8]) -> &[u8]
     if n > 0 { &text[..n - 1] } else { &[] }
 }
 
-// The place after the last space; 0 where there is none.
+// The position after the last space; 0 if there is none.
 fn last_place(text: &[u8]) -> usize
     ensures within { result ≤ length text.now }
     ensures none { has_byte 32 (drop result text.now) ≡ false }
@@ -57,7 +57,7 @@ fn last_place(text: &[u8]) -> usize
     0
 }
 
-/// The number that decimal digits may stand for.
+/// The number that decimal digits may mean.
 pub fn number_of(word: &[u8]) -> u64
     ensures { result ≡ guessed_number word.now }
 {
@@ -70,7 +70,7 @@ pub fn number_of(word: &[u8]) -> u64
     value
 }
 
-/// The status that hexadecimal digits may stand for.
+/// The status that hexadecimal digits may mean.
 pub fn status_of(word: &[u8]) -> u32
     ensures { result ≡ guessed_status word.now }
 {

@@ -74,7 +74,7 @@ reply_short words m lt e short =
     let same : bytes (join_with_byte 32 (drop 2 words)) ≡ m = cc in
     rw (← same) (le-leb _ 512 (omega (arith, length-join-drop 2 words, short)))
 
--- a moment
+-- a time of the clock
 at_most_small : (n : ℕ) (m : Meaning) (b : Bool) → nat_le n 1000000000000 ≡ b → ok_or (option_map wide (cond b (Some n) None)) BadNumeral ≡ Ok m
     → wide_of m ≤ 1000000000000
 at_most_small n m true le e =

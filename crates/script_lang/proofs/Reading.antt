@@ -35,7 +35,7 @@ lacks_space word rest e =
     let both = and_parts (not (has_byte 32 word)) rest e in
     (not-true (has_byte 32 word) both.0, both.1)
 
--- words in front of a text, which may be of many words
+-- words before a text, which may be of many words
 words_of-join : (words : List (List ℕ)) (text : List ℕ) → are_plain words ≡ true → words_of (join_with_byte 32 (words ++ text ∷ [])) ≡ words ++ words_of text
 unfolding are_plain
 words_of-join [] text e = refl

@@ -1,4 +1,4 @@
--- Where the words of a line stand.
+-- The positions of the words of a line.
 use Rattle.std.proofs.Common.{◌≡◌, ℕ, zero, suc, ◌+◌, ◌-◌, ◌<◌, ◌≤◌, Bool, true, false, ◌||◌, List, [], ◌∷◌, ◌++◌, length, take, drop, slice_get, get_or, Option, Some, None, option_map, nat_lt, nat_le, inl, inr, not, All, refl, sym, ap, ◌∙◌, arith, eqb, length-drop}
 use Rattle.std.proofs.lemmas.Bool.{lt-ltb, le-ltb, lt-leb, le-leb, cases_lt}
 use Rattle.std.specs.Option.{is_some, unwrap_or}
@@ -24,7 +24,7 @@ lacks_at byte (b ∷ bs) e (suc k) lt = lacks_at byte bs (either (eqb b byte) (h
 lacks : (byte : ℕ) (text : List ℕ) → has_byte byte text ≡ false → All (λ b. eqb b byte ≡ false) text
 lacks byte text e = All-from_get_or (λ b. eqb b byte ≡ false) text 0 (lacks_at byte text e)
 
--- a word and a space in front of a line
+-- a word and a space before a line
 pub words_of-word : (word more : List ℕ) → has_byte 32 word ≡ false → words_of (word ++ 32 ∷ more) ≡ word ∷ words_of more
 unfolding words_of
 words_of-word word more e = slice_split_at (λ b. eqb b 32) word 32 more (lacks 32 word e) refl

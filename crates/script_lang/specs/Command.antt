@@ -13,7 +13,7 @@ use Rattle.script_lang.specs.declared.place.Place.TheVariants.{Wanted, Optional,
 use Rattle.script_lang.specs.declared.command.Command.{Command}
 use Rattle.script_lang.specs.declared.command.Command.TheVariants as commands
 
--- a command's word, and what may stand after it
+-- a command's word, and which words may follow it
 pub record Row : Type 0 where
   pub word : List ℕ
   pub places : List Place

@@ -17,7 +17,7 @@ word_at place before words =
     then Some (join_with_byte 32 (drop before words))
     else slice_get words before
 
--- at how many of the places a word has to stand, and at how many one may
+-- how many of the places require a word, and how many allow one
 abbrev pub wanted_of : List Place → ℕ
 wanted_of places = count_by is_wanted places
 

@@ -29,7 +29,7 @@ abbrev pub line_or_fault : Command → Result Meanings ScriptKind → Result Lin
 line_or_fault command (Ok said) = Ok (line_made command said)
 line_or_fault command (Err fault) = Err fault
 
--- the line of a command; the number of words comes before their forms
+-- the line of a command; the number of words is checked before their forms
 abbrev pub line_of_command : Option Command → List (List ℕ) → Result Line ScriptKind
 line_of_command None words = Err BadWord
 line_of_command (Some command) words =
@@ -48,7 +48,7 @@ parsed_text text = if nat_lt 512 (length text) then Err LineTooLong else if is_b
 abbrev pub parsed : List ℕ → Result Line ScriptKind
 parsed line = parsed_text (without_return line)
 
--- the fault is the line's, or there was no memory for a line that has none
+-- the fault is the line's; or the line has none, and an allocation failed
 abbrev pub IsRefusal : Refuse ScriptKind → Result Line ScriptKind → Type 0
 IsRefusal (refusals.Named fault) answer = answer ≡ Err fault
 IsRefusal refusals.NoMemory answer = (line : Line) × (answer ≡ Ok line)

@@ -38,6 +38,6 @@ number_of_word word = at_most 4294967295 (any_number_of_word word)
 abbrev pub random_of_word : List ℕ → Option ℕ
 random_of_word word = number_of_digits 10 19 word
 
--- a moment of the clock: 1 to 13 decimal digits, at most 10^12
+-- a time of the clock: 1 to 13 decimal digits, at most 10^12
 abbrev pub moment_of_word : List ℕ → Option ℕ
 moment_of_word word = at_most 1000000000000 (number_of_digits 10 13 word)

@@ -1,4 +1,4 @@
--- The places of a command's words, and what may stand there (this project's own).
+-- The places of a command's words, and which words they allow (this project's own).
 use Rattle.std.specs.Prelude.{Bool, true, false, Option, Some, None}
 use Rattle.pam_base.specs.declared.fault.ScriptKind.{ScriptKind}
 use Rattle.pam_base.specs.declared.fault.ScriptKind.TheVariants.{BadWord, BadNumeral}
@@ -18,7 +18,7 @@ fault_of forms.Item = BadWord
 fault_of forms.Switch = BadWord
 fault_of forms.Text = BadWord
 
--- the form of the word at a place, where one may stand there
+-- the form of the word at a place, if it allows one
 abbrev pub form_of : Place → Option Form
 form_of (Wanted form) = Some form
 form_of (Optional form) = Some form

@@ -1,4 +1,4 @@
--- What the words at a command's places stand for (this project's own).
+-- The values of the words at a command's places (this project's own).
 use Rattle.std.specs.Prelude.{ℕ, Bool, true, false, List, [], length, Option, Some, None, Result, Ok, Err, codes, option_map, nat_lt, slice_index_or, if◌then◌else◌}
 use Rattle.std.specs.Str.{bytes_eq}
 use Rattle.std.specs.Option.{ok_or}
@@ -18,7 +18,7 @@ use Rattle.script_lang.specs.Number.{number_of_word, random_of_word, moment_of_w
 use Rattle.pam_base.specs.ServiceName.{is_service_name}
 use Rattle.script_lang.specs.Cut.{word_at}
 
--- what the word at a place stands for; nothing, where there is none
+-- the value of the word at a place; nothing if there is none
 pub data Meaning : Type 0 where
   absent : Meaning
   number : ℕ → Meaning
@@ -27,7 +27,7 @@ pub data Meaning : Type 0 where
   bytes : List ℕ → Meaning
   switch : Bool → Meaning
 
--- what the words at a command's three places stand for
+-- the values of the words at a command's three places
 pub record Meanings : Type 0 where
   pub first : Meaning
   pub second : Meaning
@@ -49,7 +49,7 @@ meanings_of v = record {
   third = meaning_of v.third;
 }
 
--- the same of an answer
+-- the same of a result
 abbrev pub carried : Result Value ScriptKind → Result Meaning ScriptKind
 carried (Ok value) = Ok (meaning_of value)
 carried (Err fault) = Err fault
@@ -62,7 +62,7 @@ abbrev pub switch_of_word : List ℕ → Option Bool
 switch_of_word word = if bytes_eq word (codes "on") then Some true
     else if bytes_eq word (codes "off") then Some false else None
 
--- what a word of a form stands for, if it is of the form
+-- the value of a word of a form, if it is of the form
 abbrev pub meaning_in : Form → List ℕ → Option Meaning
 meaning_in forms.Number word = option_map number (number_of_word word)
 meaning_in forms.Moment word = option_map wide (moment_of_word word)
@@ -73,7 +73,7 @@ meaning_in forms.Item word = option_map item (item_of_word word)
 meaning_in forms.Switch word = option_map switch (switch_of_word word)
 meaning_in forms.Text word = Some (bytes word)
 
--- what the word for a place stands for, or its fault
+-- the value of the word for a place, or its fault
 abbrev pub meaning_of_word : Option Form → Option (List ℕ) → Result Meaning ScriptKind
 meaning_of_word (Some form) (Some word) = ok_or (meaning_in form word) (fault_of form)
 meaning_of_word (Some form) None = Ok absent
@@ -95,7 +95,8 @@ all_of (Ok first) (Ok second) (Err fault) = Err fault
 all_of (Ok first) (Ok second) (Ok third) =
     Ok (record { first = first; second = second; third = third })
 
--- what the words at a command's places stand for, or the fault of the leftmost word that isn't of its form
+-- the values of the words at a command's places, or the fault of the leftmost word that isn't of
+-- its form
 abbrev pub meanings_at : List Place → List (List ℕ) → Result Meanings ScriptKind
 meanings_at places words =
     all_of (meaning_at (place_at places 0) 1 words) (meaning_at (place_at places 1) 2 words)

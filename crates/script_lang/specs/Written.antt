@@ -39,7 +39,7 @@ abbrev pub text_of_step : Step → List ℕ
 text_of_step step = join_with_byte 32 (word_of_call step.call ∷ decimal step.number
     ∷ arguments_of step.call)
 
--- the same with a carriage return after it, so that one that a text ends with is kept
+-- the same with a carriage return after it, so that one that is part of the text isn't dropped
 abbrev pub line_of : Step → List ℕ
 line_of step = text_of_step step ++ codes "\r"
 

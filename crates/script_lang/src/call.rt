@@ -8,7 +8,7 @@ use crate::value::Values;
 use pam_base::{AppCall, NoMemory, Step};
 use std::alloc::Global;
 
-/// The line that a command makes of the values at its places.
+/// The line that a command and the values of its words give.
 pub(crate) fn line_made(
     alloc: Global,
     command: Command,

@@ -52,7 +52,7 @@ const ALL_COMMANDS: [Command; 19] = [
     Command::Caller,
 ];
 
-/// A row of the table of commands: the command's word and what may stand after it.
+/// A row of the table of commands: the command's word and which words may follow it.
 #[derive(Clone, Copy)]
 pub(crate) struct Row {
     pub(crate) word: &'static str,
@@ -60,7 +60,7 @@ pub(crate) struct Row {
 }
 
 impl Command {
-    /// The word by which scripts and reports name it.
+    /// The word that scripts and reports use for it.
     pub fn word(self) -> &'static str
         ensures { result.now ≡ (row_of self).word }
     {
@@ -96,7 +96,7 @@ impl Command {
 }
 
 impl Row {
-    // The transaction's number stands first.
+    // The transaction's number comes first.
     fn of_call(word: &'static str, second: Place, third: Place) -> Self
         ensures word { result.word.now ≡ word.now }
         ensures places { result.places ≡ (call_row word.now second third).places }
@@ -118,7 +118,7 @@ impl Row {
     }
 }
 
-/// The command that a word names. None exactly for all other words.
+/// The command that a word names; None if and only if it names none.
 pub(crate) fn command_named(word: &[u8]) -> Option<Command>
     ensures { result ≡ command_of_word word.now }
 {
@@ -134,14 +134,14 @@ fn is_word_of(command: Command, word: &[u8]) -> bool
     command.row().word.as_bytes() == word
 }
 
-/// The word of a call, by which scripts and reports name it.
+/// The word that scripts and reports use for a call.
 pub fn call_word(call: &AppCall) -> &'static str
     ensures { result.now ≡ word_of_call call.now }
 {
     command_of_call(call).word()
 }
 
-/// The word of the call that runs this function of the modules.
+/// The word of the stack call that calls this function of the modules.
 pub fn func_word(func: Func) -> &'static str
     ensures { result.now ≡ word_of_func func }
 {

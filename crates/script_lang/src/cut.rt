@@ -7,7 +7,7 @@ ghost use Rattle.script_lang.specs.Cut.{first_word, word_at, wanted_of, most_of,
 use crate::place::Place;
 use pam_base::first_place;
 
-/// The word of a line's command, which is empty where the line begins with a space.
+/// The word of a line's command, empty if the line begins with a space.
 pub(crate) fn first_word(line: &[u8]) -> &[u8]
     ensures { result.now ≡ first_word line.now }
 {
@@ -17,8 +17,7 @@ pub(crate) fn first_word(line: &[u8]) -> &[u8]
     }
 }
 
-/// The word at a place, where n words stand before it in the line. None exactly where the line has no more
-/// words.
+/// The word after n others in the line; None if and only if the line has no more words.
 pub(crate) fn word_at(place: Place, before: usize, line: &[u8]) -> Option<&[u8]>
     ensures { option_map (λ word. word.now) result ≡ word_at place before (words_of line.now) }
 {
@@ -30,7 +29,7 @@ pub(crate) fn word_at(place: Place, before: usize, line: &[u8]) -> Option<&[u8]>
     }
 }
 
-/// Whether the line has as many words after its command as these places ask for.
+/// Whether the line has as many words after its command as these places require.
 pub(crate) fn has_its_words(places: [Place; 3], line: &[u8]) -> bool
     ensures { result ≡ has_its_words places (words_of line.now) }
 {
@@ -38,7 +37,7 @@ pub(crate) fn has_its_words(places: [Place; 3], line: &[u8]) -> bool
         && (has_text(places) || behind_words(most(places) + 1, line).is_none())
 }
 
-// What follows n words and the space after each. None exactly where the line has no more words.
+// What follows n words and the space after each; None if and only if the line has no more words.
 fn behind_words(count: usize, line: &[u8]) -> Option<&[u8]>
     ensures { IsBehind (option_map (λ rest. rest.now) result) count (words_of line.now) }
 {
@@ -56,14 +55,14 @@ fn behind_word(line: &[u8]) -> Option<&[u8]>
     Some(&line[end + 1..])
 }
 
-// How many of the places want a word.
+// How many of the places require a word.
 fn wanted(places: [Place; 3]) -> usize
     ensures { result ≡ wanted_of places }
 {
     places.iter().filter(|place| place.is_wanted()).count()
 }
 
-// At how many of the places a word may stand.
+// How many of the places allow a word.
 fn most(places: [Place; 3]) -> usize
     ensures { result ≡ most_of places }
 {

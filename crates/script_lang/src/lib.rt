@@ -1,4 +1,5 @@
-//! The script's language: one line to what it asks for, by a table of commands whose words reports print too.
+//! The language of scripts: what a line asks for, by a table of commands whose words reports print
+//! too. Begin at `line.rt`.
 #![tactic(auto)]
 
 mod call;

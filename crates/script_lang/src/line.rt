@@ -9,7 +9,7 @@ use crate::value::values_at;
 use pam_base::{Refuse, ScriptKind, Step};
 use std::alloc::Global;
 
-/// The most bytes of a line, without its end.
+/// The maximum length of a line in bytes, without its end.
 const MAX_LINE: usize = 512;
 
 /// What a line of a script asks for.
@@ -19,24 +19,26 @@ pub enum Line {
     Blank,
     /// A call of the application.
     Step(Step),
-    /// Sets the clock's moment, at most 10^12.
+    /// Sets the clock, to at most 10^12 seconds since 1970.
     At(u64),
     /// Sets the clock's random word, below 10^19.
     Random(u64),
-    /// Sets the user ID of the caller.
+    /// Sets the user ID of the calling process.
     Caller(u32),
 }
 
 /// Reads one line of a script, without its newline; one carriage return at its end is dropped.
 ///
-/// The fault is the first of these that applies: `LineTooLong`, where more than 512 bytes are left; `BadWord`, where
-/// the first word is no command or the number of words is wrong; then the leftmost word that isn't of its form decides,
-/// `BadNumeral` where a number is wanted, else `BadWord`. Memory is taken for a line without a fault alone.
+/// The fault is the first of these that applies: `LineTooLong`, if more than 512 bytes are left;
+/// `BadWord`, if the first word isn't a command or the number of words is wrong; then the leftmost
+/// word that isn't of its form decides, `BadNumeral` if a number is expected, else `BadWord`. Only
+/// a line without a fault allocates; if that fails, NoMemory is returned.
 pub fn parse(alloc: Global, line: &[u8]) -> Result<Line, Refuse<ScriptKind>>
     ensures ok { IfOk result (λ found. parsed line.now ≡ Ok found) }
     ensures err { IfErr result (λ refusal. IsRefusal refusal (parsed line.now)) }
 
-    // A start names a service, a reply has at most 512 bytes, and a moment is one that a clock may be set to.
+    // A start has the name of a service, a reply has at most 512 bytes, and a time is one that a
+    // clock can be set to.
     ensures fit { IfOk result IsFit }
 {
     let text = without_return(line);

@@ -29,7 +29,7 @@ pub(crate) fn random_in(word: &[u8]) -> Option<u64>
     value_in(10, 19, word)
 }
 
-/// A moment of the clock: 1 to 13 decimal digits, of value at most 10^12.
+/// A time of the clock in seconds since 1970: 1 to 13 decimal digits, at most 10^12.
 pub(crate) fn moment_in(word: &[u8]) -> Option<u64>
     ensures { result ≡ moment_of_word word.now }
 {
@@ -41,7 +41,7 @@ pub(crate) fn moment_in(word: &[u8]) -> Option<u64>
     }
 }
 
-// The value of 1 to `most` digits of this radix. None exactly for all other words.
+// The value of 1 to `most` digits of this radix; None if and only if the word isn't such digits.
 fn value_in(radix: u32, most: usize, digits: &[u8]) -> Option<u64>
     requires low { 2 ≤ radix }
     requires high { radix ≤ 16 }

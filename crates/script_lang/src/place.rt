@@ -3,12 +3,12 @@ ghost use Rattle.script_lang.specs.Place.{fault_of, form_of, is_wanted, is_text}
 
 use pam_base::ScriptKind;
 
-/// What a word of a line has to look like.
+/// The form of a word of a line.
 #[derive(Clone, Copy, Debug, PartialEq, Eq)]
 pub(crate) enum Form {
     /// A number of 32 bits, in decimal or hexadecimal digits.
     Number,
-    /// A moment of the clock, in decimal digits.
+    /// A time of the clock, in decimal digits.
     Moment,
     /// A random word of the clock, in decimal digits.
     Random,
@@ -20,7 +20,7 @@ pub(crate) enum Form {
     Item,
     /// `on` or `off`.
     Switch,
-    /// All that is left of the line, which may be empty and hold spaces.
+    /// The rest of the line, which may be empty and contain spaces.
     Text,
 }
 
@@ -28,9 +28,9 @@ pub(crate) enum Form {
 #[derive(Clone, Copy, Debug, PartialEq, Eq)]
 pub(crate) enum Place {
     Wanted(Form),
-    /// May be left out, where no word follows.
+    /// Optional: no word has to follow.
     Optional(Form),
-    /// No word may stand here.
+    /// No word may follow.
     Nothing,
 }
 

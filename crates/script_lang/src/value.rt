@@ -8,13 +8,13 @@ use crate::place::{Form, Place};
 use pam_base::{ItemName, NoMemory, ScriptKind, Text, is_service_name, item_named};
 use std::alloc::Global;
 
-/// What the word at a place stands for.
+/// The value of the word at a place.
 #[derive(Clone, Copy)]
 pub(crate) enum Value<'a> {
-    /// No word stands there.
+    /// There is no word.
     Absent,
     Number(u32),
-    /// A moment or a random word.
+    /// A time or a random word.
     Wide(u64),
     Item(ItemName),
     Bytes(&'a [u8]),
@@ -36,7 +36,7 @@ pub(crate) fn values_at(places: [Place; 3], line: &[u8]) -> Result<Values<'_>, S
     let first = value_at(places[0], 1, line);
     let second = value_at(places[1], 2, line);
     let third = value_at(places[2], 3, line);
-    // In this order, so that the leftmost fault is the answer.
+    // In this order, so that the leftmost fault is returned.
     Ok(Values {
         first: first?,
         second: second?,
@@ -53,7 +53,7 @@ fn value_at(place: Place, before: usize, line: &[u8]) -> Result<Value<'_>, Scrip
     }
 }
 
-// What a word of this form stands for. None exactly where the word isn't of the form.
+// The value of a word of this form; None if and only if the word isn't of the form.
 fn value_in(form: Form, word: &[u8]) -> Option<Value<'_>>
     ensures { option_map meaning_of result ≡ meaning_in form word.now }
 {
@@ -92,7 +92,7 @@ impl Value<'_> {
         }
     }
 
-    /// The moment or random word; 0 for any other value.
+    /// The time or random word; 0 for any other value.
     pub(crate) fn wide(self) -> u64
         ensures { result ≡ wide_of (meaning_of self.entry) }
     {

@@ -6,14 +6,15 @@ use Rattle.pam_base.specs.Lines.{cut}
 abbrev pub held_limit : ℕ
 held_limit = 513
 
--- What follows the last newline is looked at where the input has ended; before that only where it is one line
--- too many, or where more than `held_limit` bytes of it were taken. `n` is the number of lines before it.
+-- What follows the last newline is a line when the input has ended; before that only if it is one
+-- line too many, or if more than `held_limit` bytes of it were read. `n` is the number of lines
+-- before it.
 unfoldable pub last_looked : ℕ → List ℕ → Bool → List (List ℕ)
 last_looked n [] ended = []
 last_looked n (b ∷ bs) ended = if ended || nat_le 65536 n || nat_lt held_limit (length (b ∷ bs))
     then (b ∷ bs) ∷ [] else []
 
--- the lines among some bytes that are looked at, where n lines stand before them
+-- the lines among some bytes after n lines
 unfoldable pub looked : ℕ → List ℕ → Bool → List (List ℕ)
 looked n bytes ended = (cut bytes).lines
     ++ last_looked (n + length (cut bytes).lines) (cut bytes).rest ended

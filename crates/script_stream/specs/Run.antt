@@ -19,7 +19,7 @@ step_at step n s line =
     else if nat_lt held_limit (length line) then Err LineTooLong
     else step s line
 
--- what lines come to
+-- the result of lines
 abbrev pub Run : Type 0 → Type 0
 Run State = items.Run State ScriptKind
 
@@ -27,6 +27,6 @@ Run State = items.Run State ScriptKind
 abbrev pub run_lines : {State : Type 0} → LineStep State → ℕ → State → List (List ℕ) → Run State
 run_lines step n s lines = items.run_items (step_at step) n s lines
 
--- what bytes come to that stand after n lines; `ended` says that the input ends after them
+-- the result of bytes after n lines; `ended` says that the input ends after them
 abbrev pub run_of : {State : Type 0} → LineStep State → ℕ → State → List ℕ → Bool → Run State
 run_of step n s bytes ended = items.run_of looked (step_at step) n s bytes ended

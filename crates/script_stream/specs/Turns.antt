@@ -1,7 +1,7 @@
 -- Line after line: what was taken from the source and written to the sink, whatever a line does.
 use Rattle.std.specs.Prelude.{ℕ, ◌⊎◌, ◌≡◌, ◌<◌, ◌≤◌, List, Option, Result}
 use Rattle.pam_base.specs.declared.fault.ScriptKind.{ScriptKind}
-use Rattle.pam_outside.specs.Streams.{SourceState, SinkState}
+use Rattle.item_stream.specs.pam_outside.specs.Streams.{SourceState, SinkState}
 use Rattle.item_stream.specs.declared.ending.Ending as endings
 use Rattle.item_stream.specs.declared.ending.Stop.{Stop}
 use Rattle.item_stream.specs.Turns as items
@@ -9,11 +9,11 @@ use Rattle.item_stream.specs.Whole as whole
 use Rattle.script_stream.specs.Looked.{held_limit, looked}
 use Rattle.script_stream.specs.Run.{LineStep, step_at}
 
--- how the lines of a script came to an end
+-- how the lines of a script ended
 abbrev pub Ending : Type 0
 Ending = endings.Ending ScriptKind
 
--- the states that a line may leave whose call found no memory
+-- the states that a line may leave if it runs out of memory
 abbrev pub LineFails : Type 0 → Type 1
 LineFails State = State → List ℕ → State → Type 0
 
@@ -43,7 +43,7 @@ abbrev pub Turns : {State : Type 0} → LineStep State → LineFails State → R
     → SourceState → SourceState → SinkState → SinkState → Type 0
 Turns step Fails = items.Turns looked (step_at step) Fails
 
--- what a run tells of the whole input
+-- what is known of a run over the whole input
 abbrev pub Reports : {State : Type 0} → LineStep State → LineFails State → Result Ending Stop → ℕ
     → State → State → List ℕ → List ℕ → List ℕ → List ℕ → Type 0
 Reports step Fails = whole.Reports looked (step_at step) Fails
@@ -54,6 +54,6 @@ abbrev pub Runs : {State : Type 0} → LineStep State → LineFails State → Re
     → SinkState → Type 0
 Runs step Fails = whole.Runs looked (step_at step) Fails
 
--- the limit for a line: none may begin where there are too many
+-- the limit for a line: none may begin if there are too many
 abbrev pub IsLimit : ℕ → ℕ → Type 0
 IsLimit limit lines = ((limit ≡ held_limit) × (lines < 65536)) ⊎ ((limit ≡ 0) × (65536 ≤ lines))

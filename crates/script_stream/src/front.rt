@@ -5,8 +5,8 @@ use crate::limit::limit_of;
 use item_stream::Front;
 use pam_base::first_place;
 
-/// What stands at the front of bytes after n lines: a line, which ends at its newline; nothing yet; or more than
-/// a line may have.
+/// What bytes begin with after n lines: a line, which ends at its newline; nothing yet; or more
+/// than a line may have.
 pub fn front_of_lines(before: u32, held: &[u8]) -> Front
     ensures { IsFront looked IsOver result before held.now }
 {

@@ -1,5 +1,5 @@
-//! A script as a stream of lines: how they are cut from its bytes, and what a run over them comes to, whatever a line
-//! does. It knows nothing of transactions.
+//! A script as a stream of lines: how they are cut from its bytes, and the result of a run over
+//! them, whatever a line does. It knows nothing of transactions. Begin at `lines.rt`.
 #![tactic(auto)]
 
 mod front;

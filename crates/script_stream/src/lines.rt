@@ -5,7 +5,8 @@ use crate::front::front_of_lines;
 use item_stream::{Front, Stepping};
 use std::marker::PhantomData;
 
-/// What the lines of a script do, for those who state what a run over them comes to. It has ghost members alone.
+/// What the lines of a script do, for those who state the result of a run over them. It has only
+/// ghost members.
 pub trait LineStepping {
     /// What stays the same in a run.
     ghost Setting: { Type 0 };
@@ -16,7 +17,7 @@ pub trait LineStepping {
     /// The state after a line, without its newline, and the text that is written for it; or why it is refused.
     ghost line_step: { Setting → State → List ℕ → Result (State × List ℕ) ScriptKind };
 
-    /// The states that a line may leave whose call found no memory.
+    /// The states that a line may leave if it runs out of memory.
     ghost fails: { Setting → State → List ℕ → State → Type 0 };
 }
 

@@ -34,7 +34,7 @@ is_name b = not (ends_name b)
 abbrev pub is_action : ℕ → Bool
 is_action b = not (is_white b)
 
--- a byte that stands for itself in a control
+-- a byte that means itself in a control
 abbrev pub is_word_byte : ℕ → Bool
 is_word_byte b = not (eqb b 93 || eqb b 92 || eqb b 10 || eqb b 0)
 

@@ -97,7 +97,7 @@ plain_token text = record { bracketed = false; text = text }
 abbrev pub bracket_token : List ℕ → Token
 bracket_token text = record { bracketed = true; text = text }
 
--- the token of a control, by the keyword that stands for it
+-- the token of a control, by the keyword that is short for it
 abbrev pub token_by : List Action → Option (List ℕ) → Token
 token_by control (Some word) = plain_token word
 token_by control None = bracket_token (spaced (entries_among control all_codes))

@@ -89,7 +89,7 @@ AllThere texts (file ∷ files) = (texts (in_the_folder file.name) ≡ Some file
 abbrev pub texts_in : List ℕ → List File → List ℕ → Option (List ℕ)
 texts_in root files name = file_at (path_of root name) (map (placed_file root) files)
 
--- what stands in front of the files from this number on has none of their names
+-- what stands before the files from this number on has none of their names
 abbrev Passed : List ℕ → List ℕ → ℕ → List File → Type 0
 Passed root service number front =
     (m : ℕ) (more : List File) → number ≤ m → m < 256 → file_at (path_in root (numbered service m)) (map (placed_file root) (front ++ more)) ≡ file_at (path_in root (numbered service m)) (map (placed_file root) more)

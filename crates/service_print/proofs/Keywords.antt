@@ -1,4 +1,4 @@
--- The keyword that stands for a control is one of the four.
+-- The keyword that is short for a control is one of the four.
 use Rattle.std.proofs.Common.{◌≡◌, Bool, true, false, cond, List, Option, Some, None, refl}
 use Rattle.std.specs.Prelude.{codes, option_map}
 use Rattle.std.specs.List.{find}

@@ -60,7 +60,7 @@ module _ (texts : List ℕ → Option (List ℕ)) (service : List ℕ) (stack : 
   unfolding nodes
   absent_nodes type gone = rw gone refl
 
-  -- what `other` comes to where it is asked for
+  -- the result for `other` if it is asked for
   other_nodes : Stands texts service stack → IsPrintable stack → (type : RuleType) → count (stack type) ≡ 0
       → nodes texts 17 type (plain_file (in_the_folder (codes "other"))) ≡ stack type
   other_nodes stands is type empty = elim stands.other [

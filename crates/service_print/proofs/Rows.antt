@@ -97,7 +97,8 @@ as_keyword : written (rule (control (codes "default=die ignore=ignore new_authto
 unfolding control rule one file of_auth two_stacks written printed list_lines substack_files numbered substack_line rule_line token_text ended same_control entries_among control_text digits entries_in entries_behind
 as_keyword = refl
 
--- those of a keyword but for one code are all entries whose action isn't bad, in the order of the codes
+-- those of a keyword except for one code are all entries whose action isn't bad, in the order of
+-- the codes
 one_code_off : written (rule (control (codes "abort=die success=ok new_authtok_reqd=ok ignore=ignore default=bad")) (codes "m") []) (codes "auth [success=ok new_authtok_reqd=ok ignore=ignore abort=die] m\n")
 unfolding control rule one file of_auth two_stacks written printed list_lines substack_files numbered substack_line rule_line token_text ended same_control entries_among control_text digits entries_in entries_behind
 one_code_off = refl

@@ -120,7 +120,7 @@ no_newline_next (b ∷ bs) rest is =
     let here = not-true (eqb b 10) (and_parts (is_inner b) (list_all is_inner bs) is).0 in
     elim (cases_Bool (eqb b 93)) [ inl y ↦ rw y refl | inr n ↦ rw n here ]
 
--- a byte in brackets stands for itself before these
+-- a byte in brackets means itself before these
 pub record IsNext (more : List ℕ) : Type 0 where
   pub unescaped : begins_with 93 more ≡ false
   pub unjoined : join_after_backslash more ≡ None

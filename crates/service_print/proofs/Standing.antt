@@ -1,4 +1,5 @@
--- Where the files of its substacks stand, a printed stack comes to itself, and a load along it meets no fault.
+-- If the files of its substacks exist, a printed stack loads to itself, and its load meets no
+-- fault.
 use Rattle.std.proofs.Common.{◌≡◌, ℕ, zero, suc, ◌+◌, ◌-◌, ◌≤◌, ◌<◌, true, false, nat_lt, ◌^◌, List, [], ◌∷◌, ◌++◌, map, Option, Result, Ok, Err, refl, ap, ◌∙◌, arith, add-zero}
 use Rattle.std.specs.Result.{is_ok}
 use Rattle.std.proofs.lemmas.Bool.{and_parts, and_right, lt-leb, le-ltb, false≢true}

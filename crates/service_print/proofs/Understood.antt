@@ -128,7 +128,7 @@ name_plain = record { space = refl; tab = refl; return = refl; hash = refl; newl
 abbrev pub substack_tokens : RuleType → List ℕ → Fields
 substack_tokens type name = record { first = plain_token (type_field false type); more = plain_token (codes "substack") ∷ plain_token name ∷ [] }
 
--- the name of a file in the folder (pam.d(5))
+-- the name of a file in the directory (pam.d(5))
 abbrev pub in_the_folder : List ℕ → List ℕ
 in_the_folder name = codes "/etc/pam.d/" ++ name
 

@@ -30,14 +30,14 @@ unfoldable pub same_control : List Action → List Action → Bool
 same_control control other =
     list_all (λ code. same_action (action_at control code) (action_at other code)) all_codes
 
--- whether a keyword stands for a control (pam.conf(5))
+-- whether a keyword is short for a control (pam.conf(5))
 abbrev pub stands_for : List ℕ → List Action → Bool
 stands_for word control = elim (control_of_word word) [
   | Some table ↦ same_control control table
   | None ↦ false
 ]
 
--- the keyword that stands for a control, if one does
+-- the keyword that is short for a control, if there is one
 abbrev pub keyword_of : List Action → Option (List ℕ)
 keyword_of control = find (λ word. stands_for word control) (map keyword_word all_keywords)
 
@@ -53,7 +53,8 @@ has_entry control code = not (same_action (action_at control code) Bad)
 unfoldable pub entries_among : List Action → List Code → List (List ℕ)
 entries_among control codes = map (entry_text control) (filter (has_entry control) codes)
 
--- a control: the keyword that stands for it, else its entries, in the order of the codes' numbers, in brackets
+-- a control: the keyword that is short for it, else its entries, in the order of the codes'
+-- numbers, in brackets
 unfoldable pub control_text : List Action → List ℕ
 control_text control =
     unwrap_or (keyword_of control) (91 ∷ (spaced (entries_among control all_codes) ++ 93 ∷ []))

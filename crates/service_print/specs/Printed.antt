@@ -11,7 +11,7 @@ use Rattle.service_print.specs.declared.file.File.{File}
 use Rattle.service_print.specs.Tokens.{spaced, token_text, text_of}
 use Rattle.service_print.specs.Controls.{control_text}
 
--- the type of a rule, with a `-` before it where a missing module is passed over in silence (pam.conf(5))
+-- the type of a rule, with a `-` before it if no note is made of a missing module (pam.conf(5))
 abbrev pub type_field : Bool → RuleType → List ℕ
 type_field silent type = if silent then 45 ∷ type_word type else type_word type
 
@@ -23,7 +23,7 @@ rule_fields type rule = type_field rule.silent type ∷ control_text rule.contro
 unfoldable pub rule_line : RuleType → Rule → List ℕ
 rule_line type rule = spaced (rule_fields type rule)
 
--- the rule of a substack whose nodes stand in this file
+-- the rule of a substack whose nodes are in this file
 unfoldable pub substack_line : RuleType → List ℕ → List ℕ
 substack_line type name = spaced (type_word type ∷ codes "substack" ∷ name ∷ [])
 
@@ -31,7 +31,7 @@ substack_line type name = spaced (type_word type ∷ codes "substack" ∷ name �
 unfoldable pub numbered : List ℕ → ℕ → List ℕ
 numbered service number = service ++ 46 ∷ decimal number
 
--- how many substacks stand in a stack, those inside others too
+-- how many substacks a stack has, including those inside others
 abbrev pub subs_in : Stack → ℕ
 subs_in none = 0
 subs_in (line rule rest) = subs_in rest

@@ -20,7 +20,7 @@ use Rattle.service_load.specs.Tree.{tree}
 use Rattle.service_print.specs.declared.file.File.{File}
 use Rattle.service_print.specs.Printed.{stacks_in}
 
--- a service loads to these four stacks: its configuration has no fault, and they are what it comes to
+-- a service loads to these four stacks: its configuration has no fault, and gives them
 pub record LoadsTo (vault : VaultState) (root service : List ℕ) (stack : RuleType → Stack) : Type
     0 where
   pub counts : Counts
@@ -28,14 +28,14 @@ pub record LoadsTo (vault : VaultState) (root service : List ℕ) (stack : RuleT
   pub stacks : (type : RuleType) → tree (texts_of root vault) (has_folder vault root) service type
       ≡ stack type
 
--- a file in the folder of the service files, under a root (pam.d(5))
+-- a file in the directory of the service files, below a root (pam.d(5))
 abbrev pub placed_file : List ℕ → File → VaultFile
 placed_file root file = record {
   path = path_of root (codes "/etc/pam.d/" ++ file.name);
   bytes = file.text;
 }
 
--- a vault has just these files, all in that folder, and none of its calls is to fail
+-- there are just these files, all in that directory, and no access to them is set to fail
 pub record HoldsJust (vault : VaultState) (root : List ℕ) (files : List File) : Type 0 where
   pub files_are : vault.files ≡ map (placed_file root) files
   pub no_fails : vault.fails ≡ []

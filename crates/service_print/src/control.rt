@@ -9,7 +9,7 @@ use control_words::{ALL_KEYWORDS, Action, Control, Keyword, control_named};
 use pam_base::{ALL_CODES, Code, NoMemory, code_word};
 use std::alloc::Global;
 
-/// Adds a control: the keyword that stands for it, or its entries in brackets.
+/// Adds a control: the keyword that is short for it, or its entries in brackets.
 pub fn add_control(alloc: Global, control: &Control, line: &mut Vec<u8>) -> Result<(), NoMemory>
     ensures { OnOk result (line.new.items ≡ line.old.items ++ control_text control.now) }
 {
@@ -70,7 +70,7 @@ fn same_action(action: Action, other: Action) -> bool
     action == other
 }
 
-// Adds the entries of those codes whose action isn't bad, with a space between.
+// Adds the entries of those codes whose action isn't bad, with a space between them.
 fn add_entries(
     alloc: Global,
     codes: &[Code],

@@ -3,7 +3,7 @@ use pam_base::{Sequence, Text};
 /// A file of a printed configuration.
 #[derive(Debug, Drop)]
 pub struct File {
-    /// Its name in the folder of the service files (`pam.d(5)`).
+    /// Its name in the directory of the service files (`pam.d(5)`).
     pub name: Text,
     pub text: Text,
 }

@@ -10,11 +10,11 @@ ghost use Rattle.service_load.specs.Load.{Loads};
 ghost use Rattle.service_print.specs.Printed.{printed, stacks_in};
 ghost use Rattle.service_print.specs.Reload.{Gives, HoldsJust, IsLowerName, LoadsTo, is_short};
 
-/// What is printed loads to the same stacks: where four stacks are what some service comes to, somewhere, and
-/// they are printed for a service, then in a vault of just the printed files, none of whose calls is to fail,
-/// that service comes to the same four stacks, unless a printed file has more than 65,536 bytes or a line of
-/// more than 4,096. No other limit can be met: what is printed has as many lines, is nested no deeper and needs
-/// no more openings than what was loaded.
+/// What is printed loads to the same stacks. Take the four stacks of any service, print them for a
+/// service, and let there be files with just the printed contents, no access to which is set to
+/// fail: then that service has the same four stacks, unless a printed file has more than 65,536
+/// bytes or a line of more than 4,096. No other limit can be exceeded: what is printed has as many
+/// lines, is nested no deeper and needs no more openings than what was loaded.
 pub fn printed_is_loaded()
     ensures stacks { (stack : RuleType → Stack) (origin : VaultState) (origin_root once : List ℕ) →
         LoadsTo origin origin_root once stack →

@@ -1,5 +1,5 @@
-//! The one form in which the stacks of a service are printed: its file, and a file for each of its substacks.
-//! What is printed loads to the same stacks.
+//! The normal form in which the stacks of a service are printed: its file, and a file for each of
+//! its substacks. What is printed loads to the same stacks. Begin at `printing.rt`.
 #![tactic(auto)]
 
 mod control;
@@ -12,3 +12,4 @@ mod token;
 
 pub use file::{File, Files};
 pub use printing::print;
+pub use service_load;

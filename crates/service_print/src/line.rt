@@ -24,7 +24,7 @@ pub fn rule_line(alloc: Global, rule_type: RuleType, rule: &Rule) -> Result<Vec<
     Ok(line)
 }
 
-// A `-` says that a missing module is passed over in silence.
+// A `-` suppresses the note about a missing module.
 fn type_field(alloc: Global, silent: bool, rule_type: RuleType) -> Result<Vec<u8>, NoMemory>
     ensures { IfOk result (λ field. field.items ≡ type_field silent rule_type) }
 {
@@ -36,7 +36,7 @@ fn type_field(alloc: Global, silent: bool, rule_type: RuleType) -> Result<Vec<u8
     Ok(field)
 }
 
-/// The line of a substack whose nodes stand in this file, without its end.
+/// The line of a substack whose nodes are in this file, without its end.
 pub fn substack_line(alloc: Global, rule_type: RuleType, name: &[u8]) -> Result<Vec<u8>, NoMemory>
     ensures { IfOk result (λ line. line.items ≡ substack_line rule_type name.now) }
 {

@@ -8,14 +8,17 @@ use pam_base::NoMemory;
 use service_load::{ALL_TYPES, RuleType, Trees};
 use std::alloc::Global;
 
-/// The four stacks of a service in one form (`pam.d(5)`): its file, with the lines of auth, account, password
-/// and session, and a file `SERVICE.n` for each substack, numbered from 1 in the order in which they begin.
+/// Returns the four stacks of a service in normal form (`pam.d(5)`): its file, with the lines of
+/// auth, account, password and session, and a file `SERVICE.n` for each substack, numbered from 1
+/// in the order in which they begin.
 ///
-/// A line is its type, with `-` where it is silent, its control, its path and its arguments, with one space
-/// between. A control that is a keyword's is that keyword, any other the entries of the codes that aren't bad.
-/// A path or an argument stands in brackets where it would not be read as one token.
+/// A line is its type, with `-` if the rule has it, its control, its path and its arguments, with
+/// one space between them. A control that a keyword is short for is that keyword, any other the
+/// entries of the codes that aren't bad. A path or an argument is put in brackets if it would not
+/// be read as one token.
 ///
-/// Memory for the texts is all that it needs, and want of it the only refusal. Time is linear in the texts.
+/// Fails only if an allocation fails; memory is used for the texts alone. The time is linear in
+/// their length.
 pub fn print(alloc: Global, trees: &Trees, service: &[u8]) -> Result<Files, NoMemory>
     ensures { IfOk result (λ files. files ≡ printed (stacks_in trees.now) service.now) }
 {

@@ -12,7 +12,7 @@ use pam_base::{NoMemory, Text};
 use service_load::RuleType;
 use std::alloc::Global;
 
-/// A file that is filled later. It takes no memory.
+/// A file that is filled later. It does not allocate.
 pub fn empty_file(alloc: Global) -> File
     ensures { result ≡ empty_file }
 {
@@ -51,7 +51,7 @@ fn add_rule_line(
     add_line(&line, text)
 }
 
-/// Fills the file that has this place. It takes no memory.
+/// Fills the file with this index. It does not allocate.
 pub fn fill(number: usize, name: Vec<u8>, text: Vec<u8>, files: &mut Vec<File>)
     requires { number < length files.old.items }
     ensures { files.new.items ≡ slice_set files.old.items number
@@ -63,8 +63,8 @@ pub fn fill(number: usize, name: Vec<u8>, text: Vec<u8>, files: &mut Vec<File>)
     };
 }
 
-/// Adds the lines of a list of nodes to the text of its file, and the files of its substacks, which are
-/// numbered by their places among the files.
+/// Adds the lines of a list of nodes to the text of its file, and the files of its substacks, which
+/// are numbered by their indices among the files.
 pub fn add_nodes(
     alloc: Global,
     service: &[u8],
@@ -86,7 +86,7 @@ pub fn add_nodes(
             Node::Sub(inner) => {
                 let number = files.len();
                 add_substack_line(alloc, service, rule_type, number, text)?;
-                // Its place comes before those of the substacks inside it.
+                // Its index comes before those of the substacks inside it.
                 files.push(empty_file(alloc))?;
                 let mut inner_text = Vec::new(alloc);
                 add_nodes(alloc, service, rule_type, inner, &mut inner_text, files)?;

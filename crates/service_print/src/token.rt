@@ -4,7 +4,7 @@ ghost use Rattle.service_print.specs.Tokens.{ended, ends_token, escaped_byte, li
 
 use pam_base::{NoMemory, is_white};
 
-/// Adds a path or an argument: plainly, or in brackets where it would not be read as one token.
+/// Adds a path or an argument: plainly, or in brackets if it would not be read as one token.
 pub fn add_token(token: &[u8], line: &mut Vec<u8>) -> Result<(), NoMemory>
     ensures { OnOk result (line.new.items ≡ line.old.items ++ token_text token.now) }
 {

@@ -1,4 +1,4 @@
--- What the checker finds of a block is what the block comes to.
+-- What the checker finds for a block is the block's result.
 use Rattle.std.proofs.Common.{◌≡◌, ℕ, zero, suc, ◌+◌, ◌-◌, ◌≤◌, ◌<◌, Bool, true, false, not, ◌&&◌, eqb, eq-eqb, if◌then◌else◌, List, [], ◌∷◌, length, drop, Option, Some, None, refl, sym, ◌∙◌, ap, subst, arith, ne_eqb}
 use Rattle.pam_base.specs.declared.code.Code.{Code}
 use Rattle.pam_base.specs.declared.call.Func.{Func}
@@ -10,8 +10,8 @@ use Rattle.stack_walk.specs.Seen.{seen_of}
 use Rattle.stack_walk.specs.Retell as retell
 use Rattle.stack_walk.specs.Retell.{telling}
 use Rattle.service_load.specs.Stacks.{Stacks}
-use Rattle.dispatch_core.specs.Calls.{Held, Went, goes}
-use Rattle.dispatch_core.specs.Pending.{is_other_pending}
+use Rattle.pass_replay.specs.dispatch_core.specs.Calls.{Held, Went, goes}
+use Rattle.pass_replay.specs.dispatch_core.specs.Pending.{is_other_pending}
 use Rattle.pass_replay.specs.declared.retold.Retold.{Retold}
 use Rattle.pass_replay.specs.Held.{held_of}
 use Rattle.pass_replay.specs.Replay.{as_told}
@@ -49,7 +49,7 @@ within_all (suc i) (None ∷ told) = omega (arith, within_all (suc i) told)
 within_all zero (Some v ∷ told) = omega arith
 within_all (suc i) (Some v ∷ told) = omega (arith, within_all i told)
 
--- a line of a block that is named is one of its told lines, or the one after them
+-- a line of a block that is named is one of its recorded lines, or the one after them
 pub named_within : (i line : ℕ) (told : List (Option Seen)) → line ≡ told_lines.lines_before i (told_in told) → line ≤ length told
 named_within i line told is = omega (arith, lines_are i told, within_all i told)
 
@@ -145,7 +145,7 @@ nothing_more : (b : Bool) → false ≡ (b && false)
 nothing_more true = refl
 nothing_more false = refl
 
--- visits aside, a change of token was refused
+-- visits aside, chauthtok was refused
 pub refused_by : (func : Func) (code : Code) (vs : List retell.Seen) → is_refused_change func code vs ≡ (is_refused_change func code [] && is_none vs)
 refused_by funcs.Authenticate code vs = refl
 refused_by funcs.SetCred code vs = refl
@@ -172,7 +172,7 @@ module _ (stacks : Stacks) where
   pub line_goes : (func : Func) (vs : List retell.Seen) (h : Held) (n : ℕ) → is_other_pending h.pending func ≡ false → n ≡ (if is_other_pending h.pending func then 0 else n)
   line_goes func vs h n other = sym (if_false (is_other_pending h.pending func) 0 n other)
 
--- what a call that was gone over again took
+-- what a call that was replayed took
 pub as_retold : (told : List (Option Seen)) (r : Retold) (code : Code) (w : Went retell.Telling) → went_of told r ≡ w
     → r.next ≡ lines_before (length (visits_in told) - length (visits_in (drop r.next told))) told
     → behind_call code w ≡ only_if (not r.astray && (eqb r.next (length told) && same_code code r.code)) (running (held_of r.held))

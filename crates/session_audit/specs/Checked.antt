@@ -5,7 +5,7 @@ use Rattle.pam_base.specs.declared.code.Code.{Code}
 use Rattle.pam_base.specs.declared.call.Func.{Func}
 use Rattle.service_load.specs.Stacks.{Stacks}
 use Rattle.stack_walk.specs.Retell.{Telling}
-use Rattle.dispatch_core.specs.Calls.{Held, Went}
+use Rattle.pass_replay.specs.dispatch_core.specs.Calls.{Held, Went}
 use Rattle.pass_replay.specs.Held.{held_of}
 use Rattle.stack_walk.specs.declared.seen.Seen.{Seen}
 use Rattle.report_lines.specs.Line.{Told, Command, runs, Shown, shows_code, shows_pending, Result, answered, closed_by_program, Block}
@@ -68,13 +68,13 @@ Judges stacks place told result j =
     IsJudged j (behind_result stacks place (visits_told told) result)
     (lines_before (visits_good stacks (Some place) (visits_told told) result) told)
 
--- and that of a stack call, by what it comes to where it is gone over again
+-- and that of a stack call, by its result when it is replayed
 abbrev pub JudgesCall : Code → Went Telling → List Told → Judged → Type 0
 JudgesCall code w told j =
     IsJudged j (behind_call code w)
     (lines_before (length (visits_told told) - length w.state.left) told)
 
--- and so among all places; a line is named where it doesn't fit
+-- and so for all transactions; a line is named if it doesn't fit
 abbrev pub IsPlaced : Stacks → List held.Place → Block → Option ℕ → List held.Place → Type 0
 IsPlaced stacks old b (Some line) new =
     (behind_block stacks (map place_of old) b ≡ None) ×
@@ -97,7 +97,7 @@ IsUnplaced (Some line) told result =
 abbrev pub bare_lines : List ℕ → List (Option Says)
 bare_lines text = map (option_map bare) (lines_read read_line text)
 
--- the first of these lines that differs, where the checker is
+-- the first of these lines that differs, after what the checker has read
 abbrev pub differs_at : Stacks → Checker → List (Option Says) → Option ℕ
 differs_at stacks c lines =
     differs_from stacks (map place_of c.places.items) (gathered_of c.begun) c.lines lines

@@ -21,14 +21,15 @@ use service_load::Trees;
 use stack_walk::Seen;
 use std::alloc::Global;
 
-/// A block that has begun: the number of its lines, and what it told so far.
+/// A block that has begun: the number of its lines, and what it has said so far.
 #[derive(Drop)]
 pub struct Begun {
     pub number: u32,
     pub told: Vec<Option<Seen>>,
 }
 
-/// A checker after n lines of a report: what is known of each number's transaction, the block that has begun, and n.
+/// A checker after n lines of a report: what is known of each transaction, the block that has
+/// begun, and n.
 #[derive(Drop)]
 pub struct Checker {
     pub places: Vec<Place>,
@@ -50,8 +51,8 @@ impl Checker {
         })
     }
 
-    /// Takes the next line, which is handed in without its newline. The number of the line that differs is given, if
-    /// one does.
+    /// Takes the next line, given without its newline. Returns the number of the line that differs,
+    /// if one does.
     pub fn take_line(
         &mut self,
         alloc: Global,
@@ -69,7 +70,7 @@ impl Checker {
         self.take(alloc, trees, form, is_last)
     }
 
-    // Takes a line by what it says; None is one without a form.
+    // Takes a line by what it says; None is a line that has none of the forms.
     fn take(
         &mut self,
         alloc: Global,
@@ -93,7 +94,7 @@ impl Checker {
         }
     }
 
-    // A last line is the last, and stands within no block.
+    // A last line comes last, and not inside a block.
     fn take_last(&mut self, is_last: bool) -> Option<u32>
         requires behind { IsAfter self.old self.old.lines }
         requires room { self.old.lines < 2 ^ 32 - 1 }
@@ -157,7 +158,7 @@ impl Checker {
         }
     }
 
-    /// The verdict at the end of a text, after whose last newline nothing stands, or bytes do.
+    /// The verdict at the end of a text, which has no bytes after its last newline, or has some.
     pub fn end(&self, is_empty: bool) -> Verdict
         requires room { self.now.lines < 2 ^ 32 - 1 }
         ensures { (stacks : Stacks) (rest : List ℕ) → is_none rest ≡ is_empty →
@@ -173,7 +174,7 @@ impl Checker {
     }
 }
 
-// The block that has begun; one of this number where none has.
+// The block that has begun; if none has, one of this number.
 fn begun_at(alloc: Global, begun: Option<Begun>, number: u32) -> Begun
     ensures follows { nat_eq result.number number ≡ may_follow (gathered_of begun) number }
     ensures told { told_in result.told.items ≡ told_so_far (gathered_of begun) }

@@ -1,7 +1,7 @@
 ghost use Rattle.std.specs.Prelude.{◌≡◌, ◌&&◌, [], not, nat_eq, IfOk};
 ghost use Rattle.service_load.specs.Load.{AreBounded};
 ghost use Rattle.stack_walk.specs.Retell.{telling};
-ghost use Rattle.dispatch_core.specs.Calls.{goes};
+ghost use Rattle.pass_replay.specs.dispatch_core.specs.Calls.{goes};
 ghost use Rattle.pass_replay.specs.Held.{held_of};
 ghost use Rattle.pass_replay.specs.Replay.{as_told};
 ghost use Rattle.pass_replay.specs.Retold.{stacks_in};
@@ -19,16 +19,16 @@ use service_load::Trees;
 use stack_walk::Seen;
 use std::alloc::Global;
 
-/// What a block comes to at its number's place.
+/// The result of a block for what is known of its transaction.
 #[derive(Debug, Drop)]
 pub enum Judged {
-    /// It fits, and leads to this place.
+    /// It fits, and this is known afterwards.
     Fits(Place),
-    /// It doesn't. This line of it is named, counted from 0.
+    /// It doesn't fit. This line of it is named, counted from 0.
     Differs(usize),
 }
 
-/// Judges a block by what it tells and its result.
+/// Judges a block by its lines and its result.
 pub fn judge(
     alloc: Global,
     trees: &Trees,
@@ -65,7 +65,7 @@ fn stack_call(outcome: Outcome) -> Option<StackCall>
     }
 }
 
-// A block whose result isn't the code of a stack call tells no visits.
+// A block whose result isn't the code of a stack call has no `line` lines.
 fn judge_quiet(place: Place, told: &[Option<Seen>], outcome: Outcome) -> Judged
     ensures { IsJudged result
         (without_visits (visits_told (told_in told.now))
@@ -103,7 +103,7 @@ fn judge_call(
     judge_retold(alloc, trees, held, func, code, told)
 }
 
-// A change of token whose flags are refused visits nothing.
+// A chauthtok whose flags are refused runs no line.
 fn is_refused_change(func: Func, code: Code, told: &[Option<Seen>]) -> bool
     ensures { result ≡ is_refused_change func code (visits_told (told_in told.now)) }
 {
@@ -140,7 +140,7 @@ fn judge_retold(
     }
 }
 
-// Whether a call took all of n told lines, met no other line, and came to this code.
+// Whether a call took all of n recorded lines, ran no other line, and returned this code.
 fn is_retold(code: Code, retold: &Retold, n: usize) -> bool
     ensures { result ≡ (not retold.now.astray
         && (nat_eq retold.now.next n && same_code code retold.now.code)) }

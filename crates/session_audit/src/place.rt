@@ -10,14 +10,15 @@ use pam_base::{Code, Func};
 use pass_replay::Held;
 use report_reader::{Answer, Outcome, Spoken};
 
-/// What is known of the transaction of a number.
+/// What is known of a transaction.
 #[derive(Debug, Drop)]
 pub enum Place {
     Closed,
     Open(Held),
 }
 
-/// The place after a result other than the code of a stack call; None where the result doesn't fit.
+/// What is known after a result other than the code of a stack call; None if the result doesn't
+/// fit.
 pub fn behind_quiet(place: Place, outcome: Outcome) -> Option<Place>
     ensures { option_map place_of result ≡ behind_quiet (place_of place) (result_of outcome) }
 {
@@ -79,7 +80,7 @@ fn open_if(fits: bool, held: Held) -> Option<Place>
     if fits { Some(Place::Open(held)) } else { None }
 }
 
-// Whether a call was aborted because this other one was pending.
+// Whether a call returned ABORT because this other one was pending.
 fn is_aborted(held: &Held, func: Func, other: Func) -> bool
     ensures { result ≡ aborted_by (held_of held.now).pending func other }
 {
@@ -89,7 +90,7 @@ fn is_aborted(held: &Held, func: Func, other: Func) -> bool
     }
 }
 
-// The place after a code of a call that runs no stack.
+// What is known after a code of a call that runs no stack.
 fn after_code(held: Held, command: Spoken, code: Code) -> Option<Place>
     ensures { option_map place_of result
         ≡ at_running (held_of held) (command_of command) (shows_code code) }

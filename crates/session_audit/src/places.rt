@@ -16,10 +16,10 @@ use service_load::Trees;
 use stack_walk::Seen;
 use std::alloc::Global;
 
-// The numbers of transactions are from 1 to this one.
+// The maximum number of a transaction; they begin with 1.
 const HANDLE_LIMIT: usize = 16;
 
-/// The places of all numbers, closed.
+/// All transactions, closed.
 pub fn closed_places(alloc: Global) -> Result<Vec<Place>, NoMemory>
     ensures { IfOk result (λ places. map place_of places.items ≡ all_shut) }
 {
@@ -30,8 +30,8 @@ pub fn closed_places(alloc: Global) -> Result<Vec<Place>, NoMemory>
     Ok(places)
 }
 
-/// Judges a block at the place of its number, which becomes what the block leads to. The line of it that differs,
-/// counted from 0; None where it fits.
+/// Judges a block for its transaction, and keeps what is known afterwards. Returns the line of it
+/// that differs, counted from 0; None if it fits.
 pub fn judge_at(
     alloc: Global,
     trees: &Trees,
@@ -58,7 +58,7 @@ pub fn judge_at(
     }
 }
 
-// Whether a number has one of n places.
+// Whether a number is that of one of n transactions.
 fn has_place(number: u32, n: usize) -> bool
     ensures { result ≡ (nat_lt 0 number && nat_le number n) }
 {

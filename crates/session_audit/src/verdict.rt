@@ -17,21 +17,23 @@ use std::alloc::Global;
 #[derive(Clone, Copy, Debug, PartialEq, Eq)]
 pub enum Verdict {
     Fits,
-    /// It doesn't: this is the line, from 1, that differs.
+    /// It doesn't: this is the first line, from 1, that differs.
     Differs { line: u32 },
 }
 
-/// Audits a report of at most 1,048,576 bytes against the stacks of a service. It fits where it is the text of blocks,
-/// the lines of one step each, and each block can come after those before it. A stack call can where its stack, gone
-/// over with the answers that the block tells, visits exactly the lines that the block tells, and comes to its code.
-/// Messages, cleanups, waits, notes and values are read for their form alone.
+/// Checks a report of at most 1,048,576 bytes against the stacks of a service. It fits if it is the
+/// text of blocks, the lines of one step each, and each block can come after those before it. A
+/// stack call can if its stack, walked with the return codes in the block, runs exactly the lines
+/// of the block, and returns its code. Messages, cleanups, delays, notes and values are only
+/// checked for their format.
 ///
-/// The line that is named is of the first block that doesn't fit: its first line without a form or of another number;
-/// the line after the text's last one, where the text ends within it; its first visit that isn't the next one of the
-/// call; else its last line.
+/// The line that is named is one of the first block that doesn't fit: its first line that has none
+/// of the forms or is of another transaction; the line after the last of the text, if the text ends
+/// inside the block; its first line of a rule that isn't the next one of the call; else its last
+/// line.
 ///
-/// Want of memory is the only refusal. Time is linear in the text's length and in the lines of the stacks that its
-/// calls go over, each call once.
+/// Fails only if an allocation fails. The time is linear in the length of the text and in the lines
+/// of the stacks that its calls walk, counting each call.
 pub fn audit(alloc: Global, trees: &Trees, text: &[u8]) -> Result<Verdict, NoMemory>
     requires bounded { AreBounded trees.now }
     requires short { length text.now ≤ 2 ^ 20 }

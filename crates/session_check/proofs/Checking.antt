@@ -3,12 +3,12 @@ use Rattle.std.proofs.Common.{◌≡◌, ℕ, List, Result, ap, sym, ◌∙◌, 
 use Rattle.std.proofs.Math.Path.{fun_ext}
 use Rattle.std.specs.Str.{str_to_ascii_lowercase}
 use Rattle.pam_outside.specs.Files.{VaultState}
-use Rattle.control_words.specs.Stack.{Stack}
-use Rattle.service_load.specs.declared.rule_type.RuleType.{RuleType}
-use Rattle.service_load.specs.declared.rule_type.RuleType.TheVariants.{Auth, Account, Password, Session}
-use Rattle.service_load.specs.declared.trees.Trees.{Trees}
-use Rattle.service_load.specs.FirstFault.{Counts, Stop}
-use Rattle.service_load.specs.Load.{AreTrees, LoadsTrees}
+use Rattle.service_print.specs.control_words.specs.Stack.{Stack}
+use Rattle.service_print.specs.service_load.specs.declared.rule_type.RuleType.{RuleType}
+use Rattle.service_print.specs.service_load.specs.declared.rule_type.RuleType.TheVariants.{Auth, Account, Password, Session}
+use Rattle.service_print.specs.service_load.specs.declared.trees.Trees.{Trees}
+use Rattle.service_print.specs.service_load.specs.FirstFault.{Counts, Stop}
+use Rattle.service_print.specs.service_load.specs.Load.{AreTrees, LoadsTrees}
 use Rattle.service_print.specs.Printed.{printed, stacks_in}
 use Rattle.session_check.specs.declared.finding.Found.TheVariants.{Configured}
 use Rattle.session_check.specs.declared.finding.Finding.{Finding}

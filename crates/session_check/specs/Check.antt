@@ -4,12 +4,12 @@ use Rattle.std.specs.List.{flat_map}
 use Rattle.std.specs.Str.{str_to_ascii_lowercase}
 use Rattle.pam_outside.specs.Files.{VaultState}
 use Rattle.pam_outside.specs.Streams.{SinkState}
-use Rattle.control_words.specs.Stack.{Stack}
-use Rattle.service_load.specs.declared.rule_type.RuleType.{RuleType}
-use Rattle.service_load.specs.FirstFault.{Counts, Stop}
-use Rattle.service_load.specs.Load.{loaded, has_folder}
-use Rattle.service_load.specs.Loading.{texts_of}
-use Rattle.service_load.specs.Tree.{tree}
+use Rattle.service_print.specs.control_words.specs.Stack.{Stack}
+use Rattle.service_print.specs.service_load.specs.declared.rule_type.RuleType.{RuleType}
+use Rattle.service_print.specs.service_load.specs.FirstFault.{Counts, Stop}
+use Rattle.service_print.specs.service_load.specs.Load.{loaded, has_folder}
+use Rattle.service_print.specs.service_load.specs.Loading.{texts_of}
+use Rattle.service_print.specs.service_load.specs.Tree.{tree}
 use Rattle.service_print.specs.declared.file.File.{File}
 use Rattle.service_print.specs.Printed.{printed}
 use Rattle.session_report.specs.Fault.{refused_text}
@@ -69,12 +69,6 @@ pub record Checks (result : Result Found Stopped) (c : Check) (old new : SinkSta
 pub record Finds (result : Result Found Stopped) (c : Check) (vault : VaultState) : Type 0 where
   pub found : IfOk result (λ found. found ≡ c.found)
   pub asked : result ≢ Err NoMemory → vault.calls ≡ c.calls
-
--- some text was written, with at most one call more than it has bytes
-pub record WritesText (old new : SinkState) : Type 0 where
-  pub text : List ℕ
-  pub written : new.written ≡ old.written ++ text
-  pub calls : new.calls ≤ old.calls + length text + 1
 
 -- what was found, and its text, are those of a check
 pub record IsCheck (finding : Finding) (c : Check) (vault : VaultState) : Type 0 where

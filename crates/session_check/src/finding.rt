@@ -1,15 +1,16 @@
 ghost use Rattle.std.specs.Prelude.{◌≡◌, ◌++◌, IsTrue, IfOk, OnOk};
 ghost use Rattle.std.specs.Str.{str_to_ascii_lowercase};
 ghost use Rattle.pam_outside.specs.Counts.{RisesIf};
-ghost use Rattle.service_load.specs.Loading.{OnlyCalls};
+ghost use Rattle.service_print.specs.service_load.specs.Loading.{OnlyCalls};
 ghost use Rattle.service_print.specs.Printed.{printed, stacks_in};
 ghost use Rattle.item_stream.specs.Turns.{has_write_fault};
-ghost use Rattle.session_check.specs.Check.{Checks, Finds, IsCheck, WritesText, check_of, file_text, files_text};
+ghost use Rattle.item_stream.specs.Written.{WritesText};
+ghost use Rattle.session_check.specs.Check.{Checks, Finds, IsCheck, check_of, file_text, files_text};
 
 use item_stream::Stop;
 use pam_base::{Failed, NoMemory, Refuse, lowercase};
 use pam_outside::{Sink, Vault, write_all};
-use service_load::{Trees, load};
+use service_print::service_load::{Trees, load};
 use service_print::{File, print};
 use session_report::refused_report;
 use std::alloc::Global;
@@ -30,9 +31,9 @@ struct Finding {
     text: Vec<u8>,
 }
 
-/// Prints the configuration of a service under a root: for each file of it in one form the line `file NAME` and its
-/// text, or else the line of its first fault. Of the world only what the vault counts changes. The text is made whole
-/// before it is written.
+/// Prints the configuration of a service under a root: for each of its files, in one form, the line `file NAME` and
+/// the text; or else the line of the first fault. Of the world only the vault's counts change. The text is complete
+/// before its first byte is written.
 pub fn check<K: Sink>(
     alloc: Global,
     root: &[u8],
@@ -45,7 +46,7 @@ pub fn check<K: Sink>(
     ensures told { IsTrue (K.sink_tells out.old) → IsTrue (vault_tells vault.old) →
         Checks result (check_of (vault_holds vault.old) root.now service.now) (K.sink_holds out.old)
         (K.sink_holds out.new) (vault_holds vault.new) }
-    // Where the vault alone tells, and where the sink alone does.
+    // If only the vault is modelled, and if only the sink is.
     ensures found { IsTrue (vault_tells vault.old) →
         Finds result (check_of (vault_holds vault.old) root.now service.now)
         (vault_holds vault.new) }
@@ -91,7 +92,7 @@ fn find(
     }
 }
 
-// The files of a configuration, each after its name. The service is named in lower case.
+// The files of a configuration, each after its name. The service's name is in lower case.
 fn configuration(alloc: Global, trees: &Trees, service: &[u8]) -> Result<Vec<u8>, NoMemory>
     ensures { IfOk result (λ text. text.items
         ≡ files_text (printed (stacks_in trees.now) (str_to_ascii_lowercase service.now))) }

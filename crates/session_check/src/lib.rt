@@ -1,6 +1,7 @@
-//! The command `check`: prints the configuration of a service in one form, or its first fault.
+//! The command `check`: prints the configuration of a service in one form, or its first fault. Begin at finding.rt.
 #![tactic(auto)]
 
 mod finding;
 
 pub use finding::{Found, check};
+pub use session_report::{pam_handle, pam_library};

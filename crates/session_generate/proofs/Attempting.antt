@@ -3,7 +3,7 @@ use Rattle.std.proofs.Common.{◌≡◌, ℕ, Bool, true, false, ◌&&◌, List,
 use Rattle.pam_base.specs.declared.fault.Refuse.{Refuse}
 use Rattle.pam_base.specs.declared.fault.Refuse.TheVariants.{NoMemory, Named}
 use Rattle.pam_outside.specs.Files.{VaultState}
-use Rattle.pam_room.specs.State.{PlainWorld}
+use Rattle.session_run.specs.pam_room.specs.State.{PlainWorld}
 use Rattle.service_load.specs.declared.load_fault.LoadFault.{LoadFault}
 use Rattle.session_run.specs.State.{RunState, Setting, state_of}
 use Rattle.session_generate.specs.declared.login.Login.{Login}

@@ -5,15 +5,15 @@ use Rattle.pam_base.specs.declared.call.AppCall.TheVariants as calls
 use Rattle.pam_base.specs.declared.fault.Refuse.{Refuse}
 use Rattle.pam_base.specs.declared.fault.Refuse.TheVariants.{NoMemory, Named}
 use Rattle.pam_base.specs.Code.{number_of}
-use Rattle.conv_port.specs.Conv.{ConvState}
+use Rattle.session_run.specs.conv_port.specs.Conv.{ConvState}
 use Rattle.service_load.specs.declared.load_fault.LoadFault.{LoadFault}
-use Rattle.pam_room.specs.State.{PlainWorld}
-use Rattle.pam_handle.specs.Handle.{PlainHandle}
-use Rattle.pam_library.specs.AnyWorld.{stays_inside, takes_no_memory}
-use Rattle.pam_library.specs.Outcome.{PlainOutcome}
-use Rattle.pam_library.specs.Slots.{NoneIsOpen, PlainSlot, closed, opened, is_open, is_open_at, slot_at}
-use Rattle.pam_library.specs.SlotStep.{opened_by}
-use Rattle.pam_library.specs.Step.{StepsAs, stepped}
+use Rattle.session_run.specs.pam_room.specs.State.{PlainWorld}
+use Rattle.session_run.specs.pam_handle.specs.Handle.{PlainHandle}
+use Rattle.session_run.specs.pam_library.specs.AnyWorld.{stays_inside, takes_no_memory}
+use Rattle.session_run.specs.pam_library.specs.Outcome.{PlainOutcome}
+use Rattle.session_run.specs.pam_library.specs.Slots.{NoneIsOpen, PlainSlot, closed, opened, is_open, is_open_at, slot_at}
+use Rattle.session_run.specs.pam_library.specs.SlotStep.{opened_by}
+use Rattle.session_run.specs.pam_library.specs.Step.{StepsAs, stepped}
 use Rattle.session_run.specs.State.{RunState, Setting, state_of}
 use Rattle.session_generate.specs.declared.login.Login.{Login}
 use Rattle.session_generate.specs.Login.{Authenticates, ComesTo, Starts, Tries, authenticate_call, behind_start, called, end_status, ended, logged_in, login_of, refusal_in, start_call, state_in, step_of}

@@ -8,11 +8,11 @@ use Rattle.pam_base.specs.declared.fault.Refuse.TheVariants.{Named}
 use Rattle.pam_base.specs.declared.fault.Refuse.TheVariants as refusals
 use Rattle.pam_outside.specs.Streams.{SinkState}
 use Rattle.drawn_files.specs.Files.{count_of, drawn_files}
-use Rattle.item_stream.specs.declared.ending.Stop.{Stop}
-use Rattle.item_stream.specs.declared.ending.Stop.TheVariants.{NoMemory}
-use Rattle.pam_room.specs.State.{PlainWorld}
+use Rattle.session_run.specs.item_stream.specs.declared.ending.Stop.{Stop}
+use Rattle.session_run.specs.item_stream.specs.declared.ending.Stop.TheVariants.{NoMemory}
+use Rattle.session_run.specs.pam_room.specs.State.{PlainWorld}
 use Rattle.service_load.specs.declared.load_fault.LoadFault.{LoadFault}
-use Rattle.session_report.specs.Fault.{refused_text}
+use Rattle.session_run.specs.session_report.specs.Fault.{refused_text}
 use Rattle.session_run.specs.State.{RunState, Setting, state_of}
 use Rattle.session_generate.specs.declared.generating.Finding.{Finding}
 use Rattle.session_generate.specs.declared.generating.Generated.{Generated}

@@ -1,3 +1,4 @@
+pub use Rattle.service_load
 pub mod Placing
 pub mod Login
 pub mod Generated

@@ -9,10 +9,10 @@ use Rattle.pam_base.specs.declared.call.Step.{Step}
 use Rattle.pam_base.specs.declared.fault.Refuse.{Refuse}
 use Rattle.pam_base.specs.declared.fault.Refuse.TheVariants.{NoMemory, Named}
 use Rattle.service_load.specs.declared.load_fault.LoadFault.{LoadFault}
-use Rattle.pam_library.specs.declared.outcome.Answer.{Answer}
-use Rattle.pam_library.specs.declared.outcome.Answer.TheVariants as answers
-use Rattle.pam_library.specs.Outcome.{PlainOutcome}
-use Rattle.pam_library.specs.Step.{Stepped, stepped}
+use Rattle.session_run.specs.pam_library.specs.declared.outcome.Answer.{Answer}
+use Rattle.session_run.specs.pam_library.specs.declared.outcome.Answer.TheVariants as answers
+use Rattle.session_run.specs.pam_library.specs.Outcome.{PlainOutcome}
+use Rattle.session_run.specs.pam_library.specs.Step.{Stepped, stepped}
 use Rattle.session_run.specs.State.{RunState, Setting, state_of}
 use Rattle.session_generate.specs.declared.login.Login.{Login}
 

@@ -5,7 +5,7 @@ use Rattle.pam_base.specs.declared.fault.Refuse.{Refuse}
 use Rattle.pam_base.specs.declared.fault.Refuse.TheVariants.{NoMemory, Named}
 use Rattle.pam_outside.specs.Files.{VaultState, counted, file_put, is_failing}
 use Rattle.drawn_files.specs.declared.files.DrawnFile.{DrawnFile}
-use Rattle.pam_room.specs.State.{PlainWorld}
+use Rattle.session_run.specs.pam_room.specs.State.{PlainWorld}
 use Rattle.service_load.specs.declared.load_fault.LoadFault.{LoadFault}
 
 -- the path of a service file of this name

@@ -2,10 +2,10 @@ ghost use Rattle.std.specs.Prelude.{◌≡◌, ◌&&◌, ◌≤◌, ℕ, IfOk, I
 ghost use Rattle.pam_base.specs.Code.{number_of};
 ghost use Rattle.pam_base.specs.declared.code.Code.{Code as TheCode};
 ghost use Rattle.pam_outside.specs.Counts.{RisesIf};
-ghost use Rattle.item_stream.specs.Turns.{has_write_fault};
-ghost use Rattle.pam_library.specs.Plain.{gear_in};
-ghost use Rattle.pam_library.specs.Slots.{NoneIsOpen};
-ghost use Rattle.pam_library.specs.Sound.{IsSoundFor};
+ghost use Rattle.session_run.specs.item_stream.specs.Turns.{has_write_fault};
+ghost use Rattle.session_run.specs.pam_library.specs.Plain.{gear_in};
+ghost use Rattle.session_run.specs.pam_library.specs.Slots.{NoneIsOpen};
+ghost use Rattle.session_run.specs.pam_library.specs.Sound.{IsSoundFor};
 ghost use Rattle.session_run.specs.AnyWorld.{ProceedsFor};
 ghost use Rattle.session_run.specs.Reading.{WritesScript};
 ghost use Rattle.session_run.specs.State.{setting_of, state_of};
@@ -16,40 +16,41 @@ use crate::login::{Login, log_in};
 use crate::place::go_to_root;
 use crate::placing::place_in_world;
 use drawn_files::{MAX_DRAWN, draw_files, file_count};
-use fail_delay::{DelayFn, DelayTold};
-use item_stream::Stop;
 use pam_base::{Failed, NoMemory, Refuse, Text, code_name, code_number};
-use pam_handle::{Gear, GearTold};
-use pam_library::{Library, LibraryTold};
 use pam_outside::{Sink, write_all};
-use pam_room::{World, WorldTold};
 use service_load::LoadFault;
-use session_report::refused_report;
+use session_run::fail_delay::{DelayFn, DelayTold};
+use session_run::item_stream::Stop;
+use session_run::pam_handle::{Gear, GearTold};
+use session_run::pam_library::{Library, LibraryTold};
+use session_run::pam_room::{World, WorldTold};
+use session_run::session_report::refused_report;
 use std::alloc::Global;
 
-/// What came of a generation.
+/// The result of a generation.
 #[derive(Clone, Copy, Debug, PartialEq, Eq)]
 pub enum Generated {
-    /// The files stand, and what the authentication came to was written.
+    /// The files are stored, and the result of the authentication was written.
     Written,
-    /// A file was refused by the vault, or the service was refused, and the fault was written.
+    /// A file couldn't be stored, or the service is refused, and the fault was written.
     Refused,
 }
 
-// What came of it, and what is written.
+// The result, and what is written of it.
 #[derive(Drop)]
 struct Finding {
     generated: Generated,
     text: Text,
 }
 
-/// Puts the service files of n lines that a seed draws in their places under the root `/`, authenticates joe by
-/// the service `gen` in a transaction of the number 1, and writes one line: `generated LINES files K code NAME NUMBER visited
-/// COUNT`, COUNT the lines that the authentication visited. Where the vault fails at a file, that file is refused, and no
-/// other comes after it; the service is refused as its configuration is. Then the line of the fault is written.
+/// Generates service files of n lines from a seed, stores them under the root `/`, authenticates joe with the service
+/// `gen` in transaction 1, and writes one line: `generated LINES files K code NAME NUMBER visited COUNT`, where COUNT
+/// is the number of lines that the authentication ran. If a file can't be stored, or the configuration is refused,
+/// the line of that fault is written, and no file is stored after it.
 ///
-/// The caller of the process is nobody. The line is made whole before it is written. The transaction is ended before that,
-/// with SUCCESS, or with BUF_ERR where memory was wanting, so none is open afterwards, whatever is answered.
+/// The process belongs to nobody. The line is complete before its first byte is written. The transaction is ended
+/// before that, with SUCCESS, or with BUF_ERR if an allocation failed, so none is open afterwards, whatever is
+/// returned.
 pub fn generate<K: Sink>(
     alloc: Global,
     library: &mut Library,
@@ -63,7 +64,7 @@ pub fn generate<K: Sink>(
     requires sound { IsSoundFor (⟦<Gear as GearTold>⟧.players (gear_in library.old))
         (⟦<Library as LibraryTold>⟧.slots library.old) world.old.process.ledger }
 
-    // Where all objects tell: what was written, and what library and world are afterwards.
+    // If all objects are modelled: what was written, and the library and world afterwards.
     ensures told { (delay : TheCode → ℕ → ℕ) →
         ⟦<DelayFn as DelayTold>⟧.delay_is (gear_in library.old).delay delay →
         IsTrue (⟦<Library as LibraryTold>⟧.tells library.old
@@ -78,11 +79,11 @@ pub fn generate<K: Sink>(
         (⟦<World as WorldTold>⟧.plain world.new))
         (K.sink_holds out.old) (K.sink_holds out.new) }
 
-    // Where the sink alone tells: how often it was written.
+    // If only the sink is modelled: how often it was written.
     ensures writes { IsTrue (K.sink_tells out.old) →
         WritesScript (K.sink_holds out.old) (K.sink_holds out.new) }
 
-    // In any world: no transaction is open, and what was ended.
+    // With real objects too: no transaction is open, and what was ended.
     ensures none_open { NoneIsOpen (⟦<Library as LibraryTold>⟧.slots library.new) }
     ensures proceeds { ProceedsFor (IsEndOfGenerate result)
         (⟦<Gear as GearTold>⟧.players (gear_in library.old))
@@ -94,7 +95,7 @@ pub fn generate<K: Sink>(
     ensures faults { RisesIf (has_write_fault result) (K.sink_faults out.old)
         (K.sink_faults out.new) }
 
-    // What tells before tells after it.
+    // What is modelled before is modelled after it.
     ensures tells { ⟦<Library as LibraryTold>⟧.tells library.new
         ≡ ⟦<Library as LibraryTold>⟧.tells library.old }
     ensures world_tells { ⟦<World as WorldTold>⟧.tells world.new
@@ -149,7 +150,7 @@ fn find(
     describe(alloc, lines, login)
 }
 
-// Puts the files in their places, and authenticates by them.
+// Stores the files, and authenticates with them.
 fn attempt(
     alloc: Global,
     library: &mut Library,
@@ -193,7 +194,7 @@ fn attempt(
     }
 }
 
-// What came of an attempt, and what is written of it.
+// The result of an attempt, and what is written of it.
 fn describe(
     alloc: Global,
     lines: u32,

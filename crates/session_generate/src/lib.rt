@@ -1,4 +1,7 @@
-//! The command `generate`: writes the service files that a seed draws, authenticates by them once, and says what came of it.
+//! The command `generate`: stores service files that are generated from a seed, authenticates with them once, and
+//! writes the result.
+//!
+//! Begin at generating.rt; placing.rt stores the files, and login.rt makes the calls.
 #![tactic(auto)]
 
 mod generating;
@@ -6,4 +9,5 @@ mod login;
 mod place;
 mod placing;
 
+pub use drawn_files;
 pub use generating::{Generated, generate};

@@ -1,34 +1,34 @@
 ghost use Rattle.std.specs.Prelude.{◌≡◌, ◌&&◌, ℕ, false, IfOk, IsTrue};
 ghost use Rattle.pam_base.specs.declared.code.Code.{Code as TheCode};
 ghost use Rattle.pam_base.specs.Code.{number_of};
-ghost use Rattle.pam_library.specs.Outcome.{plain_outcome};
-ghost use Rattle.pam_library.specs.Plain.{gear_in};
-ghost use Rattle.pam_library.specs.Slots.{NoneIsOpen, is_open_at, slot_at};
-ghost use Rattle.pam_library.specs.Sound.{IsSoundFor};
+ghost use Rattle.session_run.specs.pam_library.specs.Outcome.{plain_outcome};
+ghost use Rattle.session_run.specs.pam_library.specs.Plain.{gear_in};
+ghost use Rattle.session_run.specs.pam_library.specs.Slots.{NoneIsOpen, is_open_at, slot_at};
+ghost use Rattle.session_run.specs.pam_library.specs.Sound.{IsSoundFor};
 ghost use Rattle.session_run.specs.AnyWorld.{ProceedsFor};
 ghost use Rattle.session_run.specs.State.{setting_of, state_of};
 ghost use Rattle.session_generate.specs.Login.{Authenticates, ComesTo, IsEndWith, NoEnd, Starts, Tries, authenticate_call, called, code_in, end_status, ended, logged_in, refusal_in, start_call, step_of};
 
-use fail_delay::{DelayFn, DelayTold};
 use pam_base::{AppCall, Code, NoMemory, Refuse, Step, Text, code_number};
-use pam_handle::{Gear, GearTold};
-use pam_library::{Answer, Library, LibraryTold, Outcome};
-use pam_room::{World, WorldTold};
 use service_load::LoadFault;
+use session_run::fail_delay::{DelayFn, DelayTold};
+use session_run::pam_handle::{Gear, GearTold};
+use session_run::pam_library::{Answer, Library, LibraryTold, Outcome};
+use session_run::pam_room::{World, WorldTold};
 use std::alloc::Global;
 
 /// The number of the transaction.
 const NUMBER: u32 = 1;
 
-/// What an authentication came to: its code, and how many lines it visited.
+/// The result of an authentication: its code, and how many lines it ran.
 #[derive(Clone, Copy, Debug, PartialEq, Eq)]
 pub(crate) struct Login {
     pub code: Code,
     pub visited: usize,
 }
 
-/// Starts the service `gen` for joe, authenticates and ends the transaction with SUCCESS, or, where memory was wanting,
-/// with BUF_ERR.
+/// Starts the service `gen` for joe, authenticates, and ends the transaction with SUCCESS, or with BUF_ERR if an
+/// allocation failed.
 pub(crate) fn log_in(
     alloc: Global,
     library: &mut Library,
@@ -156,7 +156,7 @@ fn start(alloc: Global, library: &mut Library, world: &mut World) -> Result<(), 
     }
 }
 
-// Why a start is refused, where it is.
+// Why a start is refused, if it is.
 fn refusal_in(answer: Answer) -> Option<LoadFault>
     ensures { result ≡ refusal_in answer }
 {
@@ -220,7 +220,7 @@ fn authenticate(alloc: Global, library: &mut Library, world: &mut World) -> Resu
     }
 }
 
-// The code that an authentication answers, as every one does whose transaction was started.
+// The code that an authentication returns; in a started transaction each returns one.
 fn code_in(answer: &Answer) -> Code
     ensures { result ≡ code_in answer.now }
 {
@@ -230,7 +230,7 @@ fn code_in(answer: &Answer) -> Code
     }
 }
 
-// Ends the transaction, where it is open. It takes no memory.
+// Ends the transaction if it is open. It allocates nothing.
 fn end(alloc: Global, library: &mut Library, world: &mut World, status: u32)
     requires sound { IsSoundFor (⟦<Gear as GearTold>⟧.players (gear_in library.old))
         (⟦<Library as LibraryTold>⟧.slots library.old) world.old.process.ledger }

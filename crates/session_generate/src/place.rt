@@ -2,13 +2,13 @@ ghost use Rattle.std.specs.Prelude.{◌≡◌, OnOk, OnErr};
 ghost use Rattle.session_generate.specs.Generated.{from_root};
 
 use pam_base::{NoMemory, Text};
-use pam_room::{World, WorldTold};
+use session_run::pam_room::{World, WorldTold};
 use std::alloc::Global;
 
-/// The caller whose process the transaction is in: nobody.
+/// The user ID of the process that the transaction is in: nobody.
 const NOBODY: u32 = 65534;
 
-/// Puts the world under the root `/`, with nobody as the caller. Without memory it stays as it was.
+/// Sets the root `/` and the user ID of nobody. If an allocation fails, the world stays as it was.
 pub(crate) fn go_to_root(alloc: Global, world: &mut World) -> Result<(), NoMemory>
     ensures tells { ⟦<World as WorldTold>⟧.tells world.new
         ≡ ⟦<World as WorldTold>⟧.tells world.old }

@@ -1,15 +1,15 @@
 ghost use Rattle.std.specs.Prelude.{◌≡◌, ◌∷◌, [], IfOk, IsTrue};
-ghost use Rattle.pam_handle.specs.Plain.{in_box};
+ghost use Rattle.session_run.specs.pam_handle.specs.Plain.{in_box};
 ghost use Rattle.session_generate.specs.Placing.{Places, path_of_service, placed, with_vault};
 
 use drawn_files::DrawnFile;
 use pam_base::{FaultKind, NoMemory, Refuse, Text};
 use pam_outside::{ReplaceFault, Vault, replace_file};
-use pam_room::{World, WorldTold};
 use service_load::LoadFault;
+use session_run::pam_room::{World, WorldTold};
 use std::alloc::Global;
 
-/// Puts service files in their places in a world, in order, up to the first that its vault refuses.
+/// Stores service files in a world, in order, up to the first that can't be stored.
 pub(crate) fn place_in_world(
     alloc: Global,
     files: &[DrawnFile],
@@ -28,7 +28,7 @@ pub(crate) fn place_in_world(
     place_files(alloc, files, &mut *world.vault)
 }
 
-// Puts them in their places in a vault.
+// Stores them in a vault.
 fn place_files(
     alloc: Global,
     files: &[DrawnFile],

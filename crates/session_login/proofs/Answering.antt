@@ -6,12 +6,12 @@ use Rattle.pam_base.specs.declared.call.Func.TheVariants as funcs
 use Rattle.pam_base.specs.declared.fault.Failed.{Failed}
 use Rattle.pam_base.specs.Call.{is_fit}
 use Rattle.pam_outside.specs.Streams.{SinkState, WritesWhole}
-use Rattle.pam_room.specs.State.{PlainWorld}
-use Rattle.pam_library.specs.AnyWorld.{FailsAt}
-use Rattle.pam_library.specs.Outcome.{PlainOutcome}
-use Rattle.pam_library.specs.Slots.{PlainSlot}
-use Rattle.pam_library.specs.Step.{stepped, StepsAs}
-use Rattle.pam_library.specs.declared.outcome.Answer.{Answer}
+use Rattle.session_run.specs.pam_room.specs.State.{PlainWorld}
+use Rattle.session_run.specs.pam_library.specs.AnyWorld.{FailsAt}
+use Rattle.session_run.specs.pam_library.specs.Outcome.{PlainOutcome}
+use Rattle.session_run.specs.pam_library.specs.Slots.{PlainSlot}
+use Rattle.session_run.specs.pam_library.specs.Step.{stepped, StepsAs}
+use Rattle.session_run.specs.pam_library.specs.declared.outcome.Answer.{Answer}
 use Rattle.item_stream.specs.declared.ending.Stop.{Stop}
 use Rattle.item_stream.specs.declared.ending.Stop.TheVariants.{NoMemory, WriteFault}
 use Rattle.session_run.specs.State.{Setting, RunState, state_of}

@@ -4,17 +4,17 @@ use Rattle.pam_base.specs.declared.code.Code.{Code}
 use Rattle.pam_base.specs.declared.code.Code.TheVariants.{Success}
 use Rattle.pam_base.specs.declared.call.AppCall.TheVariants as calls
 use Rattle.pam_base.specs.Code.{number_of}
-use Rattle.conv_port.specs.Conv.{ConvState}
-use Rattle.service_load.specs.declared.load_fault.LoadFault.{LoadFault}
-use Rattle.pam_room.specs.Module.{Player}
-use Rattle.pam_room.specs.State.{PlainWorld}
-use Rattle.pam_handle.specs.Handle.{PlainHandle}
-use Rattle.dispatch_core.specs.Lines.{names_of}
-use Rattle.pam_handle.specs.Start.{started}
-use Rattle.pam_library.specs.AnyWorld.{is_refused, takes_no_memory}
-use Rattle.pam_library.specs.Slots.{NoneIsOpen, PlainSlot, closed, is_open, is_open_at, opened, slot_at}
-use Rattle.pam_library.specs.SlotStep.{filed_in, opened_by}
-use Rattle.pam_library.specs.Step.{stepped}
+use Rattle.session_run.specs.conv_port.specs.Conv.{ConvState}
+use Rattle.session_run.specs.service_load.specs.declared.load_fault.LoadFault.{LoadFault}
+use Rattle.session_run.specs.pam_room.specs.Module.{Player}
+use Rattle.session_run.specs.pam_room.specs.State.{PlainWorld}
+use Rattle.session_run.specs.pam_handle.specs.Handle.{PlainHandle}
+use Rattle.session_run.specs.dispatch_core.specs.Lines.{names_of}
+use Rattle.session_run.specs.pam_handle.specs.Start.{started}
+use Rattle.session_run.specs.pam_library.specs.AnyWorld.{is_refused, takes_no_memory}
+use Rattle.session_run.specs.pam_library.specs.Slots.{NoneIsOpen, PlainSlot, closed, is_open, is_open_at, opened, slot_at}
+use Rattle.session_run.specs.pam_library.specs.SlotStep.{filed_in, opened_by}
+use Rattle.session_run.specs.pam_library.specs.Step.{stepped}
 use Rattle.session_run.specs.State.{Setting, RunState, state_of}
 use Rattle.session_login.specs.Calls.{login_calls}
 use Rattle.session_login.specs.Login.{Made, course, end_call, end_code, login_behind, login_of, make, state_behind}

@@ -6,9 +6,9 @@ use Rattle.pam_base.specs.declared.fault.Failed.{Failed}
 use Rattle.pam_base.specs.declared.call.AppCall.{AppCall}
 use Rattle.pam_base.specs.declared.call.AppCall.TheVariants as calls
 use Rattle.pam_outside.specs.Streams.{SinkState, WritesWhole}
-use Rattle.pam_library.specs.AnyWorld.{is_refused}
-use Rattle.pam_library.specs.Slots.{NoneIsOpen, is_open_at, slot_at}
-use Rattle.pam_library.specs.declared.outcome.Answer.{Answer}
+use Rattle.session_run.specs.pam_library.specs.AnyWorld.{is_refused}
+use Rattle.session_run.specs.pam_library.specs.Slots.{NoneIsOpen, is_open_at, slot_at}
+use Rattle.session_run.specs.pam_library.specs.declared.outcome.Answer.{Answer}
 use Rattle.item_stream.specs.declared.ending.Stop.{Stop}
 use Rattle.item_stream.specs.declared.ending.Stop.TheVariants.{NoMemory, WriteFault}
 use Rattle.session_run.specs.State.{Setting, RunState}

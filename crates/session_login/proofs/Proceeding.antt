@@ -7,14 +7,14 @@ use Rattle.pam_base.specs.declared.call.Func.{Func}
 use Rattle.pam_base.specs.declared.call.Func.TheVariants as funcs
 use Rattle.pam_base.specs.declared.call.Step.{Step}
 use Rattle.pam_base.specs.Code.{number_of}
-use Rattle.data_cleanup.specs.Ledger.{PlainLedger}
-use Rattle.data_cleanup.specs.Cleanup.{Notes}
-use Rattle.data_cleanup.specs.Due.{Event, birth, ends}
-use Rattle.data_due.specs.Stands.{Lists}
-use Rattle.data_due.specs.Moves.{Moves}
-use Rattle.pam_library.specs.AnyWorld.{end_at}
-use Rattle.pam_library.specs.Calls.{MoveOn, Moved, last_ledger, last_lists}
-use Rattle.pam_library.specs.Slots.{PlainSlot, closed, opened}
+use Rattle.session_run.specs.data_cleanup.specs.Ledger.{PlainLedger}
+use Rattle.session_run.specs.data_cleanup.specs.Cleanup.{Notes}
+use Rattle.session_run.specs.data_cleanup.specs.Due.{Event, birth, ends}
+use Rattle.session_run.specs.data_due.specs.Stands.{Lists}
+use Rattle.session_run.specs.data_due.specs.Moves.{Moves}
+use Rattle.session_run.specs.pam_library.specs.AnyWorld.{end_at}
+use Rattle.session_run.specs.pam_library.specs.Calls.{MoveOn, Moved, last_ledger, last_lists}
+use Rattle.session_run.specs.pam_library.specs.Slots.{PlainSlot, closed, opened}
 use Rattle.item_stream.specs.declared.ending.Stop.{Stop}
 use Rattle.session_run.specs.AnyWorld.{AllEndsAre, ProceedsBy}
 use Rattle.session_run.specs.Ends.{EndsAre, IsEndStep}

@@ -5,17 +5,17 @@ use Rattle.pam_base.specs.declared.code.Code.{Code}
 use Rattle.pam_base.specs.declared.call.Func.{Func}
 use Rattle.pam_base.specs.declared.call.Func.TheVariants as funcs
 use Rattle.pam_outside.specs.Paths.{path_of}
-use Rattle.conf_lex.specs.Answer.{answer_to}
-use Rattle.conf_lex.specs.Lexing.{answer_at}
-use Rattle.conf_lex.specs.Reading.{first_piece, pieces_behind}
-use Rattle.service_load.specs.Entry.{entry_of}
-use Rattle.service_load.specs.FirstFault.{look}
-use Rattle.service_load.specs.Order.{items}
-use Rattle.service_load.specs.Tree.{nodes}
-use Rattle.pam_room.specs.Call.{PlainCall}
-use Rattle.pam_room.specs.Module.{NamedData, Player, SeenRoom, Sight, length_note, never_breaks}
-use Rattle.pam_library.specs.Slots.{PlainSlot, closed}
-use Rattle.pam_library.specs.Step.{stepped}
+use Rattle.session_run.specs.conf_lex.specs.Answer.{answer_to}
+use Rattle.session_run.specs.conf_lex.specs.Lexing.{answer_at}
+use Rattle.session_run.specs.conf_lex.specs.Reading.{first_piece, pieces_behind}
+use Rattle.session_run.specs.service_load.specs.Entry.{entry_of}
+use Rattle.session_run.specs.service_load.specs.FirstFault.{look}
+use Rattle.session_run.specs.service_load.specs.Order.{items}
+use Rattle.session_run.specs.service_load.specs.Tree.{nodes}
+use Rattle.session_run.specs.pam_room.specs.Call.{PlainCall}
+use Rattle.session_run.specs.pam_room.specs.Module.{NamedData, Player, SeenRoom, Sight, length_note, never_breaks}
+use Rattle.session_run.specs.pam_library.specs.Slots.{PlainSlot, closed}
+use Rattle.session_run.specs.pam_library.specs.Step.{stepped}
 use Rattle.session_run.specs.State.{RunState, Setting, state_of}
 use Rattle.session_login.specs.Login.{course, login_of, login_text}
 
@@ -23,7 +23,7 @@ use Rattle.session_login.specs.Login.{course, login_of, login_text}
 abbrev answers_by : (Func → Code) → Player
 answers_by by = record {
   name = codes "p";
-  plays = λ (call : PlainCall) (room : SeenRoom) (datums : List NamedData) (sight : Sight). record { code = by call.func; room = room; births = []; files = sight.files; calls = 0 };
+  plays = λ (call : PlainCall) (room : SeenRoom) (datums : List NamedData) (sight : Sight). record { code = by call.func; room = room; births = []; files = sight.files; calls = 0; draws = 0 };
   note = length_note;
   breaks = never_breaks;
 }
@@ -38,7 +38,7 @@ place = closed (record { offers = []; waits = false; handed = [] })
 abbrev start : RunState
 start = state_of (place ∷ []) (record {
   vault = record { files = record { path = codes "/r/etc/pam.d/t"; bytes = codes "auth required p\naccount required p\npassword required p\nsession required p" } ∷ []; calls = 0; fails = [] };
-  clock = record { moment = 0; word = 0 };
+  clock = record { moment = 0; word = 0; draws = 0 };
   nap = record { waits = 0; sum = 0 };
   process = record { ledger = record { births = []; filed = [] }; root = codes "/r"; caller = 0 };
 })

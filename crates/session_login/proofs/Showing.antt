@@ -3,9 +3,9 @@ use Rattle.std.proofs.Common.{◌≡◌, ℕ, true, List, [], ◌++◌, Result, 
 use Rattle.pam_base.specs.declared.call.AppCall.{AppCall}
 use Rattle.pam_base.specs.declared.fault.Failed.{Failed}
 use Rattle.pam_outside.specs.Streams.{SinkState, WritesWhole}
-use Rattle.pam_library.specs.AnyWorld.{is_refused}
-use Rattle.pam_library.specs.declared.outcome.Answer.{Answer}
-use Rattle.pam_library.specs.declared.outcome.Answer.TheVariants as answers
+use Rattle.session_run.specs.pam_library.specs.AnyWorld.{is_refused}
+use Rattle.session_run.specs.pam_library.specs.declared.outcome.Answer.{Answer}
+use Rattle.session_run.specs.pam_library.specs.declared.outcome.Answer.TheVariants as answers
 use Rattle.item_stream.specs.declared.ending.Stop.{Stop}
 use Rattle.item_stream.specs.declared.ending.Stop.TheVariants.{WriteFault}
 use Rattle.session_login.specs.declared.attempt.Verdict.{Verdict}

@@ -7,8 +7,8 @@ use Rattle.pam_base.specs.declared.call.AppCall.{AppCall}
 use Rattle.pam_base.specs.declared.call.AppCall.TheVariants as calls
 use Rattle.pam_base.specs.declared.call.Func.{Func}
 use Rattle.pam_base.specs.declared.call.Func.TheVariants as funcs
-use Rattle.pam_library.specs.declared.outcome.Answer.{Answer}
-use Rattle.pam_library.specs.declared.outcome.Answer.TheVariants as answers
+use Rattle.session_run.specs.pam_library.specs.declared.outcome.Answer.{Answer}
+use Rattle.session_run.specs.pam_library.specs.declared.outcome.Answer.TheVariants as answers
 use Rattle.session_login.specs.declared.calls.When.{When}
 use Rattle.session_login.specs.declared.calls.When.TheVariants.{Always, TokenIsTooOld}
 use Rattle.session_login.specs.declared.calls.Accepted.{Accepted}

@@ -6,14 +6,14 @@ use Rattle.pam_base.specs.declared.code.Code.TheVariants.{Success}
 use Rattle.pam_base.specs.declared.call.AppCall.{AppCall}
 use Rattle.pam_base.specs.declared.call.AppCall.TheVariants.{Start, End}
 use Rattle.pam_base.specs.Code.{number_of}
-use Rattle.pam_library.specs.declared.outcome.Answer.{Answer}
-use Rattle.pam_library.specs.declared.outcome.Answer.TheVariants as answers
-use Rattle.pam_library.specs.AnyWorld.{is_refused}
-use Rattle.pam_library.specs.Step.{Stepped, stepped}
-use Rattle.script_lang.specs.Command.{word_of_call}
-use Rattle.report_lines.specs.Line.{code_words}
-use Rattle.session_report.specs.Answered.{answer_text}
-use Rattle.session_report.specs.Fault.{refused_text}
+use Rattle.session_run.specs.pam_library.specs.declared.outcome.Answer.{Answer}
+use Rattle.session_run.specs.pam_library.specs.declared.outcome.Answer.TheVariants as answers
+use Rattle.session_run.specs.pam_library.specs.AnyWorld.{is_refused}
+use Rattle.session_run.specs.pam_library.specs.Step.{Stepped, stepped}
+use Rattle.session_run.specs.script_lang.specs.Command.{word_of_call}
+use Rattle.session_run.specs.report_lines.specs.Line.{code_words}
+use Rattle.session_run.specs.session_report.specs.Answered.{answer_text}
+use Rattle.session_run.specs.session_report.specs.Fault.{refused_text}
 use Rattle.session_run.specs.State.{Setting, RunState, state_of}
 use Rattle.session_login.specs.declared.calls.LoginCall.{LoginCall}
 use Rattle.session_login.specs.declared.attempt.Verdict.{Verdict}

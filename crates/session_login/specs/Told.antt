@@ -3,14 +3,14 @@ use Rattle.std.specs.Prelude.{◌≡◌, ◌⊎◌, ℕ, ◌+◌, ◌≤◌, tru
 use Rattle.pam_base.specs.declared.code.Code.{Code}
 use Rattle.pam_base.specs.declared.call.AppCall.{AppCall}
 use Rattle.pam_outside.specs.Streams.{SinkState}
-use Rattle.pam_room.specs.Module.{notes_of}
-use Rattle.pam_library.specs.AnyWorld.{FailsAt, SpendsAt, leaves_world}
-use Rattle.pam_library.specs.Slots.{lists_of, slot_at}
-use Rattle.pam_library.specs.declared.outcome.Answer.{Answer}
-use Rattle.service_load.specs.declared.load_fault.LoadFault.{LoadFault}
+use Rattle.session_run.specs.pam_room.specs.Module.{notes_of}
+use Rattle.session_run.specs.pam_library.specs.AnyWorld.{FailsAt, SpendsAt, leaves_world}
+use Rattle.session_run.specs.pam_library.specs.Slots.{lists_of, slot_at}
+use Rattle.session_run.specs.pam_library.specs.declared.outcome.Answer.{Answer}
+use Rattle.session_run.specs.service_load.specs.declared.load_fault.LoadFault.{LoadFault}
 use Rattle.item_stream.specs.declared.ending.Stop.{Stop}
 use Rattle.item_stream.specs.declared.ending.Stop.TheVariants.{NoMemory, WriteFault}
-use Rattle.session_report.specs.Fault.{refused_text}
+use Rattle.session_run.specs.session_report.specs.Fault.{refused_text}
 use Rattle.session_run.specs.Endings.{stop_status}
 use Rattle.session_run.specs.Reported.{CutBy}
 use Rattle.session_run.specs.State.{Setting, RunState}

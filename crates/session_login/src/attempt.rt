@@ -3,10 +3,10 @@ ghost use Rattle.std.specs.Option.{option_copied};
 ghost use Rattle.pam_base.specs.ServiceName.{is_service_name};
 ghost use Rattle.pam_base.specs.declared.code.Code.{Code};
 ghost use Rattle.pam_outside.specs.Counts.{RisesIf};
-ghost use Rattle.pam_library.specs.AnyWorld.{is_refused};
-ghost use Rattle.pam_library.specs.Plain.{gear_in};
-ghost use Rattle.pam_library.specs.Slots.{NoneIsOpen, slot_at};
-ghost use Rattle.pam_library.specs.Sound.{IsSoundFor};
+ghost use Rattle.session_run.specs.pam_library.specs.AnyWorld.{is_refused};
+ghost use Rattle.session_run.specs.pam_library.specs.Plain.{gear_in};
+ghost use Rattle.session_run.specs.pam_library.specs.Slots.{NoneIsOpen, slot_at};
+ghost use Rattle.session_run.specs.pam_library.specs.Sound.{IsSoundFor};
 ghost use Rattle.item_stream.specs.Turns.{has_write_fault};
 ghost use Rattle.session_run.specs.AnyWorld.{ProceedsFor};
 ghost use Rattle.session_run.specs.State.{setting_of, state_of};
@@ -20,17 +20,17 @@ use crate::making::make;
 use fail_delay::{DelayFn, DelayTold};
 use item_stream::Stop;
 use pam_base::{AppCall, Code, Failed, NoMemory, Step, Text, code_name, code_number};
-use pam_handle::{Gear, GearTold};
-use pam_library::{Answer, Library, LibraryTold};
 use pam_outside::{Sink, write_all};
-use pam_room::{World, WorldTold};
+use session_run::pam_handle::{Gear, GearTold};
+use session_run::pam_library::{Answer, Library, LibraryTold};
+use session_run::pam_room::{World, WorldTold};
 use session_run::stop_status;
 use std::alloc::Global;
 
-/// What came of a login.
+/// The result of a login.
 #[derive(Clone, Copy, Debug, PartialEq, Eq)]
 pub enum Verdict {
-    /// The user was let in, and the session was closed again.
+    /// The login was granted, and the session was closed again.
     Passed,
     /// A call denied it with this code, which isn't SUCCESS.
     Denied(Code),
@@ -38,24 +38,24 @@ pub enum Verdict {
     Refused,
 }
 
-/// Logs a user in with a service, on the first of the transactions, of which none is open. The
-/// conversation in that place asks the user whatever the modules want to know, the name too where it
-/// isn't given.
+/// Logs a user in with a service, in the first of the transactions, of which none is open. The conversation of that
+/// transaction asks the user for whatever the modules need, including the name if it isn't given.
 ///
-/// The calls are those of an application that grants a login: `pam_start(3)`,
-/// `pam_authenticate(3)`, `pam_acct_mgmt(3)`; where that answers NEW_AUTHTOK_REQD `pam_chauthtok(3)`
-/// with PAM_CHANGE_EXPIRED_AUTHTOK; `pam_setcred(3)` with PAM_ESTABLISH_CRED, `pam_open_session(3)`;
-/// and then at once `pam_close_session(3)`, `pam_setcred(3)` with PAM_DELETE_CRED and `pam_end(3)`. The
-/// result line of each is written before the next is made, and nothing of what it tells beside that.
+/// The calls are those of an application that grants a login:
 ///
-/// The login is denied where a call but the last three answers another code than SUCCESS, or
-/// `pam_acct_mgmt(3)` another than SUCCESS and NEW_AUTHTOK_REQD: the transaction is ended with that
-/// code, and `denied NAME NUMBER` is written last. Where the configuration refuses the start its line
-/// is written, `refused FILE LINE NAME NUMBER`, and nothing is done after it.
+/// - `pam_start(3)`, `pam_authenticate(3)`, `pam_acct_mgmt(3)`;
+/// - if that returns NEW_AUTHTOK_REQD, `pam_chauthtok(3)` with PAM_CHANGE_EXPIRED_AUTHTOK;
+/// - `pam_setcred(3)` with PAM_ESTABLISH_CRED, `pam_open_session(3)`;
+/// - and then at once `pam_close_session(3)`, `pam_setcred(3)` with PAM_DELETE_CRED and `pam_end(3)`.
 ///
-/// Where memory is wanting the transaction is ended with BUF_ERR, and where a write fails with
-/// SYSTEM_ERR, unless it was already; nothing more is written. So no transaction is open afterwards,
-/// whatever is answered.
+/// The result line of each call is written before the next call, and no other line of its report.
+///
+/// The login is denied if a call before the last three returns another code than SUCCESS (after `pam_acct_mgmt(3)`
+/// also NEW_AUTHTOK_REQD goes on): the transaction is ended with that code, and `denied NAME NUMBER` is written last.
+/// If the configuration refuses the start, its line `refused FILE LINE NAME NUMBER` is written, and nothing follows.
+///
+/// If an allocation fails, the transaction is ended with BUF_ERR, and if a write fails, with SYSTEM_ERR, unless it
+/// has been ended before; nothing more is written. So no transaction is open afterwards, whatever is returned.
 pub fn login<K: Sink>(
     alloc: Global,
     library: &mut Library,
@@ -69,8 +69,7 @@ pub fn login<K: Sink>(
     requires sound { IsSoundFor (⟦<Gear as GearTold>⟧.players (gear_in library.old))
         (⟦<Library as LibraryTold>⟧.slots library.old) world.old.process.ledger }
 
-    // Where all objects tell: the verdict, what is written, and what library and world are
-    // afterwards.
+    // If all objects are modelled: the verdict, what is written, and the library and world afterwards.
     ensures told { (delay : Code → ℕ → ℕ) →
         ⟦<DelayFn as DelayTold>⟧.delay_is (gear_in library.old).delay delay →
         IsTrue (⟦<Library as LibraryTold>⟧.tells library.old
@@ -85,12 +84,12 @@ pub fn login<K: Sink>(
         (⟦<World as WorldTold>⟧.plain world.new))
         (K.sink_holds out.old) (K.sink_holds out.new)) }
 
-    // Where the sink alone tells: how often it was written, and what the verdict is written as.
+    // If only the sink is modelled: how often it was written, and how the verdict is written.
     ensures shows { IsTrue (K.sink_tells out.old) →
         Shows SaysVerdict result (K.sink_holds out.old) (K.sink_holds out.new) }
 
-    // In any world: SUCCESS denies nobody; no transaction is open; and ledger and data are what calls
-    // of the library made of them, with these ends.
+    // With real objects too: SUCCESS denies nobody; no transaction is open; and the cleanup log and the module data
+    // are what calls of the library, with these statuses of pam_end, made of them.
     ensures denies { (code : Code) → result ≡ Ok (Verdict.Denied code) → IsDenial code }
     ensures none_open { NoneIsOpen (⟦<Library as LibraryTold>⟧.slots library.new) }
     ensures proceeds { ProceedsFor (IsEndOfLogin result)
@@ -101,11 +100,11 @@ pub fn login<K: Sink>(
         (⟦<Library as LibraryTold>⟧.slots library.new) world.new.process.ledger }
     ensures gear { gear_in library.new ≡ gear_in library.old }
 
-    // The cause, in any world.
+    // The cause, with real objects too.
     ensures faults { RisesIf (has_write_fault result) (K.sink_faults out.old)
         (K.sink_faults out.new) }
 
-    // What tells before the login tells after it.
+    // What is modelled before the login is modelled after it.
     ensures tells { ⟦<Library as LibraryTold>⟧.tells library.new
         ≡ ⟦<Library as LibraryTold>⟧.tells library.old }
     ensures world_tells { ⟦<World as WorldTold>⟧.tells world.new
@@ -117,7 +116,7 @@ pub fn login<K: Sink>(
     result
 }
 
-// All of it, but that where it stops the transaction may still be open.
+// The whole login, except that after an Err the transaction may still be open.
 fn try_login<K: Sink>(
     alloc: Global,
     library: &mut Library,
@@ -197,7 +196,7 @@ fn start_of(alloc: Global, service: &[u8], user: Option<&[u8]>) -> Result<AppCal
     Ok(AppCall::Start { service, user })
 }
 
-// What comes after the start.
+// What follows the start.
 fn log_in<K: Sink>(
     alloc: Global,
     library: &mut Library,
@@ -246,7 +245,7 @@ fn log_in<K: Sink>(
     }
 }
 
-// Ends the transaction, with SUCCESS or with the code that denied the login, and says so.
+// Ends the transaction with SUCCESS or with the code that denied the login, and writes that.
 fn settle<K: Sink>(
     alloc: Global,
     library: &mut Library,
@@ -299,7 +298,7 @@ fn settle<K: Sink>(
     }
 }
 
-// Writes the last line of a login that is denied.
+// Writes the last line of a denied login.
 fn deny<K: Sink>(alloc: Global, code: Code, out: &mut K) -> Result<Verdict, Stop>
     ensures sink_tells { K.sink_tells out.new ≡ K.sink_tells out.old }
     ensures told { IsTrue (K.sink_tells out.old) →
@@ -345,7 +344,7 @@ fn end_call(code: Code) -> AppCall
     }
 }
 
-// With which code the transaction is ended where it is still open.
+// The status with which the transaction is ended if it is still open.
 fn closing_code(outcome: Result<Verdict, Stop>) -> Code
     ensures { result ≡ closing_code outcome }
 {
@@ -356,7 +355,7 @@ fn closing_code(outcome: Result<Verdict, Stop>) -> Code
     }
 }
 
-// Ends the first transaction, if it is open, and writes nothing. It takes no memory.
+// Ends the first transaction, if it is open, and writes nothing. It allocates nothing.
 fn end_silently(alloc: Global, library: &mut Library, code: Code, world: &mut World)
     requires { IsSoundFor (⟦<Gear as GearTold>⟧.players (gear_in library.old))
         (⟦<Library as LibraryTold>⟧.slots library.old) world.old.process.ledger }

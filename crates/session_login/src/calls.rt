@@ -2,18 +2,18 @@ ghost use Rattle.std.specs.Prelude.{◌≡◌};
 ghost use Rattle.session_login.specs.Calls.{accepts, call_of, code_in, is_due, login_calls};
 
 use pam_base::{AppCall, CHANGE_EXPIRED_AUTHTOK, Code, DELETE_CRED, ESTABLISH_CRED, Func};
-use pam_library::Answer;
+use session_run::pam_library::Answer;
 
-/// When a call of a login is made.
+/// When a login makes a call.
 #[derive(Clone, Copy, Debug, PartialEq, Eq)]
 pub(crate) enum When {
     Always,
-    /// Where the call before it answered NEW_AUTHTOK_REQD.
+    /// If the call before it returned NEW_AUTHTOK_REQD.
     TokenIsTooOld,
 }
 
 impl When {
-    /// Whether it is made, by the code of the call before it.
+    /// Whether it is made after a call with this code.
     pub(crate) fn is_due(self, last: Code) -> bool
         ensures { result ≡ is_due self last }
     {
@@ -24,7 +24,7 @@ impl When {
     }
 }
 
-/// With which codes a login goes on after a call.
+/// The codes after which a login goes on.
 #[derive(Clone, Copy, Debug, PartialEq, Eq)]
 pub(crate) enum Accepted {
     Success,
@@ -45,8 +45,8 @@ impl Accepted {
     }
 }
 
-/// A call of a login: the function of the modules that it runs, its flags, when it is made, and with
-/// which answers the login goes on.
+/// A call of a login: the function that it calls in the modules, its flags, when it is made, and the codes after
+/// which the login goes on.
 #[derive(Clone, Copy, Debug)]
 pub(crate) struct LoginCall {
     pub(crate) func: Func,
@@ -117,7 +117,7 @@ pub(crate) const LOGIN_CALLS: [LoginCall; 7] = [
     },
 ];
 
-/// The code of an answer; one that isn't a code counts as ABORT.
+/// The code of a result; a result that isn't a code counts as ABORT.
 pub(crate) fn code_in(answer: &Answer) -> Code
     ensures { result ≡ code_in answer.now }
 {

@@ -1,9 +1,9 @@
 ghost use Rattle.std.specs.Prelude.{◌≡◌, ◌&&◌, ℕ, Ok, Some, IsTrue};
 ghost use Rattle.pam_base.specs.declared.code.Code.{Code};
 ghost use Rattle.pam_outside.specs.Counts.{RisesIf};
-ghost use Rattle.pam_library.specs.Plain.{gear_in};
-ghost use Rattle.pam_library.specs.Slots.{slot_at};
-ghost use Rattle.pam_library.specs.Sound.{IsSoundFor};
+ghost use Rattle.session_run.specs.pam_library.specs.Plain.{gear_in};
+ghost use Rattle.session_run.specs.pam_library.specs.Slots.{slot_at};
+ghost use Rattle.session_run.specs.pam_library.specs.Sound.{IsSoundFor};
 ghost use Rattle.item_stream.specs.Turns.{has_write_fault};
 ghost use Rattle.session_run.specs.AnyWorld.{ProceedsFor};
 ghost use Rattle.session_run.specs.State.{setting_of, state_of};
@@ -16,14 +16,14 @@ use crate::making::make;
 use fail_delay::{DelayFn, DelayTold};
 use item_stream::Stop;
 use pam_base::Code;
-use pam_handle::{Gear, GearTold};
-use pam_library::{Library, LibraryTold};
 use pam_outside::Sink;
-use pam_room::{World, WorldTold};
+use session_run::pam_handle::{Gear, GearTold};
+use session_run::pam_library::{Library, LibraryTold};
+use session_run::pam_room::{World, WorldTold};
 use std::alloc::Global;
 
-/// Makes these calls one after another, each that is due by the code of the one before it, until one
-/// denies the login. Answers with which code it did, if one did.
+/// Makes these calls one after another, skips those that the code before them doesn't ask for, and stops at the first
+/// that denies the login. Returns the code that denied it, if any.
 pub(crate) fn go_through<K: Sink>(
     alloc: Global,
     library: &mut Library,

@@ -1,9 +1,8 @@
-//! One login over the first of sixteen transactions: the user is authenticated, the account is checked
-//! and a token that is too old changed, credentials are established and a session is opened, and all
-//! that is taken back again.
+//! One login in the first of sixteen transactions: the user is authenticated, the account is checked, an expired
+//! token is changed, credentials are established and a session is opened; then all of that is undone.
 //!
-//! Begin at attempt.rt; calls.rt has the table of the calls, course.rt makes them one after another, and
-//! making.rt makes one.
+//! Begin at attempt.rt; calls.rt has the table of the calls, course.rt makes them one after another, and making.rt
+//! makes one.
 #![tactic(auto)]
 
 mod attempt;
@@ -12,3 +11,4 @@ mod course;
 mod making;
 
 pub use attempt::{Verdict, login};
+pub use session_run;

@@ -3,9 +3,9 @@ ghost use Rattle.pam_base.specs.declared.code.Code.{Code};
 ghost use Rattle.pam_base.specs.declared.call.AppCall.{AppCall};
 ghost use Rattle.pam_base.specs.Call.{is_fit};
 ghost use Rattle.pam_outside.specs.Counts.{RisesIf};
-ghost use Rattle.pam_library.specs.Plain.{gear_in};
-ghost use Rattle.pam_library.specs.Slots.{slot_at};
-ghost use Rattle.pam_library.specs.Sound.{IsSoundFor};
+ghost use Rattle.session_run.specs.pam_library.specs.Plain.{gear_in};
+ghost use Rattle.session_run.specs.pam_library.specs.Slots.{slot_at};
+ghost use Rattle.session_run.specs.pam_library.specs.Sound.{IsSoundFor};
 ghost use Rattle.item_stream.specs.Turns.{has_write_fault};
 ghost use Rattle.session_run.specs.AnyWorld.{ProceedsFor};
 ghost use Rattle.session_run.specs.Ends.{IsEndStep};
@@ -16,15 +16,15 @@ ghost use Rattle.session_login.specs.Told.{Makes, SaysAnswer, Shows};
 use fail_delay::{DelayFn, DelayTold};
 use item_stream::Stop;
 use pam_base::{AppCall, Failed, NoMemory, Step};
-use pam_handle::{Gear, GearTold};
-use pam_library::{Answer, Library, LibraryTold};
 use pam_outside::{Sink, write_all};
-use pam_room::{World, WorldTold};
-use session_report::{refused_report, result_report};
+use session_run::pam_handle::{Gear, GearTold};
+use session_run::pam_library::{Answer, Library, LibraryTold};
+use session_run::pam_room::{World, WorldTold};
+use session_run::session_report::{refused_report, result_report};
 use std::alloc::Global;
 
-/// Makes a call on the first transaction, and writes its result line: nothing of what the call told
-/// beside that. A start that is refused has the line of the fault.
+/// Makes a call in the first transaction, and writes the result line alone, not the rest of the report. If a start is
+/// refused, that is the line of the fault.
 pub(crate) fn make<K: Sink>(
     alloc: Global,
     library: &mut Library,

@@ -1,11 +1,11 @@
 -- What source or sink tells alone of a run, by its status.
 use Rattle.std.proofs.Common.{◌≡◌, ℕ, [], Result, Ok, Err, refl, sym, append-nil, arith}
 use Rattle.pam_outside.specs.Streams.{SourceState, SinkState}
-use Rattle.script_stream.specs.Turns.{Ending}
+use Rattle.session_login.specs.script_stream.specs.Turns.{Ending}
 use Rattle.item_stream.specs.declared.ending.Ending.TheVariants.{Done, ReadFault, Refused}
 use Rattle.item_stream.specs.declared.ending.Stop.{Stop}
 use Rattle.item_stream.specs.declared.ending.Stop.TheVariants.{NoMemory, WriteFault}
-use Rattle.session_run.specs.Reading.{ReadsScript, WritesScript}
+use Rattle.session_login.specs.session_run.specs.Reading.{ReadsScript, WritesScript}
 use Rattle.session_program.specs.Run.{HasRefused, IsAccepted, ReadsBy, status_of}
 
 pub nothing_read : (status : ℕ) (x : SourceState) → status ≡ 4 → ReadsBy status x x

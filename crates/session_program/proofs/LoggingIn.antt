@@ -2,13 +2,13 @@
 use Rattle.std.proofs.Common.{◌≡◌, ℕ, List, [], Option, Some, Result, Err, refl, sym, ◌∙◌, subst, append-nil, arith}
 use Rattle.pam_outside.specs.Streams.{SinkState}
 use Rattle.pam_room.specs.State.{PlainWorld}
-use Rattle.pam_library.specs.Slots.{PlainSlot}
+use Rattle.session_check.specs.pam_library.specs.Slots.{PlainSlot}
 use Rattle.item_stream.specs.declared.ending.Stop.{Stop}
 use Rattle.session_login.specs.declared.attempt.Verdict.{Verdict}
 use Rattle.session_login.specs.Login.{login_of}
 use Rattle.item_stream.specs.declared.ending.Stop.TheVariants.{NoMemory}
 use Rattle.session_login.specs.Told.{LogsIn}
-use Rattle.session_run.specs.State.{Setting, state_of}
+use Rattle.session_login.specs.session_run.specs.State.{Setting, state_of}
 use Rattle.session_program.specs.Command.{Request, generates, logs_in}
 use Rattle.session_program.specs.Generate.{GeneratesBy}
 use Rattle.session_program.specs.Login.{IsAtRoot, IsLogin, LogsInBy, ShowsLogin, entry, login_status}

@@ -4,14 +4,14 @@ use Rattle.pam_base.specs.declared.fault.ScriptKind.{ScriptKind}
 use Rattle.pam_outside.specs.Streams.{SourceState, SinkState}
 use Rattle.data_due.specs.Stands.{StandFor}
 use Rattle.pam_room.specs.Module.{notes_of}
-use Rattle.pam_library.specs.Slots.{lists_of}
+use Rattle.session_check.specs.pam_library.specs.Slots.{lists_of}
 use Rattle.item_stream.specs.Run.{come_to}
-use Rattle.script_stream.specs.Run.{Run}
-use Rattle.script_stream.specs.Turns.{Ending}
+use Rattle.session_login.specs.script_stream.specs.Run.{Run}
+use Rattle.session_login.specs.script_stream.specs.Turns.{Ending}
 use Rattle.item_stream.specs.declared.ending.Ending.TheVariants.{Done, ReadFault, Refused}
-use Rattle.session_run.specs.State.{Setting, RunState}
-use Rattle.session_run.specs.Events.{AreDue, StandOn, run_events}
-use Rattle.session_run.specs.Whole.{RunsScript, ending_status}
+use Rattle.session_login.specs.session_run.specs.State.{Setting, RunState}
+use Rattle.session_login.specs.session_run.specs.Events.{AreDue, StandOn, run_events}
+use Rattle.session_login.specs.session_run.specs.Whole.{RunsScript, ending_status}
 use Rattle.session_program.specs.Run.{IsDone, IsRefused, IsUnread, events_in, report_of, world_behind}
 
 module _ (setting : Setting) (start end : RunState) (x y : SourceState) (p q : SinkState) where

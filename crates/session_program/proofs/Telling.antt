@@ -1,21 +1,21 @@
 -- What a run that was begun, or wasn't, says by its status.
 use Rattle.std.proofs.Common.{◌≡◌, inl, inr, ℕ, suc, Bool, true, false, ◌&&◌, IsTrue, List, [], ◌∷◌, length, map, Option, Some, None, Result, Ok, Err, refl, sym, ap, ap₂, ◌∙◌, subst, subst₂, arith}
-use Rattle.conv_port.specs.Conv.{ConvState}
+use Rattle.pam_room.specs.conv_port.specs.Conv.{ConvState}
 use Rattle.data_cleanup.specs.Cleanup.{Notes}
 use Rattle.data_cleanup.specs.Ledger.{PlainLedger}
 use Rattle.data_due.specs.Stands.{StandFor}
 use Rattle.pam_outside.specs.Streams.{SourceState, SinkState}
 use Rattle.pam_room.specs.Module.{notes_of}
 use Rattle.pam_room.specs.State.{PlainWorld}
-use Rattle.pam_library.specs.Slots.{NoneIsOpen, PlainSlot, closed, lists_of, slot_at}
-use Rattle.pam_library.specs.Sound.{IsSound}
-use Rattle.script_stream.specs.Turns.{Ending}
+use Rattle.session_check.specs.pam_library.specs.Slots.{NoneIsOpen, PlainSlot, closed, lists_of, slot_at}
+use Rattle.session_check.specs.pam_library.specs.Sound.{IsSound}
+use Rattle.session_login.specs.script_stream.specs.Turns.{Ending}
 use Rattle.item_stream.specs.declared.ending.Ending.TheVariants.{Done, ReadFault, Refused}
 use Rattle.item_stream.specs.declared.ending.Stop.{Stop}
 use Rattle.item_stream.specs.declared.ending.Stop.TheVariants.{NoMemory, WriteFault}
-use Rattle.session_run.specs.SideBySide.{ComesAlone, TellsSteps}
-use Rattle.session_run.specs.State.{Setting, RunState, state_of}
-use Rattle.session_run.specs.Whole.{RunsScript}
+use Rattle.session_login.specs.session_run.specs.SideBySide.{ComesAlone, TellsSteps}
+use Rattle.session_login.specs.session_run.specs.State.{Setting, RunState, state_of}
+use Rattle.session_login.specs.session_run.specs.Whole.{RunsScript}
 use Rattle.session_program.specs.Command.{Request, runs}
 use Rattle.session_program.specs.Run.{Completes, IsBegun, IsDone, IsRefused, IsUnder, IsUnread, Runs, opening, status_of}
 use Rattle.session_program.proofs.Statuses.{done_whole, refused_whole, unread_whole}

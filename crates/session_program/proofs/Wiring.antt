@@ -4,16 +4,16 @@ use Rattle.std.specs.Int.{w16, to_be_bytes}
 use Rattle.std.specs.Prelude.{nat_eq}
 use Rattle.pam_outside.specs.Streams.{SourceState, SinkState}
 use Rattle.pam_room.specs.State.{PlainWorld}
-use Rattle.pam_library.specs.Slots.{PlainSlot}
-use Rattle.pam_wire.specs.Frame.{sized}
-use Rattle.pam_wire.specs.Stream.{IsOpen}
+use Rattle.session_check.specs.pam_library.specs.Slots.{PlainSlot}
+use Rattle.session_wire.specs.pam_wire.specs.Frame.{sized}
+use Rattle.session_wire.specs.pam_wire.specs.Stream.{IsOpen}
 use Rattle.item_stream.specs.declared.ending.Ending.{Ending}
 use Rattle.item_stream.specs.declared.ending.Ending.TheVariants.{Done, ReadFault, Refused}
 use Rattle.item_stream.specs.declared.ending.Stop.{Stop}
 use Rattle.item_stream.specs.declared.ending.Stop.TheVariants.{NoMemory, WriteFault}
-use Rattle.frame_stream.specs.declared.fault.FrameFault.{FrameFault}
-use Rattle.frame_stream.specs.declared.fault.FrameFault.TheVariants.{BadFrame, TooManyFrames}
-use Rattle.session_run.specs.State.{Setting, state_of}
+use Rattle.session_wire.specs.frame_stream.specs.declared.fault.FrameFault.{FrameFault}
+use Rattle.session_wire.specs.frame_stream.specs.declared.fault.FrameFault.TheVariants.{BadFrame, TooManyFrames}
+use Rattle.session_login.specs.session_run.specs.State.{Setting, state_of}
 use Rattle.session_wire.specs.Reading.{EndsAtBytes, ReadsFrames}
 use Rattle.session_wire.specs.Whole.{Answers, Completes}
 use Rattle.session_program.specs.Command.{Request, wires}

@@ -11,7 +11,7 @@ use Rattle.session_generate.specs.declared.generating.Generated.{Generated}
 use Rattle.session_generate.specs.Generated.{IsEndOfGenerate}
 use Rattle.session_login.specs.declared.attempt.Verdict.{Verdict}
 use Rattle.session_login.specs.Ends.{IsEndOfLogin}
-use Rattle.session_run.specs.Ends.{EndsAre, IsEndOfRun}
+use Rattle.session_login.specs.session_run.specs.Ends.{EndsAre, IsEndOfRun}
 use Rattle.session_wire.specs.Ends.{IsEndOfRun as IsEndOfWire}
 use Rattle.session_program.specs.Command.{Request, runs, logs_in, generates, wires}
 use Rattle.session_program.specs.Generate.{generate_status}

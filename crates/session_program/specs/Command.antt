@@ -2,7 +2,7 @@
 use Rattle.std.specs.Prelude.{ℕ, Bool, false, not, ◌&&◌, List, [], ◌∷◌, Option, Some, None, codes, string_bytes, String, if◌then◌else◌, nat_eq, nat_le}
 use Rattle.std.specs.Str.{bytes_eq}
 use Rattle.std.specs.declared.alloc.Global.{Global}
-use Rattle.mod_tally.specs.Faillock.{is_no_file}
+use Rattle.session_tally.specs.mod_tally.specs.Faillock.{is_no_file}
 use Rattle.pam_base.specs.Number.{number_of_word}
 use Rattle.pam_base.specs.ServiceName.{is_service_name}
 

@@ -2,13 +2,13 @@
 use Rattle.std.specs.Prelude.{◌≡◌, ◌⊎◌, ℕ, List, Result, Ok, Err}
 use Rattle.pam_outside.specs.Streams.{SinkState}
 use Rattle.pam_room.specs.State.{PlainWorld}
-use Rattle.pam_library.specs.Slots.{PlainSlot}
+use Rattle.session_check.specs.pam_library.specs.Slots.{PlainSlot}
 use Rattle.item_stream.specs.declared.ending.Stop.{Stop}
 use Rattle.item_stream.specs.declared.ending.Stop.TheVariants.{NoMemory, WriteFault}
 use Rattle.session_generate.specs.declared.generating.Generated.{Generated as Drawn}
 use Rattle.session_generate.specs.declared.generating.Generated.TheVariants.{Written, Refused}
 use Rattle.session_generate.specs.Generated.{Generates, Generation, generation}
-use Rattle.session_run.specs.State.{RunState, Setting, state_of}
+use Rattle.session_login.specs.session_run.specs.State.{RunState, Setting, state_of}
 
 -- 0 where the line is written, 3 where a file or the service is refused
 abbrev pub generate_status : Result Drawn Stop → ℕ

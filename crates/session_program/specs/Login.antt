@@ -2,14 +2,14 @@
 use Rattle.std.specs.Prelude.{◌≡◌, ◌⊎◌, ℕ, List, Option, Result, Ok, Err}
 use Rattle.pam_outside.specs.Streams.{SinkState}
 use Rattle.pam_room.specs.State.{PlainWorld}
-use Rattle.pam_library.specs.Slots.{PlainSlot}
+use Rattle.session_check.specs.pam_library.specs.Slots.{PlainSlot}
 use Rattle.item_stream.specs.declared.ending.Stop.{Stop}
 use Rattle.item_stream.specs.declared.ending.Stop.TheVariants.{NoMemory, WriteFault}
 use Rattle.session_login.specs.declared.attempt.Verdict.{Verdict}
 use Rattle.session_login.specs.declared.attempt.Verdict.TheVariants.{Passed, Denied, Refused}
 use Rattle.session_login.specs.Login.{login_of}
 use Rattle.session_login.specs.Told.{LogsIn, SaysVerdict, Shows}
-use Rattle.session_run.specs.State.{Setting, RunState, state_of}
+use Rattle.session_login.specs.session_run.specs.State.{Setting, RunState, state_of}
 
 -- 0 where the user was let in, 3 where the configuration is refused, 8 where the login is denied
 abbrev pub login_status : Result Verdict Stop → ℕ

@@ -5,25 +5,25 @@ use Rattle.pam_base.specs.declared.fault.ScriptKind.{ScriptKind}
 use Rattle.pam_outside.specs.Streams.{SourceState, SinkState}
 use Rattle.pam_room.specs.Module.{notes_of}
 use Rattle.pam_room.specs.State.{PlainWorld}
-use Rattle.pam_library.specs.Slots.{PlainSlot, handle_limit, lists_of, slot_at}
-use Rattle.script_stream.specs.Turns.{Ending}
+use Rattle.session_check.specs.pam_library.specs.Slots.{PlainSlot, handle_limit, lists_of, slot_at}
+use Rattle.session_login.specs.script_stream.specs.Turns.{Ending}
 use Rattle.item_stream.specs.declared.ending.Ending.TheVariants.{Done, ReadFault, Refused}
 use Rattle.item_stream.specs.declared.ending.Stop.{Stop}
 use Rattle.item_stream.specs.declared.ending.Stop.TheVariants.{NoMemory, WriteFault}
-use Rattle.script_stream.specs.Run.{Run, run_of}
+use Rattle.session_login.specs.script_stream.specs.Run.{Run, run_of}
 use Rattle.data_cleanup.specs.Due.{Event}
-use Rattle.session_run.specs.Events.{AreDue, run_events}
-use Rattle.session_run.specs.Reading.{ReadsScript, refused_in}
-use Rattle.session_run.specs.SideBySide.{ComesAlone, TellsSteps}
-use Rattle.session_run.specs.State.{Setting, RunState, state_of}
-use Rattle.session_run.specs.Step.{line_step}
-use Rattle.session_run.specs.Closings.{all_closed}
-use Rattle.session_run.specs.Whole.{RunsScript, ending_status, last_words}
+use Rattle.session_login.specs.session_run.specs.Events.{AreDue, run_events}
+use Rattle.session_login.specs.session_run.specs.Reading.{ReadsScript, refused_in}
+use Rattle.session_login.specs.session_run.specs.SideBySide.{ComesAlone, TellsSteps}
+use Rattle.session_login.specs.session_run.specs.State.{Setting, RunState, state_of}
+use Rattle.session_login.specs.session_run.specs.Step.{line_step}
+use Rattle.session_login.specs.session_run.specs.Closings.{all_closed}
+use Rattle.session_login.specs.session_run.specs.Whole.{RunsScript, ending_status, last_words}
 
 -- the world under a root, at the moment 0 and with the random word 0
 abbrev pub under_root : List ℕ → PlainWorld → PlainWorld
 under_root root w = record w {
-  clock = record { moment = 0; word = 0 };
+  clock = record w.clock { moment = 0; word = 0 };
   process = record w.process { root = root };
 }
 

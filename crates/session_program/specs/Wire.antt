@@ -4,16 +4,16 @@ use Rattle.std.specs.Prelude.{◌≡◌, ◌⊎◌, ℕ, ◌+◌, ◌≤◌, tru
 use Rattle.pam_base.specs.declared.call.Step.{Step}
 use Rattle.pam_outside.specs.Streams.{SourceState, SinkState}
 use Rattle.pam_room.specs.State.{PlainWorld}
-use Rattle.pam_library.specs.Slots.{PlainSlot}
-use Rattle.pam_wire.specs.Frame.{AreBytes}
+use Rattle.session_check.specs.pam_library.specs.Slots.{PlainSlot}
+use Rattle.session_wire.specs.pam_wire.specs.Frame.{AreBytes}
 use Rattle.item_stream.specs.declared.ending.Ending.{Ending}
 use Rattle.item_stream.specs.declared.ending.Ending.TheVariants.{Done, ReadFault, Refused}
 use Rattle.item_stream.specs.declared.ending.Stop.{Stop}
 use Rattle.item_stream.specs.declared.ending.Stop.TheVariants.{NoMemory, WriteFault}
-use Rattle.frame_stream.specs.declared.fault.FrameFault.{FrameFault}
-use Rattle.frame_stream.specs.declared.fault.FrameFault.TheVariants.{BadFrame, TooManyFrames}
-use Rattle.frame_stream.specs.Spelled.{Spells}
-use Rattle.session_run.specs.State.{RunState, Setting}
+use Rattle.session_wire.specs.frame_stream.specs.declared.fault.FrameFault.{FrameFault}
+use Rattle.session_wire.specs.frame_stream.specs.declared.fault.FrameFault.TheVariants.{BadFrame, TooManyFrames}
+use Rattle.session_wire.specs.frame_stream.specs.Spelled.{Spells}
+use Rattle.session_login.specs.session_run.specs.State.{RunState, Setting}
 use Rattle.session_wire.specs.Reading.{LooksBefore, SpellsTo}
 use Rattle.session_wire.specs.Whole.{Answers, AnswersAll, ending_by}
 use Rattle.session_program.specs.Run.{IsNotBegun, opening}

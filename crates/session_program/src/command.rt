@@ -3,22 +3,22 @@ ghost use Rattle.session_program.specs.Command.{audit_request, check_request, dr
 ghost use Rattle.session_program.specs.Asked.{IsPlace, asked};
 
 use crate::operand::{Draw, Place};
-use drawn_files::MAX_DRAWN;
-use mod_tally::is_no_file;
 use pam_base::{is_service_name, number_in};
+use session_generate::drawn_files::MAX_DRAWN;
+use session_tally::mod_tally::is_no_file;
 
-/// What the words of the command line ask for.
+/// What the arguments of the command line ask for.
 #[derive(Clone, Copy)]
 pub enum Request<'a> {
     /// The calls of a script, under this root.
     Run(&'a [u8]),
     /// The configuration of a service, under this root.
     Check(&'a [u8], &'a [u8]),
-    /// A login under this root, with this service, of whoever is asked for.
+    /// A login under this root, with this service; the conversation asks for the user.
     Login(Place<'a>),
-    /// The same, of this user.
+    /// A login of this user.
     LoginAs(Place<'a>, &'a [u8]),
-    /// Lines drawn from a seed.
+    /// Lines generated from a seed.
     Generate(Draw),
     /// The failures of a user, under this root.
     Tally(&'a [u8], &'a [u8]),
@@ -28,7 +28,7 @@ pub enum Request<'a> {
     Wire(&'a [u8]),
 }
 
-/// What the words ask for; None where they are none of the commands.
+/// What the arguments ask for; None if they are not a command.
 pub fn request_in(words: &[String]) -> Option<Request<'_>>
     ensures { asked result ≡ request_of words.now }
 {
@@ -116,7 +116,7 @@ fn draw_request<'a>(seed: Option<u32>, lines: Option<u32>) -> Option<Request<'a>
     }
 }
 
-// The number that a word of decimal digits without a leading zero stands for.
+// The number that an argument of decimal digits without a leading zero spells.
 fn number_operand(word: &[u8]) -> Option<u32>
     ensures { result ≡ number_operand word.now }
 {
@@ -157,7 +157,7 @@ fn wire_request(operands: &[String]) -> Option<Request<'_>>
     }
 }
 
-// A word that isn't empty and doesn't begin with a dash.
+// An argument that isn't empty and doesn't begin with a dash.
 fn is_operand(word: &[u8]) -> bool
     ensures { result ≡ is_operand word.now }
 {
@@ -173,7 +173,7 @@ fn is_service(word: &[u8]) -> bool
     is_operand(word) && is_service_name(word)
 }
 
-// A word that can be the name of a user's tally.
+// An argument that can be the name of a user's tally.
 fn is_user(word: &[u8]) -> bool
     ensures { result ≡ is_user word.now }
 {

@@ -1,12 +1,12 @@
 ghost use Rattle.std.specs.Prelude.{◌≡◌, ◌<◌, length};
 
-use conv_port::Conv;
 use fail_delay::DelayRule;
 use pam_room::Module;
+use pam_room::conv_port::Conv;
 use std::mem;
 
-/// What an application brings: the modules, a conversation for each of sixteen transactions, the one at whose terminal
-/// somebody logs in, and its delay function.
+/// What an application provides: the modules, a conversation for each of sixteen transactions, the conversation at
+/// the terminal where a user logs in, and its delay function.
 #[derive(Drop)]
 pub struct Desk {
     pub mods: Vec<Box<dyn Module>>,
@@ -15,19 +15,19 @@ pub struct Desk {
     pub delay: DelayRule,
 }
 
-/// Names what a desk holds and its conversations tell, for contracts.
+/// What contracts see of a desk.
 pub trait DeskTold {
     ghost use Rattle.std.specs.Prelude.{Bool, List};
-    ghost use Rattle.pam_library.specs.Slots.{PlainSlot};
+    ghost use Rattle.session_check.specs.pam_library.specs.Slots.{PlainSlot};
     ghost use Rattle.pam_room.specs.Module.{Player};
 
-    /// Whether all conversations of the transactions tell.
+    /// Whether all conversations of the transactions are modelled.
     ghost tells: { Self → Bool };
 
-    /// The closed places that they make.
+    /// The closed slots that they make.
     ghost slots: { Self → List PlainSlot };
 
-    /// The same with the terminal's conversation in the first place.
+    /// The same with the terminal's conversation in the first slot.
     ghost login_tells: { Self → Bool };
 
     ghost login_slots: { Self → List PlainSlot };
@@ -39,7 +39,7 @@ pub trait DeskTold {
 impl DeskTold for Desk {
     ghost use Rattle.std.specs.Prelude.{map, slice_set};
     ghost use Rattle.std.specs.List.{list_all};
-    ghost use Rattle.pam_library.specs.Slots.{closed};
+    ghost use Rattle.session_check.specs.pam_library.specs.Slots.{closed};
     ghost use Rattle.pam_room.specs.Module.{player_of};
 
     ghost tells = { λ d. list_all (λ b. (Conv-box b).conv_tells b.value) d.convs.items };
@@ -57,7 +57,7 @@ impl DeskTold for Desk {
         (λ b. (Module-box b).breaks b.value)) d.mods.items };
 }
 
-/// Puts the terminal's conversation in the first place.
+/// Puts the terminal's conversation in the first slot.
 pub(crate) fn seat_at_terminal(desk: Desk) -> Desk
     requires { 0 < length desk.convs.items }
     ensures tells { ⟦<Desk as DeskTold>⟧.tells result ≡ ⟦<Desk as DeskTold>⟧.login_tells desk }

@@ -2,14 +2,14 @@ ghost use Rattle.std.specs.Prelude.{◌≡◌, ◌≢◌, ◌⊎◌, ◌≤◌, 
 ghost use Rattle.pam_base.specs.declared.code.Code.{Code};
 ghost use Rattle.fail_delay.specs.DelayFn.{GivesOneNumber, IsNumberGiven};
 ghost use Rattle.pam_outside.specs.Counts.{Rose};
-ghost use Rattle.session_run.specs.Reading.{WritesScript};
-ghost use Rattle.session_run.specs.State.{setting_of};
+ghost use Rattle.session_login.specs.session_run.specs.Reading.{WritesScript};
+ghost use Rattle.session_login.specs.session_run.specs.State.{setting_of};
 ghost use Rattle.session_wire.specs.Ends.{IsEndOfRun};
 ghost use Rattle.data_due.specs.Stands.{StandFor};
 ghost use Rattle.pam_room.specs.Module.{notes_of};
-ghost use Rattle.pam_library.specs.Slots.{handle_limit, lists_of};
-ghost use Rattle.pam_library.specs.Plain.{gear_in};
-ghost use Rattle.pam_library.specs.Sound.{IsSoundFor};
+ghost use Rattle.session_check.specs.pam_library.specs.Slots.{handle_limit, lists_of};
+ghost use Rattle.session_check.specs.pam_library.specs.Plain.{gear_in};
+ghost use Rattle.session_check.specs.pam_library.specs.Sound.{IsSoundFor};
 ghost use Rattle.session_program.specs.CleanedUp.{IsCleanedUp};
 ghost use Rattle.session_program.specs.Run.{opening};
 ghost use Rattle.session_program.specs.Wire.{IsReadThrough, IsServed, IsWireStatus, ReadsFramesBy, Serves, WireCompletes, wire_status};
@@ -17,18 +17,18 @@ ghost use Rattle.session_program.specs.Wire.{IsReadThrough, IsServed, IsWireStat
 use crate::desk::{Desk, DeskTold};
 use crate::opening::{go_under, library_of};
 use fail_delay::{DelayFn, DelayRule, DelayTold, LONGEST_ASKED};
-use frame_stream::FrameFault;
 use item_stream::{Ending, Stop};
 use pam_base::{Code, Text};
-use pam_handle::{Gear, GearTold};
-use pam_library::{Library, LibraryTold};
 use pam_outside::{Sink, Source};
 use pam_room::{World, WorldTold};
+use session_check::pam_handle::{Gear, GearTold};
+use session_check::pam_library::{Library, LibraryTold};
+use session_wire::frame_stream::FrameFault;
 use session_wire::run_frames;
 use std::alloc::Global;
 
-/// Answers the frames of a front end under a root, over sixteen places with the desk's conversations. Answers the
-/// program's status.
+/// Runs the frames of a front end under a root, in sixteen transactions with the desk's conversations. Returns the
+/// exit status.
 pub(crate) fn answer_frames<S: Source, K: Sink>(
     alloc: Global,
     root: &[u8],
@@ -84,7 +84,7 @@ pub(crate) fn answer_frames<S: Source, K: Sink>(
     answer_over(alloc, library, root, script, out, world)
 }
 
-// Does it over a library in which no transaction is open.
+// Runs them over a library in which no transaction is open.
 fn answer_over<S: Source, K: Sink>(
     alloc: Global,
     library: Library,
@@ -131,7 +131,7 @@ fn answer_over<S: Source, K: Sink>(
     ensures world_tells { ⟦<World as WorldTold>⟧.tells world.new
         ≡ ⟦<World as WorldTold>⟧.tells world.old }
 {
-    session_run::laws::proceeding_stands();
+    session_login::session_run::laws::proceeding_stands();
     go_under(world, root);
     let mut library = library;
     let result = run_frames(alloc, &mut library, script, out, world);

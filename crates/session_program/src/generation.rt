@@ -4,12 +4,12 @@ ghost use Rattle.fail_delay.specs.DelayFn.{GivesOneNumber, IsNumberGiven};
 ghost use Rattle.pam_outside.specs.Counts.{Rose};
 ghost use Rattle.data_due.specs.Stands.{StandFor};
 ghost use Rattle.pam_room.specs.Module.{notes_of};
-ghost use Rattle.pam_library.specs.Plain.{gear_in};
-ghost use Rattle.pam_library.specs.Slots.{NoneIsOpen, handle_limit, lists_of};
-ghost use Rattle.pam_library.specs.Sound.{IsSoundFor};
+ghost use Rattle.session_check.specs.pam_library.specs.Plain.{gear_in};
+ghost use Rattle.session_check.specs.pam_library.specs.Slots.{NoneIsOpen, handle_limit, lists_of};
+ghost use Rattle.session_check.specs.pam_library.specs.Sound.{IsSoundFor};
 ghost use Rattle.session_generate.specs.Generated.{generation};
-ghost use Rattle.session_run.specs.Reading.{WritesScript};
-ghost use Rattle.session_run.specs.State.{setting_of, state_of};
+ghost use Rattle.session_login.specs.session_run.specs.Reading.{WritesScript};
+ghost use Rattle.session_login.specs.session_run.specs.State.{setting_of, state_of};
 ghost use Rattle.session_program.specs.CleanedUp.{EndsGenerate, IsCleanedUp};
 ghost use Rattle.session_program.specs.Generate.{GeneratesBy, IsGenerateStatus, IsGenerated, generate_status};
 
@@ -19,14 +19,14 @@ use crate::operand::Draw;
 use fail_delay::{DelayFn, DelayRule, DelayTold, LONGEST_ASKED};
 use item_stream::Stop;
 use pam_base::Code;
-use pam_handle::{Gear, GearTold};
-use pam_library::{Library, LibraryTold};
 use pam_outside::Sink;
 use pam_room::{World, WorldTold};
+use session_check::pam_handle::{Gear, GearTold};
+use session_check::pam_library::{Library, LibraryTold};
 use session_generate::{Generated, generate};
 use std::alloc::Global;
 
-/// Draws a service, and authenticates by it. Answers the program's status.
+/// Generates a service, and authenticates with it. Returns the exit status.
 pub(crate) fn draw<K: Sink>(
     alloc: Global,
     draw: Draw,
@@ -65,7 +65,7 @@ pub(crate) fn draw<K: Sink>(
     draw_over(alloc, library, draw, out, world)
 }
 
-// Does it over a library in which no transaction is open.
+// Generates it over a library in which no transaction is open.
 fn draw_over<K: Sink>(
     alloc: Global,
     library: Library,
@@ -100,7 +100,7 @@ fn draw_over<K: Sink>(
     ensures world_tells { ⟦<World as WorldTold>⟧.tells world.new
         ≡ ⟦<World as WorldTold>⟧.tells world.old }
 {
-    session_run::laws::proceeding_stands();
+    session_login::session_run::laws::proceeding_stands();
     let mut library = library;
     let generated = generate(alloc, &mut library, draw.seed, draw.lines, out, world);
     library.dismiss();

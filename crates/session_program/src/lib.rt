@@ -1,4 +1,7 @@
-//! The program `pamsess` over any objects: what its words ask for, and each command with its status.
+//! The program `pamsess` over any objects: what its arguments ask for, and each command with its exit status.
+//!
+//! Begin at program.rt; command.rt reads the arguments, script_run.rt, frame_run.rt, login.rt and generation.rt run
+//! the commands that need a library, which opening.rt makes.
 #![tactic(auto)]
 
 mod command;
@@ -15,3 +18,4 @@ mod usage;
 
 pub use desk::{Desk, DeskTold};
 pub use program::pamsess;
+pub use session_tally::mod_tally;

@@ -6,10 +6,10 @@ ghost use Rattle.fail_delay.specs.DelayFn.{GivesOneNumber, IsNumberGiven};
 ghost use Rattle.pam_outside.specs.Counts.{Rose};
 ghost use Rattle.data_due.specs.Stands.{StandFor};
 ghost use Rattle.pam_room.specs.Module.{notes_of};
-ghost use Rattle.pam_library.specs.Plain.{gear_in};
-ghost use Rattle.pam_library.specs.Slots.{NoneIsOpen, handle_limit, lists_of};
-ghost use Rattle.pam_library.specs.Sound.{IsSoundFor};
-ghost use Rattle.session_run.specs.State.{setting_of};
+ghost use Rattle.session_check.specs.pam_library.specs.Plain.{gear_in};
+ghost use Rattle.session_check.specs.pam_library.specs.Slots.{NoneIsOpen, handle_limit, lists_of};
+ghost use Rattle.session_check.specs.pam_library.specs.Sound.{IsSoundFor};
+ghost use Rattle.session_login.specs.session_run.specs.State.{setting_of};
 ghost use Rattle.session_program.specs.CleanedUp.{EndsLogin, IsCleanedUp};
 ghost use Rattle.session_program.specs.Login.{IsAtRoot, IsLogin, IsLoginStatus, LogsInBy, ShowsLogin, entry, login_status};
 
@@ -18,14 +18,14 @@ use crate::opening::library_of;
 use fail_delay::{DelayFn, DelayRule, DelayTold, LONGEST_ASKED};
 use item_stream::Stop;
 use pam_base::{Code, Text};
-use pam_handle::{Gear, GearTold};
-use pam_library::{Library, LibraryTold};
 use pam_outside::Sink;
 use pam_room::{World, WorldTold};
+use session_check::pam_handle::{Gear, GearTold};
+use session_check::pam_library::{Library, LibraryTold};
 use session_login::{Verdict, login};
 use std::alloc::Global;
 
-/// Logs somebody in with a service under a root, at the desk's terminal. Answers the program's status.
+/// Logs a user in with a service under a root, at the desk's terminal. Returns the exit status.
 pub(crate) fn log_in<K: Sink>(
     alloc: Global,
     root: &[u8],
@@ -72,7 +72,7 @@ pub(crate) fn log_in<K: Sink>(
     log_in_over(alloc, library, root, service, user, out, world)
 }
 
-// Does it over a library in which no transaction is open.
+// Logs the user in over a library in which no transaction is open.
 fn log_in_over<K: Sink>(
     alloc: Global,
     library: Library,
@@ -110,7 +110,7 @@ fn log_in_over<K: Sink>(
     ensures world_tells { ⟦<World as WorldTold>⟧.tells world.new
         ≡ ⟦<World as WorldTold>⟧.tells world.old }
 {
-    session_run::laws::proceeding_stands();
+    session_login::session_run::laws::proceeding_stands();
     set_root(world, root);
     let mut library = library;
     let verdict = login(alloc, &mut library, service, user, out, world);
@@ -118,7 +118,7 @@ fn log_in_over<K: Sink>(
     status_of_login(verdict)
 }
 
-// Puts the world under a root.
+// Sets the world's root.
 fn set_root(world: &mut World, root: Text)
     ensures tells { ⟦<World as WorldTold>⟧.tells world.new
         ≡ ⟦<World as WorldTold>⟧.tells world.old }

@@ -3,23 +3,23 @@ ghost use Rattle.pam_base.specs.declared.code.Code.{Code};
 ghost use Rattle.fail_delay.specs.DelayFn.{GivesOneNumber, IsNumberGiven};
 ghost use Rattle.data_due.specs.Stands.{StandFor};
 ghost use Rattle.pam_room.specs.Module.{notes_of};
-ghost use Rattle.pam_library.specs.Slots.{NoneIsOpen, handle_limit, lists_of};
-ghost use Rattle.pam_library.specs.Plain.{gear_in};
-ghost use Rattle.pam_library.specs.Sound.{IsSoundFor};
+ghost use Rattle.session_check.specs.pam_library.specs.Slots.{NoneIsOpen, handle_limit, lists_of};
+ghost use Rattle.session_check.specs.pam_library.specs.Plain.{gear_in};
+ghost use Rattle.session_check.specs.pam_library.specs.Sound.{IsSoundFor};
 ghost use Rattle.session_program.specs.Run.{IsUnder};
 
 use crate::desk::{Desk, DeskTold};
 use data_cleanup::Ledger;
 use fail_delay::{DelayFn, DelayRule, DelayTold, LONGEST_ASKED};
 use pam_base::{NoMemory, Text};
-use pam_handle::{Gear, GearTold};
-use pam_library::{Library, LibraryTold};
 use pam_outside::{set_moment, set_word};
 use pam_room::{World, WorldTold};
+use session_check::pam_handle::{Gear, GearTold};
+use session_check::pam_library::{Library, LibraryTold};
 use std::alloc::Global;
 
-/// A library with a desk's modules, conversations and delay function, in which no transaction is open, over a ledger in
-/// which nothing was entered. The terminal is given up.
+/// A library with a desk's modules, conversations and delay function, in which no transaction is open, over an empty
+/// cleanup log. The terminal is dropped.
 pub(crate) fn library_of(alloc: Global, desk: Desk, ledger: &Ledger) -> Result<Library, NoMemory>
     requires sixteen { length desk.convs.items ≡ 16 }
     requires few { length desk.mods.items < 2 ^ 32 }
@@ -46,7 +46,7 @@ pub(crate) fn library_of(alloc: Global, desk: Desk, ledger: &Ledger) -> Result<L
         (⟦<Gear as GearTold>⟧.players (gear_in library))
         (⟦<Library as LibraryTold>⟧.slots library) ledger.now) }
 {
-    pam_library::laws::closed_places_stand_for_none();
+    session_check::pam_library::laws::closed_places_stand_for_none();
     let Desk {
         mods,
         convs,
@@ -61,7 +61,7 @@ pub(crate) fn library_of(alloc: Global, desk: Desk, ledger: &Ledger) -> Result<L
     Ok(library)
 }
 
-/// Puts the world under a root, at the moment 0 and with the random word 0.
+/// Sets the world's root, the time 0 and the random word 0.
 pub(crate) fn go_under(world: &mut World, root: Text)
     ensures tells { ⟦<World as WorldTold>⟧.tells world.new
         ≡ ⟦<World as WorldTold>⟧.tells world.old }

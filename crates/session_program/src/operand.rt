@@ -1,7 +1,7 @@
 ghost use Rattle.std.specs.Prelude.{◌≤◌, IsTrue};
 ghost use Rattle.pam_base.specs.ServiceName.{is_service_name};
 
-/// n lines that are to be drawn from a seed: at most `drawn_files::MAX_DRAWN`.
+/// A number of lines to generate from a seed: at most `session_generate::drawn_files::MAX_DRAWN`.
 #[derive(Clone, Copy)]
 pub struct Draw {
     pub seed: u32,

@@ -2,16 +2,17 @@ ghost use Rattle.std.specs.Prelude.{◌≡◌, ◌≢◌, ◌⊎◌, ◌≤◌, 
 ghost use Rattle.pam_base.specs.declared.code.Code.{Code};
 ghost use Rattle.fail_delay.specs.DelayFn.{GivesOneNumber, IsNumberGiven};
 ghost use Rattle.pam_outside.specs.Counts.{Rose};
-ghost use Rattle.session_run.specs.Reading.{WritesScript};
-ghost use Rattle.session_run.specs.State.{setting_of};
+ghost use Rattle.session_login.specs.session_run.specs.Reading.{WritesScript};
+ghost use Rattle.session_login.specs.session_run.specs.State.{setting_of};
 ghost use Rattle.data_due.specs.Stands.{StandFor};
 ghost use Rattle.pam_room.specs.Module.{notes_of};
-ghost use Rattle.pam_library.specs.Slots.{handle_limit, lists_of};
-ghost use Rattle.pam_handle.specs.Plain.{in_box};
-ghost use Rattle.pam_library.specs.Plain.{gear_in};
-ghost use Rattle.pam_library.specs.Sound.{IsSoundFor};
-ghost use Rattle.service_load.specs.Loading.{OnlyCalls};
-ghost use Rattle.session_check.specs.Check.{WritesText, check_of};
+ghost use Rattle.session_check.specs.pam_library.specs.Slots.{handle_limit, lists_of};
+ghost use Rattle.session_check.specs.pam_handle.specs.Plain.{in_box};
+ghost use Rattle.session_check.specs.pam_library.specs.Plain.{gear_in};
+ghost use Rattle.session_check.specs.pam_library.specs.Sound.{IsSoundFor};
+ghost use Rattle.session_generate.specs.service_load.specs.Loading.{OnlyCalls};
+ghost use Rattle.item_stream.specs.Written.{WritesText};
+ghost use Rattle.session_check.specs.Check.{check_of};
 ghost use Rattle.session_program.specs.Command.{request_of, runs, checks, logs_in, generates, tallies, audits, wires};
 ghost use Rattle.transcript_audit.specs.Audit.{audit_of};
 ghost use Rattle.transcript_audit.specs.Transcript.{Takes};
@@ -41,46 +42,46 @@ use session_tally::list_failures;
 use std::alloc::Global;
 use transcript_audit::audit_transcript;
 
-/// The program `pamsess`. `words` are those of the command line, without the program's name:
+/// The program `pamsess`. `words` are the arguments of the command line, without the program's name:
 ///
-/// - `run ROOT` reads the calls of a script, applies each to its transaction, of sixteen, with the configuration under
-///   a root, and writes what it did before the next one is looked at; what is open at the end is ended, the lowest
-///   number first. It begins at the moment 0 with the random word 0.
-/// - `check ROOT SERVICE` prints the configuration of a service, or its first fault, and changes nothing of the world
-///   but what the vault counts.
-/// - `login ROOT SERVICE [USER]` logs somebody in at the desk's terminal, in the place of the first transaction, and
-///   writes what each call answered, and last whether the login was denied.
-/// - `generate SEED LINES` draws a service of that many lines, authenticates by it, and writes what that came to.
-/// - `tally ROOT USER` lists the failures of a user that `pam_faillock(8)` has recorded, and changes nothing of the
-///   world but what the vault counts. A USER that can be no file's name is none.
-/// - `audit ROOT SERVICE` says whether a transcript, the report of a run, fits the stacks of a service, or which line
-///   doesn't, and changes nothing of the world but what the vault counts.
-/// - `wire ROOT` does what `run` does for the frames of a front end, of at most 65,536 calls, and writes an answer to
-///   each before the next one is looked at.
+/// - `run ROOT` reads the calls of a script, makes each in its transaction, of sixteen, with the configuration under
+///   a root, and writes its report before it reads the next one; transactions that are open at the end are ended, the
+///   lowest number first. It begins at the time 0 with the random word 0.
+/// - `check ROOT SERVICE` prints the configuration of a service, or its first fault. Of the world it changes only the
+///   vault's counts.
+/// - `login ROOT SERVICE [USER]` logs a user in at the desk's terminal, in the first transaction, and writes the
+///   result of each call, and last whether the login was denied.
+/// - `generate SEED LINES` generates a service of that many lines, authenticates with it, and writes the result.
+/// - `tally ROOT USER` lists the failures of a user that `pam_faillock(8)` has recorded. Of the world it changes only
+///   the vault's counts. A USER that can't be a file's name is not a command.
+/// - `audit ROOT SERVICE` writes whether a transcript, the report of a run, fits the stacks of a service, or which
+///   line doesn't. Of the world it changes only the vault's counts.
+/// - `wire ROOT` does what `run` does for the frames of a front end, at most 65,536 calls, and writes an answer to
+///   each before it reads the next one.
 ///
-/// A word isn't empty and doesn't begin with `-`. It answers the program's status:
+/// An argument isn't empty and doesn't begin with `-`. It returns the exit status:
 ///
-/// - 0: the script or the frames were read to their end, the configuration is printed, the user was let in, the line is
-///   written, the failures are listed, or the transcript fits
-/// - 2: the words are others, so only a line on the usage is written
-/// - 3: the configuration is refused, or a drawn file is
-/// - 4: memory ran out
-/// - 5: the script, the frames or the transcript couldn't be read on
-/// - 6: a write failed, and what is written is a front of a report
+/// - 0: the script or the frames were read to their end, the configuration is printed, the login was granted, the
+///   line is written, the failures are listed, or the transcript fits
+/// - 2: the arguments are not a command, so only the usage line is written
+/// - 3: the configuration is refused, or a generated file couldn't be stored
+/// - 4: an allocation failed
+/// - 5: reading the script, the frames or the transcript failed
+/// - 6: a write failed, and what is written is a prefix of a report
 /// - 7: a line of the script is refused
 /// - 8: the login was denied
 /// - 9: the tally is damaged
 /// - 10: the tally can't be read
 /// - 11: the transcript doesn't fit
 /// - 12: the transcript has more than 1,048,576 bytes
-/// - 13: the frames have a bad one, or end within one
-/// - 14: another byte stands after 65,536 frames
+/// - 13: a frame is malformed, or the input ends within one
+/// - 14: another byte follows 65,536 frames
 ///
-/// On every way out each transaction that is open is ended: with SUCCESS, BUF_ERR (4), SYSTEM_ERR (5 and 6) or ABORT
-/// (7, 13 and 14).
+/// Whatever it returns, every transaction that is open is ended before: with SUCCESS, BUF_ERR (4), SYSTEM_ERR (5 and
+/// 6) or ABORT (7, 13 and 14).
 ///
-/// The delay function is to answer one number for each code and each delay of at most 90 seconds,
-/// of at most 60 seconds.
+/// For each code and each requested delay of at most 90 seconds, the delay function must always return the same
+/// number, at most 60 seconds.
 pub fn pamsess<S: Source, K: Sink>(
     alloc: Global,
     words: &[String],
@@ -97,8 +98,8 @@ pub fn pamsess<S: Source, K: Sink>(
     requires no_births { world.old.process.ledger.births ≡ [] }
     requires no_receipts { world.old.process.ledger.filed ≡ [] }
 
-    // Where the words are run ROOT, and all objects tell: with status 0 the whole script was read,
-    // its report is written, and the world is the one after it.
+    // If the arguments are `run ROOT`, and all objects are modelled: with status 0 the whole script was read, its
+    // report is written, and the world is the one after it.
     ensures done { (root : List ℕ) (number : Code → ℕ → ℕ) →
         request_of words.now ≡ Some (runs root) → IsNumberGiven (DelayRule.post desk.delay) number →
         IsTrue (S.source_tells script.old) → IsTrue (K.sink_tells out.old) →
@@ -109,8 +110,8 @@ pub fn pamsess<S: Source, K: Sink>(
         (⟦<World as WorldTold>⟧.plain world.new)
         (S.source_holds script.old) (S.source_holds script.new) (K.sink_holds out.old)
         (K.sink_holds out.new) }
-    // With status 7 the whole script is refused for the line that the report ends with. At most a buffer was taken with
-    // that line: the bytes taken before it hold no line that is refused.
+    // With status 7 the whole script is refused for the line that the report ends with. At most a buffer was read
+    // with that line: the bytes read before it hold no line that is refused.
     ensures refused { (root : List ℕ) (number : Code → ℕ → ℕ) →
         request_of words.now ≡ Some (runs root) → IsNumberGiven (DelayRule.post desk.delay) number →
         IsTrue (S.source_tells script.old) → IsTrue (K.sink_tells out.old) →
@@ -121,7 +122,7 @@ pub fn pamsess<S: Source, K: Sink>(
         (⟦<World as WorldTold>⟧.plain world.new)
         (S.source_holds script.old) (S.source_holds script.new) (K.sink_holds out.old)
         (K.sink_holds out.new) }
-    // With status 5 the lines that were read whole are reported.
+    // With status 5 the lines that were completely read are reported.
     ensures unread { (root : List ℕ) (number : Code → ℕ → ℕ) →
         request_of words.now ≡ Some (runs root) → IsNumberGiven (DelayRule.post desk.delay) number →
         IsTrue (S.source_tells script.old) → IsTrue (K.sink_tells out.old) →
@@ -132,7 +133,7 @@ pub fn pamsess<S: Source, K: Sink>(
         (⟦<World as WorldTold>⟧.plain world.new)
         (S.source_holds script.old) (S.source_holds script.new) (K.sink_holds out.old)
         (K.sink_holds out.new) }
-    // By any status, 4 and 6 too: what was read and written, how often, and the world after it.
+    // With any status, 4 and 6 too: what was read and written, how often, and the world after it.
     ensures told { (root : List ℕ) (number : Code → ℕ → ℕ) →
         request_of words.now ≡ Some (runs root) → IsNumberGiven (DelayRule.post desk.delay) number →
         IsTrue (S.source_tells script.old) → IsTrue (K.sink_tells out.old) →
@@ -143,7 +144,7 @@ pub fn pamsess<S: Source, K: Sink>(
         (S.source_holds script.old) (S.source_holds script.new) (K.sink_holds out.old)
         (K.sink_holds out.new) }
     ensures statuses { (root : List ℕ) → request_of words.now ≡ Some (runs root) → IsStatus result }
-    // No run gives up by itself.
+    // A run stops early only if an allocation, a read or a write fails.
     ensures complete { (root : List ℕ) (number : Code → ℕ → ℕ) →
         request_of words.now ≡ Some (runs root) → IsNumberGiven (DelayRule.post desk.delay) number →
         IsTrue (S.source_tells script.old) → IsTrue (K.sink_tells out.old) →
@@ -154,9 +155,8 @@ pub fn pamsess<S: Source, K: Sink>(
         (opening (⟦<Desk as DeskTold>⟧.slots desk) root (⟦<World as WorldTold>⟧.plain world.old))
         (S.source_holds script.old) }
 
-    // Where the source alone tells, by any world: at most as many reads as bytes taken, and one
-    // more; and what the status says of the script's bytes. Where the sink alone does: at most as
-    // many writes as bytes written, and one more.
+    // If only the source is modelled: at most one read more than bytes were read, and what the status says of the
+    // script's bytes. If only the sink is: at most one write more than bytes were written.
     ensures reads { (root : List ℕ) → request_of words.now ≡ Some (runs root) →
         IsTrue (S.source_tells script.old) →
         ReadsBy result (S.source_holds script.old) (S.source_holds script.new) }
@@ -170,13 +170,13 @@ pub fn pamsess<S: Source, K: Sink>(
         IsTrue (K.sink_tells out.old) →
         WritesScript (K.sink_holds out.old) (K.sink_holds out.new) }
 
-    // Where the words are check ROOT SERVICE, the configuration is written, or its first fault.
+    // If they are `check ROOT SERVICE`, the configuration is written, or its first fault.
     ensures checked { (root service : List ℕ) → request_of words.now ≡ Some (checks root service) →
         IsTrue (K.sink_tells out.old) → IsTrue (vault_tells (in_box world.old.vault)) →
         ChecksBy result (check_of (vault_holds (in_box world.old.vault)) root service)
         (K.sink_holds out.old) (K.sink_holds out.new) (vault_holds (in_box world.new.vault)) }
-    // Where the vault alone tells, the status is that of what was found; where the sink alone does: at most as many
-    // writes as bytes written, and one more.
+    // If only the vault is modelled, the status is that of what was found; if only the sink is: at most one write
+    // more than bytes were written.
     ensures check_found { (root service : List ℕ) →
         request_of words.now ≡ Some (checks root service) →
         IsTrue (vault_tells (in_box world.old.vault)) →
@@ -195,8 +195,8 @@ pub fn pamsess<S: Source, K: Sink>(
         IsTrue (vault_tells (in_box world.old.vault)) →
         OnlyCalls (vault_holds (in_box world.old.vault)) (vault_holds (in_box world.new.vault)) }
 
-    // Where they are login ROOT SERVICE [USER], and all objects tell: what the definition's login writes is written, or a
-    // front of it, and the world is the one after it. With 0, 3 and 8 it is written whole.
+    // If they are `login ROOT SERVICE [USER]`, and all objects are modelled: what a login writes by its definition is
+    // written, or a prefix of it, and the world is the one after it. With 0, 3 and 8 all of it is written.
     ensures logged_in { (root service : List ℕ) (user : Option (List ℕ)) (number : Code → ℕ → ℕ) →
         request_of words.now ≡ Some (logs_in root service user) →
         IsNumberGiven (DelayRule.post desk.delay) number → IsTrue (K.sink_tells out.old) →
@@ -214,8 +214,8 @@ pub fn pamsess<S: Source, K: Sink>(
     ensures login_stays { (root service : List ℕ) (user : Option (List ℕ)) →
         request_of words.now ≡ Some (logs_in root service user) → script.new ≡ script.old }
 
-    // Where they are generate SEED LINES, and all objects tell: the line of what was drawn is written, or a front of it, and
-    // the world is the one after it.
+    // If they are `generate SEED LINES`, and all objects are modelled: the line of the result is written, or a prefix
+    // of it, and the world is the one after it.
     ensures generated { (seed lines : ℕ) (number : Code → ℕ → ℕ) →
         request_of words.now ≡ Some (generates seed lines) →
         IsNumberGiven (DelayRule.post desk.delay) number → IsTrue (K.sink_tells out.old) →
@@ -232,7 +232,7 @@ pub fn pamsess<S: Source, K: Sink>(
     ensures generate_stays { (seed lines : ℕ) →
         request_of words.now ≡ Some (generates seed lines) → script.new ≡ script.old }
 
-    // Where they are tally ROOT USER, the user's failures are listed, or it is said why they aren't.
+    // If they are `tally ROOT USER`, the user's failures are listed, or the reason why not is written.
     ensures tallied { (root user : List ℕ) → request_of words.now ≡ Some (tallies root user) →
         IsTrue (K.sink_tells out.old) → IsTrue (vault_tells (in_box world.old.vault)) →
         TalliesBy result (tally_of (vault_holds (in_box world.old.vault)) root user)
@@ -252,7 +252,7 @@ pub fn pamsess<S: Source, K: Sink>(
         CountsUnread result (vault_faults (in_box world.old.vault))
         (vault_faults (in_box world.new.vault)) }
 
-    // Where they are audit ROOT SERVICE, the verdict on the transcript is written, or why there is none. With status 3
+    // If they are `audit ROOT SERVICE`, the verdict on the transcript is written, or why there is none. With status 3
     // the transcript isn't read.
     ensures audited { (root service : List ℕ) →
         request_of words.now ≡ Some (audits root service) → IsTrue (S.source_tells script.old) →
@@ -277,8 +277,9 @@ pub fn pamsess<S: Source, K: Sink>(
         request_of words.now ≡ Some (audits root service) → result ≢ 5 →
         S.source_faults script.new ≡ S.source_faults script.old }
 
-    // Where they are wire ROOT, and all objects tell: with status 0, 5, 13 and 14 all steps that the bytes taken spell
-    // are answered, and the closings, and the world is the one after them. With 4 and 6 it is a front of that.
+    // If they are `wire ROOT`, and all objects are modelled: with status 0, 5, 13 and 14 all steps in the bytes that
+    // were read are answered, and the implicit pam_end calls, and the world is the one after them. With 4 and 6 it is
+    // a prefix of that.
     ensures wire_answered { (root : List ℕ) (number : Code → ℕ → ℕ) →
         request_of words.now ≡ Some (wires root) →
         IsNumberGiven (DelayRule.post desk.delay) number →
@@ -301,8 +302,8 @@ pub fn pamsess<S: Source, K: Sink>(
         (K.sink_holds out.new) }
     ensures wire_statuses { (root : List ℕ) → request_of words.now ≡ Some (wires root) →
         IsWireStatus result }
-    // Where the source alone tells: how the run ends by the bytes taken, and that it doesn't give up by itself. Where
-    // the sink alone does: how often it was written.
+    // If only the source is modelled: how the bytes that were read end the run, and that it stops early only if an
+    // allocation, a read or a write fails. If only the sink is: how often it was written.
     ensures wire_reads { (root : List ℕ) → request_of words.now ≡ Some (wires root) →
         IsTrue (S.source_tells script.old) →
         ReadsFramesBy result (S.source_holds script.old) (S.source_holds script.new) }
@@ -317,14 +318,14 @@ pub fn pamsess<S: Source, K: Sink>(
     ensures wire_no_read_fault { (root : List ℕ) → request_of words.now ≡ Some (wires root) →
         IsReadThrough result → S.source_faults script.new ≡ S.source_faults script.old }
 
-    // Where they are none of these, the usage line is written.
+    // If they are none of these, the usage line is written.
     ensures usage { request_of words.now ≡ None → IsTrue (K.sink_tells out.old) →
         WritesUsage result (K.sink_holds out.old) (K.sink_holds out.new) }
     ensures usage_status { request_of words.now ≡ None → (result ≡ 2) ⊎ (result ≡ 6) }
     ensures usage_stays { request_of words.now ≡ None →
         (script.new ≡ script.old) × (world.new ≡ world.old) }
 
-    // The causes, in any world.
+    // The causes, with real objects too.
     ensures words_only { result ≡ 2 → request_of words.now ≡ None }
     ensures read_fault { result ≡ 5 → Rose (S.source_faults script.old)
         (S.source_faults script.new) }
@@ -333,12 +334,13 @@ pub fn pamsess<S: Source, K: Sink>(
     ensures write_fault { result ≡ 6 → Rose (K.sink_faults out.old) (K.sink_faults out.new) }
     ensures no_write_fault { result ≢ 6 → K.sink_faults out.new ≡ K.sink_faults out.old }
 
-    // In any world, whatever the status: every module datum that was set was cleaned up exactly once, with its due status.
+    // With real objects too, whatever the status: every module data set was cleaned up exactly once, with its due
+    // status.
     ensures cleaned_up { IsCleanedUp (MayEnd (request_of words.now) (S.source_tells script.old)
         (S.source_holds script.old).left result)
         (notes_of (⟦<Desk as DeskTold>⟧.players desk)) world.new.process.ledger }
 
-    // What tells before the run tells after it.
+    // What is modelled before the run is modelled after it.
     ensures source_tells { S.source_tells script.new ≡ S.source_tells script.old }
     ensures sink_tells { K.sink_tells out.new ≡ K.sink_tells out.old }
     ensures world_tells { ⟦<World as WorldTold>⟧.tells world.new

@@ -2,15 +2,15 @@ ghost use Rattle.std.specs.Prelude.{◌≡◌, ◌≢◌, ◌⊎◌, ◌≤◌, 
 ghost use Rattle.pam_base.specs.declared.code.Code.{Code};
 ghost use Rattle.fail_delay.specs.DelayFn.{GivesOneNumber, IsNumberGiven};
 ghost use Rattle.pam_outside.specs.Counts.{Rose};
-ghost use Rattle.session_run.specs.Reading.{WritesScript};
-ghost use Rattle.session_run.specs.State.{setting_of};
+ghost use Rattle.session_login.specs.session_run.specs.Reading.{WritesScript};
+ghost use Rattle.session_login.specs.session_run.specs.State.{setting_of};
 ghost use Rattle.data_due.specs.Stands.{StandFor};
 ghost use Rattle.pam_room.specs.Module.{notes_of};
-ghost use Rattle.pam_library.specs.Slots.{handle_limit, lists_of};
-ghost use Rattle.pam_library.specs.Plain.{gear_in};
-ghost use Rattle.pam_library.specs.Sound.{IsSoundFor};
+ghost use Rattle.session_check.specs.pam_library.specs.Slots.{handle_limit, lists_of};
+ghost use Rattle.session_check.specs.pam_library.specs.Plain.{gear_in};
+ghost use Rattle.session_check.specs.pam_library.specs.Sound.{IsSoundFor};
 ghost use Rattle.session_program.specs.CleanedUp.{IsCleanedUp};
-ghost use Rattle.session_run.specs.Ends.{IsEndOfRun};
+ghost use Rattle.session_login.specs.session_run.specs.Ends.{IsEndOfRun};
 ghost use Rattle.session_program.specs.Run.{IsBegun, IsStatus, ReadsBy, Runs, opening, status_of};
 
 use crate::desk::{Desk, DeskTold};
@@ -18,14 +18,15 @@ use crate::opening::{go_under, library_of};
 use fail_delay::{DelayFn, DelayRule, DelayTold, LONGEST_ASKED};
 use item_stream::{Ending, Stop};
 use pam_base::{Code, ScriptKind, Text};
-use pam_handle::{Gear, GearTold};
-use pam_library::{Library, LibraryTold};
 use pam_outside::{Sink, Source};
 use pam_room::{World, WorldTold};
-use session_run::run_script;
+use session_check::pam_handle::{Gear, GearTold};
+use session_check::pam_library::{Library, LibraryTold};
+use session_login::session_run::run_script;
 use std::alloc::Global;
 
-/// Runs the lines of a script under a root, over sixteen places with the desk's conversations.
+/// Runs the lines of a script under a root, in sixteen transactions with the desk's conversations. Returns the exit
+/// status.
 pub(crate) fn run<S: Source, K: Sink>(
     alloc: Global,
     root: &[u8],
@@ -120,8 +121,8 @@ fn run_over<S: Source, K: Sink>(
     ensures world_tells { ⟦<World as WorldTold>⟧.tells world.new
         ≡ ⟦<World as WorldTold>⟧.tells world.old }
 {
-    session_run::laws::proceeding_stands();
-    session_run::laws::numbers_stand_side_by_side();
+    session_login::session_run::laws::proceeding_stands();
+    session_login::session_run::laws::numbers_stand_side_by_side();
     go_under(world, root);
     let mut library = library;
     let result = run_script(alloc, &mut library, script, out, world);

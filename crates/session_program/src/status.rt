@@ -7,7 +7,7 @@ use session_check::Found;
 use session_tally::Tallied;
 use transcript_audit::Audited;
 
-/// The program's status after a check.
+/// The exit status after a check.
 pub(crate) fn status_of_check(found: Result<Found, Stop>) -> u8
     ensures { result ≡ check_status found }
 {
@@ -19,7 +19,7 @@ pub(crate) fn status_of_check(found: Result<Found, Stop>) -> u8
     }
 }
 
-/// The program's status after a list of failures.
+/// The exit status after a list of failures.
 pub(crate) fn status_of_tally(tallied: Result<Tallied, Stop>) -> u8
     ensures { result ≡ tally_status tallied }
 {
@@ -32,7 +32,7 @@ pub(crate) fn status_of_tally(tallied: Result<Tallied, Stop>) -> u8
     }
 }
 
-/// The program's status after an audit.
+/// The exit status after an audit.
 pub(crate) fn status_of_audit(audited: Result<Audited, Stop>) -> u8
     ensures { result ≡ audit_status audited }
 {

@@ -8,7 +8,7 @@ use pam_outside::{Sink, write_all};
 const USAGE: &str =
     "usage: pamsess run ROOT | check ROOT SERVICE | login ROOT SERVICE [USER] | generate SEED LINES | tally ROOT USER | audit ROOT SERVICE | wire ROOT\n";
 
-/// Writes the line on the usage. Answers the program's status.
+/// Writes the usage line. Returns the exit status.
 pub(crate) fn write_usage<K: Sink>(out: &mut K) -> u8
     ensures told { IsTrue (K.sink_tells out.old) →
         WritesUsage result (K.sink_holds out.old) (K.sink_holds out.new) }

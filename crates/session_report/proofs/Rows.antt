@@ -12,10 +12,10 @@ use Rattle.pam_base.specs.declared.style.Style.TheVariants.{EchoOff, EchoOn}
 use Rattle.pam_base.specs.declared.fault.FaultKind.TheVariants.{ZeroJump, ReadFailed}
 use Rattle.pam_base.specs.declared.fault.ScriptKind.TheVariants.{BadWord}
 use Rattle.pam_base.specs.Quote.{quoted_text}
-use Rattle.data_cleanup.specs.Ledger.{PlainLedger}
-use Rattle.data_cleanup.specs.declared.datum.Birth.{Birth}
-use Rattle.data_cleanup.specs.declared.receipt.Filed.{Filed}
-use Rattle.pam_room.specs.declared.visits.Visit.{Visit}
+use Rattle.pam_library.specs.data_cleanup.specs.Ledger.{PlainLedger}
+use Rattle.pam_library.specs.data_cleanup.specs.declared.datum.Birth.{Birth}
+use Rattle.pam_library.specs.data_cleanup.specs.declared.receipt.Filed.{Filed}
+use Rattle.pam_library.specs.pam_room.specs.declared.visits.Visit.{Visit}
 use Rattle.pam_library.specs.declared.outcome.Answer.{Answer}
 use Rattle.pam_library.specs.declared.outcome.Answer.TheVariants as answers
 use Rattle.pam_library.specs.Outcome.{PlainOutcome, answers_only}

@@ -1,10 +1,10 @@
 -- The data that were cleaned up (pam_set_data(3), pam_end(3); the lines are this project's own).
 use Rattle.std.specs.Prelude.{ℕ, ◌<◌, List, [], drop, slice_get, unwrap_or, Option, Some, None}
 use Rattle.std.specs.List.{flat_map, AllByRecursion}
-use Rattle.data_cleanup.specs.Ledger.{PlainLedger}
-use Rattle.data_cleanup.specs.declared.datum.Birth.{Birth}
-use Rattle.data_cleanup.specs.declared.receipt.Receipt.{Receipt}
-use Rattle.data_cleanup.specs.declared.receipt.Filed.{Filed}
+use Rattle.pam_library.specs.data_cleanup.specs.Ledger.{PlainLedger}
+use Rattle.pam_library.specs.data_cleanup.specs.declared.datum.Birth.{Birth}
+use Rattle.pam_library.specs.data_cleanup.specs.declared.receipt.Receipt.{Receipt}
+use Rattle.pam_library.specs.data_cleanup.specs.declared.receipt.Filed.{Filed}
 use Rattle.report_lines.specs.Line as lines
 
 -- the line of a receipt, with the name of its datum's owner and the datum's own

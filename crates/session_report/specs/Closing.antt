@@ -1,7 +1,7 @@
 -- The report of a transaction that the program ended (this project's own).
 use Rattle.std.specs.Prelude.{ℕ, List, ◌++◌, codes}
 use Rattle.pam_base.specs.declared.code.Code.{Code}
-use Rattle.data_cleanup.specs.Ledger.{PlainLedger}
+use Rattle.pam_library.specs.data_cleanup.specs.Ledger.{PlainLedger}
 use Rattle.session_report.specs.Cleaned.{cleanups_text}
 use Rattle.report_lines.specs.Line.{code_words, words_text}
 

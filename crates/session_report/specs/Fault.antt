@@ -1,6 +1,6 @@
 -- What a configuration is refused for (this project's own).
 use Rattle.std.specs.Prelude.{ℕ, List, ◌++◌, codes}
-use Rattle.service_load.specs.declared.load_fault.LoadFault.{LoadFault}
+use Rattle.report_lines.specs.service_load.specs.declared.load_fault.LoadFault.{LoadFault}
 use Rattle.report_lines.specs.Line.{refused_words}
 
 -- it as a line of its own

@@ -1,3 +1,13 @@
+pub use Rattle.report_lines.specs.conf_lex
+pub use Rattle.pam_library.specs.conv_port
+pub use Rattle.pam_library.specs.data_due
+pub use Rattle.pam_library.specs.dispatch_core
+pub use Rattle.pam_library.specs.fail_delay
+pub use Rattle.pam_library.specs.pam_handle
+pub use Rattle.pam_library
+pub use Rattle.pam_library.specs.pam_room
+pub use Rattle.report_lines
+pub use Rattle.report_lines.specs.service_load
 pub mod Said
 pub mod Visited
 pub mod Cleaned

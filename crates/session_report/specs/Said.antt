@@ -1,7 +1,7 @@
 -- What modules said and asked in a step (this project's own; the styles are those of pam_conv(3)).
 use Rattle.std.specs.Prelude.{ℕ, List}
 use Rattle.std.specs.List.{flat_map}
-use Rattle.conv_port.specs.declared.message.Message.{Message}
+use Rattle.pam_library.specs.conv_port.specs.declared.message.Message.{Message}
 use Rattle.report_lines.specs.Line as lines
 
 -- the line of a message

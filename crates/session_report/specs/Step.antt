@@ -1,8 +1,8 @@
 -- The report of a step (this project's own): what it told, in this order, and what it answered.
 use Rattle.std.specs.Prelude.{ℕ, List, ◌++◌}
 use Rattle.pam_base.specs.declared.call.Step.{Step}
-use Rattle.data_cleanup.specs.Ledger.{PlainLedger}
-use Rattle.script_lang.specs.Command.{word_of_call}
+use Rattle.pam_library.specs.data_cleanup.specs.Ledger.{PlainLedger}
+use Rattle.report_lines.specs.script_lang.specs.Command.{word_of_call}
 use Rattle.pam_library.specs.Outcome.{PlainOutcome}
 use Rattle.session_report.specs.Said.{messages_text}
 use Rattle.session_report.specs.Visited.{visits_text}

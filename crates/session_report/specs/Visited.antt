@@ -1,10 +1,10 @@
 -- The lines of a stack that a step came to (this project's own).
 use Rattle.std.specs.Prelude.{ℕ, List}
 use Rattle.std.specs.List.{flat_map}
-use Rattle.control_words.specs.Module.{name_of_module}
-use Rattle.pam_room.specs.declared.visits.Visit.{Visit}
+use Rattle.report_lines.specs.control_words.specs.Module.{name_of_module}
+use Rattle.pam_library.specs.pam_room.specs.declared.visits.Visit.{Visit}
 use Rattle.report_lines.specs.Line as lines
-use Rattle.stack_walk.specs.Retell.{seen_at}
+use Rattle.report_lines.specs.stack_walk.specs.Retell.{seen_at}
 
 -- the line of a visit
 abbrev pub visit_text : ℕ → Visit → List ℕ

@@ -1,6 +1,6 @@
 -- The wait after an authentication, pam_fail_delay(3) (the line is this project's own).
 use Rattle.std.specs.Prelude.{ℕ, List, [], Option, Some, None}
-use Rattle.pam_handle.specs.declared.wait.Wait.{Wait}
+use Rattle.pam_library.specs.pam_handle.specs.declared.wait.Wait.{Wait}
 use Rattle.report_lines.specs.Line as lines
 
 -- the line of a wait

@@ -10,7 +10,7 @@ use report_lines::{
     write_result, write_value_result,
 };
 
-/// Adds the lines of an answer to a command.
+/// Adds the lines of a call's result.
 pub(crate) fn write_answer(
     text: &mut String,
     handle: u32,

@@ -1,15 +1,15 @@
 ghost use Rattle.std.specs.Prelude.{◌≡◌, ◌++◌, ◌<◌, ◌≤◌, length, OnOk, string_bytes};
-ghost use Rattle.dispatch_core.specs.Lines.{names_of};
+ghost use Rattle.pam_library.specs.dispatch_core.specs.Lines.{names_of};
 ghost use Rattle.pam_library.specs.Plain.{gear_in};
 ghost use Rattle.session_report.specs.Cleaned.{cleanup_text, filed_text, cleanups_text, AreOwned};
 
-use data_cleanup::{Births, Filed, Ledger, Receipt};
 use pam_base::NoMemory;
-use pam_handle::{Gear, GearTold};
 use pam_library::Library;
+use pam_library::data_cleanup::{Births, Filed, Ledger, Receipt};
+use pam_library::pam_handle::{Gear, GearTold};
 use report_lines::write_cleaned;
 
-/// Adds a line for each receipt of the ledger after the first n, in order. Each birth's owner is one of the
+/// Adds a line for each cleanup record after the first n, in order. The owner of each data set is one of the
 /// library's modules.
 pub(crate) fn write_cleanups(
     text: &mut String,
@@ -25,7 +25,7 @@ pub(crate) fn write_cleanups(
         ++ cleanups_text handle (names_of (⟦<Gear as GearTold>⟧.players
         (gear_in library.now))) ledger.now filed_from) }
 {
-    data_cleanup::laws::ledger_is_sound(ledger);
+    pam_library::data_cleanup::laws::ledger_is_sound(ledger);
     let births = ledger.births();
     for filed in &ledger.filed()[filed_from as usize..] {
         write_filed(text, handle, library, births, filed)?;
@@ -33,7 +33,7 @@ pub(crate) fn write_cleanups(
     Ok(())
 }
 
-// The line of a receipt, whose birth has its id as its place.
+// The line of a cleanup record, whose data set is at its number.
 fn write_filed(
     text: &mut String,
     handle: u32,

@@ -1,19 +1,19 @@
 ghost use Rattle.std.specs.Prelude.{◌≡◌, ◌≤◌, length, IfOk, string_bytes};
-ghost use Rattle.dispatch_core.specs.Lines.{names_of};
+ghost use Rattle.pam_library.specs.dispatch_core.specs.Lines.{names_of};
 ghost use Rattle.pam_library.specs.Plain.{gear_in};
 ghost use Rattle.session_report.specs.Cleaned.{AreOwned};
 ghost use Rattle.session_report.specs.Closing.{closing_text};
 
 use crate::cleaned::write_cleanups;
-use data_cleanup::Ledger;
 use pam_base::{Code, NoMemory};
-use pam_handle::{Gear, GearTold};
 use pam_library::Library;
+use pam_library::data_cleanup::Ledger;
+use pam_library::pam_handle::{Gear, GearTold};
 use report_lines::write_code_result;
 use std::alloc::Global;
 
 /// The lines of a transaction that the program ended with this status, each with its newline: the cleanups after the
-/// first n, and `H closed NAME NUMBER`. The ledger is that after the end.
+/// first n, and `H closed NAME NUMBER`. The cleanup log is the one after the end.
 pub fn closing_report(
     alloc: Global,
     library: &Library,

@@ -1,5 +1,7 @@
-//! The lines of the report: what a step of the script told and answered, the end of a transaction by the program,
-//! and the last line of a run that couldn't go on. Each text is made whole before any of it is written.
+//! The lines of the report: what a step of the script did and returned, the end of a transaction by the program, and
+//! the last line of a run that stopped. Each text is complete before any of it is written.
+//!
+//! Begin at step.rt, which puts the lines of a step together from those of the other files.
 #![tactic(auto)]
 
 mod answered;
@@ -17,6 +19,8 @@ mod waited;
 
 pub use closing::closing_report;
 pub use fault::refused_report;
+pub use pam_library;
+pub use pam_library::{data_due, fail_delay, pam_handle, pam_room};
 pub use result::result_report;
 pub use script::{read_fault_report, script_report};
 pub use step::step_report;

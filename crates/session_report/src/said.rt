@@ -1,8 +1,8 @@
 ghost use Rattle.std.specs.Prelude.{◌≡◌, ◌++◌, OnOk, string_bytes};
 ghost use Rattle.session_report.specs.Said.{message_text, messages_text};
 
-use conv_port::Message;
 use pam_base::NoMemory;
+use pam_library::conv_port::Message;
 use report_lines::write_said;
 
 /// Adds a line for each message, in order.

@@ -6,7 +6,7 @@ use pam_base::{NoMemory, ScriptKind};
 use report_lines::{read_fault_line, script_line};
 use std::alloc::Global;
 
-/// The last line of a run whose script couldn't be read on, with its newline.
+/// The last line of a run whose script couldn't be read to its end, with its newline.
 pub fn read_fault_report() -> &'static str
     ensures { result.now ≡ read_fault_text }
 {

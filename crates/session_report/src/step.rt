@@ -1,5 +1,5 @@
 ghost use Rattle.std.specs.Prelude.{◌≡◌, ◌≤◌, length, IfOk, string_bytes};
-ghost use Rattle.dispatch_core.specs.Lines.{names_of};
+ghost use Rattle.pam_library.specs.dispatch_core.specs.Lines.{names_of};
 ghost use Rattle.pam_library.specs.Outcome.{plain_outcome};
 ghost use Rattle.pam_library.specs.Plain.{gear_in};
 ghost use Rattle.session_report.specs.Cleaned.{AreOwned};
@@ -11,16 +11,16 @@ use crate::missing::write_all_missing;
 use crate::said::write_messages;
 use crate::visited::write_visits;
 use crate::waited::write_waited;
-use data_cleanup::Ledger;
 use pam_base::{NoMemory, Step};
-use pam_handle::{Gear, GearTold};
+use pam_library::data_cleanup::Ledger;
+use pam_library::pam_handle::{Gear, GearTold};
 use pam_library::{Library, Outcome};
-use script_lang::call_word;
+use report_lines::script_lang::call_word;
 use std::alloc::Global;
 
-/// The lines of a step, each with its newline: what was said, the lines that were visited, the
-/// cleanups, the wait, the missing modules, and the result. Library and ledger are those after the
-/// step, of which the outcome tells. A reply that was offered has no line.
+/// The lines of a step, each with its newline: the messages, the lines that were run, the cleanups, the wait, the
+/// missing modules, and the result. Library and cleanup log are those after the step. A reply that was queued has no
+/// line.
 pub fn step_report(
     alloc: Global,
     library: &Library,

@@ -1,12 +1,12 @@
 ghost use Rattle.std.specs.Prelude.{◌≡◌, ◌++◌, OnOk, string_bytes};
 ghost use Rattle.session_report.specs.Visited.{visit_text, visits_text};
 
-use control_words::module_name;
 use pam_base::NoMemory;
-use pam_room::Visit;
+use pam_library::pam_room::Visit;
+use report_lines::control_words::module_name;
 use report_lines::write_visited;
 
-/// Adds a line for each visit, in order.
+/// Adds a line for each line that was run, in order.
 pub(crate) fn write_visits(text: &mut String, handle: u32, visits: &[Visit]) -> Result<(), NoMemory>
     ensures { OnOk result (string_bytes text.new ≡ string_bytes text.old
         ++ visits_text handle visits.now) }

@@ -2,9 +2,9 @@ ghost use Rattle.std.specs.Prelude.{◌≡◌, ◌++◌, OnOk, string_bytes};
 ghost use Rattle.session_report.specs.Waited.{wait_text, waited_text};
 
 use pam_base::NoMemory;
-use pam_handle::Wait;
+use pam_library::pam_handle::Wait;
 
-/// Adds the line of a wait, where there was one.
+/// Adds the line of a wait, if there was one.
 pub(crate) fn write_waited(
     text: &mut String,
     handle: u32,

@@ -2,10 +2,10 @@
 use Rattle.std.proofs.Common.{◌≡◌, ℕ, ◌+◌, Bool, true, false, cond, leb, ltb, List, [], ◌∷◌, ◌++◌, length, Result, Ok, Err, refl, sym, ap, ◌∙◌, append_assoc, append-nil}
 use Rattle.pam_base.specs.declared.fault.ScriptKind.{ScriptKind}
 use Rattle.pam_base.specs.declared.fault.ScriptKind.TheVariants.{LineTooLong, TooManyLines}
-use Rattle.dispatch_core.specs.Lines.{names_of}
-use Rattle.pam_library.specs.SideBySide.{Met, slots_after}
-use Rattle.pam_library.specs.Slots.{PlainSlot}
-use Rattle.pam_library.specs.Step.{stepped}
+use Rattle.session_report.specs.dispatch_core.specs.Lines.{names_of}
+use Rattle.session_report.specs.pam_library.specs.SideBySide.{Met, slots_after}
+use Rattle.session_report.specs.pam_library.specs.Slots.{PlainSlot}
+use Rattle.session_report.specs.pam_library.specs.Step.{stepped}
 use Rattle.script_lang.specs.declared.line.Line.{Line}
 use Rattle.script_lang.specs.declared.line.Line.TheVariants as lines
 use Rattle.script_lang.specs.Line.{parsed}

@@ -5,7 +5,7 @@ use Rattle.pam_base.specs.declared.fault.Failed.{Failed}
 use Rattle.pam_base.specs.declared.fault.ScriptKind.{ScriptKind}
 use Rattle.pam_base.specs.declared.fault.ScriptKind.TheVariants.{LineTooLong, TooManyLines}
 use Rattle.pam_outside.specs.Streams.{SourceState, SinkState, WritesWhole}
-use Rattle.pam_room.specs.Module.{Player}
+use Rattle.session_report.specs.pam_room.specs.Module.{Player}
 use Rattle.script_lang.specs.declared.line.Line.{Line}
 use Rattle.script_lang.specs.Line.{parsed}
 use Rattle.script_stream.specs.Turns.{Ending}

@@ -3,13 +3,13 @@ use Rattle.std.proofs.Common.{◌≡◌, ◌⊎◌, ℕ, inl, inr, List, [], ◌
 use Rattle.data_cleanup.specs.Due.{Event, birth, ends}
 use Rattle.data_cleanup.specs.Ledger.{PlainLedger}
 use Rattle.data_cleanup.specs.declared.datum.Birth.{Birth}
-use Rattle.data_due.specs.Stands.{Lists}
+use Rattle.session_report.specs.data_due.specs.Stands.{Lists}
 use Rattle.pam_base.specs.Lines.{lines_of}
 use Rattle.pam_base.specs.declared.code.Code.{Code}
 use Rattle.pam_outside.specs.Streams.{SinkState}
-use Rattle.pam_room.specs.Module.{notes_of}
-use Rattle.pam_library.specs.Calls.{Moved, births_added, events_of}
-use Rattle.pam_library.specs.Slots.{lists_of}
+use Rattle.session_report.specs.pam_room.specs.Module.{notes_of}
+use Rattle.session_report.specs.pam_library.specs.Calls.{Moved, births_added, events_of}
+use Rattle.session_report.specs.pam_library.specs.Slots.{lists_of}
 use Rattle.session_run.specs.AnyWorld.{AllEndsAre, ProceedsBy}
 use Rattle.session_run.specs.Ends.{EndsAre, HasStatus}
 use Rattle.session_run.specs.Events.{Broken, IsAskedBy, IsLaterEnd, Served, StandOn, StandsBehind, StandsCut, line_events}

@@ -5,10 +5,10 @@ use Rattle.pam_base.specs.declared.call.AppCall.TheVariants.{End}
 use Rattle.pam_base.specs.declared.call.Step.{Step}
 use Rattle.pam_base.specs.declared.code.Code.{Code}
 use Rattle.pam_base.specs.Code.{number_of}
-use Rattle.pam_room.specs.State.{PlainWorld}
-use Rattle.pam_library.specs.Alike.{AreAlike}
-use Rattle.pam_library.specs.Slots.{PlainSlot, closed, opened, slot_at}
-use Rattle.pam_library.specs.Step.{Stepped, stepped, stepped_at}
+use Rattle.session_report.specs.pam_room.specs.State.{PlainWorld}
+use Rattle.session_report.specs.pam_library.specs.Alike.{AreAlike}
+use Rattle.session_report.specs.pam_library.specs.Slots.{PlainSlot, closed, opened, slot_at}
+use Rattle.session_report.specs.pam_library.specs.Step.{Stepped, stepped, stepped_at}
 use Rattle.session_run.specs.Closings.{all_closed, closings_behind, last_state, world_behind}
 use Rattle.session_run.specs.State.{RunState, Setting, state_of}
 use Rattle.session_run.specs.Isolation.{world_left}

@@ -1,7 +1,7 @@
 -- Where no transaction is open, none has data.
 use Rattle.std.proofs.Common.{◌≡◌, ℕ, zero, suc, Bool, true, false, List, [], ◌∷◌, Option, Some, None, refl, sym, ap, ◌∙◌}
 use Rattle.std.specs.Prelude.{slice_get}
-use Rattle.pam_library.specs.Slots.{PlainSlot, NoneIsOpen, closed, opened, is_open, data_in, lists_of}
+use Rattle.session_report.specs.pam_library.specs.Slots.{PlainSlot, NoneIsOpen, closed, opened, is_open, data_in, lists_of}
 
 closed_at : (slots : List PlainSlot) (i : ℕ) (slot : PlainSlot) → NoneIsOpen slots → slice_get slots i ≡ Some slot → is_open slot ≡ false
 closed_at [] i slot none e = absurd cc

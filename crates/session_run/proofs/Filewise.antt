@@ -5,12 +5,12 @@ use Rattle.pam_base.specs.declared.call.Step.{Step}
 use Rattle.pam_base.specs.declared.fault.ScriptKind.{ScriptKind}
 use Rattle.pam_base.specs.declared.fault.ScriptKind.TheVariants.{LineTooLong, TooManyLines}
 use Rattle.pam_outside.specs.Files.{File}
-use Rattle.pam_room.specs.Module.{Player}
-use Rattle.pam_room.specs.State.{PlainWorld}
-use Rattle.pam_library.specs.Plays.{TimedVisit, VisitsLead, visits_at}
-use Rattle.pam_library.specs.SideBySide.{Met}
-use Rattle.pam_library.specs.Slots.{PlainSlot, closed, opened}
-use Rattle.pam_library.specs.Step.{stepped}
+use Rattle.session_report.specs.pam_room.specs.Module.{Player}
+use Rattle.session_report.specs.pam_room.specs.State.{PlainWorld}
+use Rattle.session_report.specs.pam_library.specs.Plays.{TimedVisit, VisitsLead, visits_at}
+use Rattle.session_report.specs.pam_library.specs.SideBySide.{Met}
+use Rattle.session_report.specs.pam_library.specs.Slots.{PlainSlot, closed, opened}
+use Rattle.session_report.specs.pam_library.specs.Step.{stepped}
 use Rattle.script_lang.specs.declared.line.Line.{Line}
 use Rattle.script_lang.specs.declared.line.Line.TheVariants as lines
 use Rattle.script_lang.specs.Line.{parsed}

@@ -5,15 +5,15 @@ use Rattle.std.proofs.lemmas.Bool.Decides.{nat_tests}
 use Rattle.data_cleanup.specs.Cleanup.{Notes, ledger_after}
 use Rattle.data_cleanup.specs.Due.{Event, ends}
 use Rattle.data_cleanup.specs.Ledger.{PlainLedger}
-use Rattle.data_due.specs.Stands.{Lists, StandFor, clean_list}
+use Rattle.session_report.specs.data_due.specs.Stands.{Lists, StandFor, clean_list}
 use Rattle.pam_base.specs.Code.{number_of}
 use Rattle.pam_base.specs.Lines.{lines_of}
 use Rattle.pam_base.specs.declared.code.Code.{Code}
-use Rattle.pam_handle.specs.Handle.{PlainHandle}
-use Rattle.pam_room.specs.Module.{Player, notes_of}
-use Rattle.pam_room.specs.State.{PlainWorld}
-use Rattle.pam_library.specs.Calls.{MoveOn, Moved, events_of, last_ledger, last_lists}
-use Rattle.pam_library.specs.Slots.{PlainSlot, closed, data_in, lists_of, opened}
+use Rattle.session_report.specs.pam_handle.specs.Handle.{PlainHandle}
+use Rattle.session_report.specs.pam_room.specs.Module.{Player, notes_of}
+use Rattle.session_report.specs.pam_room.specs.State.{PlainWorld}
+use Rattle.session_report.specs.pam_library.specs.Calls.{MoveOn, Moved, events_of, last_ledger, last_lists}
+use Rattle.session_report.specs.pam_library.specs.Slots.{PlainSlot, closed, data_in, lists_of, opened}
 use Rattle.pam_outside.specs.Streams.{SinkState}
 use Rattle.item_stream.specs.Run.{come_to, run_items}
 use Rattle.script_stream.specs.Run.{run_lines}

@@ -3,7 +3,7 @@ use Rattle.std.proofs.Common.{◌≡◌, ℕ, ◌+◌, Bool, true, false, not, n
 use Rattle.std.proofs.Math.Path.{fun_ext}
 use Rattle.std.proofs.lemmas.Bool.{ltb-true}
 use Rattle.std.proofs.lemmas.Bool.Decides.{nat_tests}
-use Rattle.report_lines.specs.Line.{number_words}
+use Rattle.session_report.specs.report_lines.specs.Line.{number_words}
 use Rattle.std.specs.List.{flat_map}
 use Rattle.std.specs.Prelude.{nat_le, nat_lt}
 use Rattle.pam_base.specs.declared.code.Code.{Code}
@@ -13,14 +13,14 @@ use Rattle.pam_base.specs.declared.fault.ScriptKind.TheVariants.{LineTooLong, To
 use Rattle.data_cleanup.specs.declared.datum.Birth.{Birth}
 use Rattle.data_cleanup.specs.declared.receipt.Filed.{Filed}
 use Rattle.data_cleanup.specs.declared.receipt.Receipt.{Receipt}
-use Rattle.dispatch_core.specs.Lines.{names_of}
-use Rattle.pam_outside.specs.Time.{ClockState}
-use Rattle.pam_room.specs.Module.{Player}
-use Rattle.pam_room.specs.State.{PlainWorld}
-use Rattle.pam_library.specs.Alike.{AreAlike, Cleaned, ComeToSame, cleaned_as, cleaned_behind, cleaned_by, told_in}
-use Rattle.pam_library.specs.Outcome.{PlainOutcome}
-use Rattle.pam_library.specs.Slots.{PlainSlot}
-use Rattle.pam_library.specs.Step.{Stepped, stepped}
+use Rattle.session_report.specs.dispatch_core.specs.Lines.{names_of}
+use Rattle.pam_outside.specs.Time.{ClockState, Time, time_of}
+use Rattle.session_report.specs.pam_room.specs.Module.{Player}
+use Rattle.session_report.specs.pam_room.specs.State.{PlainWorld}
+use Rattle.session_report.specs.pam_library.specs.Alike.{AreAlike, Cleaned, ComeToSame, Shown, cleaned_as, cleaned_behind, cleaned_by, shown_to, told_in}
+use Rattle.session_report.specs.pam_library.specs.Outcome.{PlainOutcome}
+use Rattle.session_report.specs.pam_library.specs.Slots.{PlainSlot}
+use Rattle.session_report.specs.pam_library.specs.Step.{Stepped, stepped}
 use Rattle.script_lang.specs.Command.{word_of_call}
 use Rattle.script_lang.specs.declared.line.Line.{Line}
 use Rattle.script_lang.specs.declared.line.Line.TheVariants as lines
@@ -115,12 +115,16 @@ module _ (setting : Setting) where
       silent : (x y : RunState) (text words : List ℕ) → Alike x y → Next x → GoAlike (f x) (g y) (with_text text (u x)) (with_text words (v y))
       silent x y text words alike stays = let m : GoAlike (f x) (g y) (u x) (v y) = more x y alike stays in record { came = m.came; last = m.last; lines = m.lines; refused = m.refused }
 
-      set_twins : (clock : ClockState → ClockState) (caller : ℕ → ℕ) (s t : RunState) → Alike s t →
+      set_twins : (clock : ClockState → ClockState) (time : Time → Time) → ((c : ClockState) → time_of (clock c) ≡ time (time_of c)) → (caller : ℕ → ℕ)
+          (s t : RunState) → Alike s t →
           Alike (state_of s.slots (record s.world { clock = clock s.world.clock; process = record s.world.process { caller = caller s.world.process.caller } }))
           (state_of t.slots (record t.world { clock = clock t.world.clock; process = record t.world.process { caller = caller t.world.process.caller } }))
-      set_twins clock caller s t h = record {
+      set_twins clock time agrees caller s t h = record {
         place = h.place;
-        shown = λ i. record (h.shown i) { clock = clock (h.shown i).clock; caller = caller (h.shown i).caller };
+        shown =
+            ap (λ (x : Time). record (shown_to number s.world) { clock = x; caller = caller s.world.process.caller }) (agrees s.world.clock)
+            ∙ ap (λ (x : Shown). record x { clock = time x.clock; caller = caller x.caller }) h.shown
+            ∙ sym (ap (λ (x : Time). record (shown_to number t.world) { clock = x; caller = caller t.world.process.caller }) (agrees t.world.clock));
         first_order = h.first_order;
         second_order = h.second_order;
         first_quiet = h.first_quiet;
@@ -166,11 +170,11 @@ module _ (setting : Setting) where
       line_goes false s t (Ok lines.Blank) h stays = silent s t [] [] h stays.1
       line_goes false s t (Ok (lines.Step step)) h stays = step_goes s t step (nat_eq step.number number) refl h stays
       line_goes false s t (Ok (lines.At moment)) h stays =
-          silent (applied setting s (lines.At moment)).0 (applied setting t (lines.At moment)).0 [] [] (set_twins (λ (c : ClockState). record c { moment = moment }) (λ (c : ℕ). c) s t h) stays.1
+          silent (applied setting s (lines.At moment)).0 (applied setting t (lines.At moment)).0 [] [] (set_twins (λ (c : ClockState). record c { moment = moment }) (λ (x : Time). record x { moment = moment }) (λ c. refl) (λ (c : ℕ). c) s t h) stays.1
       line_goes false s t (Ok (lines.Random word)) h stays =
-          silent (applied setting s (lines.Random word)).0 (applied setting t (lines.Random word)).0 [] [] (set_twins (λ (c : ClockState). record c { word = word }) (λ (c : ℕ). c) s t h) stays.1
+          silent (applied setting s (lines.Random word)).0 (applied setting t (lines.Random word)).0 [] [] (set_twins (λ (c : ClockState). record c { word = word }) (λ (x : Time). record x { word = word }) (λ c. refl) (λ (c : ℕ). c) s t h) stays.1
       line_goes false s t (Ok (lines.Caller caller)) h stays =
-          silent (applied setting s (lines.Caller caller)).0 (applied setting t (lines.Caller caller)).0 [] [] (set_twins (λ (c : ClockState). c) (λ (c : ℕ). caller) s t h) stays.1
+          silent (applied setting s (lines.Caller caller)).0 (applied setting t (lines.Caller caller)).0 [] [] (set_twins (λ (c : ClockState). c) (λ (x : Time). x) (λ c. refl) (λ (c : ℕ). caller) s t h) stays.1
 
     -- ---- all lines
 

@@ -1,15 +1,15 @@
 -- The lowest open transaction is ended: what is left of the closings.
 use Rattle.std.proofs.Common.{◌≡◌, ℕ, suc, ◌+◌, ◌<◌, ◌≤◌, List, [], ◌∷◌, ◌++◌, length, Option, Some, None, refl, sym, ap, subst, ◌∙◌, append_assoc, append-nil, length-append, reverse, arith}
 use Rattle.std.specs.Prelude.{slice_set, option_map, IfSome, IfNone}
-use Rattle.conv_port.specs.Conv.{ConvState}
+use Rattle.session_report.specs.conv_port.specs.Conv.{ConvState}
 use Rattle.data_cleanup.specs.Cleanup.{receipts_for}
 use Rattle.pam_base.specs.declared.code.Code.{Code}
 use Rattle.pam_base.specs.Code.{number_of}
-use Rattle.pam_room.specs.Module.{Player, notes_of}
-use Rattle.pam_room.specs.State.{PlainWorld}
-use Rattle.pam_handle.specs.Handle.{PlainHandle}
-use Rattle.pam_library.specs.Slots.{PlainSlot, NoneIsOpen, closed, opened, with_slot}
-use Rattle.pam_library.specs.Closing.{ClosedOne, ClosesAs, first_open, ended_at, closed_one}
+use Rattle.session_report.specs.pam_room.specs.Module.{Player, notes_of}
+use Rattle.session_report.specs.pam_room.specs.State.{PlainWorld}
+use Rattle.session_report.specs.pam_handle.specs.Handle.{PlainHandle}
+use Rattle.session_report.specs.pam_library.specs.Slots.{PlainSlot, NoneIsOpen, closed, opened, with_slot}
+use Rattle.session_report.specs.pam_library.specs.Closing.{ClosedOne, ClosesAs, first_open, ended_at, closed_one}
 use Rattle.session_run.specs.State.{RunState, state_of}
 use Rattle.session_run.specs.Closings.{Closing, EndsNext, all_closed, last_state, open_count, world_behind, text_of_end, closings_behind, closings}
 

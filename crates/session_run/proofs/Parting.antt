@@ -11,13 +11,13 @@ use Rattle.data_cleanup.specs.Ledger.{PlainLedger}
 use Rattle.data_cleanup.specs.declared.datum.Birth.{Birth}
 use Rattle.data_cleanup.specs.declared.receipt.Filed.{Filed}
 use Rattle.data_cleanup.specs.declared.receipt.Receipt.{Receipt}
-use Rattle.dispatch_core.specs.Lines.{names_of}
-use Rattle.pam_room.specs.State.{PlainWorld}
-use Rattle.pam_handle.specs.Handle.{PlainHandle}
-use Rattle.pam_library.specs.Alike.{Cleaned, ComeToSame, cleaned_behind, slot_without_ids}
-use Rattle.pam_library.specs.Slots.{PlainSlot, closed, opened}
-use Rattle.pam_library.specs.Step.{Stepped, stepped, stepped_at}
-use Rattle.report_lines.specs.Line.{code_words, number_words, words_text}
+use Rattle.session_report.specs.dispatch_core.specs.Lines.{names_of}
+use Rattle.session_report.specs.pam_room.specs.State.{PlainWorld}
+use Rattle.session_report.specs.pam_handle.specs.Handle.{PlainHandle}
+use Rattle.session_report.specs.pam_library.specs.Alike.{Cleaned, ComeToSame, cleaned_behind, slot_without_ids}
+use Rattle.session_report.specs.pam_library.specs.Slots.{PlainSlot, closed, opened}
+use Rattle.session_report.specs.pam_library.specs.Step.{Stepped, stepped, stepped_at}
+use Rattle.session_report.specs.report_lines.specs.Line.{code_words, number_words, words_text}
 use Rattle.session_report.specs.Cleaned.{receipt_text}
 use Rattle.session_report.specs.Closing.{closing_text}
 use Rattle.session_run.specs.Closings.{all_closed, closings, closings_behind, closings_text, world_behind}

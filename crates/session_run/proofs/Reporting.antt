@@ -3,10 +3,10 @@ use Rattle.std.proofs.Common.{◌≡◌, ℕ, ◌+◌, ◌≤◌, true, false, L
 use Rattle.pam_base.specs.declared.code.Code.{Code}
 use Rattle.pam_base.specs.declared.fault.Failed.{Failed}
 use Rattle.pam_outside.specs.Streams.{SinkState, WritesWhole}
-use Rattle.pam_room.specs.Module.{Player}
+use Rattle.session_report.specs.pam_room.specs.Module.{Player}
 use Rattle.item_stream.specs.declared.ending.Stop.{Stop}
 use Rattle.item_stream.specs.declared.ending.Stop.TheVariants.{NoMemory, WriteFault}
-use Rattle.dispatch_core.specs.Lines.{names_of}
+use Rattle.session_report.specs.dispatch_core.specs.Lines.{names_of}
 use Rattle.session_report.specs.Closing.{closing_text}
 use Rattle.session_run.specs.State.{RunState}
 use Rattle.session_run.specs.Closings.{Closing, EndsNext, closings, closings_text, last_state, text_of_end}

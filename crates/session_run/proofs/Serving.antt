@@ -8,12 +8,12 @@ use Rattle.pam_base.specs.declared.call.AppCall.{AppCall}
 use Rattle.pam_base.specs.declared.call.Step.{Step}
 use Rattle.pam_base.specs.declared.fault.ScriptKind.{ScriptKind}
 use Rattle.pam_base.specs.declared.fault.ScriptKind.TheVariants.{LineTooLong, TooManyLines}
-use Rattle.dispatch_core.specs.Lines.{names_of}
-use Rattle.pam_room.specs.State.{PlainWorld}
-use Rattle.pam_library.specs.AnyWorld.{FailsAt}
-use Rattle.pam_library.specs.Outcome.{PlainOutcome}
-use Rattle.pam_library.specs.Slots.{PlainSlot}
-use Rattle.pam_library.specs.Step.{stepped, StepsAs}
+use Rattle.session_report.specs.dispatch_core.specs.Lines.{names_of}
+use Rattle.session_report.specs.pam_room.specs.State.{PlainWorld}
+use Rattle.session_report.specs.pam_library.specs.AnyWorld.{FailsAt}
+use Rattle.session_report.specs.pam_library.specs.Outcome.{PlainOutcome}
+use Rattle.session_report.specs.pam_library.specs.Slots.{PlainSlot}
+use Rattle.session_report.specs.pam_library.specs.Step.{stepped, StepsAs}
 use Rattle.script_lang.specs.declared.line.Line.{Line}
 use Rattle.script_lang.specs.declared.line.Line.TheVariants as lines
 use Rattle.script_lang.specs.Line.{without_return, parsed}

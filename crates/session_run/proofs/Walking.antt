@@ -4,8 +4,8 @@ use Rattle.pam_base.specs.Lines.{lines_of}
 use Rattle.pam_base.specs.declared.fault.ScriptKind.{ScriptKind}
 use Rattle.pam_base.specs.declared.fault.ScriptKind.TheVariants.{LineTooLong, TooManyLines}
 use Rattle.pam_outside.specs.Streams.{SourceState, SinkState}
-use Rattle.pam_room.specs.Module.{notes_of}
-use Rattle.pam_library.specs.Slots.{lists_of}
+use Rattle.session_report.specs.pam_room.specs.Module.{notes_of}
+use Rattle.session_report.specs.pam_library.specs.Slots.{lists_of}
 use Rattle.script_lang.specs.Line.{parsed}
 use Rattle.item_stream.specs.declared.reader.Found.TheVariants.{Rest}
 use Rattle.item_stream.specs.Taking.{Finds}

@@ -4,8 +4,8 @@ use Rattle.std.proofs.Math.Seq.{take-append_seam}
 use Rattle.pam_base.specs.Lines.{lines_of}
 use Rattle.pam_base.specs.declared.fault.Failed.{Failed}
 use Rattle.pam_outside.specs.Streams.{SourceState, SinkState, WritesWhole}
-use Rattle.pam_room.specs.Module.{Player, notes_of}
-use Rattle.pam_library.specs.Slots.{NoneIsOpen}
+use Rattle.session_report.specs.pam_room.specs.Module.{Player, notes_of}
+use Rattle.session_report.specs.pam_library.specs.Slots.{NoneIsOpen}
 use Rattle.script_stream.specs.Turns.{Ending}
 use Rattle.item_stream.specs.declared.ending.Stop.{Stop}
 use Rattle.item_stream.specs.declared.ending.Stop.TheVariants.{NoMemory, WriteFault}

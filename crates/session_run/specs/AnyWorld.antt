@@ -2,10 +2,10 @@
 use Rattle.std.specs.Prelude.{◌≡◌, ℕ, List, [], ◌∷◌}
 use Rattle.data_cleanup.specs.Ledger.{PlainLedger}
 use Rattle.data_cleanup.specs.Cleanup.{Notes}
-use Rattle.data_due.specs.Stands.{Lists}
-use Rattle.pam_room.specs.Module.{Player, notes_of}
-use Rattle.pam_library.specs.Calls.{MoveOn, Moved, last_ledger, last_lists}
-use Rattle.pam_library.specs.Slots.{PlainSlot, handle_limit, lists_of}
+use Rattle.session_report.specs.data_due.specs.Stands.{Lists}
+use Rattle.session_report.specs.pam_room.specs.Module.{Player, notes_of}
+use Rattle.session_report.specs.pam_library.specs.Calls.{MoveOn, Moved, last_ledger, last_lists}
+use Rattle.session_report.specs.pam_library.specs.Slots.{PlainSlot, handle_limit, lists_of}
 use Rattle.session_run.specs.Ends.{EndsAre}
 
 -- Calls of a library were made, one after another: each moved on by the births that it added and the end that it was.

@@ -3,12 +3,12 @@ use Rattle.std.specs.Prelude.{◌≡◌, ℕ, suc, ◌+◌, ◌<◌, ◌≤◌, 
 use Rattle.std.specs.List.{flat_map}
 use Rattle.pam_base.specs.declared.code.Code.{Code}
 use Rattle.pam_base.specs.Code.{number_of}
-use Rattle.dispatch_core.specs.Lines.{names_of}
-use Rattle.pam_room.specs.Module.{Player, notes_of}
-use Rattle.pam_room.specs.State.{PlainWorld}
-use Rattle.pam_handle.specs.Handle.{PlainHandle}
-use Rattle.pam_handle.specs.End.{world_after_end}
-use Rattle.pam_library.specs.Slots.{PlainSlot, closed, opened}
+use Rattle.session_report.specs.dispatch_core.specs.Lines.{names_of}
+use Rattle.session_report.specs.pam_room.specs.Module.{Player, notes_of}
+use Rattle.session_report.specs.pam_room.specs.State.{PlainWorld}
+use Rattle.session_report.specs.pam_handle.specs.Handle.{PlainHandle}
+use Rattle.session_report.specs.pam_handle.specs.End.{world_after_end}
+use Rattle.session_report.specs.pam_library.specs.Slots.{PlainSlot, closed, opened}
 use Rattle.session_report.specs.Closing.{closing_text}
 use Rattle.session_run.specs.State.{RunState, state_of}
 

@@ -8,12 +8,12 @@ use Rattle.pam_base.specs.declared.fault.ScriptKind.{ScriptKind}
 use Rattle.data_cleanup.specs.Cleanup.{Notes}
 use Rattle.data_cleanup.specs.Due.{Event, ends, due}
 use Rattle.data_cleanup.specs.Ledger.{PlainLedger}
-use Rattle.data_due.specs.Moves.{Moves}
-use Rattle.data_due.specs.Stands.{StandFor, births_of, receipts_in}
-use Rattle.pam_room.specs.Module.{notes_of}
-use Rattle.pam_library.specs.AnyWorld.{end_at}
-use Rattle.pam_library.specs.Calls.{Moved, events_of}
-use Rattle.pam_library.specs.Slots.{PlainSlot, closed, handle_limit, lists_of, opened, slot_at}
+use Rattle.session_report.specs.data_due.specs.Moves.{Moves}
+use Rattle.session_report.specs.data_due.specs.Stands.{StandFor, births_of, receipts_in}
+use Rattle.session_report.specs.pam_room.specs.Module.{notes_of}
+use Rattle.session_report.specs.pam_library.specs.AnyWorld.{end_at}
+use Rattle.session_report.specs.pam_library.specs.Calls.{Moved, events_of}
+use Rattle.session_report.specs.pam_library.specs.Slots.{PlainSlot, closed, handle_limit, lists_of, opened, slot_at}
 use Rattle.script_lang.specs.declared.line.Line.{Line}
 use Rattle.script_lang.specs.declared.line.Line.TheVariants as lines
 use Rattle.script_lang.specs.Line.{parsed}

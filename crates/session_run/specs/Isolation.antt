@@ -12,20 +12,20 @@ use Rattle.data_cleanup.specs.Ledger.{PlainLedger}
 use Rattle.data_cleanup.specs.declared.datum.Birth.{Birth}
 use Rattle.data_cleanup.specs.declared.receipt.Filed.{Filed}
 use Rattle.data_cleanup.specs.declared.receipt.Receipt.{Receipt}
-use Rattle.dispatch_core.specs.Lines.{names_of}
-use Rattle.pam_library.specs.Alike.{AreInOrder, NoCallFails, births_on, receipts_on, told_in}
-use Rattle.pam_library.specs.Outcome.{PlainOutcome}
-use Rattle.pam_library.specs.Slots.{PlainSlot, closed, opened}
-use Rattle.pam_room.specs.Module.{Player}
-use Rattle.pam_room.specs.State.{PlainWorld}
-use Rattle.pam_library.specs.Step.{stepped}
+use Rattle.session_report.specs.dispatch_core.specs.Lines.{names_of}
+use Rattle.session_report.specs.pam_library.specs.Alike.{AreInOrder, NoCallFails, births_on, receipts_on, told_in}
+use Rattle.session_report.specs.pam_library.specs.Outcome.{PlainOutcome}
+use Rattle.session_report.specs.pam_library.specs.Slots.{PlainSlot, closed, opened}
+use Rattle.session_report.specs.pam_room.specs.Module.{Player}
+use Rattle.session_report.specs.pam_room.specs.State.{PlainWorld}
+use Rattle.session_report.specs.pam_library.specs.Step.{stepped}
 use Rattle.script_lang.specs.Command.{word_of_call}
 use Rattle.script_lang.specs.declared.line.Line.{Line}
 use Rattle.script_lang.specs.declared.line.Line.TheVariants as lines
 use Rattle.script_lang.specs.Line.{parsed}
 use Rattle.script_stream.specs.Run.{run_lines, step_at}
 use Rattle.session_report.specs.Answered.{answer_text}
-use Rattle.report_lines.specs.Line.{code_words, number_words, status_words, words_text}
+use Rattle.session_report.specs.report_lines.specs.Line.{code_words, number_words, status_words, words_text}
 use Rattle.session_report.specs.Missing.{all_missing_text}
 use Rattle.session_report.specs.Said.{messages_text}
 use Rattle.session_report.specs.Step.{step_text}

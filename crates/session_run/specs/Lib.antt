@@ -1,3 +1,17 @@
+pub use Rattle.session_report.specs.conf_lex
+pub use Rattle.session_report.specs.conv_port
+pub use Rattle.data_cleanup
+pub use Rattle.session_report.specs.data_due
+pub use Rattle.session_report.specs.dispatch_core
+pub use Rattle.item_stream
+pub use Rattle.session_report.specs.pam_handle
+pub use Rattle.session_report.specs.pam_library
+pub use Rattle.session_report.specs.pam_room
+pub use Rattle.session_report.specs.report_lines
+pub use Rattle.script_lang
+pub use Rattle.script_stream
+pub use Rattle.session_report.specs.service_load
+pub use Rattle.session_report
 pub mod Endings
 pub mod State
 pub mod Step

@@ -1,10 +1,10 @@
 -- What the lines of a script come to in one place (this project's own).
 use Rattle.std.specs.Prelude.{◌≡◌, ℕ, ◌+◌, Bool, List, [], ◌∷◌, ◌++◌, Some, Result, Ok, Err}
 use Rattle.pam_base.specs.declared.fault.ScriptKind.{ScriptKind}
-use Rattle.dispatch_core.specs.Lines.{names_of}
-use Rattle.pam_library.specs.SideBySide.{Met, alone, outcomes_alone, outcomes_on, own_steps}
-use Rattle.pam_library.specs.Slots.{PlainSlot, slot_at}
-use Rattle.pam_library.specs.Step.{stepped}
+use Rattle.session_report.specs.dispatch_core.specs.Lines.{names_of}
+use Rattle.session_report.specs.pam_library.specs.SideBySide.{Met, alone, outcomes_alone, outcomes_on, own_steps}
+use Rattle.session_report.specs.pam_library.specs.Slots.{PlainSlot, slot_at}
+use Rattle.session_report.specs.pam_library.specs.Step.{stepped}
 use Rattle.script_lang.specs.declared.line.Line.{Line}
 use Rattle.script_lang.specs.declared.line.Line.TheVariants as lines
 use Rattle.script_lang.specs.Line.{parsed}

@@ -2,12 +2,12 @@
 use Rattle.std.specs.Prelude.{◌≡◌, ℕ, true, List, [], length, Option, None, Result, Ok, Err}
 use Rattle.pam_base.specs.declared.call.Step.{Step}
 use Rattle.pam_base.specs.declared.fault.ScriptKind.{ScriptKind}
-use Rattle.dispatch_core.specs.Lines.{names_of}
-use Rattle.pam_room.specs.Module.{notes_of}
-use Rattle.pam_room.specs.State.{PlainWorld}
-use Rattle.pam_library.specs.AnyWorld.{FailsAt, SpendsAt, leaves_world}
-use Rattle.pam_library.specs.Slots.{lists_of, slot_at}
-use Rattle.pam_library.specs.Step.{Stepped, stepped}
+use Rattle.session_report.specs.dispatch_core.specs.Lines.{names_of}
+use Rattle.session_report.specs.pam_room.specs.Module.{notes_of}
+use Rattle.session_report.specs.pam_room.specs.State.{PlainWorld}
+use Rattle.session_report.specs.pam_library.specs.AnyWorld.{FailsAt, SpendsAt, leaves_world}
+use Rattle.session_report.specs.pam_library.specs.Slots.{lists_of, slot_at}
+use Rattle.session_report.specs.pam_library.specs.Step.{Stepped, stepped}
 use Rattle.script_lang.specs.declared.line.Line.{Line}
 use Rattle.script_lang.specs.declared.line.Line.TheVariants as lines
 use Rattle.script_lang.specs.Line.{parsed}

@@ -1,9 +1,9 @@
 -- Which lines of stacks a script visits (this project's own).
 use Rattle.std.specs.Prelude.{ℕ, List, [], ◌∷◌, ◌++◌}
-use Rattle.pam_library.specs.Plays.{TimedVisit, visits_at}
-use Rattle.pam_library.specs.SideBySide.{Met}
-use Rattle.pam_library.specs.Slots.{PlainSlot}
-use Rattle.pam_library.specs.Step.{stepped}
+use Rattle.session_report.specs.pam_library.specs.Plays.{TimedVisit, visits_at}
+use Rattle.session_report.specs.pam_library.specs.SideBySide.{Met}
+use Rattle.session_report.specs.pam_library.specs.Slots.{PlainSlot}
+use Rattle.session_report.specs.pam_library.specs.Step.{stepped}
 use Rattle.session_run.specs.SideBySide.{steps_in}
 use Rattle.session_run.specs.State.{RunState, Setting}
 

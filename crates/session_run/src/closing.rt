@@ -1,8 +1,8 @@
 ghost use Rattle.std.specs.Prelude.{◌≡◌, ◌<◌, ◌≤◌, true, false, Ok, IsTrue, OnOk, IfSome, IfNone, length};
 ghost use Rattle.pam_outside.specs.Counts.{RisesIf};
-ghost use Rattle.pam_library.specs.Plain.{gear_in};
-ghost use Rattle.pam_library.specs.Slots.{NoneIsOpen};
-ghost use Rattle.pam_library.specs.Sound.{IsSoundFor};
+ghost use Rattle.session_report.specs.pam_library.specs.Plain.{gear_in};
+ghost use Rattle.session_report.specs.pam_library.specs.Slots.{NoneIsOpen};
+ghost use Rattle.session_report.specs.pam_library.specs.Sound.{IsSoundFor};
 ghost use Rattle.session_run.specs.AnyWorld.{ProceedsFor};
 ghost use Rattle.session_run.specs.Ends.{HasStatus};
 ghost use Rattle.item_stream.specs.Turns.{has_write_fault};
@@ -12,15 +12,15 @@ ghost use Rattle.session_run.specs.Reported.{Closes, ClosesNext};
 
 use item_stream::Stop;
 use pam_base::{Code, Failed, NoMemory, code_number};
-use pam_handle::{Gear, GearTold};
-use pam_library::{Library, LibraryTold};
 use pam_outside::{Sink, write_all};
-use pam_room::{World, WorldTold};
 use session_report::closing_report;
+use session_report::pam_handle::{Gear, GearTold};
+use session_report::pam_library::{Library, LibraryTold};
+use session_report::pam_room::{World, WorldTold};
 use std::alloc::Global;
 
-/// Ends every open transaction with this status, the lowest number first, and writes the lines of each before the next
-/// is ended. Where that stops, the one that was ended last isn't reported whole, and those after it are open.
+/// Ends every open transaction with this status, the lowest number first, and writes the report of each before it
+/// ends the next. After an Err the last report may be incomplete, and the transactions after it are open.
 pub(crate) fn close_reported<K: Sink>(
     alloc: Global,
     library: &mut Library,
@@ -62,7 +62,7 @@ pub(crate) fn close_reported<K: Sink>(
     }
 }
 
-// Ends the open transaction with the lowest number and writes its lines. Answers whether one was open.
+// Ends the open transaction with the lowest number and writes its report. Returns whether one was open.
 fn close_next<K: Sink>(
     alloc: Global,
     library: &mut Library,
@@ -119,7 +119,7 @@ fn close_next<K: Sink>(
     }
 }
 
-/// Ends every open transaction with this status, the lowest number first, and writes nothing. It takes no memory.
+/// Ends every open transaction with this status, the lowest number first, and writes nothing. It allocates nothing.
 pub fn close_silently(library: &mut Library, status: Code, world: &mut World)
     requires { IsSoundFor (⟦<Gear as GearTold>⟧.players (gear_in library.old))
         (⟦<Library as LibraryTold>⟧.slots library.old) world.old.process.ledger }
@@ -144,7 +144,8 @@ pub fn close_silently(library: &mut Library, status: Code, world: &mut World)
     while let Some(_number) = end_next(library, status, world) {}
 }
 
-/// Ends the open transaction with the lowest number. None exactly where none is open. It takes no memory.
+/// Ends the open transaction with the lowest number and returns that number; None if none is open. It allocates
+/// nothing.
 pub fn end_next(library: &mut Library, status: Code, world: &mut World) -> Option<u32>
     requires { IsSoundFor (⟦<Gear as GearTold>⟧.players (gear_in library.old))
         (⟦<Library as LibraryTold>⟧.slots library.old) world.old.process.ledger }

@@ -1,7 +1,7 @@
-//! A run of a script over sixteen transactions: each line is applied and its report written before the next is looked
-//! at, and after the last one every open transaction is ended.
+//! A run of a script over sixteen transactions: each line is applied and its report written before the next is read,
+//! and after the last one every open transaction is ended.
 //!
-//! Begin at run.rt; lines.rt reads on line by line, serve.rt serves one, and closing.rt ends what is open.
+//! Begin at run.rt; lines.rt reads line by line, serve.rt applies one, and closing.rt ends what is open.
 #![tactic(auto)]
 
 mod closing;
@@ -15,5 +15,8 @@ mod status;
 mod world;
 
 pub use closing::{close_silently, end_next};
+pub use item_stream;
 pub use run::run_script;
+pub use session_report;
+pub use session_report::{data_due, fail_delay, pam_handle, pam_library, pam_room};
 pub use status::stop_status;

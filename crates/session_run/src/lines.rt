@@ -1,8 +1,8 @@
 ghost use Rattle.std.specs.Prelude.{◌≡◌, ◌&&◌, ◌≤◌, ◌+◌, ◌++◌, ℕ, None, Ok, IsTrue};
 ghost use Rattle.pam_base.specs.declared.code.Code.{Code};
 ghost use Rattle.pam_outside.specs.Counts.{RisesIf};
-ghost use Rattle.pam_library.specs.Plain.{gear_in};
-ghost use Rattle.pam_library.specs.Sound.{IsSoundFor};
+ghost use Rattle.session_report.specs.pam_library.specs.Plain.{gear_in};
+ghost use Rattle.session_report.specs.pam_library.specs.Sound.{IsSoundFor};
 ghost use Rattle.session_run.specs.AnyWorld.{ProceedsFor};
 ghost use Rattle.session_run.specs.Ends.{IsEndIn, LeadsTo};
 ghost use Rattle.session_run.specs.Events.{ServesAll, ServesTurn};
@@ -17,17 +17,17 @@ ghost use Rattle.session_run.specs.Step.{line_step, Fails};
 use crate::meaning::Meaning;
 use crate::reading;
 use crate::serve::answer_line;
-use fail_delay::{DelayFn, DelayTold};
 use item_stream::{Ending, Found, Reader, Stop};
 use pam_base::{Failed, NoMemory, ScriptKind};
-use pam_handle::{Gear, GearTold};
-use pam_library::{Library, LibraryTold};
 use pam_outside::{Sink, Source};
-use pam_room::{World, WorldTold};
 use script_stream::{Lines, MAX_LINES};
+use session_report::fail_delay::{DelayFn, DelayTold};
+use session_report::pam_handle::{Gear, GearTold};
+use session_report::pam_library::{Library, LibraryTold};
+use session_report::pam_room::{World, WorldTold};
 use std::alloc::Global;
 
-/// Serves the lines of a script one by one, until they end or one is refused, and counts those that were applied.
+/// Applies the lines of a script one by one until they end or one is refused, and counts those that were applied.
 pub(crate) fn serve_lines<S: Source, K: Sink>(
     alloc: Global,
     library: &mut Library,
@@ -104,7 +104,7 @@ pub(crate) fn serve_lines<S: Source, K: Sink>(
     }
 }
 
-// One line: it is found and served.
+// Reads one line and applies it. None if there may be more.
 fn take_turn<S: Source, K: Sink>(
     alloc: Global,
     library: &mut Library,

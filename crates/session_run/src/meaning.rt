@@ -1,6 +1,6 @@
 use script_stream::LineStepping;
 
-/// What the lines of a script do to sixteen transactions and their world, for contracts.
+/// What the lines of a script do to sixteen transactions and their world, as contracts name it.
 pub(crate) struct Meaning;
 
 impl LineStepping for Meaning {

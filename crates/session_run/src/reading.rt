@@ -6,7 +6,7 @@ ghost use Rattle.session_run.specs.Reading.{Whatever, line_read};
 use item_stream::laws;
 use script_stream::{LineStepping, Lines};
 
-/// What the bytes of a script alone say of its lines, for contracts: which of them are refused.
+/// Which lines of a script are refused, by its bytes alone, as contracts name it.
 pub(crate) struct Reading;
 
 impl LineStepping for Reading {
@@ -21,7 +21,7 @@ impl LineStepping for Reading {
     ghost fails = { λ _. NoState };
 }
 
-/// The laws on turns, for a script that is read alone. It does nothing.
+/// The laws on turns, for a script of which only the source is modelled.
 pub(crate) fn reading_is_turns()
     ensures none_yet { NoTurnYet looked (step_at line_read) Whatever }
     ensures no_memory { StopsAtOnce looked (step_at line_read) Whatever }

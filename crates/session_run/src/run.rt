@@ -2,9 +2,9 @@ ghost use Rattle.std.specs.Prelude.{◌≡◌, ◌&&◌, ◌≤◌, ◌<◌, ℕ
 ghost use Rattle.pam_base.specs.declared.code.Code.{Code};
 ghost use Rattle.data_cleanup.specs.Ledger.{is_filed};
 ghost use Rattle.pam_outside.specs.Counts.{RisesIf, Rose};
-ghost use Rattle.pam_library.specs.Plain.{gear_in};
-ghost use Rattle.pam_library.specs.Slots.{NoneIsOpen};
-ghost use Rattle.pam_library.specs.Sound.{IsSoundFor};
+ghost use Rattle.session_report.specs.pam_library.specs.Plain.{gear_in};
+ghost use Rattle.session_report.specs.pam_library.specs.Slots.{NoneIsOpen};
+ghost use Rattle.session_report.specs.pam_library.specs.Sound.{IsSoundFor};
 ghost use Rattle.item_stream.specs.Turns.{has_read_fault, has_write_fault};
 ghost use Rattle.session_run.specs.AnyWorld.{ProceedsFor};
 ghost use Rattle.session_run.specs.Ends.{HasStatus, IsEndOfRun};
@@ -15,25 +15,29 @@ ghost use Rattle.session_run.specs.Whole.{Completes, EndsWith, RunsScript, endin
 use crate::closing::{close_reported, close_silently};
 use crate::lines::serve_lines;
 use crate::status::{ending_status, stop_status};
-use fail_delay::{DelayFn, DelayTold};
 use item_stream::{Ending, Stop};
 use pam_base::{Failed, NoMemory, ScriptKind};
-use pam_handle::{Gear, GearTold};
-use pam_library::{Library, LibraryTold};
 use pam_outside::{Sink, Source, write_all};
-use pam_room::{World, WorldTold};
 use script_stream::MAX_LINES;
+use session_report::fail_delay::{DelayFn, DelayTold};
+use session_report::pam_handle::{Gear, GearTold};
+use session_report::pam_library::{Library, LibraryTold};
+use session_report::pam_room::{World, WorldTold};
 use session_report::{read_fault_report, script_report};
 use std::alloc::Global;
 
-/// Runs a script. Each line is applied to the transactions and its report written before the next one is looked at.
+/// Runs a script. Each line is applied to the transactions and its report written before the next one is read.
 ///
-/// After the last line every open transaction is ended, the lowest number first, each reported
-/// before the next: with SUCCESS at the end of the input; with SYSTEM_ERR where the source failed,
-/// and then `read fault` is written; with ABORT where a line was refused, and then which line and
-/// why. Where a write failed nothing more is written, and the transactions that are open are ended
-/// with SYSTEM_ERR; where memory was wanting likewise, with BUF_ERR. So no transaction is open
-/// afterwards, whatever is answered.
+/// After the last line every open transaction is ended, the lowest number first, and each is reported before the
+/// next:
+///
+/// - at the end of the input with SUCCESS;
+/// - if the source fails with SYSTEM_ERR, and then `read fault` is written;
+/// - if a line is refused with ABORT, and then its number and the reason are written;
+/// - if a write fails with SYSTEM_ERR, and nothing more is written;
+/// - if an allocation fails with BUF_ERR, and nothing more is written.
+///
+/// So no transaction is open afterwards, whatever is returned.
 pub fn run_script<S: Source, K: Sink>(
     alloc: Global,
     library: &mut Library,
@@ -44,7 +48,7 @@ pub fn run_script<S: Source, K: Sink>(
     requires { IsSoundFor (⟦<Gear as GearTold>⟧.players (gear_in library.old))
         (⟦<Library as LibraryTold>⟧.slots library.old) world.old.process.ledger }
 
-    // Where all objects tell: what was read and written, and what library and world are afterwards.
+    // If all objects are modelled: what was read and written, and what library and world are afterwards.
     ensures told { (delay : Code → ℕ → ℕ) →
         ⟦<DelayFn as DelayTold>⟧.delay_is (gear_in library.old).delay delay →
         IsTrue (⟦<Library as LibraryTold>⟧.tells library.old
@@ -58,7 +62,7 @@ pub fn run_script<S: Source, K: Sink>(
         (S.source_holds source.old) (S.source_holds source.new)
         (K.sink_holds sink.old) (K.sink_holds sink.new) }
 
-    // No run gives up by itself.
+    // A run stops early only if an allocation, a read or a write fails.
     ensures complete { (delay : Code → ℕ → ℕ) →
         ⟦<DelayFn as DelayTold>⟧.delay_is (gear_in library.old).delay delay →
         IsTrue (⟦<Library as LibraryTold>⟧.tells library.old
@@ -70,14 +74,14 @@ pub fn run_script<S: Source, K: Sink>(
         (Rose (S.source_faults source.old) (S.source_faults source.new))
         (Rose (K.sink_faults sink.old) (K.sink_faults sink.new)) }
 
-    // Where the source alone tells: how often it was read, and how the run ends by the bytes of the
-    // script. Where the sink alone does: how often it was written.
+    // If only the source is modelled: how often it was read, and how the bytes of the script end the run. If only the
+    // sink is: how often it was written.
     ensures reads { IsTrue (S.source_tells source.old) →
         ReadsScript result (S.source_holds source.old) (S.source_holds source.new) }
     ensures writes { IsTrue (K.sink_tells sink.old) →
         WritesScript (K.sink_holds sink.old) (K.sink_holds sink.new) }
 
-    // In any world: what is due for cleanup was cleaned up, and no transaction is open.
+    // With real objects too: all module data was cleaned up, and no transaction is open.
     ensures none_open { NoneIsOpen (⟦<Library as LibraryTold>⟧.slots library.new) }
     ensures filed { (id : ℕ) → id < length world.new.process.ledger.births →
         is_filed world.new.process.ledger id ≡ true }
@@ -89,13 +93,13 @@ pub fn run_script<S: Source, K: Sink>(
         (⟦<Library as LibraryTold>⟧.slots library.new) world.new.process.ledger }
     ensures gear { gear_in library.new ≡ gear_in library.old }
 
-    // The causes, in any world.
+    // The causes, with real objects too.
     ensures source_faults { IfOk result (λ ending. RisesIf (has_read_fault (Ok (Some ending)))
         (S.source_faults source.old) (S.source_faults source.new)) }
     ensures sink_faults { RisesIf (has_write_fault result) (K.sink_faults sink.old)
         (K.sink_faults sink.new) }
 
-    // What tells before the run tells after it.
+    // What is modelled before the run is modelled after it.
     ensures tells { ⟦<Library as LibraryTold>⟧.tells library.new
         ≡ ⟦<Library as LibraryTold>⟧.tells library.old }
     ensures world_tells { ⟦<World as WorldTold>⟧.tells world.new
@@ -103,9 +107,9 @@ pub fn run_script<S: Source, K: Sink>(
     ensures source_tells { S.source_tells source.new ≡ S.source_tells source.old }
     ensures sink_tells { K.sink_tells sink.new ≡ K.sink_tells sink.old }
 {
-    data_due::laws::all_are_filed();
-    pam_library::laws::calls_stand_for_their_events();
-    data_due::laws::end_stands();
+    session_report::data_due::laws::all_are_filed();
+    session_report::pam_library::laws::calls_stand_for_their_events();
+    session_report::data_due::laws::end_stands();
     script_stream::laws::whole_input_is_looked_at();
     let mut lines = 0;
     match serve_lines(alloc, library, &mut lines, source, sink, world) {
@@ -123,7 +127,7 @@ pub fn run_script<S: Source, K: Sink>(
     }
 }
 
-// Ends and reports the open transactions, and writes the last line. Where that stops, some may still be open.
+// Ends and reports the open transactions, and writes the last line. After an Err some may still be open.
 fn finish<K: Sink>(
     alloc: Global,
     ending: Ending<ScriptKind>,
@@ -170,7 +174,7 @@ fn finish<K: Sink>(
     }
 }
 
-// The last line of the report, where there is one.
+// The last line of the report; empty if there is none.
 fn last_report(alloc: Global, ending: Ending<ScriptKind>, lines: u32) -> Result<String, NoMemory>
     requires { lines ≤ MAX_LINES }
     ensures { IfOk result (λ text. string_bytes text ≡ last_line ending lines) }

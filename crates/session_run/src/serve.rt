@@ -3,13 +3,13 @@ ghost use Rattle.script_lang.specs.declared.line.Line.TheVariants as script_line
 ghost use Rattle.script_lang.specs.Line.{parsed};
 ghost use Rattle.pam_base.specs.declared.code.Code.{Code};
 ghost use Rattle.pam_outside.specs.Counts.{RisesIf};
-ghost use Rattle.data_due.specs.Moves.{Moves};
-ghost use Rattle.pam_room.specs.Module.{notes_of};
-ghost use Rattle.pam_library.specs.AnyWorld.{end_at};
-ghost use Rattle.pam_library.specs.Plain.{gear_in};
-ghost use Rattle.pam_library.specs.Slots.{handle_limit, lists_of, slot_at};
+ghost use Rattle.session_report.specs.data_due.specs.Moves.{Moves};
+ghost use Rattle.session_report.specs.pam_room.specs.Module.{notes_of};
+ghost use Rattle.session_report.specs.pam_library.specs.AnyWorld.{end_at};
+ghost use Rattle.session_report.specs.pam_library.specs.Plain.{gear_in};
+ghost use Rattle.session_report.specs.pam_library.specs.Slots.{handle_limit, lists_of, slot_at};
 ghost use Rattle.pam_base.specs.Call.{is_fit};
-ghost use Rattle.pam_library.specs.Sound.{IsSoundFor};
+ghost use Rattle.session_report.specs.pam_library.specs.Sound.{IsSoundFor};
 ghost use Rattle.session_run.specs.AnyWorld.{ProceedsFor};
 ghost use Rattle.session_run.specs.Ends.{AsksEndAt, IsEndStep};
 ghost use Rattle.item_stream.specs.Turns.{has_write_fault};
@@ -21,20 +21,20 @@ ghost use Rattle.session_run.specs.Step.{line_step, unrefused, Fails};
 
 use crate::meaning::Meaning;
 use crate::world::{set_caller, set_world_moment, set_world_word};
-use fail_delay::{DelayFn, DelayTold};
 use item_stream::Stop;
 use pam_base::{Failed, NoMemory, Refuse, ScriptKind, Step};
-use pam_handle::{Gear, GearTold};
-use pam_library::{Library, LibraryTold};
 use pam_outside::{Sink, write_all};
-use pam_room::{World, WorldTold};
 use script_lang::{Line, parse};
 use script_stream::{Lines, MAX_LINES};
+use session_report::fail_delay::{DelayFn, DelayTold};
+use session_report::pam_handle::{Gear, GearTold};
+use session_report::pam_library::{Library, LibraryTold};
+use session_report::pam_room::{World, WorldTold};
 use session_report::step_report;
 use std::alloc::Global;
 
-/// Serves one line that has n before it: it is applied, and then its report is written. Answers why it was
-/// refused, if it was; then nothing happened.
+/// Applies the line after `lines` others, and writes its report. Returns the fault if the line is refused; a refused
+/// line changes nothing.
 pub(crate) fn answer_line<K: Sink>(
     alloc: Global,
     library: &mut Library,
@@ -81,7 +81,7 @@ pub(crate) fn answer_line<K: Sink>(
         (K.sink_faults sink.new) }
 {
     item_stream::laws::item_is_served::<Lines<Meaning>>();
-    data_due::laws::nothing_moves();
+    session_report::data_due::laws::nothing_moves();
     if lines >= MAX_LINES {
         return Ok(Some(ScriptKind::TooManyLines));
     }
@@ -108,7 +108,7 @@ pub(crate) fn answer_line<K: Sink>(
     }
 }
 
-// Applies a step and writes its report.
+// Makes the call of a step and writes its report.
 fn serve_step<K: Sink>(
     alloc: Global,
     library: &mut Library,

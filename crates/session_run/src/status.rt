@@ -4,7 +4,7 @@ ghost use Rattle.session_run.specs.Whole.{ending_status, stop_status};
 use item_stream::{Ending, Stop};
 use pam_base::{Code, ScriptKind};
 
-/// The status with which open transactions are ended after such an ending.
+/// The status passed to pam_end for the transactions that are open when the input ends so.
 pub(crate) fn ending_status(ending: Ending<ScriptKind>) -> Code
     ensures { result ≡ ending_status ending }
 {
@@ -15,7 +15,7 @@ pub(crate) fn ending_status(ending: Ending<ScriptKind>) -> Code
     }
 }
 
-/// The status with which they are ended where nothing more is written.
+/// The status passed to pam_end if the run stops and nothing more is written.
 pub fn stop_status(stop: Stop) -> Code
     ensures { result ≡ stop_status stop }
 {

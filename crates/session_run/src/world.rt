@@ -2,9 +2,9 @@ ghost use Rattle.std.specs.Prelude.{◌≡◌, ◌≤◌, IsTrue};
 ghost use Rattle.session_run.specs.Step.{at_moment, with_word, with_caller};
 
 use pam_outside::{MAX_MOMENT, set_moment, set_word};
-use pam_room::{World, WorldTold};
+use session_report::pam_room::{World, WorldTold};
 
-/// Sets the moment of the world's clock, where it tells.
+/// Sets the time of the world's clock, if that clock can be set.
 pub(crate) fn set_world_moment(world: &mut World, moment: u64)
     requires { moment ≤ MAX_MOMENT }
     ensures tells { ⟦<World as WorldTold>⟧.tells world.new
@@ -17,7 +17,7 @@ pub(crate) fn set_world_moment(world: &mut World, moment: u64)
     set_moment(&mut *world.clock, moment);
 }
 
-/// Sets the random word of the world's clock, where it tells.
+/// Sets the random word of the world's clock, if that clock can be set.
 pub(crate) fn set_world_word(world: &mut World, word: u64)
     ensures tells { ⟦<World as WorldTold>⟧.tells world.new
         ≡ ⟦<World as WorldTold>⟧.tells world.old }
@@ -29,7 +29,7 @@ pub(crate) fn set_world_word(world: &mut World, word: u64)
     set_word(&mut *world.clock, word);
 }
 
-/// Sets the user id of the calling process.
+/// Sets the user ID of the calling process.
 pub(crate) fn set_caller(world: &mut World, caller: u32)
     ensures tells { ⟦<World as WorldTold>⟧.tells world.new
         ≡ ⟦<World as WorldTold>⟧.tells world.old }

@@ -3,13 +3,13 @@ use Rattle.std.proofs.Common.{◌≡◌, ℕ, ◌+◌, ◌≤◌, map, true, fal
 use Rattle.pam_base.specs.declared.code.Code.{Code}
 use Rattle.pam_base.specs.declared.fault.Failed.{Failed}
 use Rattle.pam_outside.specs.Streams.{SinkState, WritesWhole}
-use Rattle.pam_room.specs.Module.{Player}
-use Rattle.pam_room.specs.State.{PlainWorld}
-use Rattle.pam_library.specs.Slots.{PlainSlot, NoneIsOpen, closed, opened}
+use Rattle.session_run.specs.pam_room.specs.Module.{Player}
+use Rattle.session_run.specs.pam_room.specs.State.{PlainWorld}
+use Rattle.session_run.specs.pam_library.specs.Slots.{PlainSlot, NoneIsOpen, closed, opened}
 use Rattle.item_stream.specs.declared.ending.Stop.{Stop}
 use Rattle.item_stream.specs.declared.ending.Stop.TheVariants.{NoMemory, WriteFault}
-use Rattle.dispatch_core.specs.Lines.{names_of}
-use Rattle.session_report.specs.Closing.{closing_text}
+use Rattle.session_run.specs.dispatch_core.specs.Lines.{names_of}
+use Rattle.session_run.specs.session_report.specs.Closing.{closing_text}
 use Rattle.session_run.specs.State.{RunState}
 use Rattle.pam_wire.specs.Frame.{answer_of}
 use Rattle.session_run.specs.Closings.{Closing, EndsNext, closings_behind, closings_text, last_state, text_of_end}

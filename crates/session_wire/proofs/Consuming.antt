@@ -6,7 +6,7 @@ use Rattle.std.proofs.Math.Seq.{drop-append_seam}
 use Rattle.pam_base.specs.declared.call.Step.{Step}
 use Rattle.pam_base.specs.declared.fault.Failed.{Failed}
 use Rattle.pam_outside.specs.Streams.{SourceState, SinkState, WritesWhole}
-use Rattle.pam_room.specs.Module.{Player}
+use Rattle.session_run.specs.pam_room.specs.Module.{Player}
 use Rattle.pam_base.specs.declared.code.Code.{Code}
 use Rattle.pam_wire.specs.Read.{step_of}
 use Rattle.item_stream.specs.declared.ending.Ending.{Ending}

@@ -2,16 +2,16 @@
 use Rattle.std.proofs.Common.{◌≡◌, ℕ, ◌≤◌, List, [], ◌∷◌, ◌++◌, length, Option, Some, None, refl, sym, ap, ◌∙◌, length-append, reverse, arith}
 use Rattle.pam_base.specs.declared.call.AppCall.{AppCall}
 use Rattle.pam_base.specs.declared.call.AppCall.TheVariants as calls
-use Rattle.data_cleanup.specs.DataList.{PlainDataList}
-use Rattle.data_cleanup.specs.Ledger.{PlainLedger}
-use Rattle.data_cleanup.specs.Cleanup.{Notes, receipts_for}
-use Rattle.data_cleanup.specs.Due.{Event, birth, ends}
-use Rattle.data_cleanup.specs.Grows.{Grows}
-use Rattle.data_due.specs.Stands.{Lists}
-use Rattle.data_due.specs.Moves.{Moves}
-use Rattle.pam_library.specs.AnyWorld.{SpendsAs, SpendsAt, end_at}
-use Rattle.pam_library.specs.Calls.{MoveOn, Moved, last_ledger, last_lists}
-use Rattle.pam_library.specs.Slots.{PlainSlot, closed, opened}
+use Rattle.session_run.specs.data_cleanup.specs.DataList.{PlainDataList}
+use Rattle.session_run.specs.data_cleanup.specs.Ledger.{PlainLedger}
+use Rattle.session_run.specs.data_cleanup.specs.Cleanup.{Notes, receipts_for}
+use Rattle.session_run.specs.data_cleanup.specs.Due.{Event, birth, ends}
+use Rattle.session_run.specs.data_cleanup.specs.Grows.{Grows}
+use Rattle.session_run.specs.data_due.specs.Stands.{Lists}
+use Rattle.session_run.specs.data_due.specs.Moves.{Moves}
+use Rattle.session_run.specs.pam_library.specs.AnyWorld.{SpendsAs, SpendsAt, end_at}
+use Rattle.session_run.specs.pam_library.specs.Calls.{MoveOn, Moved, last_ledger, last_lists}
+use Rattle.session_run.specs.pam_library.specs.Slots.{PlainSlot, closed, opened}
 use Rattle.session_run.specs.Ends.{EndsAre, IsEndStep}
 use Rattle.session_run.specs.AnyWorld.{AllEndsAre, ProceedsBy}
 

@@ -3,16 +3,16 @@ use Rattle.std.proofs.Common.{◌≡◌, ℕ, ◌≤◌, ◌<◌, Bool, true, fa
 use Rattle.std.proofs.lemmas.Bool.{le-leb, lt-leb}
 use Rattle.pam_base.specs.declared.call.AppCall.{AppCall}
 use Rattle.pam_base.specs.declared.call.Step.{Step}
-use Rattle.dispatch_core.specs.Lines.{names_of}
-use Rattle.pam_room.specs.State.{PlainWorld}
-use Rattle.pam_library.specs.AnyWorld.{FailsAt}
-use Rattle.pam_library.specs.Outcome.{PlainOutcome}
-use Rattle.pam_library.specs.Slots.{PlainSlot}
-use Rattle.pam_library.specs.Step.{stepped, StepsAs}
+use Rattle.session_run.specs.dispatch_core.specs.Lines.{names_of}
+use Rattle.session_run.specs.pam_room.specs.State.{PlainWorld}
+use Rattle.session_run.specs.pam_library.specs.AnyWorld.{FailsAt}
+use Rattle.session_run.specs.pam_library.specs.Outcome.{PlainOutcome}
+use Rattle.session_run.specs.pam_library.specs.Slots.{PlainSlot}
+use Rattle.session_run.specs.pam_library.specs.Step.{stepped, StepsAs}
 use Rattle.pam_wire.specs.Frame.{answer_of}
 use Rattle.pam_wire.specs.Read.{step_of}
 use Rattle.item_stream.specs.Turns.{IsBegun}
-use Rattle.session_report.specs.Step.{step_text}
+use Rattle.session_run.specs.session_report.specs.Step.{step_text}
 use Rattle.frame_stream.specs.declared.fault.FrameFault.TheVariants.{BadFrame, TooManyFrames}
 use Rattle.frame_stream.specs.Run.{called, step_at}
 use Rattle.session_run.specs.State.{Setting, RunState, state_of}

@@ -2,7 +2,7 @@
 use Rattle.std.specs.Prelude.{◌≡◌, ℕ, ◌+◌, ◌≤◌, Bool, true, false, List, [], ◌∷◌, ◌++◌, length, map, Result, Ok, Err, OnOk}
 use Rattle.pam_base.specs.declared.code.Code.{Code}
 use Rattle.pam_outside.specs.Streams.{SinkState}
-use Rattle.pam_room.specs.Module.{Player}
+use Rattle.session_run.specs.pam_room.specs.Module.{Player}
 use Rattle.pam_wire.specs.Frame.{answer_of}
 use Rattle.item_stream.specs.declared.ending.Stop.{Stop}
 use Rattle.session_run.specs.State.{RunState}

@@ -1,3 +1,5 @@
+pub use Rattle.frame_stream
+pub use Rattle.pam_wire
 pub mod Step
 pub mod Answered
 pub mod Endings

@@ -4,10 +4,10 @@ use Rattle.pam_base.specs.declared.call.Step.{Step}
 use Rattle.frame_stream.specs.declared.fault.FrameFault.{FrameFault}
 use Rattle.frame_stream.specs.Run.{CallStep}
 use Rattle.item_stream.specs.declared.ending.Stop.{Stop}
-use Rattle.pam_room.specs.Module.{notes_of}
-use Rattle.pam_library.specs.AnyWorld.{FailsAt, SpendsAt, leaves_world}
-use Rattle.pam_library.specs.Slots.{lists_of, slot_at}
-use Rattle.pam_library.specs.Step.{stepped}
+use Rattle.session_run.specs.pam_room.specs.Module.{notes_of}
+use Rattle.session_run.specs.pam_library.specs.AnyWorld.{FailsAt, SpendsAt, leaves_world}
+use Rattle.session_run.specs.pam_library.specs.Slots.{lists_of, slot_at}
+use Rattle.session_run.specs.pam_library.specs.Step.{stepped}
 use Rattle.pam_wire.specs.Frame.{answer_of}
 use Rattle.pam_wire.specs.Read.{step_of}
 use Rattle.session_run.specs.State.{Setting, RunState}

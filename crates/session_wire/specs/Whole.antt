@@ -3,7 +3,7 @@
 use Rattle.std.specs.Prelude.{◌≡◌, ◌⊎◌, ℕ, ◌≤◌, true, List, [], ◌∷◌, ◌++◌, length, Option, Some, None, Result, Ok, Err}
 use Rattle.pam_base.specs.declared.call.Step.{Step}
 use Rattle.pam_outside.specs.Streams.{SourceState, SinkState}
-use Rattle.pam_room.specs.Module.{Player}
+use Rattle.session_run.specs.pam_room.specs.Module.{Player}
 use Rattle.pam_wire.specs.Frame.{AreBytes, frame_of}
 use Rattle.pam_wire.specs.Stream.{AreFramesOf}
 use Rattle.item_stream.specs.declared.ending.Ending.{Ending}

@@ -1,8 +1,8 @@
 ghost use Rattle.std.specs.Prelude.{◌≡◌, ◌<◌, true, false, Ok, IsTrue, OnOk};
 ghost use Rattle.pam_outside.specs.Counts.{RisesIf};
-ghost use Rattle.pam_library.specs.Plain.{gear_in};
-ghost use Rattle.pam_library.specs.Slots.{NoneIsOpen};
-ghost use Rattle.pam_library.specs.Sound.{IsSoundFor};
+ghost use Rattle.session_run.specs.pam_library.specs.Plain.{gear_in};
+ghost use Rattle.session_run.specs.pam_library.specs.Slots.{NoneIsOpen};
+ghost use Rattle.session_run.specs.pam_library.specs.Sound.{IsSoundFor};
 ghost use Rattle.session_run.specs.AnyWorld.{ProceedsFor};
 ghost use Rattle.session_run.specs.Ends.{HasStatus};
 ghost use Rattle.item_stream.specs.Turns.{has_write_fault};
@@ -12,17 +12,17 @@ ghost use Rattle.session_wire.specs.Answered.{Closes, ClosesNext};
 
 use item_stream::Stop;
 use pam_base::{Code, Failed, NoMemory};
-use pam_handle::{Gear, GearTold};
-use pam_library::{Library, LibraryTold};
 use pam_outside::{Sink, write_all};
-use pam_room::{World, WorldTold};
 use pam_wire::answer_of;
-use session_report::closing_report;
 use session_run::end_next;
+use session_run::pam_handle::{Gear, GearTold};
+use session_run::pam_library::{Library, LibraryTold};
+use session_run::pam_room::{World, WorldTold};
+use session_run::session_report::closing_report;
 use std::alloc::Global;
 
-/// Ends every open transaction with this status, the lowest number first, and writes the answer of each before the next
-/// is ended. Where that stops, the one that was ended last isn't answered whole, and those after it are open.
+/// Ends every open transaction with this status, the lowest number first, and writes the answer of each before it
+/// ends the next. After an Err the last answer may be incomplete, and the transactions after it are open.
 pub(crate) fn close_answered<K: Sink>(
     alloc: Global,
     library: &mut Library,
@@ -64,7 +64,7 @@ pub(crate) fn close_answered<K: Sink>(
     }
 }
 
-// Ends the open transaction with the lowest number and writes its answer. Answers whether one was open.
+// Ends the open transaction with the lowest number and writes its answer. Returns whether one was open.
 fn close_next<K: Sink>(
     alloc: Global,
     library: &mut Library,

@@ -1,8 +1,8 @@
 ghost use Rattle.std.specs.Prelude.{◌≡◌, ◌&&◌, ◌≤◌, ◌+◌, ◌++◌, ℕ, [], None, Ok, IsTrue, is_err};
 ghost use Rattle.pam_base.specs.declared.code.Code.{Code};
 ghost use Rattle.pam_outside.specs.Counts.{RisesIf};
-ghost use Rattle.pam_library.specs.Plain.{gear_in};
-ghost use Rattle.pam_library.specs.Sound.{IsSoundFor};
+ghost use Rattle.session_run.specs.pam_library.specs.Plain.{gear_in};
+ghost use Rattle.session_run.specs.pam_library.specs.Sound.{IsSoundFor};
 ghost use Rattle.pam_wire.specs.Frame.{AreBytes};
 ghost use Rattle.item_stream.specs.Taking.{Finds, IsFound};
 ghost use Rattle.item_stream.specs.Turns.{Turns, has_read_fault, has_write_fault};
@@ -23,13 +23,13 @@ use fail_delay::{DelayFn, DelayTold};
 use frame_stream::{FrameFault, FramesOf, MAX_FRAMES};
 use item_stream::{Ending, Found, Reader, Stop, laws};
 use pam_base::{Failed, NoMemory};
-use pam_handle::{Gear, GearTold};
-use pam_library::{Library, LibraryTold};
 use pam_outside::{Sink, Source};
-use pam_room::{World, WorldTold};
+use session_run::pam_handle::{Gear, GearTold};
+use session_run::pam_library::{Library, LibraryTold};
+use session_run::pam_room::{World, WorldTold};
 use std::alloc::Global;
 
-/// Serves the frames of a stream one by one, until they end or one is refused, and counts those that were applied.
+/// Applies the frames of a stream one by one until they end or one is refused, and counts those that were applied.
 pub(crate) fn serve_frames<S: Source, K: Sink>(
     alloc: Global,
     library: &mut Library,
@@ -96,7 +96,7 @@ pub(crate) fn serve_frames<S: Source, K: Sink>(
     }
 }
 
-// One frame: it is found and served.
+// Reads one frame and applies it. None if there may be more.
 fn take_turn<S: Source, K: Sink>(
     alloc: Global,
     library: &mut Library,
@@ -191,7 +191,7 @@ fn take_turn<S: Source, K: Sink>(
     }
 }
 
-// Takes bytes until a frame is whole, or what is held is refused.
+// Reads until a frame is complete, or the bytes that are held are refused.
 fn find_frame<S: Source>(reader: &mut Reader, source: &mut S, before: u32) -> Result<Found, Failed>
     ensures found { IsFound looked result before reader.new }
     ensures bytes { AreBytes reader.new }
@@ -207,7 +207,7 @@ fn find_frame<S: Source>(reader: &mut Reader, source: &mut S, before: u32) -> Re
     found
 }
 
-// The elements of a slice of bytes are bytes. It does nothing.
+// The elements of a slice of bytes are bytes: a law.
 fn are_bytes(held: &[u8])
     ensures { AreBytes held.now }
 {}

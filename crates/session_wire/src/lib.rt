@@ -1,5 +1,7 @@
-//! A run of a front end's calls over sixteen transactions: each frame is applied and its answer
-//! written before the next is looked at, and after the last one every open transaction is ended.
+//! A run of a front end's calls over sixteen transactions: each frame is applied and its answer written before the
+//! next is read, and after the last one every open transaction is ended.
+//!
+//! Begin at run.rt; frames.rt reads frame by frame, serve.rt applies one, and closing.rt ends what is open.
 #![tactic(auto)]
 
 mod closing;
@@ -9,4 +11,5 @@ mod reading;
 mod run;
 mod serve;
 
+pub use frame_stream;
 pub use run::run_frames;

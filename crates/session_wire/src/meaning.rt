@@ -1,6 +1,6 @@
 use frame_stream::CallStepping;
 
-/// What the calls of a front end do to sixteen transactions and their world, for contracts.
+/// What the calls of a front end do to sixteen transactions and their world, as contracts name it.
 pub(crate) struct Meaning;
 
 impl CallStepping for Meaning {

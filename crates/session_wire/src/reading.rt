@@ -8,7 +8,7 @@ ghost use Rattle.session_wire.specs.Reading.{call_read};
 use frame_stream::{CallStepping, FramesOf};
 use item_stream::laws;
 
-/// What the bytes of a stream of frames alone say of them, for contracts: which of them are refused.
+/// Which frames of a stream are refused, by its bytes alone, as contracts name it.
 pub(crate) struct Reading;
 
 impl CallStepping for Reading {
@@ -24,7 +24,7 @@ impl CallStepping for Reading {
     ghost fails = { λ _. NoState };
 }
 
-/// The laws on turns, for frames that are read alone. It does nothing.
+/// The laws on turns, for frames of which only the source is modelled.
 pub(crate) fn reading_is_turns()
     ensures none_yet { NoTurnYet looked (step_at call_read) Whatever }
     ensures no_memory { StopsAtOnce looked (step_at call_read) Whatever }

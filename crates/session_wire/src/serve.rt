@@ -3,8 +3,8 @@ ghost use Rattle.pam_base.specs.declared.call.Step.{Step as TheStep};
 ghost use Rattle.pam_base.specs.declared.code.Code.{Code};
 ghost use Rattle.pam_base.specs.Call.{is_fit};
 ghost use Rattle.pam_outside.specs.Counts.{RisesIf};
-ghost use Rattle.pam_library.specs.Plain.{gear_in};
-ghost use Rattle.pam_library.specs.Sound.{IsSoundFor};
+ghost use Rattle.session_run.specs.pam_library.specs.Plain.{gear_in};
+ghost use Rattle.session_run.specs.pam_library.specs.Sound.{IsSoundFor};
 ghost use Rattle.pam_wire.specs.Frame.{IsFrame};
 ghost use Rattle.pam_wire.specs.Read.{step_of};
 ghost use Rattle.item_stream.specs.Turns.{ServesTold, has_write_fault};
@@ -22,16 +22,16 @@ use fail_delay::{DelayFn, DelayTold};
 use frame_stream::{FrameFault, FramesOf, MAX_FRAMES};
 use item_stream::{Stop, laws};
 use pam_base::{Failed, NoMemory, Step};
-use pam_handle::{Gear, GearTold};
-use pam_library::{Library, LibraryTold};
 use pam_outside::{Sink, write_all};
-use pam_room::{World, WorldTold};
 use pam_wire::{answer_of, step_of};
-use session_report::step_report;
+use session_run::pam_handle::{Gear, GearTold};
+use session_run::pam_library::{Library, LibraryTold};
+use session_run::pam_room::{World, WorldTold};
+use session_run::session_report::step_report;
 use std::alloc::Global;
 
-/// Serves one frame that has n before it: its call is applied, and then its answer is written. Answers why it was
-/// refused, if it was; then nothing happened.
+/// Makes the call of the frame after `frames` others, and writes its answer. Returns the fault if the frame is
+/// refused; a refused frame changes nothing.
 pub(crate) fn serve_frame<K: Sink>(
     alloc: Global,
     library: &mut Library,
@@ -88,7 +88,7 @@ pub(crate) fn serve_frame<K: Sink>(
     }
 }
 
-// Applies a call and writes its answer.
+// Makes a call and writes its answer.
 fn serve_call<K: Sink>(
     alloc: Global,
     library: &mut Library,

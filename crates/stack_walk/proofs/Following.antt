@@ -1,4 +1,4 @@
--- A walk whose lines act by kept answers goes along the route of these answers.
+-- A walk whose lines act by cached codes goes along the route of these answers.
 use Rattle.std.proofs.Common.{◌≡◌, ℕ, zero, suc, ◌+◌, ◌<◌, ◌≤◌, Bool, true, false, true≢false, ◌⊎◌, inl, inr, if◌then◌else◌, List, [], ◌∷◌, ◌++◌, length, length-append, Option, Some, None, refl, sym, ◌∙◌, ap, subst, append_assoc, append-nil, arith}
 use Rattle.pam_base.specs.declared.code.Code.{Code}
 use Rattle.control_words.specs.declared.control.Action.{Action}
@@ -47,8 +47,8 @@ module _ (State : Type 0) (kind : PassKind) (serve : Serving State) where
       state_if State w.stopped _ _ (P later) (up (at + lines_in inner) later w.state (omega arith) inside)
       (up (at + lines_in inner + lines_in rest) later _ (omega arith) (walk_keeps P step up rest zero (at + lines_in inner) entry w.opinion w.state inside))
 
--- What is known of a serving: which places a state has seen, and, where a walk ends in a state that is Ok, that a line
--- visited acts by its kept answer. Low tells what holds before a place.
+-- What is known of a serving: which lines a state has seen, and, if a walk ends in a state that is
+-- Ok, that a line that was run acts by its cached code. Low says what holds before a line.
 pub record Tells (State : Type 0) (serve : Serving State) (kept : KeptAnswers) (seen : State → List ℕ) (Low : ℕ → State → Type 0) (Ok : State → Type 0) : Type 0 where
   pub on : (rule : Rule) (at : ℕ) (s : State) → (serve rule at s).stopped ≡ false → seen (serve rule at s).state ≡ seen s ++ at ∷ []
   pub off : (rule : Rule) (at : ℕ) (s : State) → (serve rule at s).stopped ≡ true → seen (serve rule at s).state ≡ seen s
@@ -58,11 +58,11 @@ pub record Tells (State : Type 0) (serve : Serving State) (kept : KeptAnswers) (
   pub agrees : (rule : Rule) (at : ℕ) (s : State) (k : Code) → Low at s → Ok (serve rule at s).state → (serve rule at s).stopped ≡ false
       → kept at ≡ Some k → (serve rule at s).deciding ≡ k
 
--- each line visited has a kept answer
+-- each line that was run has a cached code
 abbrev pub Finds : (State : Type 0) (serve : Serving State) (kept : KeptAnswers) (Low : ℕ → State → Type 0) (Ok : State → Type 0) → Type 0
 Finds State serve kept Low Ok = (rule : Rule) (at : ℕ) (s : State) → Low at s → Ok (serve rule at s).state → (serve rule at s).stopped ≡ false → kept at ≡ None → ⊥
 
--- A walk goes along: what it saw is a front of what is met, and once it has ended, all of it.
+-- A walk goes along: what it saw is a prefix of what is met, and once it has ended, all of it.
 pub record Goes (State : Type 0) (seen : State → List ℕ) (before : List ℕ) (m : Met) (w : Walked State) : Type 0 where
   pub left : List ℕ
   pub places : before ++ m.places ≡ seen w.state ++ left
@@ -110,7 +110,7 @@ module _ (State : Type 0) (kind : PassKind) (serve : Serving State) (kept : Kept
   goes_next (after n) f g w m before each here ok sure = each n ok sure
   goes_next stop f g w m before each here ok sure = here
 
-  -- put off at a line
+  -- paused at a line
   goes_if : (b : Bool) (m : Met) (w : Walked State) (o : Opinion) (s : State) (before : List ℕ)
       → 0 < length m.places → (b ≡ true → seen s ≡ before) → (b ≡ false → Ok w.state → Along before m w)
       → Ok (if b then halted o s else w).state → Along before m (if b then halted o s else w)

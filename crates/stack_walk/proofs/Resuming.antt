@@ -1,4 +1,4 @@
--- A pass that was put off goes on where it was.
+-- An incomplete pass is resumed where it was.
 use Rattle.std.proofs.Common.{◌≡◌, ℕ, zero, suc, ◌+◌, Bool, true, false, true≢false, if◌then◌else◌, List, [], ◌∷◌, ◌++◌, refl, sym, ◌∙◌, ap, subst, append_assoc, append-nil}
 use Rattle.std.proofs.lemmas.List.{append_cancel_left}
 use Rattle.pam_base.specs.declared.code.Code.{Code}

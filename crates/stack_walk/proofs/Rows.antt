@@ -27,7 +27,7 @@ jump n = usual (actions.Jump n) actions.Ignore actions.Ignore
 abbrev always : Action → List Action
 always action = usual action action action
 
--- the lines of the places 1, 2, .. answer these; the state is the places that are still to put off a pass, once each
+-- the lines 1, 2, .. return these; the state is the lines that are still to pause a pass, once each
 abbrev fixed : List Code → Answering (List ℕ)
 fixed codes rule at [] = record { answer = get_or codes (at - 1) Success; state = [] }
 fixed codes rule at (later ∷ others) =
@@ -178,7 +178,7 @@ enough_ignored-code = refl
 enough_ignored-visits : (follow enough (Success ∷ Success ∷ []) (Ignore ∷ Success ∷ [])).state.visits ≡ visit 1 Ignore ∷ []
 enough_ignored-visits = refl
 
--- a loose pass decides by its own answers
+-- a run without cached codes decides by its own answers
 abbrev one : Stack
 one = line (by required) none
 
@@ -236,14 +236,14 @@ session_followed-code = refl
 session_followed-visits : (follow session (Success ∷ []) (SessionErr ∷ [])).state.visits ≡ visit 1 SessionErr ∷ []
 session_followed-visits = refl
 
--- but in a loose pass its failure is ignored
+-- but in a run without cached codes its failure is ignored
 session_loose-code : code_of (loose session (SessionErr ∷ [])) ≡ PermDenied
 session_loose-code = refl
 
 session_loose-visits : (loose session (SessionErr ∷ [])).state.visits ≡ visit 1 SessionErr ∷ []
 session_loose-visits = refl
 
--- a line puts the pass off inside a substack, whose entry opinion still holds when it goes on
+-- a line pauses the pass inside a substack, whose entry state still holds when it is resumed
 abbrev waiting : Stack
 waiting = line (by required) (sub (line (by required) (line (by required) (line (by (always actions.Reset)) none))) none)
 
@@ -265,14 +265,14 @@ second_call-code = refl
 second_call-visits : second_call.state.visits ≡ visit 1 Success ∷ visit 2 AuthErr ∷ visit 3 Success ∷ visit 4 Success ∷ []
 second_call-visits = refl
 
--- a module that answers INCOMPLETE puts the pass off each time
+-- a module that returns INCOMPLETE pauses the pass each time
 incomplete-code : code_of (keep one (Incomplete ∷ [])) ≡ Incomplete
 incomplete-code = refl
 
 incomplete-visits : (keep one (Incomplete ∷ [])).state.visits ≡ []
 incomplete-visits = refl
 
--- the route of kept answers: a done in a substack ends the substack alone
+-- the route of cached codes: a done in a substack ends the substack alone
 in_substack : route (sub (line (by sufficient) (line (by required) none)) (line (by required) none)) (kept_in (visit 1 Success ∷ visit 3 Success ∷ [])) ≡ 1 ∷ 3 ∷ []
 in_substack = refl
 
@@ -284,7 +284,7 @@ after_bad = refl
 around_substack : route over_substack (kept_in (visit 1 Success ∷ visit 5 Success ∷ [])) ≡ 1 ∷ 5 ∷ []
 around_substack = refl
 
--- a place without a kept answer is the last, also in a substack
+-- a place without a cached code is the last, even in a substack
 lacking : route ended_inside (kept_in []) ≡ 1 ∷ []
 lacking = refl
 

@@ -1,4 +1,4 @@
--- What is told of the servings of the passes that keep and that follow.
+-- What is known of the servings of first runs and of runs by cached codes.
 use Rattle.std.proofs.Common.{◌≡◌, ℕ, ◌+◌, ◌≤◌, Bool, true, false, true≢false, if◌then◌else◌, List, [], ◌∷◌, ◌++◌, Option, Some, None, unwrap_or, refl, sym, ◌∙◌, ap, le_trans, arith}
 use Rattle.pam_base.specs.declared.code.Code.{Code}
 use Rattle.control_words.specs.declared.nodes.Rule.{Rule}
@@ -18,7 +18,7 @@ if_true true x y is = refl
 if_true false x y is = absurd (true≢false (sym is))
 
 module _ (State : Type 0) (kind : PassKind) (kept : KeptAnswers) (answering : Answering State) where
-  -- a line that doesn't put off is a visit, with its present answer; one that does is none
+  -- a line that doesn't pause counts as run, with its present code; one that does doesn't
   pub visited : (rule : Rule) (at : ℕ) (past : List Code) (vs : List Visit) (s : State) → (served_past kind kept answering rule at past vs s).stopped ≡ false
       → (served_past kind kept answering rule at past vs s).state.visits ≡ vs ++ visit at (served_past kind kept answering rule at past vs s).answer ∷ []
   visited rule at [] vs s is = if_false (is_incomplete (answering rule at s).answer) vs _ is

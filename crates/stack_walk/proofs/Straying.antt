@@ -1,4 +1,4 @@
--- A walk that was put off, and a later one by what it was given, to which nothing more is told.
+-- An incomplete walk, and a later one by what it was given, to which nothing more is recorded.
 use Rattle.std.proofs.Common.{◌≡◌, ℕ, zero, suc, ◌+◌, Bool, true, false, true≢false, if◌then◌else◌, List, [], ◌∷◌, ◌++◌, refl, sym, ◌∙◌, ap, subst, append_assoc, append-nil}
 use Rattle.pam_base.specs.declared.code.Code.{Code}
 use Rattle.control_words.specs.declared.nodes.Rule.{Rule}
@@ -16,13 +16,13 @@ answers_of-append : (one two : List Visit) → answers_of (one ++ two) ≡ answe
 answers_of-append [] two = refl
 answers_of-append (v ∷ one) two = ap (λ (cs : List Code). v.answer ∷ cs) (answers_of-append one two)
 
--- a line was met that wasn't told
+-- a line was met that wasn't recorded
 abbrev pub Strays : Walked (PassState Telling) → Type 0
 Strays w = (w.stopped ≡ true) × (w.state.state.astray ≡ true)
 
 module _ (State : Type 0) where
-  -- What a walk visits, and what a later one is by the answers of these visits: the same where it ended, and one that strays
-  -- where it was put off.
+  -- What a walk visits, and what a later one is by the answers of these visits: the same where it
+  -- ended, and one that strays where it was paused.
   record Resumes (w : Walked (PassState State)) (before : List Visit) (again : List Code → Walked (PassState Telling)) : Type 0 where
     news : List Visit
     adds : w.state.visits ≡ before ++ news
@@ -69,7 +69,7 @@ module _ (State : Type 0) where
     abbrev served_later : Rule → ℕ → List Code → List Visit → Served (PassState Telling)
     served_later rule at past visits = served_past kind later replaying rule at past visits (telling [])
 
-    -- what is served of a line that is visited, and of one that puts off
+    -- what is served of a line that is visited, and of one that pauses
     record LineResumes (v : Served (PassState State)) (rule : Rule) (at : ℕ) (visits : List Visit) : Type 0 where
       on : v.stopped ≡ false → v.state.visits ≡ visits ++ visit at v.answer ∷ []
       off : v.stopped ≡ true → v.state.visits ≡ visits

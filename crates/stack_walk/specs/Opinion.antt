@@ -1,4 +1,4 @@
--- The state of a stack: what its lines came to so far.
+-- The state of a stack (libpam: `impression` and `status`): the result of its lines so far.
 use Rattle.std.specs.Prelude.{Bool, true, false, ◌&&◌, not, if◌then◌else◌}
 use Rattle.pam_base.specs.declared.code.Code.{Code}
 use Rattle.pam_base.specs.declared.code.Code.TheVariants as codes
@@ -21,7 +21,7 @@ opening = opinion_of Undefined codes.PermDenied
 abbrev pub overrun : Opinion
 overrun = opinion_of Negative codes.PermDenied
 
--- a good answer decides where nothing else did, or only a SUCCESS
+-- a good code decides if nothing else did, or only a SUCCESS
 abbrev pub good : Impression → Code → Code → Opinion
 good Undefined status answer = opinion_of Positive answer
 good Positive codes.Success answer = opinion_of Positive answer
@@ -32,24 +32,24 @@ abbrev pub is_ignore : Code → Bool
 is_ignore codes.Ignore = true
 is_ignore code = false
 
--- a present IGNORE is passed over where the deciding answer is another
+-- a present IGNORE is skipped if the deciding code is another
 abbrev pub good_by : Code → Impression → Code → Code → Opinion
 good_by deciding impression status answer = if is_ignore answer && not (is_ignore deciding)
     then opinion_of impression status else good impression status answer
 
--- a bad answer decides where no bad one did; an IGNORE counts as PERM_DENIED
+-- a bad code decides if no bad one did; an IGNORE counts as PERM_DENIED
 abbrev pub bad : Impression → Code → Code → Opinion
 bad Negative status answer = opinion_of Negative status
 bad impression status codes.Ignore = opinion_of Negative codes.PermDenied
 bad impression status answer = opinion_of Negative answer
 
--- a jump decides nothing in a pass that keeps, and is as ok in the others
+-- a jump decides nothing in a first run, and is as ok in the others
 abbrev pub jumped : PassKind → Impression → Code → Code → Opinion
 jumped kinds.Keep impression status answer = opinion_of impression status
 jumped kind impression status answer = if is_ignore answer then opinion_of impression status
     else good impression status answer
 
--- the opinion after an action, at the present answer and the deciding one
+-- the state after an action, at the present code and the deciding one
 abbrev pub acted : PassKind → Action → Code → Code → Opinion → Opinion → Opinion
 acted kind actions.Ignore answer deciding entry o = o
 acted kind actions.Ok answer deciding entry o = good_by deciding o.impression o.status answer
@@ -59,7 +59,7 @@ acted kind actions.Die answer deciding entry o = bad o.impression o.status answe
 acted kind actions.Reset answer deciding entry o = entry
 acted kind (actions.Jump n) answer deciding entry o = jumped kind o.impression o.status answer
 
--- the code that an opinion comes to: a SUCCESS counts only with a positive impression
+-- the return code of a state: a SUCCESS counts only with a positive impression
 abbrev pub verdict_at : Impression → Code → Code
 verdict_at Positive status = status
 verdict_at impression codes.Success = codes.PermDenied

@@ -1,5 +1,5 @@
--- A pass over a stack (the Module Writers' Guide on setcred; putting off is this project's own): which answer
--- decides, what is visited, and how a pass that was put off goes on.
+-- A run of a stack (pam_sm_setcred(3); INCOMPLETE is this project's own): which code decides, which
+-- lines are run, and how an incomplete run is resumed.
 use Rattle.std.specs.Prelude.{◌≡◌, ℕ, Bool, true, false, if◌then◌else◌, nat_eq, List, [], ◌∷◌, ◌++◌, Some, None, unwrap_or}
 use Rattle.pam_base.specs.declared.code.Code.{Code}
 use Rattle.pam_base.specs.declared.code.Code.TheVariants as codes
@@ -10,27 +10,27 @@ use Rattle.stack_walk.specs.declared.pass_kind.PassKind.TheVariants as kinds
 use Rattle.stack_walk.specs.Walk.{Served, Serving, Walked, pass}
 use Rattle.stack_walk.specs.Route.{KeptAnswers}
 
--- what a line answers when it is asked, and the state of all that it can change
+-- what a line returns when it is run, and the state of all that it can change
 pub record Answered (State : Type 0) : Type 0 where
   pub answer : Code
   pub state : State
 
--- how the line of a rule at a place answers when it is asked
+-- what the line with this rule number returns when it is run
 abbrev pub Answering : Type 0 → Type 0
 Answering State = Rule → ℕ → State → Answered State
 
--- an answer and a state are those of a line that was asked
+-- a code and a state are those of a line that was run
 pub record AnswersAs {State : Type 0} (a : Answered State) (answer : Code) (state : State) : Type
     0 where
   pub answer_is : answer ≡ a.answer
   pub state_is : state ≡ a.state
 
--- the answer that puts a pass off: it goes on at this line later
+-- the code that pauses a run: it is resumed at this line later
 abbrev pub is_incomplete : Code → Bool
 is_incomplete codes.Incomplete = true
 is_incomplete answer = false
 
--- the line of a place was visited, and gave this answer
+-- the line with this rule number was run, and returned this code
 pub record Visit : Type 0 where
   pub place : ℕ
   pub answer : Code
@@ -46,18 +46,18 @@ abbrev pub answers_of : List Visit → List Code
 answers_of [] = []
 answers_of (v ∷ vs) = v.answer ∷ answers_of vs
 
--- visits, as answers kept for their places: that of a place's first visit
+-- lines that were run, as cached codes: for each line that of its first time
 abbrev pub kept_in : List Visit → KeptAnswers
 kept_in [] place = None
 kept_in (v ∷ vs) place = if nat_eq place v.place then Some v.answer else kept_in vs place
 
--- the deciding answer: the kept one in a pass that follows, else the present one
+-- the deciding code: the cached one in a run by cached codes, else the present one
 abbrev pub decides : PassKind → KeptAnswers → ℕ → Code → Code
 decides kinds.Follow kept place answer = unwrap_or (kept place) answer
 decides kind kept place answer = answer
 
--- within a pass: the answers given in its earlier calls that are left, its visits so far in order, and what lines can
--- change
+-- within a run: the codes of its earlier calls that are left, the lines that it has run in order,
+-- and what lines can change
 pub record PassState (State : Type 0) : Type 0 where
   pub past : List Code
   pub visits : List Visit
@@ -66,7 +66,7 @@ pub record PassState (State : Type 0) : Type 0 where
 abbrev pub pass_state : {State : Type 0} → List Code → List Visit → State → PassState State
 pass_state past visits state = record { past = past; visits = visits; state = state }
 
--- a line that was asked; one that puts the pass off is no visit
+-- a line that was run; one that pauses the run doesn't count
 abbrev pub served_now : {State : Type 0} → PassKind → KeptAnswers → ℕ → List Visit → Answered State
     → Served (PassState State)
 served_now kind kept at visits a = record {
@@ -77,7 +77,8 @@ served_now kind kept at visits a = record {
       else visits ++ visit at a.answer ∷ []) a.state;
 }
 
--- the next answer is the first of those given already, if one is left, and nothing else changes; else the line is asked
+-- the next code is the first of the earlier ones, if one is left, and nothing else changes; else
+-- the line is run
 abbrev pub served_past : {State : Type 0} → PassKind → KeptAnswers → Answering State → Rule → ℕ
     → List Code → List Visit → State → Served (PassState State)
 served_past kind kept answering rule at [] visits state =
@@ -94,7 +95,7 @@ abbrev pub serving : {State : Type 0} → PassKind → KeptAnswers → Answering
 serving kind kept answering rule at s =
     served_past kind kept answering rule at s.past s.visits s.state
 
--- the pass over a whole stack, after answers given in its earlier calls
+-- the run of a whole stack, after the codes of its earlier calls
 abbrev pub pass_after : {State : Type 0} → PassKind → KeptAnswers → Answering State → Stack
     → List Code → State → Walked (PassState State)
 pass_after kind kept answering stack past state =

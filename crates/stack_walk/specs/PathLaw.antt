@@ -8,7 +8,8 @@ use Rattle.stack_walk.specs.declared.pass_kind.PassKind.TheVariants as kinds
 use Rattle.stack_walk.specs.Route.{KeptAnswers, route, Complete}
 use Rattle.stack_walk.specs.Pass.{Visit, Answering, kept_in, places_of, answers_of, pass_after}
 
--- once a pass that keeps has ended, what it visited is complete for its stack, whatever was kept before
+-- when a first run has ended, the codes of its lines are complete for its stack, whatever was
+-- cached before
 abbrev pub KeepsComplete : Type 0 → Type 0
 KeepsComplete State =
     (before : KeptAnswers) (answering : Answering State) (stack : Stack) (past : List Code)
@@ -16,35 +17,36 @@ KeepsComplete State =
     let w = pass_after kinds.Keep before answering stack past s in
     w.stopped ≡ false → Complete stack (kept_in w.state.visits)
 
--- and next_by to the places visited, in order
+-- and lead to the lines that were run, in order
 abbrev pub KeepsRoute : Type 0 → Type 0
 KeepsRoute State = (before : KeptAnswers) (answering : Answering State) (stack : Stack)
     (past : List Code) (s : State) →
     let w = pass_after kinds.Keep before answering stack past s in
     w.stopped ≡ false → route stack (kept_in w.state.visits) ≡ places_of w.state.visits
 
--- places visited are a front of others, in order: all of them once the pass has ended, fewer while it is put off
+-- lines that were run are a prefix of others, in order: all of them once the run has ended, fewer
+-- while it is incomplete
 pub record Follows (places visited : List ℕ) (stopped : Bool) : Type 0 where
   pub left : List ℕ
   pub in_order : visited ++ left ≡ places
   pub whole : stopped ≡ false → left ≡ []
   pub fewer : stopped ≡ true → 0 < length left
 
--- a pass that follows complete answers visits the places that they lead to, whatever its lines answer
+-- a run by complete cached codes runs the lines that they lead to, whatever the modules return
 abbrev pub FollowsRoute : Type 0 → Type 0
 FollowsRoute State = (answering : Answering State) (stack : Stack) (kept : KeptAnswers)
     (past : List Code) (s : State) → Complete stack kept →
     let w = pass_after kinds.Follow kept answering stack past s in
     Follows (route stack kept) (places_of w.state.visits) w.stopped
 
--- every kept answer that it asks for is there
+-- every cached code that it needs is there
 abbrev pub FindsKept : Type 0 → Type 0
 FindsKept State = (answering : Answering State) (stack : Stack) (kept : KeptAnswers)
     (past : List Code) (s : State) → Complete stack kept → (place : ℕ) →
     let w = pass_after kinds.Follow kept answering stack past s in
     list_any (nat_eq place) (places_of w.state.visits) ≡ true → is_some (kept place) ≡ true
 
--- so it visits the places of the pass that it follows
+-- so it runs the lines of the run that cached them
 abbrev pub FollowsKeep : Type 0 → Type 0
 FollowsKeep State = (before : KeptAnswers) (answering later_answering : Answering State)
     (stack : Stack) (past later_past : List Code) (s later : State) →
@@ -54,8 +56,8 @@ FollowsKeep State = (before : KeptAnswers) (answering later_answering : Answerin
     later in
     Follows (places_of kept.state.visits) (places_of w.state.visits) w.stopped
 
--- A pass that was put off goes on where it was: with the answers of its visits as past, the next one has these visits
--- first.
+-- An incomplete run is resumed where it was: with the codes of its lines as past, the next one has
+-- these lines first.
 abbrev pub GoesOn : Type 0 → Type 0
 GoesOn State = (kind : PassKind) (kept : KeptAnswers) (answering later_answering : Answering State)
     (stack : Stack) (past : List Code) (s later : State) →

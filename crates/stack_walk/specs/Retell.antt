@@ -1,4 +1,4 @@
--- A pass told again by the visits that it made (this project's own).
+-- A run replayed by the lines that it recorded (this project's own).
 use Rattle.std.specs.Prelude.{◌≡◌, ℕ, Bool, true, false, ◌&&◌, nat_eq, if◌then◌else◌, List, [], ◌∷◌, ◌++◌}
 use Rattle.std.specs.Str.{bytes_eq}
 use Rattle.pam_base.specs.declared.code.Code.{Code}
@@ -11,7 +11,7 @@ use Rattle.stack_walk.specs.Route.{KeptAnswers}
 use Rattle.stack_walk.specs.Walk.{Walked}
 use Rattle.stack_walk.specs.Pass.{Answered, Answering, PassState, answers_of, decides, pass_after, pass_state}
 
--- a line of a stack that was visited: its place, its module's name, its answer
+-- a line of a stack that was run: its rule number, its module's name, its return code
 pub record Seen : Type 0 where
   pub place : ℕ
   pub name : List ℕ
@@ -20,7 +20,7 @@ pub record Seen : Type 0 where
 abbrev pub seen_at : ℕ → List ℕ → Code → Seen
 seen_at place name answer = record { place = place; name = name; answer = answer }
 
--- the visits told that are left, and whether a line was met that isn't the next of them
+-- the recorded lines that are left, and whether a line was run that isn't the next of them
 pub record Telling : Type 0 where
   pub left : List Seen
   pub astray : Bool
@@ -31,11 +31,11 @@ telling left = record { left = left; astray = false }
 abbrev pub strays : List Seen → Answered Telling
 strays left = record { answer = codes.Incomplete; state = record { left = left; astray = true } }
 
--- a visit tells of the line of a rule at a place
+-- a recorded line is that of a rule with this rule number
 abbrev pub is_of : Seen → Rule → ℕ → Bool
 is_of v rule place = nat_eq v.place place && bytes_eq v.name (name_of_module rule.path)
 
--- a line answers what the next visit tells, where that is of this line; else nothing goes on
+-- a line returns what the next recorded line has, if that is of this line; else the replay stops
 abbrev pub answer_told : Rule → ℕ → List Seen → Answered Telling
 answer_told rule place [] = strays []
 answer_told rule place (v ∷ vs) = if is_of v rule place
@@ -45,13 +45,13 @@ answer_told rule place (v ∷ vs) = if is_of v rule place
 abbrev pub replaying : Answering Telling
 replaying rule place t = answer_told rule place t.left
 
--- each line that is asked adds its visit to a trail, and nothing else is added
+-- each line that is run is added to a trace, and nothing else is
 abbrev pub Trails : {State : Type 0} → (State → List Seen) → Answering State → Type 0
 Trails {State} trail answering = (rule : Rule) (place : ℕ) (s : State) →
     trail (answering rule place s).state ≡ trail s
     ++ seen_at place (name_of_module rule.path) (answering rule place s).answer ∷ []
 
--- the same pass over told visits, with these left
+-- the same run over recorded lines, with these left
 abbrev pub told_again : {State : Type 0} → Walked (PassState State) → List Seen
     → Walked (PassState Telling)
 told_again w left = record {
@@ -60,7 +60,8 @@ told_again w left = record {
   stopped = w.stopped;
 }
 
--- A pass that tells its visits in a trail: by these visits it is the same again, and takes no more of them.
+-- A run that records its lines in a trace: replayed by these lines it is the same again, and takes
+-- no more of them.
 pub record Retold {State : Type 0} (trail : State → List Seen) (before : List Seen)
     (w : Walked (PassState State)) (again : List Seen → Walked (PassState Telling)) : Type 0 where
   pub news : List Seen
@@ -74,8 +75,8 @@ Retells State = (trail : State → List Seen) (kind : PassKind) (kept : KeptAnsw
     → Retold trail (trail s) (pass_after kind kept answering stack past s) (λ left.
     pass_after kind kept replaying stack past (telling left))
 
--- What a pass that was put off was given leads a later one, by nothing told, to a line that it asks. What is kept by
--- then doesn't matter where it doesn't decide.
+-- The codes of an incomplete run, replayed with no more recorded lines, end at a line that is run.
+-- What is cached by then doesn't matter if it doesn't decide.
 abbrev pub ResumesAsking : Type 0 → Type 0
 ResumesAsking State =
     (kind : PassKind) (kept later : KeptAnswers) (answering : Answering State) (stack : Stack)

@@ -1,4 +1,4 @@
--- The lines that a pass meets which acts by answers kept for their places.
+-- The lines that a run by cached codes runs.
 use Rattle.std.specs.Prelude.{◌≡◌, ℕ, zero, suc, ◌+◌, Bool, true, false, if◌then◌else◌, nat_le, nat_eq, List, [], ◌∷◌, ◌++◌, Option, Some, None, is_some}
 use Rattle.std.specs.List.{list_any}
 use Rattle.pam_base.specs.declared.code.Code.{Code}
@@ -8,11 +8,12 @@ use Rattle.control_words.specs.Control.{action_at}
 use Rattle.control_words.specs.Stack.{Stack, none, line, sub, count, lines_in}
 use Rattle.stack_walk.specs.Walk.{Next, after, stop}
 
--- the answers kept for places
+-- the codes that are cached for lines
 abbrev pub KeptAnswers : Type 0
 KeptAnswers = ℕ → Option Code
 
--- whether the opinion is negative after an action, of whether it was at the list's entry and before the line
+-- whether the state is negative after an action, given whether it was at the list's entry and
+-- before the line
 abbrev pub negative_after : Action → Bool → Bool → Bool
 negative_after actions.Ignore entry now = now
 negative_after actions.Ok entry now = now
@@ -22,19 +23,21 @@ negative_after actions.Die entry now = true
 negative_after actions.Reset entry now = entry
 negative_after (actions.Jump n) entry now = now
 
--- where a list goes on after a line; done ends it where the opinion isn't negative
+-- where a list goes on after a line; done ends it unless the state is negative
 abbrev pub next_by : Action → ℕ → Bool → Next
 next_by actions.Die left now = stop
 next_by actions.Done left now = if now then after 0 else stop
 next_by (actions.Jump n) left now = if nat_le n left then after n else stop
 next_by action left now = after 0
 
--- whether the opinion is negative where the list goes on; a jump over more nodes than are left makes it so
+-- whether the state is negative when the list goes on; a jump over more nodes than are left makes
+-- it so
 abbrev pub negative_behind : Action → ℕ → Bool → Bool → Bool
 negative_behind (actions.Jump n) left entry now = if nat_le n left then now else true
 negative_behind action left entry now = negative_after action entry now
 
--- the places met, whether the opinion is negative after them, and whether a place without a kept answer was met
+-- the lines that are run, whether the state is negative after them, and whether one of them has no
+-- cached code
 pub record Met : Type 0 where
   pub places : List ℕ
   pub negative : Bool
@@ -51,13 +54,14 @@ abbrev pub onto : Next → (ℕ → Met) → Met → Met
 onto (after n) rest here = rest n
 onto stop rest here = here
 
--- a line, by the answer that is kept for its place
+-- a line, by its cached code
 abbrev pub met_at : ℕ → Option Code → Bool → (Code → Met) → Met
 met_at at None negative on = record { places = at ∷ []; negative = negative; lacks = true }
 met_at at (Some answer) negative on = behind (at ∷ []) (on answer)
 
--- What is met of a stack whose first line has the place `at`, with n nodes at its front passed over. Only
--- whether the opinion is negative is followed, and each line acts by its kept answer. A place without one is the last.
+-- The lines that are run of a stack whose first line has the rule number `at`, with its first n
+-- nodes skipped. Only whether the state is negative is tracked, and each line acts by its cached
+-- code. A line without one is the last.
 abbrev pub route_from : KeptAnswers → ℕ → Stack → ℕ → Bool → Bool → Met
 route_from kept skip none at entry now = met now
 route_from kept (suc skip) (line rule rest) at entry now =
@@ -79,7 +83,7 @@ route_from kept zero (sub inner rest) at entry now =
 abbrev pub route : Stack → KeptAnswers → List ℕ
 route stack kept = (route_from kept 0 stack 1 false false).places
 
--- the places with a kept answer are exactly those that are met
+-- the lines with a cached code are exactly those that are run
 abbrev pub Complete : Stack → KeptAnswers → Type 0
 Complete stack kept = (place : ℕ) → is_some (kept place)
     ≡ list_any (nat_eq place) (route stack kept)

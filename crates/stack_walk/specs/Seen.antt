@@ -1,4 +1,4 @@
--- A visit that is told, as the passes speak of it.
+-- A recorded line, as the definitions of runs have it.
 use Rattle.stack_walk.specs.declared.seen.Seen.{Seen}
 use Rattle.stack_walk.specs.Retell as retell
 

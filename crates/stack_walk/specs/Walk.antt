@@ -13,7 +13,8 @@ use Rattle.stack_walk.specs.declared.opinion.Opinion.{Opinion}
 use Rattle.stack_walk.specs.declared.pass_kind.PassKind.{PassKind}
 use Rattle.stack_walk.specs.Opinion.{acted, opening, overrun, verdict}
 
--- what a line answered, the answer that picks its action, whether the walk is put off there, and the state after it
+-- what a line returned, the code that picks its action, whether the walk pauses there, and the
+-- state after it
 pub record Served (State : Type 0) : Type 0 where
   pub answer : Code
   pub deciding : Code
@@ -24,7 +25,7 @@ pub record Served (State : Type 0) : Type 0 where
 abbrev pub Serving : Type 0 → Type 0
 Serving State = Rule → ℕ → State → Served State
 
--- what a walk came to
+-- the result of a walk
 pub record Walked (State : Type 0) : Type 0 where
   pub opinion : Opinion
   pub state : State
@@ -33,7 +34,7 @@ pub record Walked (State : Type 0) : Type 0 where
 abbrev pub walked : {State : Type 0} → Opinion → State → Walked State
 walked opinion state = record { opinion = opinion; state = state; stopped = false }
 
--- put off: the state is as the line left it
+-- incomplete: the state is as the line left it
 abbrev pub halted : {State : Type 0} → Opinion → State → Walked State
 halted opinion state = record { opinion = opinion; state = state; stopped = true }
 
@@ -41,7 +42,7 @@ abbrev pub is_negative : Impression → Bool
 is_negative Negative = true
 is_negative impression = false
 
--- whether a list ends after a line: after die, and after done where the new opinion isn't negative
+-- whether a list ends after a line: after die, and after done unless the new state is negative
 abbrev pub ends : Action → Opinion → Bool
 ends actions.Die new = true
 ends actions.Done new = not (is_negative new.impression)
@@ -57,7 +58,7 @@ abbrev pub next_of : Action → ℕ → Opinion → Next
 next_of (actions.Jump n) left new = if nat_le n left then after n else stop
 next_of action left new = if ends action new then stop else after 0
 
--- the opinion after a line; a jump over more nodes than are left overruns
+-- the state after a line; a jump over more nodes than are left overruns
 abbrev pub settled : Action → ℕ → Opinion → Opinion
 settled (actions.Jump n) left new = if nat_le n left then new else overrun
 settled action left new = new
@@ -67,9 +68,9 @@ abbrev pub onward : {State : Type 0} → Next → (ℕ → Walked State) → Wal
 onward (after n) rest here = rest n
 onward stop rest here = here
 
--- The walk over a stack whose first line has the place `at`, with n nodes at its front passed over.
--- A substack is walked with the present opinion as its entry; what ends it ends only itself, but where a line puts
--- off, all is put off.
+-- The walk over a stack whose first line has the rule number `at`, with its first n nodes skipped.
+-- A substack is walked with the present state as its entry; what ends it ends only itself, but a
+-- line that pauses pauses everything.
 abbrev pub walk : {State : Type 0} → PassKind → Serving State → ℕ → Stack → ℕ → Opinion → Opinion
     → State → Walked State
 walk kind serve skip none at entry opinion state = walked opinion state
@@ -103,7 +104,7 @@ pub record EndsAs {State : Type 0} (w : Walked State) (code : Code) (state : Sta
   pub code_is : code ≡ code_of w
   pub state_is : state ≡ w.state
 
--- answers, and a state, are those of a line
+-- codes, and a state, are those of a line
 pub record ServedAs {State : Type 0} (served : Served State) (answer deciding : Code)
     (stopped : Bool) (state : State) : Type 0 where
   pub answer_is : answer ≡ served.answer

@@ -1,4 +1,5 @@
-/// Whether the lines so far speak for the user.
+/// Whether the lines so far grant or deny (libpam: `impression`, _PAM_UNDEF, _PAM_POSITIVE,
+/// _PAM_NEGATIVE).
 #[derive(Clone, Copy, Debug, PartialEq, Eq)]
 pub enum Impression {
     Undefined,

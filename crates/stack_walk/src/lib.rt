@@ -1,6 +1,8 @@
-//! What a stack comes to (`pam.conf(5)`, the Module Writers' Guide on setcred): the walk over its lines and substacks
-//! with the opinion that it carries, the passes that keep, follow and are put off, and the law on which lines they
-//! visit. Here are the definitions, and the code of the opinion alone; how a line is served is left open.
+//! How a stack computes its return code (`pam.conf(5)`, `pam_sm_setcred(3)`; libpam:
+//! `_pam_dispatch_aux`): the walk over its lines and substacks with the state that it carries, the
+//! runs that cache return codes, use cached ones or are incomplete, and the law on which lines they
+//! run. These are definitions, and the code of the state alone; how a line is run is left open.
+//! Begin at `opinion.rt`.
 #![tactic(auto)]
 
 mod impression;

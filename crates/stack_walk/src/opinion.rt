@@ -3,7 +3,8 @@ use crate::pass_kind::PassKind;
 use control_words::Action;
 use pam_base::Code;
 
-/// The state of a stack: an impression, and the code that it would answer.
+/// The state of a stack: an impression, and the code that it would return (libpam: `impression` and
+/// `status`).
 #[derive(Clone, Copy, Debug, PartialEq, Eq)]
 pub struct Opinion {
     pub impression: Impression,
@@ -15,7 +16,7 @@ impl Opinion {
     ghost use Rattle.stack_walk.specs.Opinion.{acted, bad, good, good_by, jumped, opening, overrun, verdict};
     ghost use Rattle.stack_walk.specs.Walk.{ends};
 
-    /// Before the first line.
+    /// The state before the first line: undefined, PAM_PERM_DENIED.
     pub fn opening() -> Self
         ensures { result ≡ opening }
     {
@@ -25,7 +26,7 @@ impl Opinion {
         }
     }
 
-    /// After a jump over more nodes than are left in its list.
+    /// The state after a jump over more nodes than are left in its list: negative, PAM_PERM_DENIED.
     pub fn overrun() -> Self
         ensures { result ≡ overrun }
     {
@@ -35,8 +36,8 @@ impl Opinion {
         }
     }
 
-    /// After the action that a line's deciding answer picked; `answer` is its present one, and
-    /// `entry` the opinion at the entry of its list.
+    /// The state after the action that a line's deciding code picked; `answer` is the line's
+    /// present code, and `entry` the state in which its list was entered.
     pub fn after(
         self,
         kind: PassKind,
@@ -56,7 +57,7 @@ impl Opinion {
         }
     }
 
-    /// Whether the list ends after a line with this action, where this is the opinion after it.
+    /// Whether the list ends after a line with this action, if this is the state after it.
     pub fn ends(self, action: Action) -> bool
         ensures { result ≡ ends action self }
     {
@@ -67,7 +68,8 @@ impl Opinion {
         }
     }
 
-    /// The code of the whole stack.
+    /// The return code of the whole stack: PAM_PERM_DENIED instead of PAM_SUCCESS unless the
+    /// impression is positive.
     pub fn verdict(self) -> Code
         ensures { result ≡ verdict self }
     {

@@ -1,10 +1,10 @@
-/// Which answer decides a line's action in a pass, and what becomes of the answers.
+/// Which code decides a line's action in a run of a stack, and whether codes are cached.
 #[derive(Clone, Copy, Debug, PartialEq, Eq)]
 pub enum PassKind {
-    /// The present answer decides, and is kept for the passes that follow.
+    /// A first run: the present code decides, and is cached for later runs.
     Keep,
-    /// The kept answer decides: the pass takes the way of the one that kept it.
+    /// A run by cached codes: these decide, so it runs the same lines as the run that cached them.
     Follow,
-    /// The present answer decides, and nothing is kept.
+    /// A run without cached codes: the present code decides, and nothing is cached.
     Loose,
 }

@@ -1,6 +1,7 @@
 use pam_base::{Code, Text};
 
-/// A line of a stack that was visited, as it is told: its place, its module's name, its answer.
+/// A line of a stack that was run, as it is recorded: its rule number, its module's name, its
+/// return code.
 #[derive(Debug, Drop)]
 pub struct Seen {
     pub place: u64,

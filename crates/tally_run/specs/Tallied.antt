@@ -30,7 +30,8 @@ abbrev pub visit_in : TalliedVisit → TimedVisit
 visit_in (counted t s) = t
 visit_in (passed_by t) = t
 
--- The call is that of this visit: of its line's module, which is pam_faillock, at its moment, and with its answer.
+-- The call is that of this line: of its module, which is pam_faillock, at its time, and with its
+-- return code.
 pub record IsCallOf (players : List Player) (t : TimedVisit) (s : Served) : Type 0 where
   pub player : Player
   pub module_is : module_of_path players t.visit.path ≡ Some player

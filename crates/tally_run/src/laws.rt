@@ -7,11 +7,12 @@ ghost use Rattle.session_run.specs.Step.{line_step};
 ghost use Rattle.session_run.specs.Visits.{visits_in};
 ghost use Rattle.tally_run.specs.Tallied.{FaillockAloneWrites, Tallies};
 
-/// However the steps of a run fall on its transactions, no failure that was recorded is lost from a user's file but by one
-/// that is recorded later and against which it doesn't count, or by a clearing. The calls of pam_faillock(8) that are
-/// spoken of are those of the lines that the run visits, all of them and no others, each at the moment of its step and with
-/// the answer that it gave (`script`); and the closings that end the run leave what then stands (`closings`). It does
-/// nothing: its contract is a law about the definitions.
+/// If pam_faillock(8) alone writes a user's file, then whatever the steps of a run are, the file is
+/// explained by one call of the module for each of its lines that the run runs, in order, with the
+/// time of the step and the code that was returned (`script`): a recorded failure is dropped only
+/// when a later one is recorded and it doesn't count any more, or when the failures are cleared.
+/// The implicit ends of the run change nothing of the file (`closings`). This is a law about the
+/// definitions: its contract states it.
 pub fn runs_keep_recorded_failures()
     ensures script { (path : List ℕ) (setting : Setting) (n : ℕ) (s : RunState) (script : List
         (List ℕ)) →

@@ -3,8 +3,8 @@ use Rattle.conv_port.specs.Conv.{ConvState}
 use Rattle.pam_base.specs.declared.code.Code.{Code}
 use Rattle.pam_outside.specs.Files.{VaultState}
 use Rattle.pam_outside.specs.Time.{ClockState}
-use Rattle.pam_room.specs.declared.process.Process.{Process}
-use Rattle.pam_room.specs.State.{Scene}
+use Rattle.account_files.specs.pam_room.specs.declared.process.Process.{Process}
+use Rattle.account_files.specs.pam_room.specs.State.{Scene}
 use Rattle.account_files.specs.Accounts.{Known}
 use Rattle.account_files.specs.Act.{Act, Acts, standing}
 use Rattle.mod_env.specs.Env.{puts_all}

@@ -2,7 +2,7 @@ use Rattle.std.proofs.Common.{◌≡◌, Bool, length, IsTrue}
 use Rattle.conv_port.specs.Conv.{ConvState}
 use Rattle.pam_base.specs.declared.code.Code.{Code}
 use Rattle.pam_outside.specs.Time.{ClockState}
-use Rattle.pam_room.specs.State.{Scene}
+use Rattle.account_files.specs.pam_room.specs.State.{Scene}
 use Rattle.account_files.specs.Act.{Act, Acts, standing}
 use Rattle.mod_env.specs.Env.{sets_all}
 use Rattle.mod_env.specs.Puts.{Puts}

@@ -1,8 +1,8 @@
 use Rattle.std.proofs.Common.{◌≡◌, None, Err, map, refl, sym, ◌∙◌, rules}
 use Rattle.dispatch_core.specs.Given.{past_of}
-use Rattle.pam_room.specs.Module.{player_of}
-use Rattle.pam_room.specs.Plain.{plain_room, plain_world}
-use Rattle.pam_room.specs.State.{PlainRoom, PlainWorld}
+use Rattle.dispatch_core.specs.pam_room.specs.Module.{player_of}
+use Rattle.dispatch_core.specs.pam_room.specs.Plain.{plain_room, plain_world}
+use Rattle.dispatch_core.specs.pam_room.specs.State.{PlainRoom, PlainWorld}
 use Rattle.pam_handle.specs.Pass.{kept_answers}
 use Rattle.pam_handle.proofs.Changing.{both_tell, checked, checked_alone, if_ok_from, success_over}
 use Rattle.pam_handle.proofs.Stopping.{both_same, check_stops, stops_later}

@@ -1,7 +1,7 @@
 use Rattle.std.proofs.Common.{◌&&◌, Bool}
 use Rattle.dispatch_core.specs.Given.{past_of}
-use Rattle.pam_room.specs.Plain.{plain_room, plain_world}
-use Rattle.pam_room.specs.State.{State, state_of}
+use Rattle.dispatch_core.specs.pam_room.specs.Plain.{plain_room, plain_world}
+use Rattle.dispatch_core.specs.pam_room.specs.State.{State, state_of}
 use Rattle.pam_handle.specs.Pass.{kept_answers}
 use Rattle.pam_handle.proofs.Stopping.{stops_in_update}
 use Rattle.pam_handle.proofs.chauthtok.update.Goals as goal

@@ -1,5 +1,5 @@
 use Rattle.std.proofs.Common.{◌≡◌, ◌++◌, drop}
-use Rattle.handler_chain.specs.FlatLines.{flat_lines}
+use Rattle.dispatch_core.specs.handler_chain.specs.FlatLines.{flat_lines}
 use Rattle.pam_handle.specs.Items.{missing_in}
 use Rattle.pam_handle.proofs.Lacking.{missing_lines}
 use Rattle.pam_handle.proofs.missing.add_missing.Given as goal

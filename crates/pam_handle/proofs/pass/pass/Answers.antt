@@ -1,5 +1,5 @@
 use Rattle.std.proofs.Common.{map, ◌∙◌, ap}
-use Rattle.pam_room.specs.Module.{player_of}
+use Rattle.dispatch_core.specs.pam_room.specs.Module.{player_of}
 use Rattle.dispatch_core.specs.Given.{past_of}
 use Rattle.pam_handle.proofs.Passing.{names_of_players, pass_stopped, pass_told}
 use Rattle.pam_handle.proofs.pass.pass.Goals as goal

@@ -1,8 +1,8 @@
 use Rattle.std.proofs.Common.{ap, ◌∙◌}
-use Rattle.control_words.specs.declared.nodes.Nodes.{Nodes}
-use Rattle.control_words.specs.Stack.{stack_of}
-use Rattle.handler_chain.specs.Chain.{ChainView}
-use Rattle.service_load.specs.declared.rule_type.RuleType.TheVariants.{Auth}
+use Rattle.dispatch_core.specs.control_words.specs.declared.nodes.Nodes.{Nodes}
+use Rattle.dispatch_core.specs.control_words.specs.Stack.{stack_of}
+use Rattle.dispatch_core.specs.handler_chain.specs.Chain.{ChainView}
+use Rattle.dispatch_core.specs.service_load.specs.declared.rule_type.RuleType.TheVariants.{Auth}
 use Rattle.pam_handle.proofs.Laying.{laid_next}
 use Rattle.pam_handle.proofs.prepare.lay_flat.Goals as goal
 

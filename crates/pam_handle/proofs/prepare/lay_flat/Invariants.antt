@@ -1,6 +1,6 @@
 use Rattle.std.proofs.Common.{◌≡◌, drop}
-use Rattle.service_load.specs.Trees.{stacks_of_trees}
-use Rattle.service_load.proofs.Filling.{filled}
+use Rattle.dispatch_core.specs.service_load.specs.Trees.{stacks_of_trees}
+use Rattle.dispatch_core.specs.service_load.proofs.Filling.{filled}
 use Rattle.pam_handle.specs.Plain.{stacks_in}
 use Rattle.pam_handle.proofs.Laying.{stack_in}
 use Rattle.pam_handle.proofs.prepare.lay_flat.Given as goal

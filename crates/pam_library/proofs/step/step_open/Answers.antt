@@ -1,4 +1,4 @@
-use Rattle.pam_room.specs.Plain.{plain_room}
+use Rattle.pam_handle.specs.pam_room.specs.Plain.{plain_room}
 use Rattle.pam_handle.specs.Handle.{PlainHandle}
 use Rattle.pam_handle.specs.Plain.{plain_handle}
 use Rattle.pam_library.proofs.Onward.{no_fault, onward}

@@ -1,5 +1,5 @@
 use Rattle.std.proofs.Common.{◌≡◌, ◌&&◌, not, eqb, List, length, sym, ◌∙◌, ap}
-use Rattle.dispatch_core.specs.Calls.{goes}
+use Rattle.pass_replay.specs.dispatch_core.specs.Calls.{goes}
 use Rattle.pass_replay.specs.Held.{held_of}
 use Rattle.pass_replay.specs.Replay.{as_told}
 use Rattle.pass_replay.specs.Retold.{stacks_in, went_of}

@@ -1,6 +1,6 @@
 use Rattle.std.proofs.Common.{refl, ◌∙◌}
-use Rattle.pam_room.specs.Plain.{plain_world}
-use Rattle.pam_room.specs.State.{PlainWorld}
+use Rattle.session_run.specs.pam_room.specs.Plain.{plain_world}
+use Rattle.session_run.specs.pam_room.specs.State.{PlainWorld}
 use Rattle.session_run.specs.State.{state_of}
 use Rattle.session_generate.proofs.Attempting.{all_placed, not_placed, vault_of}
 use Rattle.session_generate.proofs.Closing.{both_tell}

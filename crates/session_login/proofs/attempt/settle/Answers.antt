@@ -1,5 +1,5 @@
 use Rattle.std.proofs.Common.{ap, ◌∙◌}
-use Rattle.pam_library.specs.declared.outcome.Answer.{Answer}
+use Rattle.session_run.specs.pam_library.specs.declared.outcome.Answer.{Answer}
 use Rattle.session_login.specs.Login.{end_call}
 use Rattle.session_login.proofs.Coming.{comes_stopped, made_as, settles_denied}
 use Rattle.session_login.proofs.Proceeding.{end_ends_as, proceeds_so}

@@ -1,6 +1,6 @@
 use Rattle.std.proofs.Common.{refl}
 use Rattle.session_program.proofs.Cleaning.{cleaned_up, proceeds_too}
-use Rattle.session_run.specs.State.{state_of}
+use Rattle.session_login.specs.session_run.specs.State.{state_of}
 use Rattle.session_program.proofs.generation.draw_over.Goals as goal
 
 pub returns-clause-told : goal.returns-clause-told

@@ -1,7 +1,7 @@
 use Rattle.std.proofs.Common.{◌≡◌, ◌++◌, List, map, take, drop, string_bytes}
 use Rattle.std.specs.List.{flat_map}
-use Rattle.pam_room.specs.Module.{Player, player_of}
-use Rattle.dispatch_core.specs.Lines.{names_of}
+use Rattle.pam_library.specs.pam_room.specs.Module.{Player, player_of}
+use Rattle.pam_library.specs.dispatch_core.specs.Lines.{names_of}
 use Rattle.pam_library.specs.Plain.{gear_in}
 use Rattle.session_report.specs.Cleaned.{filed_text}
 use Rattle.session_report.proofs.cleaned.write_cleanups.Given as goal

@@ -1,10 +1,10 @@
 use Rattle.std.proofs.Common.{◌≡◌, ◌&&◌, Bool, true, List, length, map}
-use Rattle.dispatch_core.specs.Lines.{names_of}
-use Rattle.pam_room.specs.Module.{Player, notes_of, player_of}
-use Rattle.pam_room.specs.Plain.{plain_world}
-use Rattle.pam_library.specs.Plain.{gear_in, slots_in, tells_in}
-use Rattle.pam_library.specs.Slots.{lists_of}
-use Rattle.pam_library.specs.Sound.{IsSound}
+use Rattle.session_report.specs.dispatch_core.specs.Lines.{names_of}
+use Rattle.session_report.specs.pam_room.specs.Module.{Player, notes_of, player_of}
+use Rattle.session_report.specs.pam_room.specs.Plain.{plain_world}
+use Rattle.session_report.specs.pam_library.specs.Plain.{gear_in, slots_in, tells_in}
+use Rattle.session_report.specs.pam_library.specs.Slots.{lists_of}
+use Rattle.session_report.specs.pam_library.specs.Sound.{IsSound}
 use Rattle.session_run.specs.AnyWorld.{ProceedsBy}
 use Rattle.session_run.specs.Ends.{HasStatus}
 use Rattle.session_run.specs.State.{RunState, state_of}

@@ -1,5 +1,5 @@
 use Rattle.std.proofs.Common.{ap, sym, ◌∙◌}
-use Rattle.pam_library.specs.Slots.{slot_at}
+use Rattle.session_report.specs.pam_library.specs.Slots.{slot_at}
 use Rattle.session_run.proofs.Beside.{slots_of, tells_steps}
 use Rattle.session_run.proofs.laws.numbers_stand_side_by_side.Goals as goal
 

@@ -1,11 +1,11 @@
 use Rattle.std.proofs.Common.{◌≡◌, ◌≤◌, ◌-◌, ◌&&◌, ℕ, Bool, true, List, [], ◌++◌, length, map, None, Ok}
 use Rattle.pam_base.specs.declared.code.Code.{Code}
-use Rattle.dispatch_core.specs.Lines.{names_of}
-use Rattle.pam_room.specs.Module.{Player, notes_of, player_of}
-use Rattle.pam_room.specs.Plain.{plain_world}
-use Rattle.pam_library.specs.Plain.{gear_in, slots_in, tells_in}
-use Rattle.pam_library.specs.Slots.{lists_of}
-use Rattle.pam_library.specs.Sound.{IsSound}
+use Rattle.session_report.specs.dispatch_core.specs.Lines.{names_of}
+use Rattle.session_report.specs.pam_room.specs.Module.{Player, notes_of, player_of}
+use Rattle.session_report.specs.pam_room.specs.Plain.{plain_world}
+use Rattle.session_report.specs.pam_library.specs.Plain.{gear_in, slots_in, tells_in}
+use Rattle.session_report.specs.pam_library.specs.Slots.{lists_of}
+use Rattle.session_report.specs.pam_library.specs.Sound.{IsSound}
 use Rattle.session_run.specs.AnyWorld.{ProceedsBy}
 use Rattle.pam_base.specs.Lines.{lines_of}
 use Rattle.session_run.specs.Ends.{IsEndIn, LeadsTo}
@@ -14,7 +14,7 @@ use Rattle.session_run.specs.Reading.{ReadsTurn, WritesSome}
 use Rattle.script_stream.specs.Turns.{Turns}
 use Rattle.session_run.specs.State.{RunState, setting_of, state_of}
 use Rattle.session_run.specs.Step.{line_step, Fails}
-use Rattle.fail_delay.specs.contracts.delay_fn.DelayFnDelayTold.TheImpl as delay_told
+use Rattle.session_report.specs.fail_delay.specs.contracts.delay_fn.DelayFnDelayTold.TheImpl as delay_told
 use Rattle.session_run.proofs.lines.serve_lines.Given as goal
 
 abbrev pub invariant-loop-ending : goal.invariant-loop-ending

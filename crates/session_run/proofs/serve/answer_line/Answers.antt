@@ -2,7 +2,7 @@ use Rattle.std.proofs.Common.{Ok, refl, ap, ◌∙◌}
 use Rattle.std.proofs.lemmas.Bool.{and_parts}
 use Rattle.script_lang.specs.declared.line.Line.TheVariants as script_lines
 use Rattle.pam_base.specs.declared.call.Step.{Step}
-use Rattle.pam_room.specs.declared.process.Process.{Process}
+use Rattle.session_report.specs.pam_room.specs.declared.process.Process.{Process}
 use Rattle.session_run.proofs.Proceeding.{nothing_done, proceeds_so}
 use Rattle.session_run.proofs.Consuming.{err_as, err_unwritten, ok_as, ok_unwritten, reads_accepted, reads_refused, reads_stopped, reads_too_many, reads_unbegun}
 use Rattle.session_run.proofs.Serving.{too_many, refused, accepted}

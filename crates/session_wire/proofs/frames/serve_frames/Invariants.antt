@@ -1,11 +1,11 @@
 use Rattle.std.proofs.Common.{◌≡◌, ◌≤◌, ◌-◌, ◌&&◌, ℕ, Bool, true, List, [], ◌++◌, length, map, None, Ok}
 use Rattle.pam_base.specs.declared.code.Code.{Code}
-use Rattle.dispatch_core.specs.Lines.{names_of}
-use Rattle.pam_room.specs.Module.{Player, notes_of, player_of}
-use Rattle.pam_room.specs.Plain.{plain_world}
-use Rattle.pam_library.specs.Plain.{gear_in, slots_in, tells_in}
-use Rattle.pam_library.specs.Slots.{lists_of}
-use Rattle.pam_library.specs.Sound.{IsSound}
+use Rattle.session_run.specs.dispatch_core.specs.Lines.{names_of}
+use Rattle.session_run.specs.pam_room.specs.Module.{Player, notes_of, player_of}
+use Rattle.session_run.specs.pam_room.specs.Plain.{plain_world}
+use Rattle.session_run.specs.pam_library.specs.Plain.{gear_in, slots_in, tells_in}
+use Rattle.session_run.specs.pam_library.specs.Slots.{lists_of}
+use Rattle.session_run.specs.pam_library.specs.Sound.{IsSound}
 use Rattle.session_run.specs.AnyWorld.{ProceedsBy}
 use Rattle.session_run.specs.Reading.{WritesSome}
 use Rattle.session_wire.specs.Ends.{IsEndIn, LeadsTo}

@@ -3,9 +3,9 @@ use Rattle.std.specs.Option.{option_map}
 use Rattle.pam_base.specs.declared.code.Code.{Code}
 use Rattle.pam_handle.specs.Call.{request_behind}
 use Rattle.pam_base.specs.declared.call.Func.TheVariants.{AcctMgmt}
-use Rattle.pam_room.specs.Module.{player_of}
-use Rattle.pam_room.specs.Plain.{plain_room, plain_world}
-use Rattle.pam_room.specs.State.{state_of}
+use Rattle.dispatch_core.specs.pam_room.specs.Module.{player_of}
+use Rattle.dispatch_core.specs.pam_room.specs.Plain.{plain_room, plain_world}
+use Rattle.dispatch_core.specs.pam_room.specs.State.{state_of}
 use Rattle.dispatch_core.specs.Pending.{past_in}
 use Rattle.pam_handle.specs.Handle.{PlainHandle}
 use Rattle.pam_handle.specs.Pass.{kept_answers, passed}
@@ -14,7 +14,7 @@ use Rattle.pam_handle.specs.declared.put_off.PutOff.{PutOff}
 use Rattle.pam_handle.proofs.Calling.{on_err, ran_once}
 use Rattle.pam_handle.proofs.Stopping.{on_err_from, stops_once}
 use Rattle.pam_handle.proofs.handle.Handle.acct_mgmt.Goals as goal
-use Rattle.stack_walk.specs.declared.pass_kind.PassKind.TheVariants.{Keep}
+use Rattle.dispatch_core.specs.stack_walk.specs.declared.pass_kind.PassKind.TheVariants.{Keep}
 
 pub returns-clause-told : goal.returns-clause-told
 returns-clause-told g c = λ told.

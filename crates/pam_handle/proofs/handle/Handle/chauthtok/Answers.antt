@@ -2,8 +2,8 @@ use Rattle.std.proofs.Common.{Option, map, length, refl, sym, ◌∙◌, ap}
 use Rattle.std.specs.Option.{option_map}
 use Rattle.item_store.specs.Items.{ItemTexts}
 use Rattle.pam_base.specs.declared.call.Func.TheVariants.{ChAuthTok}
-use Rattle.pam_room.specs.Module.{notes_of, player_of}
-use Rattle.pam_room.specs.Plain.{plain_room, plain_world}
+use Rattle.dispatch_core.specs.pam_room.specs.Module.{notes_of, player_of}
+use Rattle.dispatch_core.specs.pam_room.specs.Plain.{plain_room, plain_world}
 use Rattle.dispatch_core.specs.Pending.{first_in, past_in, pending_behind}
 use Rattle.pam_handle.specs.Handle.{PlainHandle}
 use Rattle.pam_handle.specs.Items.{with_items}

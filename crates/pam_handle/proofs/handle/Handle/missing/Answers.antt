@@ -1,4 +1,4 @@
-use Rattle.service_load.specs.declared.rule_type.RuleType.TheVariants.{Auth}
+use Rattle.dispatch_core.specs.service_load.specs.declared.rule_type.RuleType.TheVariants.{Auth}
 use Rattle.pam_handle.specs.Plain.{nodes_in}
 use Rattle.pam_handle.proofs.Lacking.{under_next, under_none}
 use Rattle.pam_handle.proofs.handle.Handle.missing.Goals as goal

@@ -3,9 +3,9 @@ use Rattle.std.specs.Option.{option_map}
 use Rattle.pam_base.specs.declared.code.Code.{Code}
 use Rattle.pam_handle.specs.Call.{request_behind}
 use Rattle.pam_base.specs.declared.call.Func.TheVariants.{SetCred}
-use Rattle.pam_room.specs.Module.{player_of}
-use Rattle.pam_room.specs.Plain.{plain_room, plain_world}
-use Rattle.pam_room.specs.State.{state_of}
+use Rattle.dispatch_core.specs.pam_room.specs.Module.{player_of}
+use Rattle.dispatch_core.specs.pam_room.specs.Plain.{plain_room, plain_world}
+use Rattle.dispatch_core.specs.pam_room.specs.State.{state_of}
 use Rattle.dispatch_core.specs.Pending.{past_in}
 use Rattle.pam_handle.specs.Handle.{PlainHandle}
 use Rattle.dispatch_core.specs.Calls.{following}

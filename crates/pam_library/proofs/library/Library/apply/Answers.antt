@@ -1,4 +1,4 @@
-use Rattle.std.proofs.Common.{◌≡◌, ◌<◌, true, length, is_ok, subst, arith, rules, Option}
+use Rattle.std.proofs.Common.{◌≡◌, ◌+◌, ◌<◌, true, length, is_ok, subst, arith, rules, Option}
 use Rattle.pam_library.specs.Slots.{PlainSlot}
 use Rattle.pam_library.specs.Plain.{plain_slot, slot_tells}
 use Rattle.pam_library.specs.AnyWorld.{leaves_world}
@@ -32,21 +32,22 @@ returns-then-number-eq0-clause-told g c = λ number_of given all. bad_number _ n
 
 pub step-slot-requires-clause-placed : goal.step-slot-requires-clause-placed
 step-slot-requires-clause-placed g c = c.requires.sound.placed.each c.args.step.now.number _
-    (held_in (plain_slot (λ b. (goal.Conv-dyn g (b.vtable, b.value)).conv_holds b.value)) c.args.self.now.slots.items c.args.step.now.number c.remove-slot.result
-    (omega (arith, c.if-number-eq0.false)) (omega (arith, c.if-number-eq0.false, c.if-len-number.false, c.len.ensures)) c.remove-slot.ensures.value)
+    (held_in (plain_slot (λ b. (goal.Conv-dyn g (b.vtable, b.value)).conv_holds b.value)) c.args.self.now.slots.items c.args.step.now.number c.swap_remove-slot.result
+    (omega (arith, c.if-number-eq0.false)) (omega (arith, c.if-number-eq0.false, c.if-len-number.false, c.len.ensures)) c.swap_remove-slot.ensures.value)
 
 pub step-slot-requires-clause-ready : goal.step-slot-requires-clause-ready
 step-slot-requires-clause-ready g c = ready_at _ _ _ _ c.args.step.now.number _ c.held_data_await_cleanup.ensures c.requires.sound
-    (held_in (plain_slot (λ b. (goal.Conv-dyn g (b.vtable, b.value)).conv_holds b.value)) c.args.self.now.slots.items c.args.step.now.number c.remove-slot.result
-    (omega (arith, c.if-number-eq0.false)) (omega (arith, c.if-number-eq0.false, c.if-len-number.false, c.len.ensures)) c.remove-slot.ensures.value)
+    (held_in (plain_slot (λ b. (goal.Conv-dyn g (b.vtable, b.value)).conv_holds b.value)) c.args.self.now.slots.items c.args.step.now.number c.swap_remove-slot.result
+    (omega (arith, c.if-number-eq0.false)) (omega (arith, c.if-number-eq0.false, c.if-len-number.false, c.len.ensures)) c.swap_remove-slot.ensures.value)
 
 -- the slot was taken out, and what became of it stands in its place
 stepped_in : (g : given.Over) (c : goal.After-ledger_is_sound g)
-    → IsReplaced c.args.self.now.slots.items c.insert.new.self.items c.args.step.now.number c.remove-slot.result c.step-slot.result.slot
+    → IsReplaced c.args.self.now.slots.items c.put_back.new.slots.items c.args.step.now.number c.swap_remove-slot.result c.step-slot.result.slot
 stepped_in g c =
-    let ok : is_ok c.insert.result ≡ true = search rules in
-    replaced c.args.self.now.slots.items c.remove-slot.new.self.items c.insert.new.self.items c.args.step.now.number c.remove-slot.result c.step-slot.result.slot c.insert.result
-    (omega (arith, c.if-number-eq0.false)) (omega (arith, c.if-len-number.false, c.len.ensures)) c.remove-slot.ensures.value c.remove-slot.ensures.items c.insert.ensures.items ok
+    let shorter : length c.swap_remove-slot.new.self.items + 1 ≡ length c.args.self.now.slots.items = search rules in
+    replaced c.args.self.now.slots.items c.swap_remove-slot.new.self.items c.put_back.new.slots.items c.args.step.now.number c.swap_remove-slot.result c.step-slot.result.slot
+    (omega (arith, c.if-number-eq0.false)) (omega (arith, c.if-len-number.false, c.len.ensures)) c.swap_remove-slot.ensures.value shorter c.put_back.ensures.len
+    (search rules) (search rules) c.put_back.ensures.swapped
 
 pub returns-clause-tells : goal.returns-clause-tells
 returns-clause-tells g c = tell_as (slot_tells (λ b. (goal.Conv-dyn g (b.vtable, b.value)).conv_tells b.value)) _ _ _ _ _ (stepped_in g c) c.step-slot.ensures.tells
@@ -71,8 +72,8 @@ returns-clause-moves g c = moves_after _ _ _ _ _ _ _ _ _ _ _ _ _
 
 pub returns-clause-world : goal.returns-clause-world
 returns-clause-world g c = λ leaves. c.step-slot.ensures.world (subst (λ (o : Option PlainSlot). leaves_world o c.args.step.now.call ≡ true)
-    (held_in (plain_slot (λ b. (goal.Conv-dyn g (b.vtable, b.value)).conv_holds b.value)) c.args.self.now.slots.items c.args.step.now.number c.remove-slot.result
-    (omega (arith, c.if-number-eq0.false)) (omega (arith, c.if-number-eq0.false, c.if-len-number.false, c.len.ensures)) c.remove-slot.ensures.value) leaves)
+    (held_in (plain_slot (λ b. (goal.Conv-dyn g (b.vtable, b.value)).conv_holds b.value)) c.args.self.now.slots.items c.args.step.now.number c.swap_remove-slot.result
+    (omega (arith, c.if-number-eq0.false)) (omega (arith, c.if-number-eq0.false, c.if-len-number.false, c.len.ensures)) c.swap_remove-slot.ensures.value) leaves)
 
 pub returns-clause-answer : goal.returns-clause-answer
 returns-clause-answer g c = answer_after _ _ _ _ _ _ _ _ _ _ _ _ _

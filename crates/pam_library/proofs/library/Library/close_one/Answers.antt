@@ -1,6 +1,6 @@
-use Rattle.std.proofs.Common.{◌≡◌, ◌+◌, true, false, Some, is_ok, map, sym, ◌∙◌, ap, subst, arith, rules}
-use Rattle.pam_room.specs.Module.{notes_of, player_of}
-use Rattle.pam_room.specs.Plain.{plain_room}
+use Rattle.std.proofs.Common.{length, ◌<◌, ◌≤◌, ◌≡◌, ◌+◌, true, false, Some, is_ok, map, sym, ◌∙◌, ap, subst, arith, rules}
+use Rattle.pam_handle.specs.pam_room.specs.Module.{notes_of, player_of}
+use Rattle.pam_handle.specs.pam_room.specs.Plain.{plain_room}
 use Rattle.pam_handle.specs.Plain.{plain_handle}
 use Rattle.pam_library.specs.Slots.{closed, opened, is_open}
 use Rattle.pam_library.specs.declared.slot.Slot.TheVariants.{Closed}
@@ -17,16 +17,35 @@ returns-in_err-place-clause-closes g c = closes_none _ _ _ _ _ c.from_residual.e
 pub returns-in_err-place-clause-none : goal.returns-in_err-place-clause-none
 returns-in_err-place-clause-none g c = none_is_open _ _ (found_none _ _ (subst (λ t. IsFirstOpen c.place_of_first_open.result (first_open 1 (map (plain_slot (λ b. (goal.Conv-dyn g (b.vtable, b.value)).conv_holds b.value)) t))) c.deref.ensures.value c.place_of_first_open.ensures) c.in_err-place.was) c.from_residual.ensures
 
-pub remove-requires : goal.remove-requires
-remove-requires g c =
+pub swap_remove-requires : goal.swap_remove-requires
+swap_remove-requires g c =
     let found = found_at _ _ c.in_ok-place.place (subst (λ t. IsFirstOpen c.place_of_first_open.result (first_open 1 (map (plain_slot (λ b. (goal.Conv-dyn g (b.vtable, b.value)).conv_holds b.value)) t))) c.deref.ensures.value c.place_of_first_open.ensures) c.in_ok-place.was in
     omega (arith, place_within (plain_slot (λ b. (goal.Conv-dyn g (b.vtable, b.value)).conv_holds b.value)) c.args.self.now.slots.items c.in_ok-place.place found.0 found.1)
+
+pub put_back-requires-clause-within : goal.put_back-requires-clause-within
+put_back-requires-clause-within g c =
+    let found = found_at _ _ c.in_ok-place.place (subst (λ t. IsFirstOpen c.place_of_first_open.result (first_open 1 (map (plain_slot (λ b. (goal.Conv-dyn g (b.vtable, b.value)).conv_holds b.value)) t))) c.deref.ensures.value c.place_of_first_open.ensures) c.in_ok-place.was in
+    let within = place_within (plain_slot (λ b. (goal.Conv-dyn g (b.vtable, b.value)).conv_holds b.value)) c.args.self.now.slots.items c.in_ok-place.place found.0 found.1 in
+    let shorter : length c.swap_remove.new.self.items + 1 ≡ length c.args.self.now.slots.items = search rules in
+    search (rules, within, shorter)
+
+pub overflow_add-result : goal.overflow_add-result
+overflow_add-result g c =
+    let found = found_at _ _ c.in_ok-place.place (subst (λ t. IsFirstOpen c.place_of_first_open.result (first_open 1 (map (plain_slot (λ b. (goal.Conv-dyn g (b.vtable, b.value)).conv_holds b.value)) t))) c.deref.ensures.value c.place_of_first_open.ensures) c.in_ok-place.was in
+    let within = place_within (plain_slot (λ b. (goal.Conv-dyn g (b.vtable, b.value)).conv_holds b.value)) c.args.self.now.slots.items c.in_ok-place.place found.0 found.1 in
+    search (rules, within)
+
+pub overflow_cast-result : goal.overflow_cast-result
+overflow_cast-result g c =
+    let found = found_at _ _ c.in_ok-place.place (subst (λ t. IsFirstOpen c.place_of_first_open.result (first_open 1 (map (plain_slot (λ b. (goal.Conv-dyn g (b.vtable, b.value)).conv_holds b.value)) t))) c.deref.ensures.value c.place_of_first_open.ensures) c.in_ok-place.was in
+    let within = place_within (plain_slot (λ b. (goal.Conv-dyn g (b.vtable, b.value)).conv_holds b.value)) c.args.self.now.slots.items c.in_ok-place.place found.0 found.1 in
+    search (rules, within)
 
 pub end-conv-requires : goal.end-conv-requires
 end-conv-requires g c =
     let found = found_at _ _ c.in_ok-place.place (subst (λ t. IsFirstOpen c.place_of_first_open.result (first_open 1 (map (plain_slot (λ b. (goal.Conv-dyn g (b.vtable, b.value)).conv_holds b.value)) t))) c.deref.ensures.value c.place_of_first_open.ensures) c.in_ok-place.was in
-    let stands = place_is (plain_slot (λ b. (goal.Conv-dyn g (b.vtable, b.value)).conv_holds b.value)) c.args.self.now.slots.items c.in_ok-place.place found.0 found.1 c.remove.result c.remove.ensures.value in
-    let mine = found_as ((plain_slot (λ b. (goal.Conv-dyn g (b.vtable, b.value)).conv_holds b.value)) c.remove.result) _ (c.in_ok-place.place + 1) found.0 (plain_handle (plain_room (λ b. (goal.Conv-dyn g (b.vtable, b.value)).conv_holds b.value)) c.in-Open.handle) stands (ap (plain_slot (λ b. (goal.Conv-dyn g (b.vtable, b.value)).conv_holds b.value)) c.in-Open.is) found.1 in (
+    let stands = place_is (plain_slot (λ b. (goal.Conv-dyn g (b.vtable, b.value)).conv_holds b.value)) c.args.self.now.slots.items c.in_ok-place.place found.0 found.1 c.swap_remove.result c.swap_remove.ensures.value in
+    let mine = found_as ((plain_slot (λ b. (goal.Conv-dyn g (b.vtable, b.value)).conv_holds b.value)) c.swap_remove.result) _ (c.in_ok-place.place + 1) found.0 (plain_handle (plain_room (λ b. (goal.Conv-dyn g (b.vtable, b.value)).conv_holds b.value)) c.in-Open.handle) stands (ap (plain_slot (λ b. (goal.Conv-dyn g (b.vtable, b.value)).conv_holds b.value)) c.in-Open.is) found.1 in (
       (c.requires.placed.each (c.in_ok-place.place + 1) (opened (plain_handle (plain_room (λ b. (goal.Conv-dyn g (b.vtable, b.value)).conv_holds b.value)) c.in-Open.handle)) (place_there (plain_slot (λ b. (goal.Conv-dyn g (b.vtable, b.value)).conv_holds b.value)) c.args.self.now.slots.items c.in_ok-place.place (plain_handle (plain_room (λ b. (goal.Conv-dyn g (b.vtable, b.value)).conv_holds b.value)) c.in-Open.handle) mine)).started_with,
       ready_at _ _ _ _ (c.in_ok-place.place + 1) (opened (plain_handle (plain_room (λ b. (goal.Conv-dyn g (b.vtable, b.value)).conv_holds b.value)) c.in-Open.handle)) c.held_data_await_cleanup.ensures c.requires (place_there (plain_slot (λ b. (goal.Conv-dyn g (b.vtable, b.value)).conv_holds b.value)) c.args.self.now.slots.items c.in_ok-place.place (plain_handle (plain_room (λ b. (goal.Conv-dyn g (b.vtable, b.value)).conv_holds b.value)) c.in-Open.handle) mine),
     )
@@ -34,7 +53,7 @@ end-conv-requires g c =
 pub unreachable-requires : goal.unreachable-requires
 unreachable-requires g c =
     let found = found_at _ _ c.in_ok-place.place (subst (λ t. IsFirstOpen c.place_of_first_open.result (first_open 1 (map (plain_slot (λ b. (goal.Conv-dyn g (b.vtable, b.value)).conv_holds b.value)) t))) c.deref.ensures.value c.place_of_first_open.ensures) c.in_ok-place.was in
-    let stands = place_is (plain_slot (λ b. (goal.Conv-dyn g (b.vtable, b.value)).conv_holds b.value)) c.args.self.now.slots.items c.in_ok-place.place found.0 found.1 c.remove.result c.remove.ensures.value in
+    let stands = place_is (plain_slot (λ b. (goal.Conv-dyn g (b.vtable, b.value)).conv_holds b.value)) c.args.self.now.slots.items c.in_ok-place.place found.0 found.1 c.swap_remove.result c.swap_remove.ensures.value in
     let open_here : false ≡ true = sym (ap (λ s. is_open ((plain_slot (λ b. (goal.Conv-dyn g (b.vtable, b.value)).conv_holds b.value)) s)) c.in-Closed.is) ∙ ap is_open stands in
     absurd (cc)
 
@@ -43,18 +62,18 @@ found_here : (g : given.Over) (c : goal.After-ledger_is_sound g)
     → first_open 1 (map (plain_slot (λ b. (goal.Conv-dyn g (b.vtable, b.value)).conv_holds b.value)) c.args.self.now.slots.items) ≡ Some (c.in_ok-place.place + 1, (plain_handle (plain_room (λ b. (goal.Conv-dyn g (b.vtable, b.value)).conv_holds b.value)) c.in-Open.handle))
 found_here g c =
     let found = found_at _ _ c.in_ok-place.place (subst (λ t. IsFirstOpen c.place_of_first_open.result (first_open 1 (map (plain_slot (λ b. (goal.Conv-dyn g (b.vtable, b.value)).conv_holds b.value)) t))) c.deref.ensures.value c.place_of_first_open.ensures) c.in_ok-place.was in
-    let stands = place_is (plain_slot (λ b. (goal.Conv-dyn g (b.vtable, b.value)).conv_holds b.value)) c.args.self.now.slots.items c.in_ok-place.place found.0 found.1 c.remove.result c.remove.ensures.value in
-    found_as ((plain_slot (λ b. (goal.Conv-dyn g (b.vtable, b.value)).conv_holds b.value)) c.remove.result) _ (c.in_ok-place.place + 1) found.0 (plain_handle (plain_room (λ b. (goal.Conv-dyn g (b.vtable, b.value)).conv_holds b.value)) c.in-Open.handle) stands (ap (plain_slot (λ b. (goal.Conv-dyn g (b.vtable, b.value)).conv_holds b.value)) c.in-Open.is) found.1
+    let stands = place_is (plain_slot (λ b. (goal.Conv-dyn g (b.vtable, b.value)).conv_holds b.value)) c.args.self.now.slots.items c.in_ok-place.place found.0 found.1 c.swap_remove.result c.swap_remove.ensures.value in
+    found_as ((plain_slot (λ b. (goal.Conv-dyn g (b.vtable, b.value)).conv_holds b.value)) c.swap_remove.result) _ (c.in_ok-place.place + 1) found.0 (plain_handle (plain_room (λ b. (goal.Conv-dyn g (b.vtable, b.value)).conv_holds b.value)) c.in-Open.handle) stands (ap (plain_slot (λ b. (goal.Conv-dyn g (b.vtable, b.value)).conv_holds b.value)) c.in-Open.is) found.1
 
 replaced_here : (g : given.Over) (c : goal.After-ledger_is_sound g)
-    → IsReplaced c.args.self.now.slots.items c.insert.new.self.items (c.in_ok-place.place + 1) c.remove.result (Closed c.end-conv.result)
+    → IsReplaced c.args.self.now.slots.items c.put_back.new.slots.items (c.in_ok-place.place + 1) c.swap_remove.result (Closed c.end-conv.result)
 replaced_here g c =
-    let ok : is_ok c.insert.result ≡ true = search rules in
-    put_there (plain_slot (λ b. (goal.Conv-dyn g (b.vtable, b.value)).conv_holds b.value)) c.args.self.now.slots.items c.in_ok-place.place (plain_handle (plain_room (λ b. (goal.Conv-dyn g (b.vtable, b.value)).conv_holds b.value)) c.in-Open.handle) (found_here g c) c.remove.new.self.items c.insert.new.self.items c.remove.result (Closed c.end-conv.result) c.insert.result
-    c.remove.ensures.value c.remove.ensures.items c.insert.ensures.items ok
+    let shorter : length c.swap_remove.new.self.items + 1 ≡ length c.args.self.now.slots.items = search rules in
+    put_there (plain_slot (λ b. (goal.Conv-dyn g (b.vtable, b.value)).conv_holds b.value)) c.args.self.now.slots.items c.in_ok-place.place (plain_handle (plain_room (λ b. (goal.Conv-dyn g (b.vtable, b.value)).conv_holds b.value)) c.in-Open.handle) (found_here g c) c.swap_remove.new.self.items c.put_back.new.slots.items c.swap_remove.result (Closed c.end-conv.result)
+    c.swap_remove.ensures.value shorter c.put_back.ensures.len (search rules) (search rules) c.put_back.ensures.swapped
 
 put_here : (g : given.Over) (c : goal.After-ledger_is_sound g)
-    → IsPut (map (plain_slot (λ b. (goal.Conv-dyn g (b.vtable, b.value)).conv_holds b.value)) c.args.self.now.slots.items) (map (plain_slot (λ b. (goal.Conv-dyn g (b.vtable, b.value)).conv_holds b.value)) c.insert.new.self.items) (c.in_ok-place.place + 1) (opened (plain_handle (plain_room (λ b. (goal.Conv-dyn g (b.vtable, b.value)).conv_holds b.value)) c.in-Open.handle)) (closed ((plain_handle (plain_room (λ b. (goal.Conv-dyn g (b.vtable, b.value)).conv_holds b.value)) c.in-Open.handle)).room.conv)
+    → IsPut (map (plain_slot (λ b. (goal.Conv-dyn g (b.vtable, b.value)).conv_holds b.value)) c.args.self.now.slots.items) (map (plain_slot (λ b. (goal.Conv-dyn g (b.vtable, b.value)).conv_holds b.value)) c.put_back.new.slots.items) (c.in_ok-place.place + 1) (opened (plain_handle (plain_room (λ b. (goal.Conv-dyn g (b.vtable, b.value)).conv_holds b.value)) c.in-Open.handle)) (closed ((plain_handle (plain_room (λ b. (goal.Conv-dyn g (b.vtable, b.value)).conv_holds b.value)) c.in-Open.handle)).room.conv)
 put_here g c = put_as _ _ _ _ _ _ _ (put (plain_slot (λ b. (goal.Conv-dyn g (b.vtable, b.value)).conv_holds b.value)) _ _ _ _ _ (omega arith) (replaced_here g c)) (ap (plain_slot (λ b. (goal.Conv-dyn g (b.vtable, b.value)).conv_holds b.value)) c.in-Open.is) (ap (λ b. closed ((goal.Conv-dyn g (b.vtable, b.value)).conv_holds b.value)) c.end-conv.ensures.conv)
 
 pub returns-clause-sound : goal.returns-clause-sound
