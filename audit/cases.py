@@ -11,12 +11,17 @@ import tempfile
 TOP = os.path.dirname(os.path.dirname(os.path.abspath(__file__)))
 PROGRAM = os.path.abspath(os.environ.get("PAMSESS") or f"{TOP}/crates/pam_session_cli/out/pam_session_cli")
 
-# What a stored row or example has beside its tree.
-PARTS = ("README.md", "after", "cases", "checked", "client", "input", "input.hex", "output", "output.hex", "runs", "script", "status", "words")
+# What makes a directory a stored row or example, and all that one has beside its tree.
+RUNS = ("cases", "checked", "script", "words")
+PARTS = ("README.md", "after", "cases", "checked", "client", "fails", "input", "input.hex", "output", "output.hex", "pads", "runs", "script", "status", "words")
 
 # How long a run may take, and how long one of a case that is run hundreds of times, in seconds.
 SECONDS = 60
 SLOW = 0.2
+
+# Empty files that are locked while others are replaced; they stay. The third is removed once the lock is taken, and stays only if
+# that fails, until the lock is taken again.
+LOCKS = (".pwd.lock", ".pamsess-lock", ".pwd.lock-wal")
 
 # Files that are larger are compared by their size alone.
 LARGE = 16 << 20
@@ -174,7 +179,13 @@ def read_part(path):
     if not path.endswith(".hex"):
         return text
     lines = [line for line in text.splitlines(keepends=True) if not line.startswith(b"#")]
-    return b"".join(line[1:] if line.startswith(b"|") else bytes.fromhex(line.decode()) for line in lines)
+    return b"".join(line[1:] if line.startswith(b"|") else spelled(line.decode()) for line in lines)
+
+
+def spelled(line):
+    """The bytes that a line spells in hexadecimal, as often as a number before an `x` says."""
+    times, cross, byte = line.rpartition(" x ")
+    return bytes.fromhex(byte) * (int(times) if cross else 1)
 
 
 def files_below(folder, left_out=()):
@@ -204,14 +215,29 @@ def stored_case(name, folders):
     return Case(name, files, given, output, int(part("status", missing=b"0")), after, words)
 
 
+def rows_below(top):
+    """The directories below one that have runs, in the order of their paths."""
+    for name in sorted(os.listdir(top)) if os.path.isdir(top) else []:
+        folder = f"{top}/{name}"
+        if any(os.path.exists(f"{folder}/{part}") for part in RUNS):
+            yield folder
+        elif os.path.isdir(folder):
+            yield from rows_below(folder)
+
+
+def is_usual(*folders):
+    """Whether no front end is run, no input or output fails, and the files are stored whole."""
+    return not any(os.path.isfile(f"{folder}/{part}") for folder in folders for part in ("fails", "pads", "runs"))
+
+
 def stored_cases(top):
-    """The rows or examples of a folder, where it is there; of a row with cases the first two that no front end runs."""
-    for row in sorted(os.listdir(top)) if os.path.isdir(top) else []:
-        folder, name = f"{top}/{row}", f"{os.path.basename(top)}/{row}"
+    """The rows or examples below a directory, if it is there; of a row with cases the first two that are usual."""
+    for folder in rows_below(top):
+        name = os.path.relpath(folder, os.path.dirname(top))
         cases = sorted(os.listdir(f"{folder}/cases")) if os.path.isdir(f"{folder}/cases") else []
-        for inner in [it for it in cases if not os.path.isfile(f"{folder}/cases/{it}/runs")][:2]:
+        for inner in [it for it in cases if is_usual(folder, f"{folder}/cases/{it}")][:2]:
             yield stored_case(f"{name}, {inner}", [folder, f"{folder}/cases/{inner}"])
-        if not cases and any(os.path.isfile(f"{folder}/{part}") for part in ("script", "words")):
+        if not cases and is_usual(folder) and any(os.path.isfile(f"{folder}/{part}") for part in ("script", "words")):
             yield stored_case(name, [folder])
         for service in sorted(os.listdir(f"{folder}/checked")) if os.path.isdir(f"{folder}/checked") else []:
             output = read(f"{folder}/checked/{service}")
@@ -237,12 +263,15 @@ class Ran:
 
 
 def tree_of(root):
-    """What stands below a folder: kind, mode, owner and group of each, and a file's bytes or a link's text."""
+    """What stands below a folder: kind, mode, owner and group of each, and a file's bytes or a link's text. Lock files as they should
+    be, empty and their owner's alone, are left out."""
     found = {}
     for at, folders, names in os.walk(root):
         for name in folders + names:
             path = f"{at}/{name}"
             told = os.lstat(path)
+            if name in LOCKS and told.st_mode == stat.S_IFREG | 0o600 and told.st_size == 0:
+                continue
             text = None
             if stat.S_ISREG(told.st_mode):
                 text = read(path) if told.st_size <= LARGE else b"%d bytes" % told.st_size

@@ -150,6 +150,39 @@ CALL(mkdir, (const char *path, mode_t mode), (path, mode), 0, path)
 CALL(fsync, (int file), (file), file, path_of(file))
 CALL(fdatasync, (int file), (file), file, path_of(file))
 CALL(ftruncate, (int file, off_t size), (file, size), file, path_of(file))
+CALL(flock, (int file, int how), (file, how), file, path_of(file))
+
+/* It answers the error itself. */
+int posix_fadvise(int file, off_t from_here, off_t length, int advice)
+{
+    int (*real)(int, off_t, off_t, int) = own("posix_fadvise");
+    return fails("posix_fadvise", file, path_of(file)) ? errno : real(file, from_here, length, advice);
+}
+
+ssize_t getdents64(int file, void *into, size_t count)
+{
+    ssize_t (*real)(int, void *, size_t) = own("getdents64");
+    return fails("getdents64", file, path_of(file)) ? -1 : real(file, into, count);
+}
+
+char *realpath(const char *path, char *into)
+{
+    char *(*real)(const char *, char *) = own("realpath");
+    return fails("realpath", 0, path) ? NULL : real(path, into);
+}
+
+/* Only locks of a part of a file are counted. */
+int fcntl(int file, int what, ...)
+{
+    int (*real)(int, int, ...) = own("fcntl");
+    va_list more;
+    va_start(more, what);
+    void *argument = va_arg(more, void *);
+    va_end(more);
+    if ((what == F_SETLK || what == F_OFD_SETLK) && fails("fcntl", file, path_of(file)))
+        return -1;
+    return real(file, what, argument);
+}
 
 int close(int file)
 {
