@@ -1,6 +1,6 @@
 #!/bin/bash
 # How long a hash of a password takes: the built program beside the system's libcrypt, in one run, in turns.
-# `bench/crypt.sh`, from any folder; ./build first, or name the program by PAMSESS. It wants gcc and libcrypt with its header:
+# `bench/crypt.sh`, from any directory; ./build first, or name the program by PAMSESS. It wants gcc and libcrypt with its header:
 # apt-get install gcc libcrypt-dev. Printed are milliseconds of the processor for one hash, the least of nine runs each. The
 # program's are what 20 logins take beyond 20 that stop before the hash, by 20: with the reading of the two account files.
 set -euo pipefail

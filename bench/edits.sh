@@ -1,6 +1,7 @@
 #!/bin/sh
 # Tries every edit that must fail, those of the gate (crates/NAME/must-fail) and those beyond it (audit/edits/NAME), of the crates
-# named or of all, in a copy of this checkout. Prints what became of each and how many were refused, and fails where one wasn't.
+# named or of all, in a copy of this checkout. Prints what became of each and how many were refused, and fails if one wasn't. The
+# crates below have to be proved first; those that ./build has proved of the same sources are taken as they are.
 set -u
 cd "$(dirname "$0")/.." || exit 1
 top=$PWD
@@ -9,10 +10,14 @@ for crate; do
 done
 [ $# -gt 0 ] || set -- $(ls crates)
 
-room=$(mktemp -d)
+# (below .git, where the copy's links to what is proved are on the same file system)
+room=$(mktemp -d -p "$(git rev-parse --absolute-git-dir)")
 trap 'rm -rf "$room"' EXIT
 trap 'exit 1' HUP INT TERM
 tar -cf - --exclude=./.git --exclude=out . | (cd "$room" && tar -xf -)
+for made in crates/*/out/rlib; do
+    [ ! -d "$made" ] || { mkdir "$room/${made%/rlib}" && cp -al "$made" "$room/$made"; }
+done
 cd "$room" || exit 1
 
 wanted=0

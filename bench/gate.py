@@ -1,20 +1,24 @@
 #!/usr/bin/env python3
-"""Runs the gate, `rt ci`, and prints what it cost: for each crate the processor seconds (user and system) of its proof, its tests
-and its edits that must fail. It looks at the processes of that run twice a second, so what ends sooner is left out.
+"""Runs the gate, `rt ci`, which proves all from nothing, and prints what it cost: for each crate the processor seconds (user and
+system) of its proof, its tests and its edits that must fail. It looks at the processes of that run twice a second, so what ends
+sooner is left out.
 
-  bench/gate.py [--save FILE] [WORD..]       runs `rt ci WORD..`; `rt ci --anew` proves all from nothing, without it only what
-                                             this machine hasn't kept is proved, and measured
+  bench/gate.py [--beyond] [--save FILE]     with --beyond the edits of audit/edits are tried beside those of the gate, in a copy
+                                             of the checkout, and counted apart
   bench/gate.py --load FILE..                the table of runs that were saved; of a share that several have, the largest counts
 """
 import json
 import os
+import shutil
 import subprocess
 import sys
+import tempfile
 import time
 
 TOP = os.path.dirname(os.path.dirname(os.path.abspath(__file__)))
 TICKS = os.sysconf("SC_CLK_TCK")
 SHARES = ("proof", "tests", "edits")
+BEYOND = "beyond"
 
 
 def processes():
@@ -36,16 +40,50 @@ def is_below(process, root, found):
     return process == root
 
 
-def share_of(process):
+def text_of(path):
+    with open(path, encoding="utf-8", errors="surrogateescape") as file:
+        return file.read()
+
+
+def is_edited(room, crate, edit):
+    """Whether a copy of a crate has what an edit makes of the crate's files."""
+    texts, path, old = {}, None, None
+    for line in text_of(edit).splitlines():
+        kind, _, text = line.partition(": ")
+        if kind == "file":
+            path = text.strip()
+        elif kind == "old":
+            old = text
+        elif line.startswith("new:"):
+            texts[path] = texts.get(path, text_of(f"{crate}/{path}")).replace(old, line[4:].removeprefix(" "))
+    return all(text_of(f"{room}/{path}") == text for path, text in texts.items())
+
+
+def share_of(process, top):
     """The crate and the share that a process works for, if it is one of the checker's."""
-    with open(f"/proc/{process}/cmdline", encoding="utf-8", errors="replace") as file:
-        words = file.read().split("\0")
+    words = text_of(f"/proc/{process}/cmdline").split("\0")
     if "--crate-name" not in words:
         return None
     crate = words[words.index("--crate-name") + 1]
-    if os.path.basename(os.readlink(f"/proc/{process}/cwd")).startswith("rt-edit-"):
-        return crate, "edits"
-    return crate, "tests" if "--test" in words else "proof"
+    room = os.readlink(f"/proc/{process}/cwd")
+    if not os.path.basename(room).startswith("rt-edit-"):
+        return crate, "tests" if "--test" in words else "proof"
+    folder = f"{TOP}/audit/edits/{crate}"
+    further = [f"{folder}/{name}" for name in os.listdir(folder)] if top != TOP and os.path.isdir(folder) else []
+    return crate, BEYOND if any(is_edited(room, f"{TOP}/crates/{crate}", edit) for edit in further if edit.endswith(".edit")) else "edits"
+
+
+def lay_beside(room):
+    """A copy of the checkout, in which the edits of audit/edits stand beside those of the gate."""
+    shutil.copytree(TOP, room, ignore=lambda at, names: {"out"} & set(names) | ({".git"} if at == TOP else set()), dirs_exist_ok=True)
+    subprocess.run(["git", "init", "-q", room], check=True)
+    for at, _, names in os.walk(f"{TOP}/audit/edits"):
+        for name in names:
+            folder = f"{room}/crates/{os.path.basename(at)}/must-fail"
+            os.makedirs(folder, exist_ok=True)
+            if os.path.exists(f"{folder}/{name}"):
+                sys.exit(f"gate: {os.path.basename(at)}/{name} is twice among the edits")
+            shutil.copy2(f"{at}/{name}", folder)
 
 
 def costs_of(shares, seconds):
@@ -53,7 +91,7 @@ def costs_of(shares, seconds):
     for key, share in shares.items():
         if share:
             crate, kind = share
-            costs.setdefault(crate, dict.fromkeys(SHARES, 0))[kind] += seconds[key]
+            costs.setdefault(crate, dict.fromkeys((*SHARES, BEYOND), 0))[kind] += seconds[key]
     return costs
 
 
@@ -63,18 +101,18 @@ def keep(costs, save):
             json.dump(costs, file)
 
 
-def measure(command, save):
-    """Runs a command; the seconds of each crate's shares, and the command's status. What was measured is saved twice a minute, for a
-    run that is cut off."""
+def measure(top, save):
+    """Runs the gate there; the seconds of each crate's shares, and the status. What was measured is saved twice a minute, for a run
+    that is cut off."""
     shares, seconds, kept = {}, {}, time.monotonic()
-    run = subprocess.Popen(command, cwd=TOP)
+    run = subprocess.Popen(["rt", "ci"], cwd=top)
     while run.poll() is None:
         found = processes()
         for process, (_, used, begun) in found.items():
             if is_below(process, run.pid, found):
                 key = process, begun
                 try:
-                    shares[key] = shares.get(key) or share_of(process)
+                    shares[key] = shares.get(key) or share_of(process, top)
                 except OSError:
                     continue
                 seconds[key] = used
@@ -95,17 +133,17 @@ def in_order(costs):
 
 
 def table(costs):
-    yield "| Crate | Proof | Tests | Edits | Sum |"
-    yield "|---|--:|--:|--:|--:|"
-    total = dict.fromkeys(SHARES, 0)
-    for name in in_order(costs):
-        shares = [costs[name][kind] for kind in SHARES]
-        yield f"| {name} | " + " | ".join(f"{it:.0f}" for it in [*shares, sum(shares)]) + " |"
-        for kind in SHARES:
-            total[kind] += costs[name][kind]
-    whole = sum(total.values())
-    yield "| all | " + " | ".join(f"{it:.0f}" for it in [*total.values(), whole]) + " |"
-    yield f"\nIn processor minutes: {whole / 60:.0f} of 300."
+    """The lines of the table. The column of edits beyond the gate is there if some were tried, and no sum counts it."""
+    kinds = [*SHARES, *([BEYOND] if any(it.get(BEYOND) for it in costs.values()) else [])]
+    total = {kind: sum(it.get(kind, 0) for it in costs.values()) for kind in (*SHARES, BEYOND)}
+    yield "| Crate | Proof | Tests | Edits | Sum |" + (" Beyond |" if BEYOND in kinds else "")
+    yield "|---|--:|--:|--:|--:|" + ("--:|" if BEYOND in kinds else "")
+    for name, shares in [*((name, costs[name]) for name in in_order(costs)), ("all", total)]:
+        cells = [*(shares[kind] for kind in SHARES), sum(shares[kind] for kind in SHARES), *(shares.get(kind, 0) for kind in kinds[len(SHARES) :])]
+        yield f"| {name} | " + " | ".join(f"{it:.0f}" for it in cells) + " |"
+    yield f"\nIn processor minutes: {sum(total[kind] for kind in SHARES) / 60:.0f} of 300."
+    if BEYOND in kinds:
+        yield f"Edits beyond the gate: {total[BEYOND] / 60:.0f} more."
 
 
 def load(files):
@@ -113,9 +151,9 @@ def load(files):
     for name in files:
         with open(name, encoding="utf-8") as file:
             for crate, shares in json.load(file).items():
-                known = costs.setdefault(crate, dict.fromkeys(SHARES, 0))
-                for kind in SHARES:
-                    known[kind] = max(known[kind], shares[kind])
+                known = costs.setdefault(crate, dict.fromkeys((*SHARES, BEYOND), 0))
+                for kind in known:
+                    known[kind] = max(known[kind], shares.get(kind, 0))
     return costs
 
 
@@ -123,10 +161,17 @@ def main(words):
     if words[:1] == ["--load"]:
         print("\n".join(table(load(words[1:]))))
         return 0
-    save = None
-    if words[:1] == ["--save"]:
-        save, words = words[1], words[2:]
-    costs, status = measure(["rt", "ci", *words], save)
+    has_beyond = words[:1] == ["--beyond"]
+    words = words[has_beyond:]
+    save = words[1] if words[:1] == ["--save"] and len(words) == 2 else None
+    if words and not save:
+        sys.exit(__doc__.strip())
+    if has_beyond:
+        with tempfile.TemporaryDirectory(prefix="gate-") as room:
+            lay_beside(room)
+            costs, status = measure(room, save)
+    else:
+        costs, status = measure(TOP, save)
     print("\n".join(table(costs)))
     return status
 

@@ -2,16 +2,16 @@
  * Calls the installed libpam as `pamsess run` calls its own transactions, and prints the same report, so that the two can be counted and
  * timed beside each other.
  *
- *   libpam MODULES FOLDER SERVICE MODULE LINES STARTS PASSES
+ *   libpam HELD DIRECTORY SERVICE LINES STARTS PASSES
  *
- * So many times it starts a transaction on SERVICE, a file of FOLDER, for the user joe, authenticates so many times, and ends it. The
- * service has so many lines of auth, each of MODULE: pam_permit, or pam_debug with an argument. A visited line of pam_debug is told to the
- * conversation, which prints it; pam_permit says nothing, and each of its lines is printed after the pass. Each step's lines are one write.
+ * Starts a transaction on SERVICE, a file of DIRECTORY, for the user joe STARTS times; authenticates PASSES times in each, and ends it. The
+ * lines of the service are of pam_permit, which says nothing, so those that are run are printed after each pass: 1 to LINES, or those of a
+ * list such as 1,3. Each step's lines are one write.
  *
- * libpam opens the modules that a service names at each start, and closes them at each end. Both are held open here, out of the folder
- * MODULES, so that they aren't loaded anew each time. It also sends the kernel's audit a record of each call that names the lines that
- * agreed, and fails where that record is longer than 8,970 bytes, as it is over 1,000 lines. There is no audit here: the symbol below
- * stands before that of libaudit.
+ * libpam opens the modules that a service names at each start, and closes them at each end. HELD names modules by their whole paths, joined
+ * by colons, that are held open here, so that they aren't loaded again each time; with "-" none is. libpam also sends the kernel's audit a
+ * record of each call that names the lines that agreed, and fails if that record is longer than 8,970 bytes, as it is above 1,000 lines.
+ * There is no audit here: the symbol below takes the place of that of libaudit.
  */
 #include <dlfcn.h>
 #include <errno.h>
@@ -22,17 +22,12 @@
 
 int audit_open(void);
 
-/* Answers what a kernel without audit does. */
+/* Returns what a kernel without audit does. */
 int audit_open(void)
 {
     errno = EPROTONOSUPPORT;
     return -1;
 }
-
-struct pass {
-    const char *module;
-    unsigned visited;
-};
 
 static const char *name_of(int code)
 {
@@ -45,24 +40,22 @@ static const char *name_of(int code)
     }
 }
 
-static void visit(struct pass *pass, int code)
-{
-    pass->visited++;
-    printf("1 line %u %s %s %d\n", pass->visited, pass->module, name_of(code), code);
-}
-
-/* What pam_debug says of each function that it serves is a text; nothing here asks for a reply. */
+/* No module here says or asks for anything. */
 static int converse(int count, const struct pam_message **messages, struct pam_response **replies, void *data)
 {
-    *replies = calloc(count, sizeof **replies);
-    if (!*replies)
-        return PAM_BUF_ERR;
-    for (int i = 0; i < count; i++) {
-        if (messages[i]->msg_style != PAM_TEXT_INFO)
-            return PAM_CONV_ERR;
-        visit(data, PAM_SUCCESS);
+    (void) count, (void) messages, (void) replies, (void) data;
+    return PAM_CONV_ERR;
+}
+
+static void print_lines(const char *lines)
+{
+    if (!strchr(lines, ',')) {
+        for (int i = 1; i <= atoi(lines); i++)
+            printf("1 line %d pam_permit SUCCESS 0\n", i);
+        return;
     }
-    return PAM_SUCCESS;
+    for (const char *at = lines; at; at = strchr(at, ',') ? strchr(at, ',') + 1 : NULL)
+        printf("1 line %d pam_permit SUCCESS 0\n", atoi(at));
 }
 
 static void report(const char *step, int code)
@@ -71,42 +64,39 @@ static void report(const char *step, int code)
     fflush(stdout);
 }
 
-static void hold_open(const char *folder, const char *module)
+static void hold_open(char *modules)
 {
-    char path[4096];
-    snprintf(path, sizeof path, "%s/%s.so", folder, module);
-    if (!dlopen(path, RTLD_NOW)) {
-        fprintf(stderr, "libpam: %s\n", dlerror());
-        exit(1);
+    for (char *path = strtok(modules, ":"); path; path = strtok(NULL, ":")) {
+        if (!dlopen(path, RTLD_NOW)) {
+            fprintf(stderr, "libpam: %s\n", dlerror());
+            exit(1);
+        }
     }
 }
 
 int main(int argc, char **argv)
 {
-    if (argc != 8) {
-        fprintf(stderr, "usage: libpam MODULES FOLDER SERVICE MODULE LINES STARTS PASSES\n");
+    if (argc != 7) {
+        fprintf(stderr, "usage: libpam HELD DIRECTORY SERVICE LINES STARTS PASSES\n");
         return 2;
     }
-    const char *folder = argv[2], *service = argv[3], *module = argv[4];
-    unsigned lines = atoi(argv[5]), starts = atoi(argv[6]), passes = atoi(argv[7]);
-    int tells = strcmp(module, "pam_debug") == 0, code = PAM_SUCCESS;
+    const char *directory = argv[2], *service = argv[3], *lines = argv[4];
+    unsigned starts = atoi(argv[5]), passes = atoi(argv[6]);
+    int code = PAM_SUCCESS;
 
-    hold_open(argv[1], "pam_permit");
-    hold_open(argv[1], "pam_debug");
+    if (strcmp(argv[1], "-") != 0)
+        hold_open(argv[1]);
     for (unsigned i = 0; i < starts; i++) {
-        struct pass pass = { module, 0 };
-        struct pam_conv conv = { converse, &pass };
+        struct pam_conv conv = { converse, NULL };
         pam_handle_t *handle;
 
-        code = pam_start_confdir(service, "joe", &conv, folder, &handle);
+        code = pam_start_confdir(service, "joe", &conv, directory, &handle);
         report("start", code);
         if (code != PAM_SUCCESS)
             return 1;
         for (unsigned j = 0; j < passes; j++) {
-            pass.visited = 0;
             code = pam_authenticate(handle, 0);
-            while (!tells && pass.visited < lines)
-                visit(&pass, code);
+            print_lines(lines);
             report("authenticate", code);
         }
         report("end", pam_end(handle, PAM_SUCCESS));

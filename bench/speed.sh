@@ -2,7 +2,7 @@
 # How long the built program takes, in seconds of its own (user and system), the least of five runs each:
 # scripts of more and more lines, beside a plain count of their lines and, where its path is given, beside an earlier program;
 # loads of 1,000 and of 4,000 lines; an authentication for each line that it walks; and a user that a module looks up.
-# `bench/speed.sh [EARLIER]`, from any folder; ./build first.
+# `bench/speed.sh [EARLIER]`, from any directory; ./build first.
 set -euo pipefail
 cd "$(dirname "$0")/.."
 program=$PWD/crates/pam_session_cli/out/pam_session_cli
