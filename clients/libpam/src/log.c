@@ -1,0 +1,87 @@
+/* What libpam's modules write to the system's log and administrators look for, from the lines of an answer. */
+#define _GNU_SOURCE
+#include <stdarg.h>
+#include <stdio.h>
+#include <string.h>
+#include <syslog.h>
+#include <unistd.h>
+
+#include "handle.h"
+
+void log_say(const pam_handle_t *handle, int priority, const char *who, const char *type, const char *format, ...)
+{
+    char text[1024];
+    va_list arguments;
+
+    va_start(arguments, format);
+    if (vsnprintf(text, sizeof text, format, arguments) < 0)
+        text[0] = '\0';
+    va_end(arguments);
+    for (char *at = text; *at != '\0'; at++)
+        if (*at < ' ' || *at > '~')
+            *at = '?'; /* nobody writes a line of his own */
+    syslog(LOG_AUTHPRIV | priority, "%s(%s:%s): %s", who, handle->service, type, text);
+}
+
+static const char *item(pam_handle_t *handle, int number)
+{
+    const void *value = NULL;
+    return pam_get_item(handle, number, &value) == PAM_SUCCESS && value != NULL ? value : "";
+}
+
+/* The line by which fail2ban and administrators find a guessed password. A name that is no user's may be a password that was
+   typed in the wrong place, so it isn't written. */
+static void log_failure(pam_handle_t *handle, bool is_known)
+{
+    char login[64];
+    const char *user = is_known ? item(handle, PAM_USER) : "";
+
+    if (!is_known)
+        log_say(handle, LOG_NOTICE, "pam_unix", "auth", "check pass; user unknown");
+    if (getlogin_r(login, sizeof login) != 0)
+        login[0] = '\0';
+    const char *tty = item(handle, PAM_TTY), *ruser = item(handle, PAM_RUSER), *rhost = item(handle, PAM_RHOST);
+    log_say(handle, LOG_NOTICE, "pam_unix", "auth",
+        "authentication failure; logname=%s uid=%u euid=%u tty=%s ruser=%s rhost=%s %s%s", login, (unsigned)getuid(),
+        (unsigned)geteuid(), tty, ruser, rhost, user[0] != '\0' ? " user=" : "", user);
+}
+
+/* What is no answer to the user, but a fault of the machine or of the configuration. */
+static bool is_fault(unsigned code)
+{
+    return code == PAM_SERVICE_ERR || code == PAM_SYSTEM_ERR || code == PAM_BUF_ERR || code == PAM_AUTHINFO_UNAVAIL
+        || code == PAM_ABORT || code == PAM_AUTHTOK_LOCK_BUSY;
+}
+
+/* `line PLACE MODULE NAME NUMBER`: one line that was run. */
+static void log_line(pam_handle_t *handle, enum kind kind, const char *line)
+{
+    static const char *const types[] = {
+        [AUTHENTICATE] = "auth", [SETCRED] = "setcred", [ACCT_MGMT] = "account", [OPEN_SESSION] = "session",
+        [CLOSE_SESSION] = "session", [CHAUTHTOK] = "chauthtok",
+    };
+    char module[64], name[32];
+    unsigned place, code;
+
+    if (sscanf(line, "line %9u %63s %31s %9u", &place, module, name, &code) != 4)
+        return;
+    bool is_unix = strcmp(module, "pam_unix") == 0;
+    if (kind == AUTHENTICATE && is_unix && (code == PAM_AUTH_ERR || code == PAM_USER_UNKNOWN))
+        log_failure(handle, code == PAM_AUTH_ERR);
+    else if (kind == OPEN_SESSION && is_unix && code == PAM_SUCCESS)
+        log_say(handle, LOG_INFO, module, types[kind], "session opened for user %s by (uid=%u)", item(handle, PAM_USER),
+            (unsigned)getuid());
+    else if (kind == CLOSE_SESSION && is_unix && code == PAM_SUCCESS)
+        log_say(handle, LOG_INFO, module, types[kind], "session closed for user %s", item(handle, PAM_USER));
+    else if (is_fault(code))
+        log_say(handle, LOG_ERR, "pamsess", types[kind], "line %u, module %s: %s", place, module, name);
+}
+
+void log_call(pam_handle_t *handle, enum kind kind, const struct answer *answer)
+{
+    const char *line = NULL;
+
+    while ((line = next_line(answer, line)) != NULL)
+        if (after(line, "line ") != NULL)
+            log_line(handle, kind, line);
+}
