@@ -1,0 +1,52 @@
+# Completion of pamsess and the scripts beside it for fish: commands, directories, the services and the users below ROOT.
+
+# The words that were typed before this one, the command's name left out.
+function __pamsess_words
+    set -l words (commandline -opc)
+    test (count $words) -lt 2; or printf '%s\n' $words[2..-1]
+end
+
+# Whether so many words were typed, the first of them one of the others that are given.
+function __pamsess_at
+    set -l words (__pamsess_words)
+    test (count $words) -eq $argv[1]; or return 1
+    test (count $argv) -eq 1; or contains -- $words[1] $argv[2..-1]
+end
+
+# The root is the word with this number.
+function __pamsess_services
+    set -l words (__pamsess_words)
+    set -l root (string replace -r '^~' $HOME -- $words[$argv[1]])
+    for file in $root/etc/pam.d/*
+        test -f $file; and basename $file
+    end
+end
+
+function __pamsess_users
+    set -l words (__pamsess_words)
+    set -l root (string replace -r '^~' $HOME -- $words[$argv[1]])
+    test -r $root/etc/passwd; and string replace -r ':.*' '' <$root/etc/passwd
+end
+
+complete -c pamsess -f
+complete -c pamsess -n '__pamsess_at 0' -a run -d 'make the calls of a script'
+complete -c pamsess -n '__pamsess_at 0' -a check -d 'print the stacks of a service, or its first fault'
+complete -c pamsess -n '__pamsess_at 0' -a login -d 'make the calls of a login'
+complete -c pamsess -n '__pamsess_at 0' -a generate -d 'write lines drawn from a seed'
+complete -c pamsess -n '__pamsess_at 0' -a tally -d 'list the failures of a user'
+complete -c pamsess -n '__pamsess_at 0' -a audit -d 'check a report against a service'
+complete -c pamsess -n '__pamsess_at 0' -a wire -d 'answer a front end'
+complete -c pamsess -n '__pamsess_at 1 run check login tally audit wire' -a '(__fish_complete_directories)'
+complete -c pamsess -n '__pamsess_at 2 check login audit' -a '(__pamsess_services 2)'
+complete -c pamsess -n '__pamsess_at 2 tally' -a '(__pamsess_users 2)'
+complete -c pamsess -n '__pamsess_at 3 login' -a '(__pamsess_users 2)'
+
+for name in check-all stand-in try
+    complete -c pamsess-$name -f
+    complete -c pamsess-$name -n '__pamsess_at 0' -a '(__fish_complete_directories)'
+end
+complete -c pamsess-try -n '__pamsess_at 1' -a '(__pamsess_services 1)'
+complete -c pamsess-stand-in -n '__pamsess_at 1' -a '(__fish_complete_directories)'
+complete -c pamsess-stand-in -n '__pamsess_at 2' -a '(__pamsess_users 1)'
+complete -c pamsess-try -n '__pamsess_at 2' -a '(__pamsess_users 1)'
+complete -c pamsess-try -n 'not __pamsess_at 0; and not __pamsess_at 1; and not __pamsess_at 2' -a 'authenticate acct_mgmt setcred open_session close_session chauthtok'
