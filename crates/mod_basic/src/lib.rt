@@ -2,18 +2,18 @@
 //! a stack is tried out.
 #![tactic(auto)]
 
-mod debug;
-mod deny;
-mod permit;
-mod probe;
+mod pam_debug;
+mod pam_deny;
+mod pam_permit;
+mod pam_probe;
+mod pam_rootok;
 mod request;
-mod rootok;
 
 pub use conv_port;
 pub use data_cleanup;
-pub use debug::Debug;
-pub use deny::Deny;
+pub use pam_debug::Debug;
+pub use pam_deny::Deny;
+pub use pam_permit::Permit;
+pub use pam_probe::Probe;
 pub use pam_room;
-pub use permit::Permit;
-pub use probe::Probe;
-pub use rootok::Rootok;
+pub use pam_rootok::Rootok;

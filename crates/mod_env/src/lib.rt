@@ -3,14 +3,14 @@
 
 mod conf;
 mod env_file;
-mod env_module;
 mod expand;
 pub mod laws;
 mod marks;
+mod pam_env;
 mod setting;
 mod value;
 
 pub use conf::{Entries, Entry, Key, Values, conf_of};
 pub use env_file::assignments_of;
-pub use env_module::Env;
+pub use pam_env::Env;
 pub use value::{Piece, Pieces};

@@ -2,9 +2,9 @@
 #![tactic(auto)]
 
 mod counted;
-mod faillock;
 mod failure;
 pub mod laws;
+mod pam_faillock;
 mod settings;
 mod source;
 mod tally;
@@ -12,6 +12,6 @@ mod tally_file;
 mod task;
 
 pub use counted::write_failure;
-pub use faillock::Faillock;
+pub use pam_faillock::Faillock;
 pub use tally::{Damaged, Failure, Failures, failures};
 pub use tally_file::is_no_file;

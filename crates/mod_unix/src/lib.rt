@@ -9,12 +9,12 @@ pub mod laws;
 mod look;
 mod new_hash;
 mod new_token;
+mod pam_unix;
 mod store;
-mod unix;
 mod verify;
 
 pub use look::{Look, look_up};
 pub use module_acts;
 pub use new_token::take_token;
-pub use unix::Unix;
+pub use pam_unix::Unix;
 pub use verify::is_locked;

@@ -1,0 +1,15 @@
+use Rattle.std.proofs.Common.{Err, rules, ◌∙◌, ◌≡◌}
+use Rattle.account_files.specs.Act.{asks_user}
+use Rattle.module_acts.specs.Comes.{finished_early}
+use Rattle.mod_lists.proofs.pam_nologin.check_notice.Goals as goal
+
+pub returns-in_err-require_user-clause-told : goal.returns-in_err-require_user-clause-told
+returns-in_err-require_user-clause-told g c = λ talks tells clock.
+    let answered : c.from_residual.result ≡ Err c.in_err-require_user.field-0.0 = search rules in
+    rw answered (finished_early asks_user _ _ _ _ (c.in_err-require_user.ensures.told talks _ clock _))
+
+pub returns-clause-told : goal.returns-clause-told
+returns-clause-told g c = λ talks tells clock.
+    c.in_ok-require_user.ensures.told talks _ clock _ _ _ _ _
+    ((rw c.value.ensures at (c.in_ok-notice.ensures.told tells)) _ clock _ _ _ _
+    (rw c.plain_answer.ensures at (c.in_ok-code.ensures.told (c.in_ok-require_user.ensures.tells ∙ talks) (c.in_ok-notice.ensures.tells ∙ tells) clock)))
