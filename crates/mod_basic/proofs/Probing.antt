@@ -8,7 +8,7 @@ use Rattle.pam_room.specs.Module.{HasSet, NamedData, SeenRoom}
 use Rattle.mod_basic.specs.Request.{PlainRequest, set_data, send, delay, nothing, request_of}
 use Rattle.mod_basic.specs.Probe.{ComesTo, births_in, probed_all, probing, refuses, room_after}
 
--- some data were set so far, and what is left of the arguments comes to what all of them come to
+-- some data were set so far, and what is left of the arguments gives what all of them give
 pub record Midway (Tells : Type 0) (owner : ℕ) (args rest : List (List ℕ)) (start now : SeenRoom) (list : PlainDataList) (ledger : PlainLedger) (later : PlainDataList) (after : PlainLedger) : Type 0 where
   pub births : List NamedData
   pub set : HasSet owner births list ledger later after

@@ -66,7 +66,8 @@ probe_refused = refl
 probe_said : (play probe_plays asks (start [] 0)).room.said ≡ record { style = TextInfo; text = codes "hi" } ∷ record { style = EchoOn; text = codes "Code:" } ∷ []
 probe_said = refl
 
--- pam_probe `set=a:x set=a:yy`, served as a line: the first datum has its receipt at once, and the visit is added
+-- pam_probe `set=a:x set=a:yy`, served as a line: the first data set have their cleanup record at once, and the line
+-- run is recorded
 abbrev probe : Player
 probe = record { name = codes "pam_probe"; plays = probe_plays; note = probe_note; breaks = keeps_files }
 
@@ -86,6 +87,6 @@ sets_visit = refl
 missing : (serve_line (probe ∷ []) None 1 (codes "pam_none.so") (call_of Authenticate 0 []) (start [] 0)).answer ≡ returns.ModuleUnknown
 missing = refl
 
--- the note of the third datum of `set=a:x set=a:yy set=a:zzz` at an end with status 0x40000007
+-- the cleanup result of the third data set of `set=a:x set=a:yy set=a:zzz` at an end with status 0x40000007
 note : probe_note (codes "zzz") 0x40000007 ≡ 775
 note = refl

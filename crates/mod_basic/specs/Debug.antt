@@ -1,4 +1,4 @@
--- pam_debug(8): it answers what its arguments say. That it says nothing and asks for no user is this project's own.
+-- pam_debug(8): it returns what its arguments say. That it shows no message and asks for no user is this project's own.
 use Rattle.std.specs.Prelude.{ℕ, Bool, if◌then◌else◌, Option, Some, None, List, codes}
 use Rattle.std.specs.Option.{unwrap_or}
 use Rattle.pam_base.specs.Code.{code_of_word}
@@ -18,7 +18,7 @@ debug_key OpenSession first = codes "open_session="
 debug_key CloseSession first = codes "close_session="
 debug_key ChAuthTok first = if first then codes "prechauthtok=" else codes "chauthtok="
 
--- the code of a word; SUCCESS where there is no word, or it is no code's
+-- the code of a word; SUCCESS if there is no word, or if it isn't a code's
 abbrev pub code_or_success : Option (List ℕ) → Code
 code_or_success None = Success
 code_or_success (Some word) = unwrap_or (code_of_word word) Success

@@ -1,4 +1,4 @@
--- pam_permit(8): it always says yes. That it asks for no user is this project's own.
+-- pam_permit(8): every call succeeds. That it asks for no user is this project's own.
 use Rattle.std.specs.Prelude.{Some, codes}
 use Rattle.std.specs.Option.{option_or}
 use Rattle.pam_base.specs.declared.code.Code.TheVariants.{Success}
@@ -6,7 +6,7 @@ use Rattle.pam_base.specs.declared.call.Func.{Func}
 use Rattle.pam_base.specs.declared.call.Func.TheVariants.{Authenticate, SetCred, AcctMgmt, OpenSession, CloseSession, ChAuthTok}
 use Rattle.pam_room.specs.Module.{Plays, SeenRoom, answered}
 
--- a user who isn't set is nobody
+-- an unset user becomes nobody
 abbrev pub with_nobody : SeenRoom → SeenRoom
 with_nobody room = record room {
   items = record room.items

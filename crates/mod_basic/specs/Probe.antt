@@ -1,4 +1,4 @@
--- pam_probe, with which a stack is tried out (this project's own).
+-- pam_probe, a module for trying out a stack (this project's own).
 use Rattle.std.specs.Prelude.{◌≡◌, ℕ, ◌+◌, ◌*◌, ◌%◌, ◌^◌, max, Bool, true, false, not, is_ok, if◌then◌else◌, Option, None, Result, Ok, Err, List, [], ◌∷◌, ◌++◌, length, take, codes}
 use Rattle.std.specs.Option.{unwrap_or, option_and_then}
 use Rattle.std.specs.List.{filter_map, last_or}
@@ -34,11 +34,11 @@ births_in (send style text) = []
 births_in (delay micros) = []
 births_in nothing = []
 
--- the message that is sent: of its text 512 bytes count
+-- the message that is sent: the first 512 bytes of its text count
 abbrev pub message_of : Style → List ℕ → Message
 message_of style text = record { style = style; text = take 512 text }
 
--- what it does to the room, and whether the conversation gave no reply
+-- what a request does to the room, and whether the conversation gave no reply
 abbrev pub refuses : PlainRequest → SeenRoom → Bool
 refuses (send style text) room = not (is_ok (speak (message_of style text ∷ []) room).answer)
 refuses (set_data name payload) room = false
@@ -61,7 +61,7 @@ probed_all [] p = p
 probed_all (arg ∷ args) p = if (probed (request_of arg) p).refused then probed (request_of arg) p
     else probed_all args (probed (request_of arg) p)
 
--- what one request does, where the conversation tells; without memory nothing is said of it
+-- what one request does if the conversation is modelled; if an allocation fails, nothing is said of it
 abbrev pub Probes : {T : Type 0} → Result T (Refuse ConvErr) → PlainRequest → SeenRoom → SeenRoom
     → Type 0
 Probes (Ok v) request old new = (refuses request old ≡ false) × (new ≡ room_after request old)
@@ -69,7 +69,7 @@ Probes (Err (refusals.Named e)) request old new = (refuses request old ≡ true)
     × (new ≡ room_after request old)
 Probes (Err refusals.NoMemory) request old new = Unit {0}
 
--- what all of them come to: how they ended, the room, and the data that were set
+-- the result of all requests: how they ended, the room, and the data that were set
 pub record ComesTo (refused : Bool) (p : Probing) (room : SeenRoom) (owner : ℕ)
     (list : PlainDataList) (ledger : PlainLedger) (later : PlainDataList)
     (after : PlainLedger) : Type 0 where
@@ -88,7 +88,7 @@ ProbesAll (Err refusals.NoMemory) p room owner list ledger later after = Unit {0
 abbrev pub code_in : List ℕ → Option Code
 code_in arg = option_and_then code_of_word (value_in (codes "answer=") arg)
 
--- the last answer=WORD of which the word is a code's, or SUCCESS
+-- the last answer=WORD whose word is a code's, or SUCCESS
 abbrev pub fixed_answer : List (List ℕ) → Code
 fixed_answer args = unwrap_or (last_or None (filter_map code_in args)) returns.Success
 
@@ -106,6 +106,6 @@ abbrev pub probe_plays : Plays
 probe_plays call room held sight =
     played_so (probed_all call.args (probing false room [])) call.args sight
 
--- its note tells payload and status
+-- its cleanup result shows payload and status
 abbrev pub probe_note : Note
 probe_note payload status = (256 * length payload + status % 256) % 2 ^ 32

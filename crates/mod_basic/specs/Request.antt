@@ -10,7 +10,7 @@ use Rattle.pam_room.specs.Call.{value_in}
 use Rattle.mod_basic.specs.declared.request.Request.{Request}
 use Rattle.mod_basic.specs.declared.request.Request.TheVariants as requests
 
--- to set a datum, by its name and payload; to send a message; to request a delay; or nothing
+-- to set module data, by name and payload; to send a message; to request a delay; or nothing
 pub data PlainRequest : Type 0 where
   set_data : List ℕ → List ℕ → PlainRequest
   send : Style → List ℕ → PlainRequest

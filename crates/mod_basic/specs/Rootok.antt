@@ -9,7 +9,7 @@ use Rattle.pam_room.specs.Module.{Plays, answered}
 abbrev pub is_root : ℕ → Code
 is_root caller = if caller == 0 then Success else AuthErr
 
--- it offers no session functions
+-- it has no session functions
 abbrev pub rootok_code : Func → ℕ → Code
 rootok_code Authenticate caller = is_root caller
 rootok_code SetCred caller = Success

@@ -1,5 +1,5 @@
-//! The smallest modules: pam_permit, pam_deny, pam_debug and pam_rootok, and pam_probe, with which
-//! a stack is tried out.
+//! The smallest modules, pam_permit, pam_deny, pam_debug and pam_rootok, and pam_probe, a module
+//! for trying out a stack. Each is in a file of its name; begin at `pam_deny.rt`.
 #![tactic(auto)]
 
 mod pam_debug;

@@ -11,13 +11,14 @@ use pam_outside::{Clock, Vault};
 use pam_room::{Call, Module, Process, Transaction, spend_by_length};
 use std::alloc::Global;
 
-/// `pam_debug(8)`: the code that an argument names, one for each function and two for chauthtok: `auth=`, `cred=`,
-/// `acct=`, `prechauthtok=`, `chauthtok=`, `open_session=`, `close_session=`. SUCCESS where it is absent or names none.
+/// `pam_debug(8)`: returns the code that an argument names, one argument for each function and two
+/// for chauthtok: `auth=`, `cred=`, `acct=`, `prechauthtok=`, `chauthtok=`, `open_session=`,
+/// `close_session=`. SUCCESS if the argument is missing or names no code.
 #[derive(Drop)]
 pub struct Debug;
 
 impl Debug {
-    /// The module; it keeps nothing.
+    /// Creates the module, which has no state.
     pub fn new() -> Self {
         Debug
     }
@@ -55,7 +56,7 @@ impl Module for Debug {
     }
 }
 
-// The argument that names the code of a call.
+// The argument that names the code for a call.
 fn key_of(call: &Call) -> &'static [u8]
     ensures { result.now ≡ debug_key call.now.func (has_flag call.now.flags prelim_check) }
 {

@@ -14,7 +14,7 @@ use std::alloc::Global;
 pub struct Deny;
 
 impl Deny {
-    /// The module; it keeps nothing.
+    /// Creates the module, which has no state.
     pub fn new() -> Self {
         Deny
     }

@@ -11,12 +11,13 @@ use pam_room::item_store::Items;
 use pam_room::{Call, Module, Process, Transaction, get_item, laws, set_item, spend_by_length};
 use std::alloc::Global;
 
-/// `pam_permit(8)`: SUCCESS for all six functions. authenticate sets USER to `nobody` where it is unset.
+/// `pam_permit(8)`: SUCCESS for all six functions. authenticate sets USER to `nobody` if it is
+/// unset.
 #[derive(Drop)]
 pub struct Permit;
 
 impl Permit {
-    /// The module; it keeps nothing.
+    /// Creates the module, which has no state.
     pub fn new() -> Self {
         Permit
     }
@@ -57,7 +58,7 @@ impl Module for Permit {
     }
 }
 
-// A user who isn't set is nobody.
+// Sets USER to `nobody` if it is unset.
 fn set_nobody(items: &mut Items) -> Result<(), NoMemory>
     ensures ok { OnOk result (items.new ≡ record items.old {
       user = option_or items.old.user (Some (codes "nobody"));

@@ -15,16 +15,17 @@ use pam_outside::{Clock, Vault};
 use pam_room::{Call, Module, Process, Transaction, first_bytes, laws, send, value_in};
 use std::alloc::Global;
 
-/// pam_probe, this project's own, with which a stack is tried out. It does what its arguments ask for, in order:
-/// `set=NAME:PAYLOAD` sets a datum, `say=TEXT` shows a text, `ask=TEXT` asks and drops the reply, `delay=MICROSECONDS`
-/// requests a delay; where a message gets no reply it answers CONV_ERR at once. Else it answers the last
-/// `answer=WORD` whose word is a code's, or SUCCESS. Its note is 256 times the payload's length, and the status
-/// modulo 256, modulo 2^32.
+/// pam_probe, this project's own, for trying out a stack. It does what its arguments say, in order:
+/// `set=NAME:PAYLOAD` sets module data, `say=TEXT` shows a text, `ask=TEXT` asks and drops the
+/// reply, `delay=MICROSECONDS` requests a delay; if a message gets no reply it returns CONV_ERR at
+/// once. Otherwise it returns the code of the last `answer=WORD` whose word is a code's, or
+/// SUCCESS. Its cleanup returns 256 times the payload's length, plus the status modulo 256, modulo
+/// 2^32.
 #[derive(Drop)]
 pub struct Probe;
 
 impl Probe {
-    /// The module; it keeps nothing.
+    /// Creates the module, which has no state.
     pub fn new() -> Self {
         Probe
     }
@@ -69,7 +70,7 @@ impl Module for Probe {
     }
 }
 
-// Does what all arguments ask for, up to a message that gets no reply.
+// Does what the arguments say, up to a message that gets no reply.
 fn do_all(
     alloc: Global,
     args: &Texts,
@@ -108,7 +109,7 @@ fn do_all(
     Ok(())
 }
 
-// Does what one argument asks for.
+// Does what one argument says.
 fn do_request(
     alloc: Global,
     request: Request,
@@ -150,7 +151,7 @@ fn do_request(
     Ok(())
 }
 
-// The code of the last argument that fixes the answer.
+// The code of the last `answer=` that names one.
 fn fixed_answer(args: &Texts) -> Code
     ensures { result ≡ fixed_answer args.now }
 {

@@ -9,12 +9,13 @@ use pam_outside::{Clock, Vault};
 use pam_room::{Call, Module, Process, Transaction, spend_by_length};
 use std::alloc::Global;
 
-/// `pam_rootok(8)`: whether the calling process is root's. setcred is SUCCESS, and no session function is offered.
+/// `pam_rootok(8)`: whether the calling process is root's. setcred returns SUCCESS; session
+/// functions aren't supported.
 #[derive(Drop)]
 pub struct Rootok;
 
 impl Rootok {
-    /// The module; it keeps nothing.
+    /// Creates the module, which has no state.
     pub fn new() -> Self {
         Rootok
     }

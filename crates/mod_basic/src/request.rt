@@ -10,7 +10,7 @@ use pam_room::value_in;
 /// What an argument of pam_probe asks for.
 #[derive(Clone, Copy, Debug)]
 pub enum Request<'a> {
-    /// To set a datum.
+    /// To set module data.
     SetData { name: &'a [u8], payload: &'a [u8] },
     /// To send a message.
     Send { style: Style, text: &'a [u8] },
@@ -67,7 +67,7 @@ fn delay_of<'a>(word: &[u8]) -> Request<'a>
         Some(micros) => Request::Delay {
             micros: micros.min(LONGEST_REQUEST),
         },
-        // Ten digits may stand for more than 32 bits.
+        // Ten digits may be more than 32 bits hold.
         None if is_numeral(word) => Request::Delay {
             micros: LONGEST_REQUEST,
         },

@@ -131,7 +131,7 @@ ended_by : (behind : List Mark) → is_end behind ≡ true → conf.ends_word be
 ended_by [] e = refl
 ended_by (m ∷ ms) e = e
 
--- a value's marks, which stand at the front of what follows the key
+-- a value's marks, with which what follows the key begins
 pub record Found (key : Key) (value : List Piece) (text behind : List Mark) : Type 0 where
   pub inner : List Mark
   pub found : conf.at_value key text ≡ conf.one key inner behind
@@ -181,7 +181,7 @@ module _ (key : Key) (value : List Piece) (text behind : List Mark) (s : SpellsS
       ap conf.next_setting s.text_is ∙ ap conf.at_key (white_skipped s.white (word_of key ++ s.at) s.is_blank)
       ∙ at_word key s.at ∙ in_text.found
 
--- a value is no longer than what it stands in front of
+-- a value is no longer than the text that it begins
 module _ (value : List Piece) (text behind : List Mark) where
   no_longer : SpellsQuoted value text behind ⊎ SpellsWord value text behind → length behind ≤ length text
   no_longer (inl s) = omega (arith, ap length s.text_is, length-append s.inner (marks.Byte 34 ∷ behind))

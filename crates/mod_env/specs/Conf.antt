@@ -1,4 +1,4 @@
--- The file of pam_env.conf(5): a variable a line, with a value by default and one that overrides it.
+-- The file of pam_env.conf(5): one variable per line, with a default value and one that overrides it.
 use Rattle.std.specs.Prelude.{ℕ, zero, suc, ◌+◌, Bool, true, false, ◌==◌, if◌then◌else◌, List, [], ◌∷◌, length, take, drop, Option, Some, None, position, codes}
 use Rattle.std.specs.List.{after_first, before_first}
 use Rattle.pam_base.specs.Bytes.{has_byte}
@@ -17,7 +17,7 @@ use Rattle.mod_env.specs.Value.{pieces_of}
 
 -- ---- the settings of a line
 
--- what stands at the front of the settings of a line: their end, a setting with what follows it, or what has no form
+-- how the settings of a line begin: they end, there is a setting with what follows it, or they are malformed
 pub data Setting : Type 0 where
   ended : Setting
   broken : Setting
@@ -28,13 +28,13 @@ abbrev pub ends_word : List Mark → Bool
 ends_word [] = true
 ends_word (m ∷ ms) = is_white_mark m
 
--- a value within quotes may hold white space; it goes to the next quote
+-- a value within quotes may hold white space; it ends at the next quote
 abbrev pub quoted : Key → List Mark → Option ℕ → Setting
 quoted key marks None = broken
 quoted key marks (Some n) =
     if ends_word (drop (n + 1) marks) then one key (take n marks) (drop (n + 1) marks) else broken
 
--- any other value goes to the next white space
+-- any other value ends at the next white space
 abbrev pub unquoted : Key → List Mark → Option ℕ → Setting
 unquoted key marks (Some n) = one key (take n marks) (drop n marks)
 unquoted key marks None = one key marks []
@@ -64,7 +64,7 @@ abbrev pub with_value : Key → List Piece → Values → Values
 with_value Default pieces values = record values { default = Some pieces }
 with_value Override pieces values = record values { overriding = Some pieces }
 
--- by what stands at the front, and what the rest comes to with the values that were found; the last of each holds
+-- by how the text begins, and what the rest gives with the values that were found; the last of each holds
 abbrev pub by_pieces : (Values → List Mark → Option Values) → Values → Key → List Mark
     → Option (List Piece) → Option Values
 by_pieces more values key rest (Some pieces) = more (with_value key pieces values) rest
@@ -80,13 +80,13 @@ abbrev pub values_within : ℕ → Values → List Mark → Option Values
 values_within zero values marks = if length (behind_white marks) == 0 then Some values else None
 values_within (suc n) values marks = by_setting (values_within n) values (next_setting marks)
 
--- the values of what follows a name, if it has their form; there are at most as many settings as bytes
+-- the values in what follows a name, if it is well formed; there are at most as many settings as bytes
 unfoldable pub values_of : List Mark → Option Values
 values_of marks = values_within (length marks) no_values marks
 
 -- ---- lines
 
--- a line without the white space in front
+-- a line without leading white space
 abbrev pub without_front : List ℕ → List ℕ
 without_front [] = []
 without_front (b ∷ bs) = if is_white b then without_front bs else b ∷ bs
@@ -100,7 +100,7 @@ abbrev pub with_values : List ℕ → Option Values → Option Entry
 with_values name (Some values) = Some (record { name = name; values = values })
 with_values name None = None
 
--- a name goes to the first white space, and has no `=`
+-- a name ends at the first white space, and has no `=`
 abbrev pub entry_at : List ℕ → Option Entry
 entry_at text =
     if has_byte 61 (before_first is_white text) then None
@@ -111,7 +111,7 @@ in_front (Some entry) (Some entries) = Some (entry ∷ entries)
 in_front (Some entry) None = None
 in_front None entries = None
 
--- the variables of lines, if each line that counts has the form of one
+-- the variables of lines, if each line that counts is well formed
 abbrev pub entries_of : List (List ℕ) → Option (List Entry)
 entries_of [] = Some []
 entries_of (line ∷ lines) = if counts (without_front line)

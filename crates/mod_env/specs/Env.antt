@@ -26,7 +26,7 @@ use Rattle.mod_env.specs.Expand.{Sources, asks_account, outcome_of}
 unfoldable pub sees_env : (List Variable → Act) → Act
 sees_env act stage = act stage.room.env stage
 
--- the environment after a text is put (pam_putenv(3)); it stays where the text is refused
+-- the environment after a text is put (pam_putenv(3)); it is unchanged if the text is refused
 unfoldable pub put_in : List ℕ → List Variable → List Variable
 put_in text env = if is_refused text env then env else after_put text env
 
@@ -41,7 +41,7 @@ entry_in (found entry) = Some entry
 entry_in missing = None
 entry_in unreadable = None
 
--- the user's entry is looked up where USER is set
+-- the user's entry is looked up if USER is set
 abbrev pub by_user : Option (List ℕ) → (Option Passwd → Act) → Act
 by_user (Some user) act = finds_account user (λ account. act (entry_in account))
 by_user None act = act None
@@ -55,12 +55,12 @@ abbrev pub entry_seen : Bool → Option (List ℕ) → Known → Option Passwd
 entry_seen true user known = entry_known user known
 entry_seen false user known = None
 
--- it is looked up where a value asks for it
+-- it is looked up if a value needs it
 abbrev pub looks_if : Bool → (Option Passwd → Act) → Act
 looks_if true act = sees_items (λ items. by_user items.user act)
 looks_if false act = act None
 
--- whether the value was set: one that is too long isn't
+-- whether the variable was set: a value that is too long isn't
 abbrev pub by_outcome : Outcome → (Bool → Act) → Act
 by_outcome (Puts text) act = puts_env text (act true)
 by_outcome TooLong act = act false
@@ -87,7 +87,7 @@ abbrev pub puts_all : List (List ℕ) → Act → Act
 puts_all [] act = act
 puts_all (text ∷ texts) act = puts_env text (puts_all texts act)
 
--- the text of a file; one that isn't there counts as empty
+-- the text of a file; one that doesn't exist counts as empty
 abbrev pub text_in : Content → Option (List ℕ)
 text_in Absent = Some []
 text_in Unreadable = None
@@ -98,7 +98,7 @@ abbrev pub by_fits : List (List ℕ) → Bool → Act
 by_fits assignments true = puts_all assignments (answers returns.Success)
 by_fits assignments false = answers returns.BufErr
 
--- a line of pam_env.conf that has no form is SERVICE_ERR, and nothing is set
+-- a malformed line of pam_env.conf is SERVICE_ERR, and nothing is set
 abbrev pub by_entries : Option (List Entry) → List (List ℕ) → Act
 by_entries (Some entries) assignments = sets_all entries (by_fits assignments)
 by_entries None assignments = answers returns.ServiceErr
@@ -134,7 +134,7 @@ reads_first args =
 
 -- ---- the module
 
--- setcred and open_session work
+-- setcred and open_session do the work
 abbrev pub at_once : Func → Option Code
 at_once Authenticate = Some returns.Ignore
 at_once SetCred = None

@@ -1,4 +1,4 @@
--- The file of environment(5): NAME=VALUE a line.
+-- The file of environment(5): NAME=VALUE on each line.
 use Rattle.std.specs.Prelude.{ℕ, Bool, ◌==◌, ◌&&◌, ◌||◌, ◌-◌, nat_lt, nat_eq, if◌then◌else◌, List, [], ◌∷◌, ◌++◌, length, take, drop, Option, Some, None, codes}
 use Rattle.std.specs.Char.{is_ascii_alphanumeric}
 use Rattle.std.specs.List.{ends_with, filter_map, list_all, starts_with}
@@ -28,7 +28,7 @@ abbrev pub unquoted : List ℕ → List ℕ
 unquoted text = if starts_with nat_eq text (34 ∷ []) then without_quotes 34 text
     else without_quotes 39 text
 
--- `export` and one space may stand in front
+-- `export` and one space may come first
 abbrev pub without_export : List ℕ → List ℕ
 without_export text = if starts_with nat_eq text (codes "export ") then drop 7 text else text
 
@@ -37,7 +37,7 @@ assignment_at text =
     if has_byte 61 text && is_name (name_in text)
     then Some (name_in text ++ 61 ∷ unquoted (value_in text)) else None
 
--- what a line sets, as pam_putenv(3) is told it; other lines are passed over, comments among them
+-- what a line sets, as an argument of pam_putenv(3); other lines are passed over, comments among them
 abbrev pub assignment_in : List ℕ → Option (List ℕ)
 assignment_in line = assignment_at (without_export (without_front line))
 

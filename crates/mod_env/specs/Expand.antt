@@ -1,4 +1,4 @@
--- What a value of pam_env.conf(5) comes to.
+-- What a value of pam_env.conf(5) expands to.
 use Rattle.std.specs.Prelude.{ℕ, Bool, false, ◌||◌, nat_lt, if◌then◌else◌, List, [], ◌∷◌, ◌++◌, length, Option, Some, None, unwrap_or, codes}
 use Rattle.std.specs.List.{flat_map, list_any}
 use Rattle.std.specs.Option.{option_copied}
@@ -13,7 +13,7 @@ use Rattle.mod_env.specs.declared.expand.Sources.{Sources as LentSources}
 use Rattle.mod_env.specs.declared.expand.Outcome.{Outcome}
 use Rattle.mod_env.specs.declared.expand.Outcome.TheVariants.{TooLong, Puts}
 
--- what a value may name: items, variables, and the user's entry in passwd where it is there
+-- what a value may name: items, variables, and the user's entry in passwd if it exists
 pub record Sources : Type 0 where
   pub items : ItemTexts
   pub env : List Variable
@@ -54,8 +54,8 @@ fitting text = if nat_lt 1024 (length text) then None else Some text
 
 -- ---- a variable
 
--- a value that overrides is taken where it isn't empty, else the one by default, else the variable is deleted; as
--- pam_putenv(3) is told it
+-- an overriding value is taken if it isn't empty, else the default, else the variable is deleted; as an argument of
+-- pam_putenv(3)
 abbrev pub put_default : List ℕ → Option (List ℕ) → List ℕ
 put_default name (Some text) = name ++ 61 ∷ text
 put_default name None = name
@@ -79,14 +79,14 @@ by_texts name (Some default) (Some over) = Puts (put_text name default over)
 by_texts name (Some default) None = TooLong
 by_texts name None over = TooLong
 
--- what becomes of a variable; a value that is too long counts although it isn't taken
+-- the result for a variable; a value that is too long counts even if it isn't taken
 unfoldable pub outcome_of : Entry → Sources → Outcome
 outcome_of entry from = by_texts entry.name (value_text from entry.values.default)
     (value_text from entry.values.overriding)
 
 -- ---- the account
 
--- whether a piece asks for the user's account
+-- whether a piece needs the user's account
 abbrev pub names_account : Piece → Bool
 names_account (pieces.Byte b) = false
 names_account (pieces.Variable name) = false

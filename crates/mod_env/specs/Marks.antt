@@ -1,11 +1,11 @@
--- The bytes of a line of pam_env.conf(5), and which of them a backslash made plain.
+-- The bytes of a line of pam_env.conf(5), and which of them a backslash quoted.
 use Rattle.std.specs.Prelude.{ℕ, Bool, true, false, ◌==◌, ◌&&◌, if◌then◌else◌, List, [], ◌∷◌, Option, Some, None}
 use Rattle.std.specs.List.{filter_map}
 use Rattle.pam_base.specs.White.{is_white}
 use Rattle.mod_env.specs.declared.marks.Mark.{Mark}
 use Rattle.mod_env.specs.declared.marks.Mark.TheVariants.{Byte, Plain, Stray}
 
--- a backslash makes the next byte plain; one without a next byte is stray
+-- a backslash quotes the next byte; one without a next byte is stray
 abbrev pub marks_from : Bool → List ℕ → List Mark
 marks_from true [] = Stray ∷ []
 marks_from true (b ∷ bs) = Plain b ∷ marks_from false bs
@@ -15,7 +15,7 @@ marks_from false (b ∷ bs) = if b == 92 then marks_from true bs else Byte b ∷
 unfoldable pub marks_of : List ℕ → List Mark
 marks_of text = marks_from false text
 
--- a byte that isn't plain, as one that means more than itself
+-- a byte that isn't quoted, so that it has its special meaning
 abbrev pub is_byte : ℕ → Mark → Bool
 is_byte wanted (Byte b) = b == wanted
 is_byte wanted (Plain b) = false
@@ -26,13 +26,13 @@ is_white_mark (Byte b) = is_white b
 is_white_mark (Plain b) = false
 is_white_mark Stray = false
 
--- whether these bytes stand in front
+-- whether the text begins with these bytes
 abbrev pub begins_with : List ℕ → List Mark → Bool
 begins_with [] marks = true
 begins_with (c ∷ cs) [] = false
 begins_with (c ∷ cs) (m ∷ ms) = is_byte c m && begins_with cs ms
 
--- what follows the white space in front
+-- what follows leading white space
 abbrev pub behind_white : List Mark → List Mark
 behind_white [] = []
 behind_white (m ∷ ms) = if is_white_mark m then behind_white ms else m ∷ ms

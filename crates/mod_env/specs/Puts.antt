@@ -1,4 +1,4 @@
--- What a module that changes the environment alone does to a transaction, in any world (this project's own).
+-- What a module that changes only the environment does to a transaction, with real objects too (this project's own).
 use Rattle.std.specs.Prelude.{◌≡◌}
 use Rattle.account_files.specs.pam_room.specs.declared.transaction.Transaction.{Transaction}
 

@@ -1,5 +1,5 @@
 -- What spells the settings of a file of pam_env.conf(5): the forms of a value, of a line and of a text, each put
--- together from its parts, and none of them a step of what reads it.
+-- together from its parts, independently of the parser.
 use Rattle.std.specs.Prelude.{◌≡◌, ℕ, Bool, true, false, ◌==◌, ◌&&◌, ◌⊎◌, List, [], ◌∷◌, ◌++◌, map, codes}
 use Rattle.std.specs.List.{list_all, list_any}
 use Rattle.pam_base.specs.Bytes.{has_byte}
@@ -19,7 +19,7 @@ use Rattle.mod_env.specs.Conf.{no_values, with_value}
 
 -- ---- values
 
--- whether a brace that means more than itself stands in front
+-- whether a brace with its special meaning comes first
 abbrev pub opens : List Mark → Bool
 opens [] = false
 opens (m ∷ ms) = is_byte 123 m
@@ -31,7 +31,7 @@ pub record SpellsPlace (sigil : ℕ) (name : List ℕ) (text behind : List Mark)
   pub is_open : list_any (is_byte 125) inner ≡ false
   pub name_is : name ≡ text_of inner
 
--- A byte stands for itself where a backslash made it plain, and else where no place begins with it.
+-- A byte is itself if a backslash quoted it, and otherwise if no place begins with it.
 abbrev pub SpellsByte : ℕ → List Mark → List Mark → Type 0
 SpellsByte b text behind =
     (text ≡ marks.Plain b ∷ behind)
@@ -63,7 +63,7 @@ pub record SpellsQuoted (value : List Piece) (text behind : List Mark) : Type 0 
   pub is_open : list_any (is_byte 34) inner ≡ false
   pub spelled : SpellsValue value inner
 
--- whether a quote that means more than itself stands in front
+-- whether a quote with its special meaning comes first
 abbrev pub quotes : List Mark → Bool
 quotes [] = false
 quotes (m ∷ ms) = is_byte 34 m

@@ -8,17 +8,17 @@ use Rattle.mod_env.specs.declared.value.Next.{Next as LentNext}
 use Rattle.mod_env.specs.declared.value.Next.TheVariants as lent
 use Rattle.mod_env.specs.Marks.{begins_with, is_byte, text_of}
 
--- what stands at the front of a value: its end, a piece with what follows it, or what has no form
+-- how a value begins: it ends, there is a piece with what follows it, or it is malformed
 pub data Next : Type 0 where
   ended : Next
   broken : Next
   one : Piece → List Mark → Next
 
--- `$` stands for a variable, `@` for an item
+-- `$` is for a variable, `@` for an item
 abbrev pub place : ℕ → List ℕ → Piece
 place sigil name = if sigil == 36 then Variable name else Item name
 
--- a place goes to the first `}`; one that isn't closed has no form
+-- a place ends at the first `}`; one that isn't closed is malformed
 abbrev pub closed : ℕ → List Mark → Option ℕ → Next
 closed sigil marks (Some n) = one (place sigil (text_of (take n marks))) (drop (n + 1) marks)
 closed sigil marks None = broken
@@ -38,12 +38,12 @@ next_piece (marks.Plain b ∷ rest) = one (Byte b) rest
 next_piece (marks.Stray ∷ rest) = broken
 next_piece (marks.Byte b ∷ rest) = at_byte b rest
 
--- a piece in front of those that follow it
+-- a piece before those that follow it
 abbrev pub in_front : Piece → Option (List Piece) → Option (List Piece)
 in_front piece (Some more) = Some (piece ∷ more)
 in_front piece None = None
 
--- by what stands at the front, and what the rest comes to
+-- by how the value begins, and what the rest gives
 abbrev pub by_next : (List Mark → Option (List Piece)) → Next → Option (List Piece)
 by_next more ended = Some []
 by_next more broken = None
@@ -54,7 +54,7 @@ abbrev pub pieces_within : ℕ → List Mark → Option (List Piece)
 pieces_within zero value = if length value == 0 then Some [] else None
 pieces_within (suc n) value = by_next (pieces_within n) (next_piece value)
 
--- the pieces of a value, if it has the form of one; there are at most as many as bytes
+-- the pieces of a value, if it is well formed; there are at most as many as bytes
 unfoldable pub pieces_of : List Mark → Option (List Piece)
 pieces_of value = pieces_within (length value) value
 

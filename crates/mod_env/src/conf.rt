@@ -16,7 +16,7 @@ pub enum Key {
     Override,
 }
 
-/// The values of a variable, as they are written, those that are given.
+/// The values of a variable that are given, as they are written.
 #[derive(Debug, Drop)]
 pub struct Values {
     pub default: Option<Pieces>,
@@ -33,17 +33,17 @@ pub struct Entry {
 /// Variables, in the order of their lines.
 pub type Entries = Sequence<Entry>;
 
-// What stands at the front of the settings of a line.
+// How the settings of a line begin.
 #[derive(Clone, Copy)]
 enum Setting<'a> {
     Ended,
-    /// It has no form.
+    /// They are malformed.
     Broken,
     /// A key, its value, and what follows it.
     One(Key, &'a [Mark], &'a [Mark]),
 }
 
-/// The variables of a file of `pam_env.conf(5)`; None where a line that counts hasn't the form of one.
+/// The variables of a file of `pam_env.conf(5)`; None if a line that counts is malformed.
 pub fn conf_of(alloc: Global, text: &[u8]) -> Result<Option<Entries>, NoMemory>
     ensures { IfOk result (λ entries. entries ≡ conf_of text.now) }
 {
@@ -61,7 +61,7 @@ pub fn conf_of(alloc: Global, text: &[u8]) -> Result<Option<Entries>, NoMemory>
     Ok(Some(entries))
 }
 
-/// A line without the white space in front.
+/// A line without leading white space.
 pub fn without_front(line: &[u8]) -> &[u8]
     ensures { result.now ≡ without_front line.now }
 {
@@ -75,7 +75,7 @@ pub fn without_front(line: &[u8]) -> &[u8]
     rest
 }
 
-// Whether a line counts: it isn't all white space, and no comment.
+// Whether a line counts: it isn't all white space, nor a comment.
 fn counts(line: &[u8]) -> bool
     ensures { result ≡ counts line.now }
 {
@@ -126,7 +126,7 @@ fn white_place(text: &[u8]) -> Option<usize>
     text.iter().position(|byte| is_white(*byte))
 }
 
-// The values of what follows a name, if it has their form.
+// The values in what follows a name, if it is well formed.
 fn values_of(alloc: Global, marks: &[Mark]) -> Result<Option<Values>, NoMemory>
     ensures { IfOk result (λ values. values ≡ values_of marks.now) }
 {
@@ -231,7 +231,7 @@ fn white_mark_place(marks: &[Mark]) -> Option<usize>
     marks.iter().position(|mark| is_white_mark(*mark))
 }
 
-// A value within quotes, which goes up to this one, if there is one.
+// A value within quotes, which ends at this quote, if there is one.
 fn quoted<'a>(key: Key, marks: &'a [Mark], quote: Option<usize>) -> Setting<'a>
     requires { quote ≡ position (is_byte 34) marks.now }
     ensures { plain_setting result ≡ quoted key marks.now quote }
@@ -249,7 +249,7 @@ fn quoted<'a>(key: Key, marks: &'a [Mark], quote: Option<usize>) -> Setting<'a>
     }
 }
 
-// Any other value, which goes up to this white space, if there is some.
+// Any other value, which ends at this white space, if there is some.
 fn unquoted<'a>(key: Key, marks: &'a [Mark], white: Option<usize>) -> Setting<'a>
     requires { white ≡ position is_white_mark marks.now }
     ensures { plain_setting result ≡ unquoted key marks.now white }

@@ -9,8 +9,8 @@ use crate::expand::assignment;
 use pam_base::{Lines, NoMemory, Text, Texts, first_place};
 use std::alloc::Global;
 
-/// What the lines of a file of `environment(5)` set, in order, each as `pam_putenv(3)` is told it. Lines that aren't of
-/// the form `NAME=VALUE` are passed over.
+/// What the lines of a file of `environment(5)` set, in order, each an argument of `pam_putenv(3)`.
+/// Lines that aren't of the form `NAME=VALUE` are passed over.
 #[tactic(auto, unfolding(crate::specs::EnvFile::assignments_of))]
 pub fn assignments_of(alloc: Global, text: &[u8]) -> Result<Texts, NoMemory>
     ensures { IfOk result (λ texts. texts ≡ assignments_of text.now) }
@@ -63,7 +63,7 @@ fn equals_place(text: &[u8]) -> Option<usize>
     text.iter().position(|byte| *byte == b'=')
 }
 
-// What stands before the first `=`.
+// What comes before the first `=`.
 fn name_in(text: &[u8]) -> &[u8]
     ensures { result.now ≡ name_in text.now }
 {
@@ -109,7 +109,7 @@ fn is_name_byte(byte: u8) -> bool
     byte.is_ascii_alphanumeric() || byte == b'_'
 }
 
-// A value without the pair of quotes round it, if one is.
+// A value without the pair of quotes around it, if there is one.
 fn unquoted(text: &[u8]) -> &[u8]
     ensures { result.now ≡ unquoted text.now }
 {

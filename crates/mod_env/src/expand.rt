@@ -21,11 +21,11 @@ const VALUE_LIMIT: usize = 1024;
 pub enum Outcome {
     /// A value has more than 1,024 bytes.
     TooLong,
-    /// What `pam_putenv(3)` is told.
+    /// The argument of `pam_putenv(3)`.
     Puts(Text),
 }
 
-/// What a value may name: items, variables, and the user's entry in `passwd` where it is there.
+/// What a value may name: items, variables, and the user's entry in `passwd` if it exists.
 #[derive(Clone, Copy)]
 pub struct Sources<'a> {
     pub items: &'a Items,
@@ -49,7 +49,7 @@ pub fn outcome_of(alloc: Global, entry: &Entry, from: Sources) -> Result<Outcome
     Ok(Outcome::Puts(text))
 }
 
-// The text of a value that is given; None where it is too long.
+// The text of a value that is given; None if it is too long.
 fn value_text(
     alloc: Global,
     from: Sources,
@@ -66,7 +66,7 @@ fn value_text(
     }
 }
 
-// What a value comes to, unless it is too long.
+// What a value expands to, unless it is too long.
 fn fitting(alloc: Global, from: Sources, value: &Pieces) -> Result<Option<Text>, NoMemory>
     ensures { IfOk result (λ text. text ≡ fitting (expanded (plain_sources from.entry) value.now)) }
 {
@@ -143,7 +143,7 @@ fn shell_of<'a>(entry: Option<&'a Passwd>) -> &'a [u8]
     }
 }
 
-// What pam_putenv(3) is told of a variable by the texts of its values.
+// The argument of pam_putenv(3) for a variable, by the texts of its values.
 fn put_text(
     alloc: Global,
     name: &[u8],
@@ -183,7 +183,7 @@ pub(crate) fn assignment(alloc: Global, name: &[u8], value: &[u8]) -> Result<Tex
     Ok(Text::from_vec(text))
 }
 
-/// Whether a value of the variable asks for the user's account, used or not.
+/// Whether a value of the variable needs the user's account, used or not.
 pub fn asks_account(entry: &Entry) -> bool
     ensures { result ≡ asks_account entry.now }
 {

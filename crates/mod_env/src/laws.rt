@@ -15,8 +15,8 @@ ghost use Rattle.mod_env.specs.Env.{sees_env};
 ghost use Rattle.mod_env.specs.Puts.{Puts};
 ghost use Rattle.mod_env.specs.Spelling.{SpellsConf};
 
-/// Does nothing: its contract is that a text of `pam_env.conf(5)` has one reading. Whatever variables the lines of a text
-/// spell, they are the ones that are read, so that no text spells two.
+/// A text of `pam_env.conf(5)` has one reading: whatever variables the lines of a text spell, they
+/// are the ones that are read, so that no text spells two lists.
 pub fn a_text_has_one_reading()
     ensures read { (entries : List Entry) (text : List ℕ) → SpellsConf entries text →
         conf_of text ≡ Some entries }
@@ -24,14 +24,14 @@ pub fn a_text_has_one_reading()
         SpellsConf others text → entries ≡ others }
 {}
 
-/// Does nothing: its contract is the law of the step that sees the environment.
+/// The law of the step that sees the environment.
 pub(crate) fn env_steps()
     ensures seeing { (act : List Variable → Act) (known : Known) (s : Scene) (code : Code)
         (new : Scene) →
         Acts (act s.room.transaction.env) known s code new → Acts (sees_env act) known s code new }
 {}
 
-/// Does nothing: its contract is what holds of a module that changes the environment alone, in any world.
+/// What holds for a module that changes only the environment, with real objects too.
 pub(crate) fn puts_alone()
     ensures none { (t : Transaction) → Puts t t }
     ensures again { (t u v : Transaction) → Puts t u → Puts u v → Puts t v }

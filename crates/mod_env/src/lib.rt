@@ -1,4 +1,5 @@
 //! pam_env: variables of a session, set by the two files of `pam_env.conf(5)` and `environment(5)`.
+//! Begin at `pam_env.rt`; `conf.rt` and `env_file.rt` read the files, `expand.rt` expands values.
 #![tactic(auto)]
 
 mod conf;

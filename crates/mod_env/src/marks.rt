@@ -4,17 +4,17 @@ ghost use Rattle.mod_env.specs.Marks.{begins_with, behind_white, is_byte, is_whi
 use pam_base::{NoMemory, Text, is_white};
 use std::alloc::Global;
 
-/// A byte of a line, and whether a backslash made it plain.
+/// A byte of a line, and whether a backslash quoted it.
 #[derive(Clone, Copy, Debug, PartialEq, Eq)]
 pub enum Mark {
     Byte(u8),
-    /// A backslash stood before it.
+    /// A byte that a backslash quoted.
     Plain(u8),
     /// A backslash without a byte after it.
     Stray,
 }
 
-/// The bytes of a text, of which a backslash makes the next one plain.
+/// The bytes of a text; a backslash quotes the next one.
 #[tactic(auto, unfolding(crate::specs::Marks::marks_of))]
 pub fn marks_of(alloc: Global, text: &[u8]) -> Result<Vec<Mark>, NoMemory>
     ensures { IfOk result (λ marks. marks.items ≡ marks_of text.now) }
@@ -39,7 +39,7 @@ pub fn marks_of(alloc: Global, text: &[u8]) -> Result<Vec<Mark>, NoMemory>
     Ok(marks)
 }
 
-/// Whether the mark is this byte, and not a plain one.
+/// Whether the mark is this byte, and isn't quoted.
 pub fn is_byte(wanted: u8, mark: Mark) -> bool
     ensures { result ≡ is_byte wanted mark }
 {
@@ -60,7 +60,7 @@ pub fn is_white_mark(mark: Mark) -> bool
     }
 }
 
-/// Whether these bytes stand in front.
+/// Whether the text begins with these bytes.
 pub fn begins_with(word: &[u8], marks: &[Mark]) -> bool
     ensures { result ≡ begins_with word.now marks.now }
 {
@@ -81,7 +81,7 @@ pub fn begins_with(word: &[u8], marks: &[Mark]) -> bool
     true
 }
 
-/// What follows the white space in front.
+/// What follows leading white space.
 pub fn behind_white(marks: &[Mark]) -> &[Mark]
     ensures { result.now ≡ behind_white marks.now }
 {

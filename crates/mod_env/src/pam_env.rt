@@ -32,7 +32,7 @@ const ENV_LIMIT: u32 = 65536;
 pub struct Env;
 
 impl Env {
-    /// The module; it keeps nothing.
+    /// Creates the module, which has no state.
     pub fn new() -> Self {
         Env
     }
@@ -116,7 +116,7 @@ fn read_first(
     }
 }
 
-// Reads the second file unless it isn't to be read, and goes on.
+// Reads the second file unless `readenv=0` is given, and goes on.
 fn read_second(
     alloc: Global,
     call: &Call,
@@ -235,7 +235,7 @@ fn no_text(alloc: Global) -> Option<Text>
     Some(Text::new(alloc))
 }
 
-// The text of a file; one that isn't there counts as empty, and None is one that can't be read.
+// The text of a file; one that doesn't exist counts as empty. None if it can't be read.
 fn text_in(alloc: Global, content: Content) -> Option<Text>
     ensures { result ≡ text_in content }
 {

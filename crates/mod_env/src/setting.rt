@@ -20,7 +20,7 @@ use pam_base::{ItemName, NoMemory, Refuse, Texts};
 use pam_outside::Vault;
 use std::alloc::Global;
 
-/// Sets the variables in order; false where a value is too long: those before it are set.
+/// Sets the variables in order; false if a value is too long: those before it are set.
 pub(crate) fn set_all(
     alloc: Global,
     entries: &Entries,
@@ -50,7 +50,7 @@ pub(crate) fn set_all(
     Ok(true)
 }
 
-// Sets a variable; false where a value is too long.
+// Sets a variable; false if a value is too long.
 fn set_variable(
     alloc: Global,
     entry: &Entry,
@@ -77,7 +77,7 @@ fn set_variable(
     Ok(fits)
 }
 
-// Looks the user's account up, where it is asked for and USER is set.
+// Looks the user's account up, if it is needed and USER is set.
 fn look(
     alloc: Global,
     asks: bool,
@@ -105,7 +105,7 @@ fn look(
     }
 }
 
-// Looks the user's account up, where USER is set.
+// Looks the user's account up, if USER is set.
 fn look_user(
     alloc: Global,
     transaction: &Transaction,
@@ -134,7 +134,7 @@ fn look_user(
     }
 }
 
-// The user's entry, where it was looked up and is there.
+// The user's entry, if it was looked up and exists.
 fn found_entry(
     alloc: Global,
     asks: bool,
@@ -157,7 +157,7 @@ fn found_entry(
     }
 }
 
-// Sets a variable by the user's entry; false where a value is too long.
+// Sets a variable by the user's entry; false if a value is too long.
 fn set_by(
     alloc: Global,
     entry: &Entry,

@@ -19,16 +19,16 @@ pub enum Piece {
 /// A value, as it is written.
 pub type Pieces = Sequence<Piece>;
 
-// What stands at the front of a value.
+// How a value begins.
 #[derive(Drop)]
 enum Next<'a> {
     Ended,
-    /// It has no form.
+    /// It is malformed.
     Broken,
     One(Piece, &'a [Mark]),
 }
 
-/// The pieces of a value, if it has the form of one.
+/// The pieces of a value, if it is well formed.
 pub fn pieces_of(alloc: Global, value: &[Mark]) -> Result<Option<Pieces>, NoMemory>
     ensures { IfOk result (λ pieces. pieces ≡ pieces_of value.now) }
 {
@@ -66,7 +66,7 @@ fn next_piece<'a>(alloc: Global, value: &'a [Mark]) -> Result<Next<'a>, NoMemory
     }
 }
 
-// At a byte that isn't plain: a place begins with a sigil and a brace.
+// At a byte that isn't quoted: a place begins with a sigil and a brace.
 fn at_byte<'a>(alloc: Global, byte: u8, rest: &'a [Mark]) -> Result<Next<'a>, NoMemory>
     ensures { IfOk result (λ next. plain_next next ≡ at_byte byte rest.now) }
 {
@@ -90,7 +90,7 @@ fn brace_place(marks: &[Mark]) -> Option<usize>
     marks.iter().position(|mark| is_byte(b'}', *mark))
 }
 
-// A place whose name goes up to this brace, if there is one.
+// A place whose name ends at this brace, if there is one.
 fn closed<'a>(
     alloc: Global,
     sigil: u8,

@@ -40,7 +40,7 @@ play plays call files fails =
 abbrev notice : File
 notice = record { path = codes "/r/etc/nologin"; bytes = codes "closed" }
 
--- pam_nologin: the notice is shown to joe, by three calls of the vault; without a notice there are two
+-- pam_nologin: the notice is shown to joe, by three calls of `Vault`; without a notice there are two
 nologin_closed : (play nologin_plays (call_of AcctMgmt []) (passwd ∷ notice ∷ []) []).code ≡ returns.AuthErr
 unfolding answers asks_user reads_file reads_passwds shows content_of path_of failing_of entries_of parts_of lines_of cut
 nologin_closed = refl
@@ -89,7 +89,7 @@ listfile_calls : (play listfile_plays (call_of Authenticate (codes "item=shell" 
 unfolding answers asks_user reads_file reads_groups reads_passwds sees_items content_of path_of failing_of entries_of parts_of is_listed without_end lines_of cut
 listfile_calls = refl
 
--- pam_succeed_if, with joe in wheel: the code, and how many calls of the vault are made
+-- pam_succeed_if, with joe in wheel: the code, and how many calls of `Vault` are made
 abbrev wheel : File
 wheel = record { path = codes "/r/etc/group"; bytes = codes "wheel:x:10:root,joe\n" }
 
@@ -132,7 +132,7 @@ succeed_if_second_call : (condition is_in_wheel (2 ∷ [])).code ≡ returns.Ser
 unfolding answers asks_user reads_groups reads_passwds sees_items content_of path_of failing_of entries_of parts_of lines_of cut condition_of
 succeed_if_second_call = refl
 
--- no call is made for the second where one condition is enough
+-- no call is made for the second if one condition is enough
 succeed_if_third_call : (condition is_a_user (2 ∷ [])).code ≡ returns.Success
 unfolding answers asks_user reads_groups reads_passwds sees_items content_of path_of failing_of entries_of parts_of lines_of cut condition_of
 succeed_if_third_call = refl

@@ -129,13 +129,13 @@ abbrev pub compared : Order → ℕ → Option ℕ → Truth
 compared order n (Some m) = holds_if (is_so order m n)
 compared order n None = Faulty
 
--- of a text, which is compared as a number where it is one
+-- of a text, which is compared as a number if it is one
 abbrev pub on_text : PlainTest → List ℕ → Truth
 on_text (compares order n) text = compared order n (count_of text)
 on_text (equals sense wanted) text = in_sense sense (bytes_eq wanted text)
 on_text (is_among sense wanted) text = in_sense sense (list_any (λ w. bytes_eq w text) wanted)
 
--- of a number, which as a text is its decimal digits without a zero in front
+-- of a number, which as a text is its decimal digits without leading zeros
 abbrev pub on_number : PlainTest → ℕ → Truth
 on_number (compares order n) m = holds_if (is_so order m n)
 on_number (equals sense wanted) m = on_text (equals sense wanted) (decimal m)

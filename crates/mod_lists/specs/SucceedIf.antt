@@ -52,7 +52,7 @@ abbrev pub by_groups : Bool → List (List ℕ) → List ℕ → Option Passwd �
 by_groups sense names user entry (Some groups) = by_entry sense names user entry groups
 by_groups sense names user entry None = Faulty
 
--- the group file is read although the user has no entry, and not where passwd can't be read
+-- the group file is read even if the user has no entry, but not if passwd can't be read
 abbrev pub by_passwds : Bool → List (List ℕ) → List ℕ → (Truth → Act) → Option (List Passwd) → Act
 by_passwds sense names user act None = act Faulty
 by_passwds sense names user act (Some entries) =
@@ -76,7 +76,7 @@ abbrev pub tries : PlainCondition → List ℕ → (Truth → Act) → Act
 tries (on field test) user act = tests_field field test user act
 tries (grouped sense names) user act = reads_passwds (by_passwds sense names user act)
 
--- three words that are no condition are at fault, and nothing is read for them
+-- three words that are no condition are an error, and nothing is read for them
 abbrev pub tries_words : Option PlainCondition → List ℕ → (Truth → Act) → Act
 tries_words (Some condition) user act = tries condition user act
 tries_words None user act = act Faulty
@@ -90,7 +90,7 @@ by_truth rest Fails = answers returns.AuthErr
 by_truth rest NoUser = answers returns.UserUnknown
 by_truth rest Faulty = answers returns.ServiceErr
 
--- conditions are taken in order, three words each; where there is none the answer is SUCCESS
+-- conditions are taken in order, three words each; if there is none the result is SUCCESS
 abbrev pub meets_all : List (List ℕ) → List ℕ → Act
 meets_all [] user = answers returns.Success
 meets_all (field ∷ []) user = answers returns.ServiceErr
@@ -100,7 +100,7 @@ meets_all (field ∷ word ∷ value ∷ rest) user =
 
 -- ---- the module
 
--- the arguments that are about messages in the system's log, where nothing is written
+-- the arguments about messages to the system's log, to which nothing is written
 abbrev pub is_about_log : List ℕ → Bool
 is_about_log arg = list_any (λ w. bytes_eq w arg) (codes "debug" ∷ codes "audit" ∷ codes "quiet" ∷
     codes "quiet_fail" ∷ codes "quiet_success" ∷ [])
@@ -108,7 +108,7 @@ is_about_log arg = list_any (λ w. bytes_eq w arg) (codes "debug" ∷ codes "aud
 abbrev pub conditions_in : List (List ℕ) → List (List ℕ)
 conditions_in args = filter (λ arg. not (is_about_log arg)) args
 
--- `use_uid` isn't offered
+-- `use_uid` isn't supported
 abbrev pub uses_uid : List (List ℕ) → Bool
 uses_uid args = list_any (λ arg. bytes_eq arg (codes "use_uid")) args
 
@@ -119,7 +119,7 @@ by_use false args = asks_user (meets_all (conditions_in args))
 abbrev pub checks_conditions : List (List ℕ) → Act
 checks_conditions args = by_use (uses_uid args) args
 
--- it offers all six functions, of which setcred is IGNORE at once
+-- it has all six functions; setcred is IGNORE at once
 abbrev pub at_once : Func → Option Code
 at_once SetCred = Some returns.Ignore
 at_once other = None

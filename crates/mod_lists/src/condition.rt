@@ -42,7 +42,7 @@ pub enum Order {
     Greater,
 }
 
-/// A test of a field; its flag is whether it has to hold, or its opposite.
+/// A test of a field; its flag is false for the opposite test.
 #[derive(Clone, Copy, Debug)]
 pub enum Test<'a> {
     /// As a number, with this one.
@@ -57,7 +57,8 @@ pub enum Test<'a> {
 #[derive(Clone, Copy, Debug)]
 pub enum Condition<'a> {
     On(Field, Test<'a>),
-    /// Whether the user is in one of these groups, whose names colons separate; with `false`, in none of them.
+    /// Whether the user is in one of these groups, separated by colons; with `false`, in none of
+    /// them.
     Grouped(bool, &'a [u8]),
 }
 
@@ -176,7 +177,7 @@ fn text_test<'a>(word: &[u8], value: &'a [u8]) -> Option<Test<'a>>
     }
 }
 
-/// The number of 1 to 18 decimal digits that a word is.
+/// The number that a word of 1 to 18 decimal digits is.
 pub(crate) fn count_of(word: &[u8]) -> Option<u64>
     ensures { result ≡ count_of word.now }
 {

@@ -65,7 +65,7 @@ fn yes_or_no(holds: bool) -> Applies
     if holds { Applies::Yes } else { Applies::No }
 }
 
-// Whether the user is in the group, by files that were read.
+// Whether the user is in the group, by files that have been read.
 fn by_groups(
     alloc: Global,
     name: &[u8],

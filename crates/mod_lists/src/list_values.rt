@@ -26,7 +26,7 @@ pub enum Values {
     These(Texts),
 }
 
-/// The values that the list is searched for.
+/// The values to look for in the list.
 pub(crate) fn values_of(
     alloc: Global,
     item: ListItem,
@@ -109,7 +109,7 @@ fn text_value(item: ListItem, text: &[u8]) -> &[u8]
     }
 }
 
-// A terminal without the folder of devices in front.
+// A terminal without a leading `/dev/`.
 fn without_dev(text: &[u8]) -> &[u8]
     ensures { result.now ≡ without_dev text.now }
 {
@@ -174,7 +174,7 @@ fn group_values(
     Ok(values)
 }
 
-// The same, by files that were read.
+// The same, by files that have been read.
 fn values_of_groups(alloc: Global, user: &[u8], accounts: &Accounts) -> Result<Values, NoMemory>
     requires passwds { accounts.now.passwds ≢ None }
     requires groups { accounts.now.groups ≢ None }

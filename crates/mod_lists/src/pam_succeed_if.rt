@@ -21,13 +21,13 @@ use pam_outside::{Clock, Vault};
 use pam_room::{Call, Module, Process, Transaction, spend_by_length};
 use std::alloc::Global;
 
-/// `pam_succeed_if(8)`: SUCCESS where all conditions of the arguments hold, three words each; the first that doesn't
-/// hold decides.
+/// `pam_succeed_if(8)`: SUCCESS if all conditions of the arguments hold, three words each; the
+/// first that doesn't hold decides.
 #[derive(Drop)]
 pub struct SucceedIf;
 
 impl SucceedIf {
-    /// The module; it keeps nothing.
+    /// Creates the module, which has no state.
     pub fn new() -> Self {
         SucceedIf
     }
@@ -120,7 +120,7 @@ fn uses_uid(args: &Texts) -> bool
         .any(|arg| arg.bytes() == b"use_uid".as_slice())
 }
 
-// The arguments but those about the system's log.
+// The arguments except those about the system's log.
 fn conditions_in(alloc: Global, args: &Texts) -> Result<Texts, NoMemory>
     ensures { IfOk result (λ conditions. conditions ≡ conditions_in args.now) }
 {
@@ -179,7 +179,7 @@ fn meet_all(
     Ok(code_at_end(rest))
 }
 
-// The answer where fewer than three words are left: SUCCESS where it is none.
+// The code if fewer than three words are left: SUCCESS if none is.
 fn code_at_end(rest: &[Text]) -> Code
     ensures { (user : List ℕ) → length rest.now < 3 → meets_all rest.now user ≡ answers result }
 {

@@ -64,7 +64,7 @@ pub(crate) fn try_words(
     }
 }
 
-// The text of an item; the empty text where it is unset.
+// The text of an item; the empty text if it is unset.
 fn item_text(item: ItemField, items: &Items) -> &[u8]
     ensures { result.now ≡ item_text item items.now }
 {
@@ -170,7 +170,7 @@ fn try_groups(
     Ok(truth)
 }
 
-// Whether the user is in one of the groups, by files that were read.
+// Whether the user is in one of the groups, by files that have been read.
 fn by_groups(
     alloc: Global,
     sense: bool,

@@ -12,14 +12,14 @@ use std::alloc::Global;
 pub enum Truth {
     Holds,
     Fails,
-    /// It asks for the account of a user who has none.
+    /// It needs the account of a user who has none.
     NoUser,
-    /// It hasn't the form of a condition, or what it asks for isn't a number or can't be read.
+    /// It isn't a well-formed condition, or what it tests isn't a number or can't be read.
     Faulty,
 }
 
 impl Test<'_> {
-    /// Whether it holds of a text.
+    /// Whether it holds for a text.
     pub fn on_text(&self, text: &[u8]) -> Truth
         ensures { result ≡ on_text (plain_test self.now) text.now }
     {
@@ -30,7 +30,7 @@ impl Test<'_> {
         }
     }
 
-    /// Whether it holds of a number; as a text that is its decimal digits.
+    /// Whether it holds for a number; as a text that is its decimal digits.
     pub fn on_number(&self, alloc: Global, number: u32) -> Result<Truth, NoMemory>
         ensures { IfOk result (λ truth. truth ≡ on_number (plain_test self.now) number) }
     {
@@ -89,7 +89,7 @@ fn is_so(order: Order, one: u64, other: u64) -> bool
     }
 }
 
-/// A test's outcome, or that of its opposite.
+/// A test's result, or that of its opposite.
 pub fn in_sense(sense: bool, holds: bool) -> Truth
     ensures { result ≡ in_sense sense holds }
 {

@@ -73,7 +73,7 @@ numbered c.BadItem = refl
 numbered c.ConvAgain = refl
 numbered c.Incomplete = refl
 
--- ---- in any world
+-- ---- with real objects too
 
 module _ (t u v : Transaction) (p q : PlainProcess) (talks : Talks t u) (others : v ≡ record u { datums = v.datums }) (handle : v.datums.handle ≡ u.datums.handle) (own : q ≡ record p { ledger = q.ledger }) where
   pub keeping_stays : Stays (plain_transaction t) (plain_transaction v) p q

@@ -1,4 +1,4 @@
--- Where the hash of a user stands.
+-- Where the hash of a user is stored.
 use Rattle.std.proofs.Common.{◌≡◌, ℕ, Bool, true, false, List, codes}
 use Rattle.pam_base.specs.declared.code.Code.{Code}
 use Rattle.pam_room.specs.State.{Scene}

@@ -230,7 +230,7 @@ module _ (call : PlainCall) (user : List ℕ) where
     by_looking (Plain hash) stage e = absurd cc
     by_looking (Shadowed entry) stage e = by_keeping (is_kept call (day_of stage.sight.clock.moment) entry) (day_of stage.sight.clock.moment) entry stage refl distinct e
 
-    -- a call of the vault in between
+    -- a call of `Vault` in between
     onward : (stage : Stage) (p : Played) → Ended (record stage { sight = later stage.sight }) p → Ended stage (called p)
     onward stage p (inl k) = inl (record { flag = k.flag; files_are = k.files_are })
     onward stage p (inr d) = inr (record { user_stays = d.user_stays; written = d.written })

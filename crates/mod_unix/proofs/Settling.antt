@@ -1,4 +1,4 @@
--- What a function of the module came to is answered.
+-- The result of a function of the module is returned.
 use Rattle.std.proofs.Common.{◌≡◌, ℕ, [], ◌∷◌, Result, Ok, Err, IfOk, subst}
 use Rattle.pam_base.specs.Code.{number_of}
 use Rattle.pam_base.specs.declared.code.Code.{Code}

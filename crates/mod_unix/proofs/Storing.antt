@@ -62,7 +62,7 @@ module _ (user hash : List ℕ) (today : ℕ) (content : Content) (s mid : Scene
   changed new text done e d = λ act known code end rest. read (λ c. by_text (changed_shadow user hash today c) act) known code end
       (subst (λ (x : Option (List ℕ)). Acts (by_text x act) known mid code end) e (d (λ b. act (by_done b)) known code end rest))
 
--- a word is drawn for the salt
+-- a random word is taken for the salt
 module _ (seeing : (act : Time → Act) (known : Known) (s : Scene) (code : Code) (new : Scene) → Acts (act (time_of s.clock)) known s code new → Acts (sees_clock act) known s code new)
     (drawing : (act : ℕ → Act) (known : Known) (room : PlainRoom) (vault : VaultState) (clock : ClockState) (process : PlainProcess) (code : Code) (new : Scene)
     → Acts (act clock.word) known (scene_of room vault (drawn clock) process) code new → Acts (draws_word act) known (scene_of room vault clock process) code new)

@@ -44,7 +44,7 @@ abbrev pub with_first : Look → Option (List ℕ) → (Answer → Act) → Act
 with_first look (Some token) act = act (Kept (verified look token))
 with_first look None act = act (Unkept returns.AuthErr)
 
--- `try_first_pass`: that token first, where it is set
+-- `try_first_pass`: that token first, if it is set
 abbrev pub unless_success : Bool → Look → (Answer → Act) → Act
 unless_success true look act = act (Kept returns.Success)
 unless_success false look act = asks_password look act
@@ -78,11 +78,11 @@ by_look call look act = by_open (is_open call look) call look act
 unfoldable pub authenticates : PlainCall → (Answer → Act) → Act
 authenticates call act = asks_user (λ user. looks user (λ look. by_look call look act))
 
--- the name of the datum that setcred answers
+-- the name of the data whose code setcred returns
 abbrev pub setcred_return : List ℕ
 setcred_return = codes "unix_setcred_return"
 
--- the answer is kept for setcred, but that of `use_first_pass` without a token
+-- the code is kept for setcred, except that of `use_first_pass` without a token
 unfoldable pub settles : Answer → Act
 settles (Kept code) =
     answers_keeping (record { name = setcred_return; payload = number_of code ∷ [] }) code

@@ -47,7 +47,7 @@ abbrev pub by_early : Bool → Shadow → (Code → Act) → Act
 by_early true entry act = act returns.AuthtokErr
 by_early false entry act = by_empty (is_empty entry.hash) entry act
 
--- root may always
+-- root always may
 abbrev pub by_root : Bool → ℕ → Shadow → (Code → Act) → Act
 by_root true today entry act = act returns.Success
 by_root false today entry act = by_early (is_too_early today entry.last_change entry.min) entry act
@@ -88,7 +88,7 @@ takes_token call act = by_authtok (has_argument (codes "use_authtok") call.args)
 
 -- ---- the second pass: the new hash
 
--- the text of shadow with the new hash, where the user has an entry
+-- the text of shadow with the new hash, if the user has an entry
 abbrev pub changed_by : Look → Result (List ℕ) DbFault → Option (List ℕ)
 changed_by (Shadowed entry) (Ok text) = Some text
 changed_by (Shadowed entry) (Err fault) = None

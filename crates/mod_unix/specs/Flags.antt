@@ -1,4 +1,4 @@
--- Flags of calls that pam_unix(8) is told of.
+-- Flags of calls that pam_unix(8) looks at.
 use Rattle.std.specs.Prelude.{ℕ}
 
 -- flags of pam_authenticate(3) and pam_chauthtok(3)

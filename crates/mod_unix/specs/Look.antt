@@ -43,7 +43,7 @@ shadow_in user (content.Holds text) = shadow_among user (shadows_of text)
 shadow_in user content.Absent = Unavailable
 shadow_in user content.Unreadable = Unavailable
 
--- a password field `x` stands for the entry in shadow, any other is the hash
+-- a password field `x` means that the hash is in shadow; any other is the hash
 abbrev pub by_x : Bool → List ℕ → List ℕ → (Look → Act) → Act
 by_x true user hash act =
     reads_file (codes "/etc/shadow") account_limit (λ c. act (shadow_in user c))

@@ -1,4 +1,4 @@
--- What a change of a token leaves (pam_unix(8), chauthtok; this project's own words for what it is good for).
+-- What a change of a token leaves (pam_unix(8), chauthtok; the statement is this project's own).
 use Rattle.std.specs.Prelude.{◌≡◌, ◌≢◌, ◌⊎◌, ℕ, true, List, [], Some, Ok, codes, unwrap_or}
 use Rattle.pam_base.specs.declared.code.Code.TheVariants.{Success}
 use Rattle.pam_outside.specs.Files.{File, file_at}
@@ -33,7 +33,8 @@ pub record TokenStands (root user : List ℕ) (before : List File) (room : SeenR
   pub others : (other : List ℕ) → other ≢ user → shadow_of other changed ≡ shadow_of other entries
   pub files : (path : List ℕ) → path ≢ shadow_path root → file_at path after ≡ file_at path before
 
--- The files are as before, by the flag under which a token that need not be changed stays; or the token was changed.
+-- The files are as before, because of the flag under which a token that need not be changed stays; or the token was
+-- changed.
 abbrev pub StaysOrStands : PlainCall → Sight → Played → Type 0
 StaysOrStands call sight played =
     ((has_flag call.flags change_expired_authtok ≡ true) × (played.files ≡ sight.files)) ⊎

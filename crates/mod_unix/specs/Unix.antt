@@ -20,12 +20,12 @@ use Rattle.mod_unix.specs.Authenticate.{authenticates, setcred_return, settles}
 abbrev pub code_numbered : ℕ → Option Code
 code_numbered number = find (λ code. number_of code == number) all_codes
 
--- the payload of the datum with a name
+-- the payload of the data with a name
 abbrev pub payload_named : List ℕ → List NamedData → Option (List ℕ)
 payload_named name [] = None
 payload_named name (d ∷ ds) = if bytes_eq d.name name then Some d.payload else payload_named name ds
 
--- what authenticate answered and kept, where that is one byte and the number of a code, else SUCCESS
+-- what authenticate returned and kept, if that is one byte and the number of a code, else SUCCESS
 abbrev pub code_in : Option (List ℕ) → Code
 code_in None = returns.Success
 code_in (Some []) = returns.Success

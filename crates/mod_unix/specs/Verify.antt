@@ -17,7 +17,8 @@ abbrev pub by_hash : List ℕ → Result (List ℕ) SettingFault → Code
 by_hash hash (Ok made) = if bytes_eq made hash then returns.Success else returns.AuthErr
 by_hash hash (Err fault) = returns.AuthinfoUnavail
 
--- a token is the user's where its hash, under the user's as the setting, is the user's; of more than 512 bytes it isn't
+-- a token is the user's if its hash, with the user's hash as the setting, is the user's hash; a token of more than 512
+-- bytes isn't
 unfoldable pub hash_verified : List ℕ → List ℕ → Code
 hash_verified hash token = if is_locked hash || nat_lt 512 (length token) then returns.AuthErr
     else by_hash hash (crypted hash token)

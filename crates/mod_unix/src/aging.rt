@@ -4,7 +4,7 @@ ghost use Rattle.mod_unix.specs.Aging.{aged, by_age, by_change, day_of, is_past,
 use account_db::Shadow;
 use pam_base::Code;
 
-/// The day of a moment, since 1970.
+/// The day of a time, since 1970.
 pub(crate) fn day_of(moment: u64) -> u64
     ensures { result ≡ day_of moment }
 {

@@ -17,10 +17,10 @@ use pam_outside::Vault;
 use pam_room::{Call, Process, Transaction, get_item};
 use std::alloc::Global;
 
-/// What authenticate answers.
+/// What authenticate returns.
 #[derive(Clone, Copy)]
 pub(crate) enum Answer {
-    /// And keeps for setcred.
+    /// A code that is kept for setcred, too.
     Kept(Code),
     Unkept(Code),
 }
@@ -51,7 +51,7 @@ pub(crate) fn authenticate(
     by_look(alloc, call, &look, transaction, conv)
 }
 
-// Answers by what is known of the user's password.
+// Decides by what is known of the user's password.
 fn by_look(
     alloc: Global,
     call: &Call,

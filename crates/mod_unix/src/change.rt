@@ -24,8 +24,8 @@ use pam_outside::{Clock, Vault};
 use pam_room::{Call, Process, Transaction, get_item};
 use std::alloc::Global;
 
-/// Changes the user's token, or looks in the first pass whether it may be. Today is the day of the clock,
-/// from which a random word is taken only where a new hash is made.
+/// Changes the user's token, or checks in the first pass whether it may be changed. Today is the
+/// day of the clock; a random word is taken from it only if a new hash is made.
 pub(crate) fn change_token(
     alloc: Global,
     call: &Call,
@@ -68,7 +68,7 @@ pub(crate) fn change_token(
     )
 }
 
-// By what is known of the user's password.
+// Goes on by what is known of the user's password.
 fn change_by(
     alloc: Global,
     call: &Call,
@@ -115,7 +115,7 @@ fn change_by(
     }
 }
 
-// By the user's entry in shadow.
+// Goes on by the user's entry in shadow.
 fn change_entry(
     alloc: Global,
     call: &Call,

@@ -1,4 +1,4 @@
-//! What a change of a token is good for, in words of its own.
+//! What a change of a token achieves, stated independently of the code.
 ghost use Rattle.std.specs.Prelude.{◌≡◌, ◌≤◌, List, false};
 ghost use Rattle.pam_base.specs.declared.call.Func.{Func};
 ghost use Rattle.pam_base.specs.declared.code.Code.{Code};
@@ -9,9 +9,9 @@ ghost use Rattle.mod_unix.specs.Unix.{unix_plays};
 
 use pam_base::{Code, Func};
 
-/// Does nothing: its contract is that after a second pass of chauthtok that answers SUCCESS the token that was set is
-/// the user's, and every other user's entry is as it was, as is every other file. Under CHANGE_EXPIRED_AUTHTOK all may
-/// be as before. The moment is one that a clock gives.
+/// If a second pass of chauthtok returns SUCCESS, the token that was set is the user's, and every
+/// other user's entry is as it was, as is every other file. With CHANGE_EXPIRED_AUTHTOK all may be
+/// as before. The time is one that a clock gives.
 pub fn changed_token_is_taken()
     ensures { (call : PlainCall) (room : SeenRoom) (held : List NamedData) (sight : Sight) →
         call.func ≡ Func.ChAuthTok → has_flag call.flags prelim_check ≡ false →

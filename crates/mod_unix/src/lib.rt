@@ -1,4 +1,5 @@
-//! `pam_unix(8)`: passwords of `passwd(5)` and `shadow(5)`.
+//! `pam_unix(8)`: passwords of `passwd(5)` and `shadow(5)`. Begin at `pam_unix.rt`;
+//! `authenticate.rt`, `account.rt` and `change.rt` have its functions.
 #![tactic(auto)]
 
 mod account;

@@ -35,7 +35,8 @@ enum Field {
     Holds(Text),
 }
 
-/// Looks up what is known of a user's password: in `passwd`, and where the field there is `x`, in `shadow`.
+/// Looks up what is known of a user's password: in `passwd`, and if the field there is `x`, in
+/// `shadow`.
 pub fn look_up(
     alloc: Global,
     vault: &mut dyn Vault,

@@ -15,8 +15,8 @@ use pam_base::{ConvErr, ItemName, NoMemory, Refuse, Style, Text};
 use pam_room::{Call, Transaction, get_item};
 use std::alloc::Global;
 
-/// The new token: with `use_authtok` that of an earlier module, else one that is asked for twice. None where there is
-/// none that can be taken.
+/// The new token: with `use_authtok` that of an earlier module, otherwise one that is asked for
+/// twice. None if there is none, or it can't be taken.
 pub fn take_token(
     alloc: Global,
     call: &Call,

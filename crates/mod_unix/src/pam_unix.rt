@@ -24,7 +24,7 @@ use pam_outside::{Clock, Vault, current_moment};
 use pam_room::{Call, Module, Process, Transaction, spend_by_length};
 use std::alloc::Global;
 
-/// The name of the datum in which the answer of authenticate is kept for setcred.
+/// The name of the module data in which the code of authenticate is kept for setcred.
 const SETCRED_RETURN: &[u8] = b"unix_setcred_return";
 
 /// `pam_unix(8)`: the user's password in `passwd` and `shadow`.
@@ -32,7 +32,7 @@ const SETCRED_RETURN: &[u8] = b"unix_setcred_return";
 pub struct Unix;
 
 impl Unix {
-    /// The module; it keeps nothing.
+    /// Creates the module, which has no state.
     pub fn new() -> Self {
         Unix
     }
@@ -98,7 +98,7 @@ impl Module for Unix {
     }
 }
 
-// Answers, and keeps the answer for setcred.
+// Returns a code, and keeps it for setcred.
 fn settle(
     alloc: Global,
     transaction: &mut Transaction,
@@ -134,7 +134,7 @@ fn settle(
     }
 }
 
-// The answer that was kept for setcred.
+// The code that was kept for setcred.
 fn kept_code(datums: &DataList) -> Code
     ensures { result ≡ kept_code (named_data datums.now.live) }
 {

@@ -52,7 +52,7 @@ pub(crate) fn store_token(
     Ok(code)
 }
 
-// Changes shadow, and holds the account files meanwhile as lckpwdf(3) does.
+// Changes shadow; meanwhile the account files are locked as lckpwdf(3) locks them.
 fn change_shadow(
     alloc: Global,
     today: u64,
@@ -108,7 +108,7 @@ fn by_done(done: bool) -> Code
     }
 }
 
-// The text of shadow with the new hash, where the user has an entry.
+// The text of shadow with the new hash, if the user has an entry.
 #[tactic(auto, unfolding(crate::specs::Change::changed_shadow))]
 fn changed_shadow(
     alloc: Global,

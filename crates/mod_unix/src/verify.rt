@@ -6,8 +6,8 @@ use pam_base::{Code, NoMemory, Refuse};
 use sha_crypt::crypt;
 use std::alloc::Global;
 
-/// Whether a token is the user's: SUCCESS or AUTH_ERR, and by what is known of the user USER_UNKNOWN or
-/// AUTHINFO_UNAVAIL.
+/// Whether a token is the user's: SUCCESS or AUTH_ERR; USER_UNKNOWN or AUTHINFO_UNAVAIL if the
+/// user's password isn't known.
 pub(crate) fn verify(alloc: Global, look: &Look, token: &[u8]) -> Result<Code, NoMemory>
     ensures { IfOk result (λ code. code ≡ verified look.now token.now) }
 {
@@ -34,7 +34,7 @@ pub(crate) fn verify_hash(alloc: Global, hash: &[u8], token: &[u8]) -> Result<Co
     }
 }
 
-/// Whether a hash is empty or locked (`shadow(5)`): it lets nobody in.
+/// Whether a hash is empty or locked (`shadow(5)`), so that it lets nobody in.
 pub fn is_locked(hash: &[u8]) -> bool
     ensures { result ≡ is_locked hash.now }
 {
