@@ -20,7 +20,7 @@ use Rattle.account_files.specs.Content.{content_at, is_rooted}
 use Rattle.account_files.specs.Accounts.{Known, account_limit, groups_in, known_groups, known_passwds, nothing_known, passwds_in, shells_in}
 use Rattle.account_files.specs.Act.{Act, Acts, LooksTo, answers, called, content_seen, draws_word, groups_by, later, passwds_by, plays_by, reads_file, reads_groups, reads_if, reads_passwds, reads_shells, replaced, replaces_file, sees_items, sees_moment, stage_of}
 
--- ---- a step that leaves the vault, and one that calls it once
+-- ---- a step that leaves the files, and one that calls `Vault` once
 
 pub carried : (act next : Act) (known after : Known) (s mid : Scene) (code : Code) (new : Scene) → act (stage_of known s) ≡ next (stage_of after mid)
     → ((p : Played) → with_played p mid ≡ with_played p s) → Acts next after mid code new → Acts act known s code new
@@ -29,7 +29,7 @@ carried act next known after s mid code new e same a = record {
   scene_is = a.scene_is ∙ same (next (stage_of after mid)) ∙ ap (λ (p : Played). with_played p s) (sym e);
 }
 
--- the scene after one call of the vault
+-- the scene after one call of `Vault`
 abbrev pub after_call : Scene → Scene
 after_call s = scene_of s.room (counted s.vault) s.clock s.process
 

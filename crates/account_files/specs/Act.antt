@@ -1,4 +1,4 @@
--- What a module does, step by step, where all that it is lent tells (this project's own).
+-- What a module does, step by step, if all objects that it gets are modelled (this project's own).
 use Rattle.std.specs.Prelude.{◌≡◌, ℕ, suc, Bool, true, false, not, if◌then◌else◌, List, [], ◌∷◌, take, Option, Some, None, codes, unwrap_or}
 use Rattle.pam_base.specs.declared.code.Code.{Code}
 use Rattle.pam_base.specs.declared.code.Code.TheVariants.{ConvErr}
@@ -23,15 +23,15 @@ use Rattle.pam_room.specs.pam_outside.specs.Paths.{path_of}
 use Rattle.account_files.specs.Content.{content_of, is_rooted}
 use Rattle.account_files.specs.Accounts.{Account, Known, account_in, account_limit, groups_in, nothing_known, passwds_in, shells_in}
 
--- where a module stands: what it sees of the room and of its data, what it knows of the account files, and what it
--- sees of the world
+-- how far a module is: what it sees of the room and of its data, what it knows of the account files, and what it sees
+-- of the world
 pub record Stage : Type 0 where
   pub room : SeenRoom
   pub held : List NamedData
   pub known : Known
   pub sight : Sight
 
--- what is played from a stage on
+-- the definition of the rest from a stage on
 abbrev pub Act : Type 0
 Act = Stage → Played
 
@@ -39,23 +39,23 @@ Act = Stage → Played
 abbrev pub in_room : SeenRoom → Stage → Stage
 in_room room stage = record stage { room = room }
 
--- a code is answered, and nothing else happens
+-- a code is returned, and nothing else happens
 unfoldable pub answers : Code → Act
 answers code stage = answered code stage.room stage.sight
 
--- a code that stands already is answered; else this is done
+-- a code that is there already is returned; otherwise this is done
 abbrev pub unless_answered : Option Code → Act → Act
 unless_answered (Some code) act = answers code
 unless_answered None act = act
 
 -- ---- the user
 
--- the user is there, or CONV_ERR is answered at once
+-- the user is there, or CONV_ERR is returned at once
 abbrev pub with_user : Asked → (List ℕ → Act) → Act
 with_user asked act stage = if asked.refused then answered ConvErr asked.room stage.sight
     else act (unwrap_or asked.room.items.user []) (in_room asked.room stage)
 
--- the user is asked for, where USER isn't set (pam_get_user(3))
+-- the user is asked for, if USER isn't set (pam_get_user(3))
 unfoldable pub asks_user : (List ℕ → Act) → Act
 asks_user act stage = with_user (user_asked stage.room) act stage
 
@@ -69,13 +69,13 @@ shown style (b ∷ bs) room =
 unfoldable pub shows : Style → List ℕ → Act → Act
 shows style text act stage = act (in_room (shown style text stage.room) stage)
 
--- what the items are is seen
+-- the items are seen
 unfoldable pub sees_items : (ItemTexts → Act) → Act
 sees_items act stage = act stage.room.items stage
 
 -- ---- files
 
--- the calls of the vault after the next one
+-- the calls of `Vault` after the next one
 abbrev pub later : Sight → Sight
 later sight = record sight { failing = λ n. sight.failing (suc n) }
 
@@ -93,7 +93,7 @@ reads_if true name limit act stage =
     called (act (content_seen name limit stage.sight) (record stage { sight = later stage.sight }))
 reads_if false name limit act stage = act Absent stage
 
--- a file is read by one call of the vault; where its name isn't a path from the root it is absent, without a call
+-- a file is read by one call of `Vault`; if its name isn't a path from the root it is absent, without a call
 unfoldable pub reads_file : List ℕ → ℕ → (Content → Act) → Act
 reads_file name limit act stage = reads_if (is_rooted name) name limit act stage
 
@@ -102,7 +102,7 @@ abbrev pub replaced : Bool → List ℕ → List ℕ → Sight → Sight
 replaced true path bytes sight = later sight
 replaced false path bytes sight = record (later sight) { files = file_put path bytes sight.files }
 
--- the file with this name is set whole by one call of the vault, and stays as it was where that fails
+-- the file with this name is set whole by one call of `Vault`, and stays as it was if that fails
 unfoldable pub replaces_file : List ℕ → List ℕ → (Bool → Act) → Act
 replaces_file name bytes act stage =
     let fails = stage.sight.failing 0 in
@@ -111,15 +111,15 @@ replaces_file name bytes act stage =
 
 -- ---- the clock
 
--- the moment is seen
+-- the time is seen
 unfoldable pub sees_moment : (ℕ → Act) → Act
 sees_moment act stage = act stage.sight.clock.moment stage
 
--- one word more was drawn
+-- one more random word was taken
 abbrev pub drew : Played → Played
 drew played = record played { draws = suc played.draws }
 
--- a random word is drawn
+-- a random word is taken
 unfoldable pub draws_word : (ℕ → Act) → Act
 draws_word act stage = drew (act stage.sight.clock.word stage)
 
@@ -180,12 +180,12 @@ plays_by act call room held sight = act call (record {
   sight = sight;
 })
 
--- what a module is lent, as a scene: a transaction, and what its conversation, the vault and the clock hold
+-- what a module gets, as a scene: a transaction, and what its conversation, the files and the clock hold
 abbrev pub standing : Transaction → ConvState → VaultState → ClockState → Process → Scene
 standing transaction conv vault clock process =
     scene_of (room_of (plain_transaction transaction) conv) vault clock (plain_process process)
 
--- A code was answered and this was left, as an act has it.
+-- A code was returned and this was left, as an act has it.
 pub record Acts (act : Act) (known : Known) (old : Scene) (code : Code) (new : Scene) : Type 0 where
   pub code_is : code ≡ (act (stage_of known old)).code
   pub scene_is : new ≡ with_played (act (stage_of known old)) old
@@ -196,13 +196,13 @@ Leads step old new =
     (act : Act) (known : Known) (code : Code) (end : Scene)
     → Acts act known new code end → Acts (step act) known old code end
 
--- A step came to this value: what is done with it from there on is what the whole does from here.
+-- A step gave this value: what is done with it from there on is what the whole does from here.
 abbrev pub Came : {A : Type 0} → A → ((A → Act) → Act) → Scene → Scene → Type 0
 Came {A} value step old new =
     (act : A → Act) (known : Known) (code : Code) (end : Scene)
     → Acts (act value) known new code end → Acts (step act) known old code end
 
--- A step over files came to this value, and left the vault so.
+-- A step over files gave this value, and left the files so.
 abbrev pub StepsTo : {A : Type 0} → ((A → Act) → Act) → A → Process → VaultState → VaultState
     → Type 0
 StepsTo {A} step value process old new =

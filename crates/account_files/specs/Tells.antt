@@ -1,8 +1,8 @@
--- Where all that a module is lent tells, each of it does (this project's own).
+-- If all objects that a module gets are modelled, each of them is (this project's own).
 use Rattle.std.specs.Prelude.{Bool, true, false, ◌&&◌, IsTrue}
 use Rattle.std.proofs.Common.{refl}
 
--- ---- laws, where a conversation, a vault and a clock all tell
+-- ---- laws, if a conversation, files and a clock are all modelled
 
 pub conv_of : (conv vault clock : Bool) → IsTrue (conv && (vault && clock)) → IsTrue conv
 conv_of true vault clock tells = refl

@@ -10,17 +10,18 @@ use pam_room::pam_outside::{
 };
 use std::alloc::Global;
 
-/// What a module finds where it looks for a file.
+/// What a module finds when it looks for a file.
 #[derive(Debug, Drop)]
 pub enum Content {
     /// There is no such file.
     Absent,
-    /// It is too long, or the outside failed.
+    /// It is too long, or reading it failed.
     Unreadable,
     Holds(Text),
 }
 
-/// Reads the file with this name under a root, of which n bytes may be read, by one call of the vault.
+/// Reads the file with this name under a root, of which n bytes may be read, by one call of
+/// `Vault`.
 pub(crate) fn read_content(
     alloc: Global,
     vault: &mut dyn Vault,
@@ -51,9 +52,9 @@ pub(crate) fn read_content(
     }
 }
 
-/// Reads the file with this name, of which n bytes may be read, by one call of the vault. Where the name isn't a path
-/// from the root, the file is absent, and no call is made. The files stay, also without memory, and where the outside
-/// failed the file is unreadable.
+/// Reads the file with this name, of which n bytes may be read, by one call of `Vault`. If the name
+/// isn't a path from the root, the file is absent, and no call is made. The files stay, even if an
+/// allocation fails; if reading failed, the file is unreadable.
 pub fn read_named(
     alloc: Global,
     vault: &mut dyn Vault,
@@ -79,8 +80,8 @@ pub fn read_named(
     Ok(content)
 }
 
-/// Sets the file with this name whole, by one call of the vault. False where the outside failed: all files are then as
-/// they were, as they are without memory.
+/// Sets the file with this name whole, by one call of `Vault`. Returns false if that failed: all
+/// files are then as they were, as they are if an allocation fails.
 pub fn replace_named(
     alloc: Global,
     vault: &mut dyn Vault,
@@ -105,9 +106,9 @@ pub fn replace_named(
     }
 }
 
-/// Holds what is behind this name until the answer is dropped; None where the outside failed. It is no counted call,
-/// changes no file, and where the vault tells it is never None. Where the name isn't a path from the root, nothing is
-/// held.
+/// Holds what this name refers to until the result is dropped; None if that failed. It isn't
+/// counted as a call, changes no file, and with modelled files is never None. If the name isn't a
+/// path from the root, nothing is held.
 pub fn hold_named(
     alloc: Global,
     vault: &mut dyn Vault,

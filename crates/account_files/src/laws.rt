@@ -10,8 +10,8 @@ ghost use Rattle.pam_room.specs.Module.{PlaysIn};
 ghost use Rattle.account_files.specs.Accounts.{Known, nothing_known};
 ghost use Rattle.account_files.specs.Act.{Act, Acts, answers, draws_word, plays_by, sees_items, sees_moment};
 
-/// Does nothing: its contract is the laws of the steps that no call makes, and of an act's end. A step's law puts it
-/// before what is done from there on.
+/// The laws of the steps that make no call, and of an act's end. A step's law puts it before what
+/// is done from there on.
 pub fn act_steps()
     ensures answers { (code : Code) (known : Known) (s : Scene) →
         Acts (answers code) known s code s }

@@ -1,5 +1,6 @@
-//! Account files and other files as a module reads them through a lent vault, each account file once; and how what a
-//! module does is told step by step.
+//! Account files and other files as a module reads them, each account file once; and how the
+//! definition of a module is written, step by step. Begin at `accounts.rt`, and for the steps at
+//! `specs/Act.antt`.
 #![tactic(auto)]
 
 mod accounts;

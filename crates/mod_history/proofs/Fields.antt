@@ -1,4 +1,4 @@
--- The name of a user with an account, and the user's hash, can stand in a line of the history.
+-- The name of a user with an account, and the user's hash, can be in a line of the history.
 use Rattle.std.proofs.Common.{◌≡◌, ℕ, zero, suc, Bool, true, false, ◌&&◌, ◌==◌, nat_lt, cond, List, [], ◌∷◌, length, slice_index_or, Option, Some, None, Result, Ok, Err, codes, position, refl, sym, subst}
 use Rattle.std.specs.List.{AllByRecursion, cons_option, filter_map, find}
 use Rattle.std.specs.Str.{bytes_eq}

@@ -11,13 +11,13 @@ use Rattle.pam_base.specs.declared.fault.Refuse.TheVariants.{NoMemory, Named}
 use Rattle.mod_history.specs.declared.history.Damaged.{Damaged}
 use Rattle.mod_history.specs.declared.history.Remembered.{Remembered}
 
--- one more in front, where both are there
+-- one more before them, if both are there
 abbrev pub in_front : {A : Type 0} → Option A → Option (List A) → Option (List A)
 in_front None xs = None
 in_front (Some x) None = None
 in_front (Some x) (Some xs) = Some (x ∷ xs)
 
--- what each text has, where each has its form
+-- what each text has, if each is well formed
 abbrev pub all_in : {A : Type 0} → (List ℕ → Option A) → List (List ℕ) → Option (List A)
 all_in form [] = Some []
 all_in form (t ∷ ts) = in_front (form t) (all_in form ts)
@@ -47,7 +47,7 @@ remembered_in line = with_parts (parts_of 58 line)
 abbrev pub has_name : List ℕ → List Remembered → Bool
 has_name name history = list_any (λ (r : Remembered). bytes_eq r.name name) history
 
--- no name stands twice
+-- no name occurs twice
 abbrev pub are_distinct : List Remembered → Bool
 are_distinct [] = true
 are_distinct (r ∷ rs) = not (has_name r.name rs) && are_distinct rs
@@ -56,7 +56,7 @@ abbrev pub if_distinct : Option (List Remembered) → Option (List Remembered)
 if_distinct None = None
 if_distinct (Some history) = if are_distinct history then Some history else None
 
--- the lines of a text; None where it is damaged
+-- the lines of a text; None if it is damaged
 unfoldable pub history_of : List ℕ → Option (List Remembered)
 history_of text = if_distinct (all_in remembered_in (lines_of text))
 

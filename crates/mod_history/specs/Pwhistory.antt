@@ -68,7 +68,7 @@ unsets_item item act stage =
     let items = with_text stage.room.items item None in
     act (in_room (record stage.room { items = items }) stage)
 
--- AUTHTOK is unset, so that no later module takes it, and the user is told
+-- AUTHTOK is unset, so that no later module takes it, and the user gets a message
 unfoldable pub refuses_token : (Code → Act) → Act
 refuses_token act =
     unsets_item AuthTok (shows ErrorMsg (codes "Password has been already used.") (act AuthtokErr))
@@ -82,7 +82,7 @@ history_name = codes "/etc/security/pamsess_history"
 abbrev pub history_limit : ℕ
 history_limit = 1048576
 
--- what is read: a file that isn't there has no lines, and one that is damaged can't be read
+-- what is read: a file that doesn't exist has no lines, and one that is damaged can't be read
 abbrev pub history_in : Content → Option (List Remembered)
 history_in Absent = Some []
 history_in Unreadable = None
@@ -92,7 +92,7 @@ abbrev pub by_length : Bool → List ℕ → (Code → Act) → Act
 by_length true text act = replaces_file history_name text (λ done. act (by_done done))
 by_length false text act = act AuthtokErr
 
--- the file is replaced, unless it grew too long
+-- the file is replaced, unless it became too long
 unfoldable pub stores_text : List ℕ → (Code → Act) → Act
 stores_text text act = by_length (nat_le (length text) history_limit) text act
 
@@ -128,7 +128,7 @@ by_token call user hash (Some token) act =
 unfoldable pub remembers : PlainCall → List ℕ → List ℕ → Option (List ℕ) → (Code → Act) → Act
 remembers call user hash token act = by_token call user hash token act
 
--- the new token is had as pam_unix has it
+-- the new token is taken as pam_unix takes it
 unfoldable pub renews : PlainCall → List ℕ → List ℕ → (Code → Act) → Act
 renews call user hash act = takes_token call (λ token. remembers call user hash token act)
 
@@ -143,7 +143,7 @@ checks_token call act = asks_user (λ user. looks user (λ look. by_look call us
 
 -- ---- the module
 
--- it offers chauthtok alone, whose first pass is SUCCESS at once
+-- it has chauthtok alone, whose first pass is SUCCESS at once
 abbrev pub at_once : Func → ℕ → Option Code
 at_once Authenticate flags = Some ModuleUnknown
 at_once SetCred flags = Some ModuleUnknown

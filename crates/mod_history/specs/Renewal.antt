@@ -13,7 +13,7 @@ abbrev pub is_text : List ℕ → Option (List ℕ) → Bool
 is_text hash None = false
 is_text hash (Some other) = bytes_eq other hash
 
--- a hash isn't added where it is empty or locked, or is the last already
+-- a hash isn't added if it is empty or locked, or is already the last
 abbrev pub is_left_out : List ℕ → List (List ℕ) → Bool
 is_left_out hash hashes = is_locked hash || is_text hash (last_or None hashes)
 
@@ -29,7 +29,7 @@ renewed_hashes remember hash hashes = last_of remember (with_hash hash hashes)
 abbrev pub new_line : List ℕ → List ℕ → List Remembered
 new_line user hash = if is_locked hash then [] else record { name = user; hashes = hash ∷ [] } ∷ []
 
--- the lines of all, of which the user's is renewed; a new line is put last
+-- the lines of all users, with the user's renewed; a new line comes last
 abbrev pub renewed : ℕ → List ℕ → List ℕ → List Remembered → List Remembered
 renewed remember user hash [] = new_line user hash
 renewed remember user hash (r ∷ rs) =

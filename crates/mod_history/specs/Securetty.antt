@@ -15,7 +15,7 @@ use Rattle.account_files.specs.declared.content.Content.TheVariants.{Absent, Unr
 use Rattle.account_files.specs.Accounts.{Account, account_limit, found, missing, unreadable}
 use Rattle.account_files.specs.Act.{Act, answers, asks_user, finds_account, plays_by, reads_file, sees_items, unless_answered}
 
--- a terminal's name, without a /dev/ in front
+-- a terminal's name, without a leading /dev/
 abbrev pub terminal_name : List ℕ → List ℕ
 terminal_name tty = unwrap_or (value_in (codes "/dev/") tty) tty
 
@@ -28,7 +28,7 @@ is_terminal name (b ∷ bs) = bytes_eq (b ∷ bs) name
 unfoldable pub is_secure : List ℕ → List ℕ → Bool
 is_secure name text = list_any (λ line. is_terminal name (without_end line)) (lines_of text)
 
--- where there is no list, every terminal is secure
+-- if there is no list, every terminal is secure
 abbrev pub by_list : List ℕ → Content → Code
 by_list name Absent = Success
 by_list name Unreadable = ServiceErr
@@ -42,7 +42,7 @@ by_terminal (Some tty) = reads_file (codes "/etc/securetty") account_limit (λ c
 abbrev pub checks_root : Act
 checks_root = sees_items (λ items. by_terminal items.tty)
 
--- any user but root may log in anywhere
+-- any user except root may log in anywhere
 abbrev pub by_root : Bool → Act
 by_root true = checks_root
 by_root false = answers Success
@@ -56,7 +56,7 @@ by_account (found entry) = by_root (entry.uid == 0)
 abbrev pub checks_terminal : Act
 checks_terminal = asks_user (λ user. finds_account user by_account)
 
--- it offers authenticate, acct_mgmt and setcred, of which the last is SUCCESS at once
+-- it has authenticate, acct_mgmt and setcred; the last is SUCCESS at once
 abbrev pub at_once : Func → Option Code
 at_once Authenticate = None
 at_once AcctMgmt = None

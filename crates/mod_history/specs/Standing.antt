@@ -1,5 +1,5 @@
--- What stands in the history after a list of calls of pam_pwhistory(8), which may be of many transactions (this project's
--- own): of each user the hashes that stood there and those that were added, and of these the last n.
+-- What the history has after a list of calls of pam_pwhistory(8), which may be from many transactions (this project's
+-- own): for each user the hashes that were there and those that were added, and of these the last n.
 use Rattle.std.specs.Prelude.{◌≡◌, ℕ, Bool, true, false, ◌||◌, if◌then◌else◌, List, [], ◌∷◌, map, Option, Some, None, codes, unwrap_or}
 use Rattle.std.specs.Str.{bytes_eq}
 use Rattle.pam_base.specs.declared.code.Code.{Code}
@@ -22,7 +22,7 @@ use Rattle.mod_history.specs.History.{history_of, history_text}
 use Rattle.mod_history.specs.Pwhistory.{pwhistory_plays, remember_of}
 use Rattle.mod_history.specs.Renewal.{hashes_of, line_of, renewed, renewed_hashes, with_hash}
 
--- the lines that stand in a file; None where it is damaged
+-- the lines of a file; None if it is damaged
 abbrev pub standing_in : Option (List ℕ) → Option (List Remembered)
 standing_in None = Some []
 standing_in (Some text) = history_of text
@@ -35,7 +35,7 @@ hash_in Unavailable = None
 hash_in (Plain hash) = Some hash
 hash_in (Shadowed entry) = Some entry.hash
 
--- a password field `x` stands for the entry in shadow, any other is the hash
+-- a password field `x` means that the hash is in shadow; any other is the hash
 abbrev pub hash_by : Bool → List ℕ → List ℕ → Content → Option (List ℕ)
 hash_by true user field shadow = hash_in (shadow_in user shadow)
 hash_by false user field shadow = Some field
@@ -48,7 +48,7 @@ abbrev pub passwd_hash : List ℕ → Option (List Passwd) → Content → Optio
 passwd_hash user (Some entries) shadow = entry_hash user (entry_of user entries) shadow
 passwd_hash user None shadow = None
 
--- what an account file holds
+-- the text of an account file
 abbrev pub account_text : List ℕ → List ℕ → List File → Content
 account_text root name files = text_within account_limit (file_at (path_of root name) files)
 
@@ -65,7 +65,7 @@ pub data Deed : Type 0 where
   left : Deed
   replaced : List ℕ → List ℕ → Deed
 
--- A call answered SUCCESS, and of the lines that stood in the file the user's is renewed with the hash that the user has.
+-- A call returned SUCCESS, and of the lines in the file the user's is renewed with the user's hash.
 pub record Replaces (path : List ℕ) (call : PlainCall) (room : SeenRoom) (root : List ℕ)
     (before : List File) (code : Code) (after : List File) (user hash : List ℕ) : Type 0 where
   pub code_is : code ≡ Success
@@ -130,14 +130,14 @@ is_renewed user [] = false
 is_renewed user (left ∷ ds) = is_renewed user ds
 is_renewed user (replaced name hash ∷ ds) = bytes_eq name user || is_renewed user ds
 
--- the hashes that stood, and those that were added
+-- the hashes that were there, and those that were added
 abbrev pub added_by : List ℕ → List Deed → List (List ℕ) → List (List ℕ)
 added_by user [] hashes = hashes
 added_by user (left ∷ ds) hashes = added_by user ds hashes
 added_by user (replaced name hash ∷ ds) hashes =
     added_by user ds (if bytes_eq name user then with_hash hash hashes else hashes)
 
--- These lines stand in the file: each user's hashes are those that were kept, and the line of a user for whom the file
+-- The file has these lines: each user's hashes are those that were kept, and the line of a user for whom the file
 -- wasn't replaced is as it was.
 pub record StandsBy (remember : ℕ) (deeds : List Deed) (before : List Remembered)
     (after : Option (List ℕ)) : Type 0 where

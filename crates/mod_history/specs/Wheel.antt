@@ -21,7 +21,7 @@ abbrev pub unknown_if_none : Option Passwd → Option Code
 unknown_if_none None = Some UserUnknown
 unknown_if_none (Some entry) = None
 
--- with `root_only` a user who isn't root is passed over
+-- with `root_only` a user who isn't root is ignored
 abbrev pub is_passed_over : List (List ℕ) → Passwd → Bool
 is_passed_over args entry = has_argument (codes "root_only") args && not (entry.uid == 0)
 
@@ -30,7 +30,7 @@ by_user args caller entries None = Some UserUnknown
 by_user args caller entries (Some entry) = if is_passed_over args entry then Some Ignore
     else unknown_if_none (entry_of_uid caller entries)
 
--- the answer by /etc/passwd, where that decides it
+-- the code by /etc/passwd, if that decides it
 abbrev pub code_by_passwds : List (List ℕ) → ℕ → List ℕ → Option (List Passwd) → Option Code
 code_by_passwds args caller user None = Some ServiceErr
 code_by_passwds args caller user (Some entries) =
@@ -45,25 +45,25 @@ abbrev pub or_root_group : Option Group → List Group → Option Group
 or_root_group (Some group) groups = Some group
 or_root_group None groups = group_of_gid 0 groups
 
--- the group that `group=` names; without that argument wheel, or where there is none the first of group id 0
+-- the group that `group=` names; without that argument wheel, or if there is none the first with group ID 0
 abbrev pub wheel_group : Option (List ℕ) → List Group → Option Group
 wheel_group (Some name) groups = group_of name groups
 wheel_group None groups = or_root_group (group_of (codes "wheel") groups) groups
 
 -- ---- the answer
 
--- who isn't kept out is passed over, or let in with `trust`
+-- whoever isn't kept out is ignored, or let in with `trust`
 abbrev pub trusted : Bool → Code
 trusted true = Success
 trusted false = Ignore
 
--- who isn't in the group is kept out, or with `deny` who is
+-- whoever isn't in the group is kept out; with `deny`, whoever is
 abbrev pub by_membership : Bool → Bool → Bool → Code
 by_membership deny trust member =
     if deny then (if member then PermDenied else trusted trust)
     else (if member then trusted trust else PermDenied)
 
--- where there is no such group, nobody is in it, and with `deny` all are passed over
+-- if there is no such group, nobody is in it, and with `deny` all are ignored
 abbrev pub by_group : Bool → Bool → Passwd → Option Group → Code
 by_group deny trust entry None = if deny then Ignore else PermDenied
 by_group deny trust entry (Some group) =
@@ -85,13 +85,13 @@ code_by_groups args caller passwds (Some groups) = by_passwds args caller groups
 
 -- ---- the module
 
--- the user is asked for, and looked up; the group file is read where the caller has an entry
+-- the user is asked for, and looked up; the group file is read if the caller has an entry
 abbrev pub checks_wheel : List (List ℕ) → ℕ → Act
 checks_wheel args caller = asks_user (λ user. reads_passwds (λ passwds.
     unless_answered (code_by_passwds args caller user passwds)
     (reads_groups (λ groups. answers (code_by_groups args caller passwds groups)))))
 
--- it offers authenticate, acct_mgmt and setcred, of which the last is SUCCESS at once
+-- it has authenticate, acct_mgmt and setcred; the last is SUCCESS at once
 abbrev pub at_once : Func → Option Code
 at_once Authenticate = None
 at_once AcctMgmt = None

@@ -55,7 +55,7 @@ pub(crate) fn check_token(
     )
 }
 
-// By what is known of the user's password.
+// Goes on by what is known of the user's password.
 fn by_look(
     alloc: Global,
     call: &Call,
@@ -142,8 +142,8 @@ fn renew(
     Ok(code)
 }
 
-// Remembers the hash of the present token, if there is a new one that the user hasn't and hadn't. The account files
-// are locked from the read to the replacement, as lckpwdf(3) locks them.
+// Remembers the hash of the present token, if there is a new one that the user neither has nor had.
+// The account files are locked from the read to the replacement, as lckpwdf(3) locks them.
 fn remember(
     alloc: Global,
     call: &Call,
@@ -197,8 +197,8 @@ fn remember(
     Ok(code)
 }
 
-// By what the history holds, unless it can't be read. The lock is let go before the user is told anything, so that
-// nobody's terminal keeps others out.
+// Goes on by the history, unless it can't be read. The lock is released before the user gets any
+// message, so that nobody's terminal keeps others out.
 fn by_history(
     alloc: Global,
     call: &Call,

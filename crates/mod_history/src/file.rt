@@ -10,13 +10,13 @@ use pam_outside::Vault;
 use pam_room::Process;
 use std::alloc::Global;
 
-/// Where the history stands.
+/// The path of the history.
 pub(crate) const HISTORY_NAME: &[u8] = b"/etc/security/pamsess_history";
 
 /// The most bytes of the file.
 pub(crate) const HISTORY_LIMIT: u32 = 1_048_576;
 
-/// The lines that were read, unless the file can't be read. One that isn't there has none.
+/// The lines that were read, unless the file can't be read. One that doesn't exist has none.
 pub(crate) fn history_in(alloc: Global, content: Content) -> Result<Option<History>, NoMemory>
     ensures { IfOk result (λ history. history ≡ history_in content) }
 {

@@ -6,7 +6,7 @@ ghost use Rattle.mod_history.specs.Renewal.{hashes_of, line_of};
 use pam_base::{Lines, NoMemory, Parts, Refuse, Sequence, Text, Texts};
 use std::alloc::Global;
 
-/// The text of a history file hasn't the form of one.
+/// The text of a history file is malformed.
 #[derive(Clone, Copy, Debug, PartialEq, Eq)]
 pub struct Damaged;
 
@@ -30,7 +30,7 @@ pub fn read_history(alloc: Global, text: &[u8]) -> Result<History, Refuse<Damage
     }
 }
 
-// The same; None where the text is damaged.
+// The same; None if the text is damaged.
 #[tactic(auto, unfolding(crate::specs::History::history_of))]
 fn history_of(alloc: Global, text: &[u8]) -> Result<Option<History>, NoMemory>
     ensures { IfOk result (λ found. found ≡ history_of text.now) }
@@ -86,7 +86,7 @@ fn read_parts(alloc: Global, parts: &mut Parts<'_>) -> Result<Option<Texts>, NoM
     Ok(Some(texts))
 }
 
-// A part, which isn't empty.
+// A part, if it isn't empty.
 fn part_in(alloc: Global, part: &[u8]) -> Result<Option<Text>, NoMemory>
     ensures { IfOk result (λ text. text ≡ part_in part.now) }
 {
@@ -97,7 +97,7 @@ fn part_in(alloc: Global, part: &[u8]) -> Result<Option<Text>, NoMemory>
     }
 }
 
-// Whether no name stands twice.
+// Whether no name occurs twice.
 fn are_distinct(history: &[Remembered]) -> bool
     ensures { result ≡ are_distinct history.now }
 {
@@ -117,7 +117,7 @@ fn has_name(name: &[u8], history: &[Remembered]) -> bool
     history.iter().any(|line| line.name.bytes() == name)
 }
 
-/// The hashes of a user: of the line of that name, if there is one.
+/// The hashes of a user: those of the line with that name, if there is one.
 pub(crate) fn hashes_of<'a>(user: &[u8], history: &'a History) -> &'a [Text]
     ensures { result.now ≡ hashes_of user.now history.now }
 {

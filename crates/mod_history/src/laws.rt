@@ -1,4 +1,4 @@
-//! What the history of passwords is good for, in words of its own.
+//! What the history of passwords achieves, stated independently of the code.
 ghost use Rattle.std.specs.Prelude.{◌≡◌, ◌<◌, ℕ, List, Option, Some, true};
 ghost use Rattle.std.specs.List.{AllByRecursion};
 ghost use Rattle.pam_room.specs.Call.{PlainCall};
@@ -9,8 +9,7 @@ ghost use Rattle.mod_history.specs.Pwhistory.{pwhistory_plays};
 ghost use Rattle.mod_history.specs.Renewal.{last_of};
 ghost use Rattle.mod_history.specs.Standing.{Deed, Does, Follow, Remembers, Served, StandsBy, added_by, deeds_of, is_renewed, kept_by, standing_in};
 
-/// Does nothing: its contract is that a history that is written is read as itself, and that one that is read can be
-/// written.
+/// A history that is written is read back as itself, and one that is read can be written.
 pub fn written_histories_are_read()
     ensures written { (history : List Remembered) → IsHistory history →
         history_of (history_text history) ≡ Some history }
@@ -18,10 +17,11 @@ pub fn written_histories_are_read()
         IsHistory history }
 {}
 
-/// Does nothing: its contract is what calls of pam_pwhistory(8) do to the history. Each leaves it, or it answers SUCCESS
-/// and renews the user's line with the hash that the user has. After a list of calls with one `remember`, which may be of
-/// many transactions, where nothing else changed the file, each user's hashes are those that stood there and those that
-/// were added, the last n of them, and the line of a user for whom the file wasn't replaced is as it was.
+/// What calls of pam_pwhistory(8) do to the history. Each leaves it unchanged, or returns SUCCESS
+/// and renews the user's line with the user's hash. After a list of calls with one `remember`,
+/// which may be from many transactions, if nothing else changed the file, each user's hashes are
+/// the last n of those that were there and those that were added, and the line of a user for whom
+/// the file wasn't replaced is as it was.
 pub fn hashes_stand()
     ensures one { (path : List ℕ) (call : PlainCall) (room : SeenRoom) (held : List NamedData)
         (sight : Sight) →
@@ -30,7 +30,8 @@ pub fn hashes_stand()
         (before after : Option (List ℕ)) (history : List Remembered) →
         0 < remember → Follow path before calls after → AllByRecursion (Remembers remember) calls →
         standing_in before ≡ Some history → StandsBy remember (deeds_of calls) history after }
-    // The hashes that are kept, one call after another, are the last n of those that stood and those that were added.
+    // The hashes that are kept, one call after another, are the last n of those that were there and
+    // those that were added.
     ensures last { (remember : ℕ) (user : List ℕ) (deeds : List Deed) (hashes : List (List ℕ)) →
         0 < remember → is_renewed user deeds ≡ true →
         kept_by remember user deeds hashes ≡ last_of remember (added_by user deeds hashes) }

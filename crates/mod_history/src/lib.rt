@@ -1,5 +1,6 @@
-//! `pam_wheel(8)`, `pam_securetty(8)` and `pam_pwhistory(8)`: who may become root and where, and which passwords
-//! were used before.
+//! `pam_wheel(8)`, `pam_securetty(8)` and `pam_pwhistory(8)`: who may become root and where, and
+//! which passwords were used before. Each module is in a file of its name; begin at
+//! `pam_securetty.rt`, and for the history at `change.rt`.
 #![tactic(auto)]
 
 mod change;

@@ -14,13 +14,13 @@ use pam_outside::{Clock, Vault};
 use pam_room::{Call, Module, Process, Transaction, spend_by_length};
 use std::alloc::Global;
 
-/// `pam_pwhistory(8)`: a new password that the user has or had isn't taken; else the hash of the present one is
-/// remembered in `/etc/security/pamsess_history`.
+/// `pam_pwhistory(8)`: a new password that the user has or had is refused; otherwise the hash of
+/// the present one is remembered in `/etc/security/pamsess_history`.
 #[derive(Drop)]
 pub struct Pwhistory;
 
 impl Pwhistory {
-    /// The module; it keeps nothing.
+    /// Creates the module, which has no state.
     pub fn new() -> Self {
         Pwhistory
     }
@@ -65,7 +65,7 @@ impl Module for Pwhistory {
     }
 }
 
-// The answer, where nothing has to be looked at.
+// The code, if nothing has to be looked at.
 fn at_once(call: &Call) -> Option<Code>
     ensures { result ≡ at_once (plain_call call.now).func (plain_call call.now).flags }
 {

@@ -22,12 +22,13 @@ use std::alloc::Global;
 /// The most bytes of the list.
 const LIST_LIMIT: u32 = 1_048_576;
 
-/// `pam_securetty(8)`: AUTH_ERR where root logs in at a terminal that isn't in `/etc/securetty`, else SUCCESS.
+/// `pam_securetty(8)`: AUTH_ERR if root logs in at a terminal that isn't in `/etc/securetty`, else
+/// SUCCESS.
 #[derive(Drop)]
 pub struct Securetty;
 
 impl Securetty {
-    /// The module; it keeps nothing.
+    /// Creates the module, which has no state.
     pub fn new() -> Self {
         Securetty
     }
@@ -144,7 +145,7 @@ fn check_root(
     }
 }
 
-// The answer by the list.
+// The code by the list.
 fn by_list(name: &[u8], list: &Content) -> Code
     ensures { result ≡ by_list name.now list.now }
 {
@@ -177,7 +178,7 @@ fn is_terminal(name: &[u8], line: &[u8]) -> bool
     !line.is_empty() && line == name
 }
 
-// The terminal's name, without a `/dev/` in front.
+// The terminal's name, without a leading `/dev/`.
 fn terminal_name(tty: &[u8]) -> &[u8]
     ensures { result.now ≡ terminal_name tty.now }
 {

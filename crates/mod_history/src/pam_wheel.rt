@@ -18,13 +18,13 @@ use pam_outside::{Clock, Vault};
 use pam_room::{Call, Module, Process, Transaction, spend_by_length};
 use std::alloc::Global;
 
-/// `pam_wheel(8)`: PERM_DENIED unless the calling process is of a user of the group wheel, or with `deny` where it is.
-/// Else IGNORE, or SUCCESS with `trust`.
+/// `pam_wheel(8)`: PERM_DENIED unless the calling process belongs to a user in the group wheel, or
+/// with `deny` if it does. Otherwise IGNORE, or SUCCESS with `trust`.
 #[derive(Drop)]
 pub struct Wheel;
 
 impl Wheel {
-    /// The module; it keeps nothing.
+    /// Creates the module, which has no state.
     pub fn new() -> Self {
         Wheel
     }
@@ -117,7 +117,7 @@ fn check_wheel(
     }
 }
 
-// The answer by the password file, where that decides it.
+// The code by the password file, if that decides it.
 fn code_by_passwds(
     alloc: Global,
     call: &Call,
@@ -145,14 +145,14 @@ fn code_by_passwds(
     }
 }
 
-// Whether the user isn't root, where root alone counts.
+// Whether the user isn't root, if only root counts.
 fn is_passed_over(args: &Texts, entry: &Passwd) -> bool
     ensures { result ≡ is_passed_over args.now entry.now }
 {
     has_argument(b"root_only", args) && entry.uid != 0
 }
 
-// The answer by both files.
+// The code by both files.
 fn code_by_groups(
     alloc: Global,
     call: &Call,
@@ -193,14 +193,14 @@ fn wheel_group<'a>(name: Option<&[u8]>, groups: &'a Groups) -> Option<&'a Group>
     }
 }
 
-// The first group with this id.
+// The first group with this ID.
 fn group_of_gid(gid: u32, groups: &Groups) -> Option<&Group>
     ensures { option_copied result ≡ group_of_gid gid groups.now }
 {
     groups.items().iter().find(|group| group.gid == gid)
 }
 
-// The answer by the group, if there is one.
+// The code by the group, if there is one.
 fn by_group(deny: bool, trust: bool, entry: &Passwd, group: Option<&Group>) -> Code
     ensures { result ≡ by_group deny trust entry.now (option_copied group.entry) }
 {

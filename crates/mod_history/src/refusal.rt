@@ -18,7 +18,7 @@ use pam_room::{Call, Transaction};
 use sha_crypt::crypt;
 use std::alloc::Global;
 
-/// Whether a token isn't taken: the user has it or had it, and that matters for the caller.
+/// Whether a token is refused: the user has it or had it, and that matters for the caller.
 pub(crate) fn is_refused(
     alloc: Global,
     call: &Call,
@@ -37,7 +37,7 @@ pub(crate) fn is_refused(
     was_used(alloc, token, hash, hashes)
 }
 
-// Root may use a password again, unless it is enforced.
+// Whether root, too, may not use a password again.
 fn is_enforced(call: &Call, caller: u32) -> bool
     ensures { result ≡ is_enforced call.now.args.now caller }
 {
@@ -75,7 +75,8 @@ fn has_hash(alloc: Global, token: &[u8], hash: &[u8]) -> Result<bool, NoMemory>
     }
 }
 
-/// Unsets AUTHTOK, so that no later module takes the token, and tells the user, whatever the conversation makes of it.
+/// Unsets AUTHTOK, so that no later module takes the token, and sends the user a message, whatever
+/// the conversation makes of it.
 pub(crate) fn refuse_token(
     alloc: Global,
     transaction: &mut Transaction,

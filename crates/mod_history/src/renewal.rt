@@ -9,7 +9,8 @@ use pam_base::{NoMemory, Text};
 use std::alloc::Global;
 
 #[tactic(auto, unfolding(crate::specs::History::history_text))]
-/// The text of the history with the user's line renewed: with this hash after it, and of all the last n.
+/// The text of the history with the user's line renewed: this hash is added at its end, and the
+/// last n are kept.
 pub(crate) fn renewed_text(
     alloc: Global,
     remember: u32,
@@ -98,7 +99,7 @@ fn put_renewed_hashes(
     }
 }
 
-// Whether a hash isn't kept: it is empty or locked, or the last already.
+// Whether a hash isn't added: it is empty or locked, or already the last.
 fn is_left_out(hash: &[u8], hashes: &[Text]) -> bool
     ensures { result ≡ is_left_out hash.now hashes.now }
 {

@@ -9,12 +9,12 @@ latest-append : (xs ys : List Failure) → latest (xs ++ ys) ≡ max (latest xs)
 latest-append [] ys = omega arith
 latest-append (x ∷ xs) ys = omega (arith, latest-append xs ys)
 
--- where the time is 0, none counts
+-- if the time is 0, none counts
 none_counts : (g : ℕ) (xs : List Failure) → filter (counts 0 g) xs ≡ []
 none_counts g [] = refl
 none_counts g (x ∷ xs) = rw (le-ltb (g - x.moment) 0 (omega arith)) (none_counts g xs)
 
--- what counts against a later moment counts against an earlier one
+-- what counts against a later time counts against an earlier one
 counts_before : (i g h : ℕ) (x : Failure) → g ≤ h → counts i g x ≡ false → counts i h x ≡ false
 counts_before i g h x le e = le-ltb (h - x.moment) i (omega (arith, ltb-false (g - x.moment) i e))
 

@@ -86,7 +86,7 @@ module _ (path : List ℕ) (call : PlainCall) where
   unfolding reads_passwds
   finding user act next stage = by_known stage.known.passwds (λ e. act (account_in user e)) (λ e. next (account_in user e)) stage
 
-  -- a file is set, where nothing fails
+  -- a file is set, if nothing fails
   put : (stage : Stage) (name text : List ℕ) (code : Code) (d : Deed) (b : Bool)
       → (path_of stage.sight.root name ≡ path → DoesTo path call stage.sight.clock.moment stage.room.items stage.sight.files code (file_put (path_of stage.sight.root name) text stage.sight.files) d)
       → DoesOne stage.sight (called (by_done code (not b) (record stage { sight = replaced b (path_of stage.sight.root name) text stage.sight })))

@@ -27,7 +27,7 @@ abbrev pub is_no_file : List ℕ → Bool
 is_no_file user = length user == 0 || (bytes_eq user (codes ".") || bytes_eq user (codes ".."))
     || list_any (λ b. b == 47) user
 
--- the file lies in the folder; where that isn't a path from the root, nor is this
+-- the file is in the directory; if that isn't a path from the root, nor is this
 abbrev pub tally_name : List ℕ → List ℕ → List ℕ
 tally_name folder user = if is_rooted folder then folder ++ (47 ∷ user) else []
 
@@ -35,7 +35,7 @@ tally_name folder user = if is_rooted folder then folder ++ (47 ∷ user) else [
 abbrev pub tally_limit : ℕ
 tally_limit = 65536
 
--- the failures in it, unless it can't be read; where there is no file there are none
+-- the failures in it, unless it can't be read; if there is no file there are none
 abbrev pub failures_in : Content → Option (List Failure)
 failures_in Absent = Some []
 failures_in Unreadable = None
@@ -44,7 +44,7 @@ failures_in (Holds text) = failures_of text
 abbrev pub reads_tally : List ℕ → (Option (List Failure) → Act) → Act
 reads_tally name act = reads_file name tally_limit (λ content. act (failures_in content))
 
--- where it can't be set, the answer is SERVICE_ERR
+-- if it can't be set, the result is SERVICE_ERR
 abbrev pub by_done : Code → Bool → Act
 by_done code done = answers (if done then code else returns.ServiceErr)
 
@@ -52,7 +52,7 @@ abbrev pub sets_if : Bool → List ℕ → List ℕ → Code → Act
 sets_if true name text code = replaces_file name text (by_done code)
 sets_if false name text code = answers returns.ServiceErr
 
--- the file is replaced by one with this text, where that isn't too long
+-- the file is replaced by one with this text, unless that is too long
 abbrev pub sets_text : List ℕ → List ℕ → Code → Act
 sets_text name text code =
     sets_if (is_rooted name && nat_le (length text) tally_limit) name text code
@@ -79,14 +79,14 @@ abbrev pub new_failure : ℕ → ItemTexts → Failure
 new_failure moment items = from_host moment (unwrap_or items.rhost []) (unwrap_or items.tty [])
     (unwrap_or items.service [])
 
--- a failure is recorded after those that stand, and those that don't count any more are dropped
+-- a failure is recorded after those in the file, and those that don't count any more are dropped
 abbrev pub records : PlainSettings → List ℕ → List Failure → Act
 records s name failures =
     sees_moment (λ now. sees_items (λ items.
     writes_tally name (counting s.interval (failures ++ new_failure now items ∷ []))
     returns.Ignore))
 
--- failures are cleared where some stand
+-- failures are cleared if there are any
 abbrev pub clears : List ℕ → List Failure → Act
 clears name [] = answers returns.Success
 clears name (f ∷ fs) = writes_tally name [] returns.Success
@@ -111,7 +111,7 @@ abbrev pub by_tally : Task → PlainSettings → List ℕ → Option (List Failu
 by_tally task s name None = answers returns.ServiceErr
 by_tally task s name (Some failures) = by_task task s name failures
 
--- the answer for root, who isn't locked without `even_deny_root`
+-- the code for root, who isn't locked without `even_deny_root`
 abbrev pub spared_answer : Task → Code
 spared_answer AuthFail = returns.Ignore
 spared_answer other = returns.Success

@@ -1,5 +1,5 @@
--- What stands in a user's file after a list of calls of pam_faillock(8), which may be of many transactions (this project's
--- own): the failures that were recorded since they were last cleared, but for those that don't count any more.
+-- What a user's file has after a list of calls of pam_faillock(8), which may be from many transactions (this project's
+-- own): the failures that were recorded since they were last cleared, except for those that don't count any more.
 use Rattle.std.specs.Prelude.{◌≡◌, ◌⊎◌, ℕ, Bool, true, false, if◌then◌else◌, List, [], ◌∷◌, ◌++◌, map, Option, Some, None, Ok}
 use Rattle.pam_base.specs.declared.code.Code.{Code}
 use Rattle.pam_base.specs.declared.code.Code.TheVariants.{Success, Ignore}
@@ -13,7 +13,7 @@ use Rattle.mod_tally.specs.Settings.{PlainSettings, settings_of, task_among}
 use Rattle.mod_tally.specs.Faillock.{faillock_plays, new_failure, task_of}
 use Rattle.mod_tally.specs.Tally.{IsFailure, counting, failures_of, is_locked, tally_text}
 
--- the failures that stand in a file; None where it is damaged
+-- the failures in a file; None if it is damaged
 abbrev pub standing_in : Option (List ℕ) → Option (List Failure)
 standing_in None = Some []
 standing_in (Some text) = failures_of text
@@ -26,12 +26,12 @@ pub data Deed : Type 0 where
   recorded : ℕ → Failure → Deed
   cleared : Deed
 
--- no lock stands
+-- the user isn't locked
 abbrev pub IsOpen : PlainSettings → ℕ → List Failure → Type 0
 IsOpen s now failures = is_locked s.deny s.interval s.unlock now failures ≡ false
 
--- An authfail answered IGNORE: no lock stood, and after the failures that stood there is a new one of this moment, with
--- which only those are left that count.
+-- An authfail returned IGNORE: the user wasn't locked, and after the failures in the file there is a new one of this
+-- time, and only those that count together with it are left.
 pub record Records (path : List ℕ) (call : PlainCall) (now : ℕ) (items : ItemTexts)
     (before : List File) (code : Code) (after : List File)
     (interval : ℕ) (failure : Failure) : Type 0 where
@@ -44,7 +44,8 @@ pub record Records (path : List ℕ) (call : PlainCall) (now : ℕ) (items : Ite
   pub unlocked : IsOpen (settings_of call.args) now standing
   pub stands : file_at path after ≡ Some (tally_text (counting interval (standing ++ failure ∷ [])))
 
--- An authsucc, where no lock stood, or an acct_mgmt answered SUCCESS, and no failures are left of those that stood.
+-- An authsucc of a user who wasn't locked, or an acct_mgmt, returned SUCCESS, and none of the failures in the file is
+-- left.
 pub record Clears (path : List ℕ) (call : PlainCall) (now : ℕ) (before : List File) (code : Code)
     (after : List File) : Type 0 where
   pub code_is : code ≡ Success
@@ -90,13 +91,13 @@ Follow path before (s ∷ ss) after =
     (file_at path s.sight.files ≡ before) × Does path s.call s.sight (played s) s.deed
     × Follow path (file_at path (played s).files) ss after
 
--- what stands after it
+-- the failures in the file after it
 abbrev pub left_by : Deed → List Failure → List Failure
 left_by left standing = standing
 left_by (recorded interval failure) standing = counting interval (standing ++ failure ∷ [])
 left_by cleared standing = []
 
--- the failures that stood at the start, and those that were recorded since they were last cleared
+-- the failures in the file at the start, and those that were recorded since they were last cleared
 abbrev pub recorded_by : List Deed → List Failure → List Failure
 recorded_by [] failures = failures
 recorded_by (left ∷ ds) failures = recorded_by ds failures
@@ -110,13 +111,14 @@ is_written (left ∷ ds) = is_written ds
 is_written (recorded interval failure ∷ ds) = true
 is_written (cleared ∷ ds) = true
 
--- one `fail_interval` is used, and what is recorded are failures of bytes, with moments of at most 13 digits
+-- one `fail_interval` is used, and what is recorded are failures of bytes, with times of at most 13 digits
 abbrev pub IsWith : ℕ → Deed → Type 0
 IsWith interval left = Unit {0}
 IsWith interval (recorded i failure) = (i ≡ interval) × IsFailure failure
 IsWith interval cleared = Unit {0}
 
--- what stands by the deeds: the failures that stood while nothing was written; else those that count of the recorded
+-- the failures in the file after the deeds: those at the start if nothing was written; otherwise those of the recorded
+-- ones that count
 abbrev pub stands_by : ℕ → List Deed → List Failure → List Failure
 stands_by interval deeds failures =
     if is_written deeds then counting interval (recorded_by deeds failures) else failures

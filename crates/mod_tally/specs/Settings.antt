@@ -10,7 +10,7 @@ use Rattle.mod_tally.specs.declared.settings.Task.{Task}
 use Rattle.mod_tally.specs.declared.settings.Task.TheVariants.{Preauth, AuthFail, AuthSucc}
 use Rattle.mod_tally.specs.declared.settings.Settings.{Settings}
 
--- what an authentication is to do: `preauth`, `authfail` or `authsucc`, of which the last holds
+-- what an authentication is to do: `preauth`, `authfail` or `authsucc`; the last one holds
 abbrev pub task_word : List ℕ → Option Task
 task_word arg =
     if bytes_eq arg (codes "preauth") then Some Preauth
@@ -38,7 +38,7 @@ unlock_among args =
     unwrap_or (option_and_then time_word (value_among (codes "unlock_time=") args)) 600
 
 -- how many failures lock, within which time they count, how long a lock lasts, whether root may be locked, and the
--- folder of the files
+-- directory of the files
 pub record PlainSettings : Type 0 where
   pub deny : ℕ
   pub interval : ℕ

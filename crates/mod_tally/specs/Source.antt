@@ -1,5 +1,5 @@
--- How a tally file spells where a failure came from (this project's own): printable ASCII stands for itself, a backslash
--- is doubled, and any other byte, the space too, is written as \x and two lower-case hexadecimal digits. No byte is
+-- How a tally file spells where a failure came from (this project's own): printable ASCII is itself, a backslash is
+-- doubled, and any other byte, the space too, is written as \x and two lower-case hexadecimal digits. No byte is
 -- spelled otherwise.
 use Rattle.std.specs.Prelude.{ℕ, ◌+◌, ◌-◌, ◌*◌, ◌/◌, ◌%◌, Bool, ◌==◌, ◌&&◌, nat_le, if◌then◌else◌, List, [], ◌∷◌, ◌++◌, codes, Option, Some, None}
 use Rattle.std.specs.List.{flat_map}
@@ -18,9 +18,9 @@ spelled_byte b =
 abbrev pub spelled : List ℕ → List ℕ
 spelled source = flat_map spelled_byte source
 
--- ---- what a spelling stands for
+-- ---- what a spelling means
 
--- one more in front, where both are there
+-- one more before them, if both are there
 abbrev pub in_front : {A : Type 0} → Option A → Option (List A) → Option (List A)
 in_front None xs = None
 in_front (Some x) None = None
@@ -33,7 +33,7 @@ abbrev pub hex_value : ℕ → Option ℕ
 hex_value b = if nat_le 48 b && nat_le b 57 then Some (b - 48) else if nat_le 97 b && nat_le b 102
     then Some (b - 87) else None
 
--- a byte that stands for itself isn't spelled by its digits
+-- a byte that is its own spelling isn't spelled by its digits
 abbrev pub by_digits : Option ℕ → Option ℕ → Option ℕ
 by_digits (Some high) (Some low) = if is_printed (16 * high + low) then None
     else Some (16 * high + low)

@@ -16,7 +16,7 @@ use Rattle.mod_tally.specs.Source.{in_front, spelled, unspelled}
 
 -- ---- a line
 
--- a moment is 1 to 13 decimal digits
+-- a time is 1 to 13 decimal digits
 abbrev pub moment_of : List ℕ → Option ℕ
 moment_of word = if nat_lt 0 (length word) && nat_le (length word) 13
     && list_all is_ascii_digit word then Some (value_of_digits word) else None
@@ -39,7 +39,7 @@ with_source moment kind (Some []) = None
 with_source moment kind (Some (b ∷ bs)) =
     Some (record { moment = moment; kind = kind; source = b ∷ bs })
 
--- after the moment stands U, or the kind and a source, which isn't empty
+-- after the time comes U, or the kind and a source, which isn't empty
 abbrev pub with_origin : List ℕ → Option ℕ → Option Failure
 with_origin word None = None
 with_origin [] (Some moment) = None
@@ -51,14 +51,14 @@ abbrev pub cut_at : Option ℕ → List ℕ → Option Failure
 cut_at None line = None
 cut_at (Some space) line = with_origin (drop (space + 1) line) (moment_of (take space line))
 
--- a line of version 1 is a moment; one of version 2 is a moment, a space, and the origin
+-- a line of version 1 is a time; one of version 2 is a time, a space, and the origin
 abbrev pub failure_in : Version → List ℕ → Option Failure
 failure_in One line = with_moment (moment_of line)
 failure_in Two line = cut_at (position (λ b. b == 32) line) line
 
 -- ---- the file
 
--- what each line has, where each has its form
+-- what each line has, if each is well formed
 abbrev pub all_in : {A : Type 0} → (List ℕ → Option A) → List (List ℕ) → Option (List A)
 all_in form [] = Some []
 all_in form (l ∷ ls) = in_front (form l) (all_in form ls)
@@ -76,7 +76,7 @@ abbrev pub in_lines : List (List ℕ) → Option (List Failure)
 in_lines [] = None
 in_lines (header ∷ lines) = by_version (version_of header) lines
 
--- the failures of a text, of which each line ends with a newline; None where it is damaged
+-- the failures of a text, each line of which ends with a newline; None if it is damaged
 unfoldable pub failures_of : List ℕ → Option (List Failure)
 failures_of text = if ends_with nat_eq text (10 ∷ []) then in_lines (lines_of text) else None
 
@@ -107,18 +107,19 @@ abbrev pub latest : List Failure → ℕ
 latest [] = 0
 latest (f ∷ fs) = max f.moment (latest fs)
 
--- whether a failure counts, where this is the greatest moment
+-- whether a failure counts, if this is the latest time
 abbrev pub counts : ℕ → ℕ → Failure → Bool
 counts interval greatest f = nat_lt (greatest - f.moment) interval
 
--- the failures that lie less than n seconds before the latest of them
+-- the failures less than n seconds before the latest of them
 abbrev pub counting : ℕ → List Failure → List Failure
 counting interval failures = filter (counts interval (latest failures)) failures
 
 abbrev pub is_soon : ℕ → ℕ → ℕ → Bool
 is_soon unlock greatest now = unlock == 0 || nat_lt now (greatest + unlock)
 
--- the user is locked where n count, at least one stands, and the time after which the lock ends, if there is one, hasn't passed
+-- the user is locked if n failures count, there is at least one, and the time after which the lock ends, if there is
+-- one, hasn't passed
 abbrev pub is_locked : ℕ → ℕ → ℕ → ℕ → List Failure → Bool
 is_locked deny interval unlock now failures =
     nat_lt 0 (length failures)
@@ -131,7 +132,7 @@ abbrev pub IsOrigin : ℕ → List ℕ → Type 0
 IsOrigin kind [] = kind ≡ 85
 IsOrigin kind (b ∷ bs) = (is_kind kind ≡ true) × AllByRecursion (λ c. c < 256) (b ∷ bs)
 
--- a moment of at most 13 digits; no source where the kind is U, else one of bytes
+-- a time of at most 13 digits; no source if the kind is U, otherwise one of bytes
 pub record IsFailure (f : Failure) : Type 0 where
   pub moment : f.moment < 10 ^ 13
   pub origin : IsOrigin f.kind f.source

@@ -6,7 +6,8 @@ use crate::tally::Failure;
 use pam_base::{NoMemory, Text};
 use std::alloc::Global;
 
-/// Whether a user with these failures is locked now: at least one stands, n count, and the lock hasn't ended.
+/// Whether a user with these failures is locked now: there is at least one, n count, and the lock
+/// hasn't ended.
 pub(crate) fn is_locked(
     deny: u32,
     interval: u32,
@@ -22,7 +23,7 @@ pub(crate) fn is_locked(
         && (unlock == 0 || now.saturating_sub(greatest) < u64::from(unlock))
 }
 
-// The greatest moment.
+// The latest time.
 fn latest(failures: &[Failure]) -> u64
     ensures { result ≡ latest failures.now }
 {

@@ -55,7 +55,7 @@ fn origin_of<'a>(host: &'a [u8], terminal: &'a [u8], service: &'a [u8]) -> Origi
     }
 }
 
-// The text of an item; empty where it isn't set.
+// The text of an item; empty if it isn't set.
 fn text_of(items: &Items, item: ItemName) -> &[u8]
     requires { is_refused ModuleGets item ≡ false }
     ensures { result.now ≡ unwrap_or (text_of items.now item) [] }

@@ -9,9 +9,8 @@ ghost use Rattle.item_store.specs.Items.{ItemTexts};
 ghost use Rattle.mod_tally.specs.Faillock.{faillock_plays, new_failure};
 ghost use Rattle.mod_tally.specs.Recorded.{Deed, Does, Follow, IsAmong, IsWith, Served, deeds_of, is_cleared, recorded_by, standing_in, stands_by};
 
-/// Does nothing: its contract is that failures and sources that are written are read as themselves,
-/// that what is read can be written, that no source is spelled otherwise, and that what the module
-/// records can be written.
+/// Failures and sources that are written are read back as themselves, what is read can be written,
+/// no source has two spellings, and what the module records can be written.
 pub fn written_tallies_are_read()
     ensures tally { (failures : List Failure) → AllByRecursion IsFailure failures →
         failures_of (tally_text failures) ≡ Some failures }
@@ -21,7 +20,7 @@ pub fn written_tallies_are_read()
         (spelled source ≡ word) × AllByRecursion (λ b. b < 256) source }
     ensures source { (source : List ℕ) → AllByRecursion (λ b. b < 256) source →
         unspelled (spelled source) ≡ Some source }
-    // A failure that is recorded can be written: of a moment of at most 13 digits, and of items of
+    // A failure that is recorded can be written: with a time of at most 13 digits, and of items of
     // bytes with a service.
     ensures new { (moment : ℕ) (items : ItemTexts) → moment < 10 ^ 13 →
         AllByRecursion (λ b. b < 256) (unwrap_or items.rhost []) →
@@ -30,11 +29,10 @@ pub fn written_tallies_are_read()
         unwrap_or items.service [] ≢ [] → IsFailure (new_failure moment items) }
 {}
 
-/// Does nothing: its contract is what calls of pam_faillock(8) do to a user's file. Each leaves it,
-/// records a failure, or clears the failures. After a list of calls, which may be of many
-/// transactions, where nothing else changed the file, those that count of the recorded ones stand
-/// there: a failure that stood stands on, unless the failures were cleared, or it doesn't count
-/// against the latest that was recorded.
+/// What calls of pam_faillock(8) do to a user's file. Each leaves it unchanged, records a failure,
+/// or clears the failures. After a list of calls, which may be from many transactions, if nothing
+/// else changed the file, it has those of the recorded failures that count: a failure stays in it
+/// unless the failures were cleared, or it doesn't count against the latest one recorded.
 pub fn recorded_failures_stand()
     ensures one { (path : List ℕ) (call : PlainCall) (room : SeenRoom) (held : List NamedData)
         (sight : Sight) →

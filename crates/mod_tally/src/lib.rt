@@ -1,4 +1,6 @@
-//! `pam_faillock(8)`: the failures of each user are counted in a file, and a user who failed too often is locked.
+//! `pam_faillock(8)`: the failures of each user are counted in a file, and a user who failed too
+//! often is locked. Begin at `pam_faillock.rt`; `tally.rt` has the file's form, `counted.rt` the
+//! lock.
 #![tactic(auto)]
 
 mod counted;

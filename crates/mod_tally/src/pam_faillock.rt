@@ -25,7 +25,7 @@ use std::alloc::Global;
 pub struct Faillock;
 
 impl Faillock {
-    /// The module; it keeps nothing.
+    /// Creates the module, which has no state.
     pub fn new() -> Self {
         Faillock
     }
@@ -94,7 +94,7 @@ fn task_of(func: Func, mode: Option<Task>) -> Result<Task, Code>
     }
 }
 
-// Asks for the user, and looks up the account.
+// Asks for the user, and looks the account up.
 fn check_tally(
     alloc: Global,
     task: Task,
@@ -189,7 +189,7 @@ fn spared_answer(task: Task) -> Code
     }
 }
 
-// Reads the user's file, unless the user is spared, and holds it until it is done with.
+// Reads the user's file, unless the user is spared, and holds it until the end.
 fn by_spared(
     alloc: Global,
     spared: bool,

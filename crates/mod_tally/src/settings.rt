@@ -19,8 +19,8 @@ pub enum Task {
     Clear,
 }
 
-/// The arguments: how many failures lock, within which time they count, how long a lock lasts (0 for ever), both in
-/// seconds, whether root may be locked, and the folder of the files.
+/// The arguments: how many failures lock, within which time they count, how long a lock lasts (0
+/// for ever), both in seconds, whether root may be locked, and the directory of the files.
 #[derive(Clone, Copy)]
 pub struct Settings<'a> {
     pub deny: u32,
@@ -30,7 +30,7 @@ pub struct Settings<'a> {
     pub folder: &'a [u8],
 }
 
-/// The mode of an authentication: of `preauth`, `authfail` and `authsucc` the last.
+/// The mode of an authentication: the last of `preauth`, `authfail` and `authsucc`.
 pub(crate) fn task_among(args: &Texts) -> Option<Task>
     ensures { result ≡ task_among args.now }
 {

@@ -6,8 +6,8 @@ ghost use Rattle.mod_tally.specs.Source.{by_digits, hex_value, in_front, is_prin
 use pam_base::{NoMemory, Text};
 use std::alloc::Global;
 
-/// Writes the spelling of a source: a byte from 0x21 to 0x7E stands for itself, but a backslash is doubled; any other
-/// byte is written `\x` and two lower-case hexadecimal digits.
+/// Writes the spelling of a source: a byte from 0x21 to 0x7E is itself, except that a backslash is
+/// doubled; any other byte is written `\x` and two lower-case hexadecimal digits.
 pub(crate) fn spell(out: &mut Vec<u8>, source: &[u8]) -> Result<(), NoMemory>
     ensures { OnOk result (out.new.items ≡ out.old.items ++ spelled source.now) }
 {
@@ -52,7 +52,7 @@ fn is_printed(byte: u8) -> bool
 }
 
 #[tactic(auto, unfolding(crate::specs::Source::unspelled))]
-/// The source that a word spells; None where it spells none.
+/// The source that a word spells; None if it spells none.
 pub(crate) fn unspelled(alloc: Global, word: &[u8]) -> Result<Option<Text>, NoMemory>
     ensures { IfOk result (λ source. source ≡ unspelled word.now) }
 {
@@ -78,7 +78,7 @@ struct Spelled<'a> {
 }
 
 #[tactic(auto, unfolding(crate::specs::Source::unspelled))]
-// The byte that is spelled at the front of a word.
+// The byte that is spelled at the beginning of a word.
 fn first_spelled(word: &[u8]) -> Option<Spelled<'_>>
     requires { 0 < length word.now }
     ensures shorter { IfSome result (λ s. length s.after.now < length word.now) }

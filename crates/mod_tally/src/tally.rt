@@ -10,12 +10,12 @@ use crate::source::{spell, unspelled};
 use pam_base::{Lines, NoMemory, Refuse, Sequence, Text, are_digits};
 use std::alloc::Global;
 
-/// The text of a tally file hasn't the form of one.
+/// The text of a tally file is malformed.
 #[derive(Clone, Copy, Debug, PartialEq, Eq)]
 pub struct Damaged;
 
-/// A failure of a user: its moment in seconds since 1970, and where it came from: R, T or S for a remote host, a
-/// terminal or a service with its name, or U where no more is known.
+/// A failure of a user: its time in seconds since 1970, and where it came from: R, T or S for a
+/// remote host, a terminal or a service with its name, or U if no more is known.
 #[derive(Debug, Drop)]
 pub struct Failure {
     pub moment: u64,
@@ -26,7 +26,7 @@ pub struct Failure {
 /// The failures of a user, in the order of the file.
 pub type Failures = Sequence<Failure>;
 
-// The form of a tally file: version 1 has moments alone.
+// The form of a tally file: version 1 has only times.
 #[derive(Clone, Copy, Debug)]
 pub enum Version {
     One,
@@ -44,7 +44,7 @@ pub fn failures(alloc: Global, text: &[u8]) -> Result<Failures, Refuse<Damaged>>
 }
 
 #[tactic(auto, unfolding(crate::specs::Tally::failures_of))]
-// The same; None where the text is damaged.
+// The same; None if the text is damaged.
 fn read_failures(alloc: Global, text: &[u8]) -> Result<Option<Failures>, NoMemory>
     ensures { IfOk result (λ found. found ≡ failures_of text.now) }
 {
@@ -73,7 +73,7 @@ fn version_of(header: &[u8]) -> Option<Version>
     }
 }
 
-// The failures of the lines; None where one hasn't its form.
+// The failures of the lines; None if one is malformed.
 fn read_lines(
     alloc: Global,
     version: Version,
@@ -132,7 +132,7 @@ fn unknown_at(alloc: Global, moment: u64) -> Failure
     }
 }
 
-// What follows the moment: U, or the kind and the source.
+// What follows the time: U, or the kind and the source.
 fn read_origin(alloc: Global, word: &[u8], moment: Option<u64>) -> Result<Option<Failure>, NoMemory>
     ensures { IfOk result (λ failure. failure ≡ with_origin word.now moment) }
 {

@@ -39,7 +39,7 @@ fn has_slash(user: &[u8]) -> bool
     user.iter().any(|byte| *byte == b'/')
 }
 
-/// The name of a user's file: it lies in the folder. It is empty where the folder isn't a path from the root.
+/// The name of a user's file, in the directory; empty if the directory isn't a path from the root.
 pub(crate) fn tally_name(alloc: Global, folder: &[u8], user: &[u8]) -> Result<Text, NoMemory>
     ensures { IfOk result (λ name. name ≡ tally_name folder.now user.now) }
 {
@@ -52,8 +52,8 @@ pub(crate) fn tally_name(alloc: Global, folder: &[u8], user: &[u8]) -> Result<Te
     Ok(Text::from_vec(name))
 }
 
-/// Holds the tallies in the folder until the answer is dropped, where the task may change one; None where the outside
-/// failed. Where the vault tells, nothing of it changes, and it is never None.
+/// Holds the tallies in the directory until the result is dropped, if the task may change one; None
+/// if that failed. If the files are modelled, nothing of them changes, and it is never None.
 pub(crate) fn hold_tallies(
     alloc: Global,
     task: Task,
@@ -76,7 +76,7 @@ pub(crate) fn hold_tallies(
     }
 }
 
-/// Reads the failures in the file with this name; None where it can't be read.
+/// Reads the failures in the file with this name; None if it can't be read.
 pub(crate) fn read_tally(
     alloc: Global,
     process: &Process,
@@ -107,8 +107,8 @@ fn failures_in(alloc: Global, content: Content) -> Result<Option<Failures>, NoMe
     }
 }
 
-/// Replaces the file with this name, and answers this code, or SERVICE_ERR where the text is too long, or the file
-/// can't be set.
+/// Replaces the file with this name, and returns this code, or SERVICE_ERR if the text is too long
+/// or the file can't be set.
 pub(crate) fn set_text(
     alloc: Global,
     process: &Process,

@@ -20,7 +20,7 @@ use pam_base::{Code, NoMemory, Text};
 use pam_outside::{Clock, Vault, current_moment};
 use std::alloc::Global;
 
-/// Does what is to be done with the failures that stand.
+/// Does what is to be done with the failures in the file.
 pub(crate) fn by_task(
     alloc: Global,
     task: Task,
@@ -88,7 +88,7 @@ pub(crate) fn by_task(
     }
 }
 
-// Clears the failures, where some stand.
+// Clears the failures, if there are any.
 fn clear(
     alloc: Global,
     name: &[u8],
@@ -114,7 +114,7 @@ fn clear(
     }
 }
 
-// Records a failure after those that stand, and drops those that don't count any more.
+// Records a failure after those in the file, and drops those that don't count any more.
 fn record_failure(
     alloc: Global,
     interval: u32,
@@ -140,7 +140,7 @@ fn record_failure(
     Ok(code)
 }
 
-// The text of the failures that count, once this one is after those that stand.
+// The text of the failures that count, with this one after those in the file.
 fn text_with(
     alloc: Global,
     interval: u32,

@@ -1,4 +1,4 @@
--- What a step, or an act, came to is answered.
+-- The result of a step, or of an act, is returned.
 use Rattle.std.proofs.Common.{◌≡◌, Err}
 use Rattle.pam_base.specs.declared.code.Code.TheVariants as returns
 use Rattle.pam_base.specs.declared.fault.ConvErr.{ConvErr}

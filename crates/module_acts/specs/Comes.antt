@@ -1,4 +1,4 @@
--- A step of a module came to a value, or it ended what the module does (this project's own).
+-- The result of a step of a module: a value, or the end of the module (this project's own).
 use Rattle.std.specs.Prelude.{Result, Ok, Err}
 use Rattle.pam_base.specs.declared.code.Code.{Code}
 use Rattle.pam_base.specs.declared.code.Code.TheVariants as codes
@@ -14,35 +14,35 @@ use Rattle.account_files.specs.pam_room.specs.declared.transaction.Transaction.{
 use Rattle.account_files.specs.Accounts.{Known, nothing_known}
 use Rattle.account_files.specs.Act.{Act, Acts, Came, Leads}
 
--- what a module is lent, as a scene
+-- what a module gets, as a scene
 abbrev pub lent : Transaction → ConvState → VaultState → ClockState → PlainProcess → Scene
 lent transaction conv vault clock process =
     scene_of (room_of (plain_transaction transaction) conv) vault clock process
 
--- a code was answered and this was left, as an act has it
+-- a code was returned and this was left, as an act has it
 abbrev pub Goes : Act → Scene → Code → Scene → Type 0
 Goes act old code new = Acts act nothing_known old code new
 
--- The conversation gave no reply, and CONV_ERR is the whole's answer, whatever was to be done with the value. Without
--- memory nothing is said of it.
+-- The conversation gave no reply, and CONV_ERR is the whole module's code, whatever was to be done with the value. If
+-- an allocation failed, nothing is said of it.
 abbrev pub Ends : {A : Type 0} → Refuse ConvErr → ((A → Act) → Act) → Scene → Scene → Type 0
 Ends {A} (Named e) step old new =
     (act : A → Act) (known : Known) → Acts (step act) known old codes.ConvErr new
 Ends {A} NoMemory step old new = Unit {0}
 
--- a step came to its result's value, or it ended the whole
+-- a step gave its result's value, or it ended the whole
 abbrev pub Comes : {A : Type 0} → Result A (Refuse ConvErr) → ((A → Act) → Act) → Scene → Scene
     → Type 0
 Comes {A} (Ok value) step old new = Came value step old new
 Comes {A} (Err e) step old new = Ends e step old new
 
--- the same of a step whose value stands elsewhere
+-- the same for a step whose value is elsewhere
 abbrev pub ComesTo : {T A : Type 0} → Result T (Refuse ConvErr) → A → ((A → Act) → Act) → Scene
     → Scene → Type 0
 ComesTo {T} {A} (Ok done) value step old new = Came value step old new
 ComesTo {T} {A} (Err e) value step old new = Ends e step old new
 
--- An act was finished: it answered a code, or CONV_ERR, where the conversation gave no reply.
+-- An act was finished: it returned a code, or CONV_ERR if the conversation gave no reply.
 abbrev pub Finishes : Result Code (Refuse ConvErr) → Act → Scene → Scene → Type 0
 Finishes (Ok code) act old new = Goes act old code new
 Finishes (Err (Named e)) act old new = Goes act old codes.ConvErr new

@@ -15,7 +15,7 @@ use Rattle.account_files.specs.Act.{Act, in_room}
 
 -- ---- asking
 
--- the item is there, or CONV_ERR is answered at once
+-- the item is there, or CONV_ERR is returned at once
 abbrev pub with_asked : ItemName → Asked → (List ℕ → Act) → Act
 with_asked item asked act stage = if asked.refused then answered ConvErr asked.room stage.sight
     else act (unwrap_or (text_of asked.room.items item) []) (in_room asked.room stage)
@@ -29,7 +29,7 @@ abbrev pub with_replies : Result (List Reply) ConvFault → SeenRoom → (List R
 with_replies (Ok replies) room act stage = act replies (in_room room stage)
 with_replies (Err fault) room act stage = answered ConvErr room stage.sight
 
--- messages are handed to the user at once, for as many replies (pam_conv(3)), or CONV_ERR is answered
+-- messages are sent to the user at once, for as many replies (pam_conv(3)), or CONV_ERR is returned
 unfoldable pub exchanges : List Message → (List Reply → Act) → Act
 exchanges messages act stage =
     with_replies (speak messages stage.room).answer (speak messages stage.room).room act stage
@@ -40,11 +40,11 @@ exchanges messages act stage =
 unfoldable pub sees_data : (List NamedData → Act) → Act
 sees_data act stage = act stage.held stage
 
--- the moment and the random word are seen
+-- the time and the random word are seen
 unfoldable pub sees_clock : (Time → Act) → Act
 sees_clock act stage = act stage.sight.clock stage
 
--- whose process it is is seen
+-- the caller of the process is seen
 unfoldable pub sees_caller : (ℕ → Act) → Act
 sees_caller act stage = act stage.sight.caller stage
 
@@ -62,7 +62,7 @@ sets_item item text act stage =
     let items = with_text stage.room.items item (Some text) in
     act (in_room (record stage.room { items = items }) stage)
 
--- a datum is set (pam_set_data(3)), and a code answered
+-- module data is set (pam_set_data(3)), and a code returned
 unfoldable pub answers_keeping : NamedData → Code → Act
 answers_keeping datum code stage =
     record (answered code stage.room stage.sight) { births = datum ∷ [] }

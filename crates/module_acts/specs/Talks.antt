@@ -1,10 +1,10 @@
--- What a module that talks with the user does to a transaction, in any world (this project's own).
+-- What a module that talks with the user does to a transaction, with real objects too (this project's own).
 use Rattle.std.specs.Prelude.{◌≡◌, ◌≤◌, List, ◌++◌}
 use Rattle.conv_port.specs.declared.message.Message.{Message}
 use Rattle.account_files.specs.pam_room.specs.declared.transaction.Transaction.{Transaction}
 
--- SERVICE stays, the longest request for a delay doesn't shrink, what was said is only added to, it may be put off; of the
--- rest the items alone may change
+-- SERVICE stays, the longest request for a delay doesn't shrink, messages are only added, the call may be left
+-- incomplete; of the rest only the items may change
 pub record Talks (old new : Transaction) : Type 0 where
   pub service : new.items.service ≡ old.items.service
   pub delay : old.delay ≤ new.delay

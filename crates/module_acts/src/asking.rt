@@ -15,7 +15,7 @@ use conv_port::{Conv, Messages, Replies};
 use pam_base::{ConvErr, MAX_TEXT, Refuse};
 use std::alloc::Global;
 
-/// Sees to it that USER is set, as `get_user` does.
+/// Makes sure that USER is set, as `get_user` does (`pam_get_user(3)`).
 pub fn require_user(
     alloc: Global,
     transaction: &mut Transaction,
@@ -39,7 +39,7 @@ pub fn require_user(
     get_user(alloc, transaction, conv)
 }
 
-/// Asks for a token, as `ask_token` does.
+/// Asks for a token, as `ask_token` does (`pam_get_authtok(3)`).
 pub fn require_token(
     alloc: Global,
     transaction: &mut Transaction,
@@ -65,7 +65,7 @@ pub fn require_token(
     ask_token(alloc, transaction, conv, old, prompt)
 }
 
-/// Hands messages to the user at once, as `say` does.
+/// Sends messages to the user at once, as `say` does (`pam_conv(3)`).
 pub fn exchange(
     alloc: Global,
     transaction: &mut Transaction,

@@ -26,7 +26,7 @@ pub fn request_delay(transaction: &mut Transaction, micros: u32)
     transaction.delay.request(micros);
 }
 
-/// Sets AUTHTOK (`pam_set_item(3)`). Without memory all stays as it was.
+/// Sets AUTHTOK (`pam_set_item(3)`). If an allocation fails, all stays as it was.
 pub fn set_token(transaction: &mut Transaction, token: &[u8]) -> Result<(), NoMemory>
     ensures told { (conv : ConvState) (vault : VaultState) (clock : ClockState)
         (process : PlainProcess) →
@@ -41,7 +41,8 @@ pub fn set_token(transaction: &mut Transaction, token: &[u8]) -> Result<(), NoMe
     Ok(())
 }
 
-/// Sets a datum (`pam_set_data(3)`), and answers the code. Without memory nothing is set.
+/// Sets module data (`pam_set_data(3)`), and returns the code. If an allocation fails, nothing is
+/// set.
 pub fn answer_and_keep(
     alloc: Global,
     transaction: &mut Transaction,

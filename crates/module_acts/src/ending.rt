@@ -7,7 +7,7 @@ ghost use Rattle.module_acts.specs.Comes.{Comes, Finishes, Goes};
 use account_files::laws;
 use pam_base::{Code, ConvErr, NoMemory, Refuse};
 
-/// The answer, which is CONV_ERR where the conversation gave no reply.
+/// The module's code, which is CONV_ERR if the conversation gave no reply.
 pub fn ended(answer: Result<Code, Refuse<ConvErr>>) -> Result<Code, NoMemory>
     ensures told { (step : (Code → Act) → Act) (old new : Scene) → Comes answer step old new →
         IfOk result (λ code. Goes (step answers) old code new) }

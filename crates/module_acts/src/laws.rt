@@ -13,7 +13,7 @@ ghost use Rattle.account_files.specs.Act.{Act, Acts};
 ghost use Rattle.module_acts.specs.Steps.{sees_caller, sees_clock, sees_data};
 ghost use Rattle.module_acts.specs.Talks.{Talks};
 
-/// Does nothing: its contract is the laws of the steps that see something and make no call.
+/// The laws of the steps that see something and make no call.
 pub fn acting()
     ensures data { (act : List NamedData → Act) (known : Known) (s : Scene) (code : Code)
         (new : Scene) →
@@ -26,7 +26,7 @@ pub fn acting()
         Acts (act s.process.caller) known s code new → Acts (sees_caller act) known s code new }
 {}
 
-/// Does nothing: its contract is what holds of a module that talks, in any world.
+/// What holds for a module that talks, with real objects too.
 pub fn talking()
     ensures none { (t : Transaction) → Talks t t }
     ensures again { (t u v : Transaction) → Talks t u → Talks u v → Talks t v }

@@ -1,5 +1,7 @@
-//! More of what modules do step by step: they ask for tokens, exchange several messages, request delays, set items and
-//! data. What a step's call ensures is how it stands before all that is done from there on.
+//! More steps that modules are made of: they ask for tokens, exchange several messages, request
+//! delays, set items and data. Each step takes the rest of the module as a continuation; its
+//! contract relates the state before the step to the state that the rest begins in. Begin at
+//! `asking.rt`.
 #![tactic(auto)]
 
 mod asking;

@@ -15,7 +15,7 @@ use conv_port::Conv;
 use pam_base::{ItemName, NoMemory, Refuse, Style, Text};
 use std::alloc::Global;
 
-/// The user, who is set.
+/// The user; USER is set.
 pub fn user_of(transaction: &Transaction) -> &[u8]
     requires { transaction.now.items.user ≢ None }
     ensures { result.now ≡ unwrap_or transaction.now.items.user [] }
@@ -26,8 +26,9 @@ pub fn user_of(transaction: &Transaction) -> &[u8]
     }
 }
 
-/// Shows a text, of which 512 bytes count, whatever the conversation makes of it. An empty one isn't shown. Without
-/// memory a conversation that tells is as it was, and none failed.
+/// Shows a text (`pam_info(3)`, `pam_error(3)`), of which 512 bytes count, whatever the
+/// conversation makes of it. An empty one isn't shown. If an allocation fails, a modelled
+/// conversation is as it was, and none failed.
 pub fn show(
     alloc: Global,
     transaction: &mut Transaction,
@@ -52,7 +53,7 @@ pub fn show(
     put_forward(alloc, transaction, conv, style, text)
 }
 
-// The same, as the conversation has it.
+// The same, as a conversation takes it.
 fn put_forward(
     alloc: Global,
     transaction: &mut Transaction,
