@@ -1,4 +1,4 @@
--- The note of an owner is that of the module with its number.
+-- The cleanup result of an owner is that of the module with its number.
 use Rattle.std.proofs.Common.{◌≡◌, ℕ, zero, suc, ◌<◌, List, [], ◌∷◌, ◌++◌, length, map, get_or, refl, sym, ap, arith}
 use Rattle.data_cleanup.specs.Datum.{PlainDatum}
 use Rattle.data_cleanup.specs.declared.receipt.Receipt.{Receipt}
@@ -10,7 +10,7 @@ note_is player [] i m lt is = absurd (omega (arith, lt))
 note_is player (x ∷ xs) zero m lt is = ap (λ y. (player y).note) (sym is)
 note_is player (x ∷ xs) (suc i) m lt is = note_is player xs i m (omega (arith, lt)) is
 
--- a receipt of the module at the owner's number has the owner's note
+-- a cleanup record of the module at the owner's number has the owner's result
 module _ {M : Type 0} (player : M → Player) (mods : List M) (i : ℕ) (m : M) (status : ℕ) (d : PlainDatum) (r : Receipt) where
   pub by_owner : i ≡ d.owner → i < length mods → m ≡ get_or mods i m
       → r ≡ record { id = d.id; status = status; note = (player m).note d.payload status }

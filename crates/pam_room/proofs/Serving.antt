@@ -1,4 +1,4 @@
--- A module that served as it plays, and the sweep after it, are the line's service.
+-- A module that did what its definition says, and the sweep after it, are the line's run.
 use Rattle.std.proofs.Common.{◌≡◌, ℕ, zero, suc, ◌<◌, List, [], ◌∷◌, ◌++◌, Some, length, map, get_or, slice_get, refl, sym, ap, arith}
 use Rattle.pam_base.specs.declared.code.Code.{Code}
 use Rattle.data_cleanup.specs.DataList.{PlainDataList}
@@ -15,7 +15,7 @@ player_at player [] i m lt is = absurd (omega (arith, lt))
 player_at player (x ∷ xs) zero m lt is = ap (λ y. Some (player y)) (sym is)
 player_at player (x ∷ xs) (suc i) m lt is = player_at player xs i m (omega (arith, lt)) is
 
--- a state with other data and another ledger
+-- a state with other data and another cleanup log
 abbrev pub with_data : PlainDataList → PlainLedger → State → State
 with_data datums ledger s = record {
   room = record s.room { transaction = record s.room.transaction { datums = datums } };
@@ -40,7 +40,7 @@ served_so player mods number m call s mid code datums ledger within is p nap d l
       state_is = rw (d, l, room, vault, clock, process, nap) refl;
     })
 
--- what a module left without memory, the line left
+-- what a module left when an allocation failed, the line left
 pub broken_so : {M : Type 0} (player : M → Player) (mods : List M) (number : ℕ) (m : M) (call : PlainCall) (s end : State)
     → number < length mods → m ≡ get_or mods number m
     → BreaksIn (player m).breaks call (scene_in (at_work number s)) (scene_in end)
@@ -49,7 +49,7 @@ broken_so player mods number m call s end within is left =
     let at : slice_get (map player mods) number ≡ Some (player m) = player_at player mods number m within is in
     rw at left
 
--- nothing waits among the replaced, so all that awaits its cleanup is set
+-- no replaced data wait for their cleanup, so all that await it are set
 pub all_await : (modules : ℕ) (ledger : PlainLedger) (list : PlainDataList) → list.gone ≡ [] → AwaitCleanup modules ledger list.live
     → AwaitCleanup modules ledger (list.gone ++ list.live)
 all_await modules ledger list none a = rw none a

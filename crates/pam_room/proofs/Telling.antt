@@ -1,4 +1,4 @@
--- Where several objects tell, so do some of them.
+-- If several objects are modelled, so are some of them.
 use Rattle.std.proofs.Common.{Bool, true, false, ◌&&◌, IsTrue, refl}
 
 pub all_but_last : (a b c : Bool) → IsTrue (a && (b && c)) → IsTrue (a && b)

@@ -16,10 +16,10 @@ has_flag flags flag = nat_lt 0 (bit_and flags flag)
 abbrev pub prelim_check : ℕ
 prelim_check = 0x4000
 
--- what follows a key at the front of an argument
+-- what follows a key at the beginning of an argument
 abbrev pub value_in : List ℕ → List ℕ → Option (List ℕ)
 value_in key arg = if starts_with nat_eq arg key then Some (drop (length key) arg) else None
 
--- what follows a key among the arguments; where the key is repeated the last one holds
+-- what follows a key among the arguments; if the key is repeated the last one holds
 abbrev pub value_among : List ℕ → List (List ℕ) → Option (List ℕ)
 value_among key args = last_or None (filter_map (value_in key) args)

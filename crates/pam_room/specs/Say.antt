@@ -1,5 +1,5 @@
--- A module speaks with the user (pam_conv(3), pam_get_user(3); the prompts, and that a conversation may put a
--- transaction off, are this project's own).
+-- A module talks to the user (pam_conv(3), pam_get_user(3); the prompts, and that a conversation may leave a call
+-- incomplete, are this project's own).
 use Rattle.std.specs.Prelude.{◌≡◌, ◌⊎◌, ℕ, Bool, true, false, Option, Some, None, List, [], ◌∷◌, ◌++◌, Result, Ok, Err, is_ok, take, codes}
 use Rattle.pam_base.specs.declared.fault.Refuse.{Refuse}
 use Rattle.pam_base.specs.declared.fault.Refuse.TheVariants as refusals
@@ -17,19 +17,19 @@ use Rattle.conv_port.specs.declared.message.Message.{Message}
 use Rattle.conv_port.specs.declared.message.Reply.{Reply}
 use Rattle.pam_room.specs.Module.{SeenRoom}
 
--- what the conversation answered, and the room after it
+-- what the conversation returned, and the room after it
 pub record Spoken : Type 0 where
   pub answer : Result (List Reply) ConvFault
   pub room : SeenRoom
 
--- whether the conversation asked to be called again later, or the transaction was put off before
+-- whether the conversation asked to be called again later, or the call was incomplete before
 abbrev pub is_put_off : Result (List Reply) ConvFault → Bool → Bool
 is_put_off (Err faults.Again) before = true
 is_put_off (Err faults.Gone) before = before
 is_put_off (Err faults.NoMemory) before = before
 is_put_off (Ok replies) before = before
 
--- messages are added to what was said, and then handed to the conversation, which holds that it was handed them
+-- messages are added to the transaction's messages, and then sent to the conversation, which holds that it got them
 abbrev pub speak : List Message → SeenRoom → Spoken
 speak messages room = record {
   answer = answer_to room.conv messages;
@@ -40,7 +40,7 @@ speak messages room = record {
   };
 }
 
--- the answer of `say`, where the conversation tells; without memory nothing is said of it
+-- the result of `say`, if the conversation is modelled; if an allocation fails nothing is said of it
 abbrev pub Says : Result (List Reply) (Refuse ConvErr) → Spoken → SeenRoom → Type 0
 Says (Ok replies) spoken new = (spoken.answer ≡ Ok replies) × (new ≡ spoken.room)
 Says (Err (refusals.Named e)) spoken new = (is_ok spoken.answer ≡ false) × (new ≡ spoken.room)
@@ -52,7 +52,7 @@ Sends (Ok reply) spoken new = (spoken.answer ≡ Ok (reply ∷ [])) × (new ≡ 
 Sends (Err (refusals.Named e)) spoken new = (is_ok spoken.answer ≡ false) × (new ≡ spoken.room)
 Sends (Err refusals.NoMemory) spoken new = Unit {0}
 
--- the counts of a conversation, and whether the transaction is put off
+-- the counts of a conversation, and whether the call is incomplete
 pub record Signs : Type 0 where
   pub faults : ℕ
   pub deferrals : ℕ
@@ -77,7 +77,8 @@ pub record Deferred (old new : Signs) : Type 0 where
   pub deferrals : Rose old.deferrals new.deferrals
   pub put_off : new.put_off ≡ true
 
--- In any world: CONV_ERR comes exactly where the conversation failed or deferred, and nothing else counts.
+-- With real objects too: CONV_ERR is returned if and only if the conversation failed or deferred, and nothing else is
+-- counted.
 abbrev pub Shows : {T : Type 0} → Result T (Refuse ConvErr) → Signs → Signs → Type 0
 Shows (Ok v) old new = new ≡ old
 Shows (Err refusals.NoMemory) old new = new ≡ old
@@ -117,7 +118,7 @@ abbrev pub user_or_ask : Option (List ℕ) → SeenRoom → Asked
 user_or_ask (Some user) room = asked false room
 user_or_ask None room = ask_item User EchoOn (login_prompt room.items.user_prompt) room
 
--- pam_get_user(3): a user who is set is asked for nothing
+-- pam_get_user(3): if the user is set, nothing is asked
 abbrev pub user_asked : SeenRoom → Asked
 user_asked room = user_or_ask room.items.user room
 
@@ -129,7 +130,7 @@ token_of false = AuthTok
 abbrev pub token_asked : Bool → List ℕ → SeenRoom → Asked
 token_asked old prompt room = ask_item (token_of old) EchoOff prompt room
 
--- the answer of such a call, where the conversation tells; without memory nothing is said of it
+-- the result of such a call, if the conversation is modelled; if an allocation fails nothing is said of it
 abbrev pub Asks : {T : Type 0} → Result T (Refuse ConvErr) → Asked → SeenRoom → Type 0
 Asks (Ok v) a new = (a.refused ≡ false) × (new ≡ a.room)
 Asks (Err (refusals.Named e)) a new = (a.refused ≡ true) × (new ≡ a.room)

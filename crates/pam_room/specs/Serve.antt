@@ -1,5 +1,5 @@
--- How a line of a stack is served (pam.conf(5), Linux-PAM Module Writers' Guide; that a line may be put off, and
--- when what was replaced is cleaned up, is this project's own).
+-- How a line of a stack is run (pam.conf(5), Linux-PAM Module Writers' Guide; that a line may be incomplete, and when
+-- replaced data are cleaned up, is this project's own).
 use Rattle.std.specs.Prelude.{◌≡◌, ℕ, Bool, false, if◌then◌else◌, Option, Some, None, List, [], ◌∷◌, ◌++◌, slice_get}
 use Rattle.pam_base.specs.declared.code.Code.{Code}
 use Rattle.pam_base.specs.declared.code.Code.TheVariants.{ModuleUnknown, Incomplete}
@@ -8,12 +8,12 @@ use Rattle.pam_room.specs.State.{State, scene_in, with_scene}
 use Rattle.pam_room.specs.Call.{PlainCall}
 use Rattle.pam_room.specs.Module.{Player, played_in, with_played, notes_of, BreaksIn}
 
--- an answer, and the state after it
+-- a return code, and the state after it
 pub record Answered : Type 0 where
   pub answer : Code
   pub state : State
 
--- before a module serves: its number is at work, and nothing is put off
+-- before a module runs: its number is at work, and nothing is incomplete
 abbrev pub at_work : ℕ → State → State
 at_work number s = record s {
   room = record s.room {
@@ -24,7 +24,7 @@ at_work number s = record s {
   };
 }
 
--- each datum that was replaced is cleaned up by its owner
+-- all replaced data are cleaned up by their owners
 abbrev pub swept : Notes → State → State
 swept note s = record {
   room = record s.room {
@@ -37,11 +37,11 @@ swept note s = record {
   };
 }
 
--- where a module's conversation put the transaction off, its answer doesn't count
+-- if a module's conversation left the call incomplete, the module's code doesn't count
 abbrev pub answer_or_incomplete : Bool → Code → Code
 answer_or_incomplete put_off code = if put_off then Incomplete else code
 
--- a player serves a call: it plays, and what it replaced is cleaned up
+-- a player serves a call: it plays, and the data that it replaced are cleaned up
 abbrev pub played_by : List Player → Player → PlainCall → State → Answered
 played_by players player call s =
     let p = played_in player.plays call (scene_in s) in
@@ -50,7 +50,7 @@ played_by players player call s =
       state = swept (notes_of players) (with_scene (with_played p (scene_in s)) s);
     }
 
--- a line whose module isn't there is answered MODULE_UNKNOWN, and changes nothing
+-- a line whose module doesn't exist returns MODULE_UNKNOWN, and changes nothing
 abbrev pub unknown : State → Answered
 unknown s = record { answer = ModuleUnknown; state = s }
 
@@ -63,7 +63,7 @@ abbrev pub served : List Player → Option ℕ → PlainCall → State → Answe
 served players (Some number) call s = served_by players (slice_get players number) number call s
 served players None call s = unknown s
 
--- a visit is added to the trail
+-- a line that was run is added to the trace
 abbrev pub visited : ℕ → List ℕ → Answered → Answered
 visited place path a = record a {
   state = record a.state {
@@ -79,22 +79,22 @@ visited place path a = record a {
   };
 }
 
--- the line at a place, with this path, is served by the module with this number, if there is one
+-- the line with this number and path is run by the module with this number, if there is one
 abbrev pub serve_line : List Player → Option ℕ → ℕ → List ℕ → PlainCall → State → Answered
 serve_line players number place path call s = visited place path (served players number call s)
 
--- a code and a state are those of an answer
+-- a code and a state are those of a result
 pub record AnswersAs (a : Answered) (code : Code) (state : State) : Type 0 where
   pub answer_is : code ≡ a.answer
   pub state_is : state ≡ a.state
 
--- a player found no memory where it served with this number, and left what it may leave then
+-- a player ran out of memory when it served with this number, and left what it may leave then
 abbrev pub PlayerBreaks : Option Player → ℕ → PlainCall → State → State → Type 0
 PlayerBreaks (Some player) number call old new =
     BreaksIn player.breaks call (scene_in (at_work number old)) (scene_in new)
 PlayerBreaks None number call old new = ⊥
 
--- the module with this number did; a line whose module isn't there takes no memory
+-- the module with this number did; a line whose module doesn't exist doesn't allocate
 abbrev pub LineBreaks : List Player → Option ℕ → PlainCall → State → State → Type 0
 LineBreaks players (Some number) call old new =
     PlayerBreaks (slice_get players number) number call old new

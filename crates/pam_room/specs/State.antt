@@ -1,4 +1,4 @@
--- Transactions and what they share as plain records, with what their objects tell (this project's own).
+-- Transactions and what they share as plain records, with what is modelled of their objects (this project's own).
 use Rattle.std.specs.Prelude.{ℕ, Bool, false, List, []}
 use Rattle.item_store.specs.Items.{ItemTexts, no_texts}
 use Rattle.env_list.specs.Environment.{Variable}
@@ -10,7 +10,7 @@ use Rattle.pam_outside.specs.Files.{VaultState}
 use Rattle.pam_outside.specs.Time.{ClockState, NapState}
 use Rattle.pam_room.specs.declared.visits.Visit.{Visit}
 
--- what a transaction holds; of the trail the visits alone
+-- what a transaction holds; of the trace only the lines that were run
 pub record PlainTransaction : Type 0 where
   pub items : ItemTexts
   pub env : List Variable
@@ -22,7 +22,7 @@ pub record PlainTransaction : Type 0 where
   pub serving : ℕ
   pub put_off : Bool
 
--- one in which nothing is set, said or visited
+-- one in which nothing is set, no message was sent and no line run
 abbrev pub new_transaction : ℕ → PlainTransaction
 new_transaction handle = record {
   items = no_texts;
@@ -36,7 +36,7 @@ new_transaction handle = record {
   put_off = false;
 }
 
--- a transaction, and what its conversation tells
+-- a transaction, and what is modelled of its conversation
 pub record PlainRoom : Type 0 where
   pub transaction : PlainTransaction
   pub conv : ConvState
@@ -47,7 +47,7 @@ pub record PlainProcess : Type 0 where
   pub root : List ℕ
   pub caller : ℕ
 
--- that, and what its files, its clock and its naps tell
+-- that, and what is modelled of its files, its clock and its sleep
 pub record PlainWorld : Type 0 where
   pub vault : VaultState
   pub clock : ClockState
@@ -72,7 +72,7 @@ world_of vault clock nap process = record {
 abbrev pub state_of : PlainRoom → PlainWorld → State
 state_of room world = record { room = room; world = world }
 
--- what a module is lent: all of that but the naps
+-- what a module gets: all of that except the sleep
 pub record Scene : Type 0 where
   pub room : PlainRoom
   pub vault : VaultState
@@ -90,7 +90,7 @@ scene_of room vault clock process = record {
 abbrev pub scene_in : State → Scene
 scene_in s = scene_of s.room s.world.vault s.world.clock s.world.process
 
--- a state in which this stands for what was lent
+-- a state in which this takes the place of what the module got
 abbrev pub with_scene : Scene → State → State
 with_scene scene s = record {
   room = scene.room;

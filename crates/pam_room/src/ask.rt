@@ -16,10 +16,12 @@ use item_store::Items;
 use pam_base::{ConvErr, ItemName, MAX_TEXT, NoMemory, Refuse, Style, Text};
 use std::alloc::Global;
 
-/// Sees to it that USER is set (`pam_get_user(3)`). Where it is, nothing else happens. Else one EchoOn message is
-/// sent, USER_PROMPT where that is set, of which the first 512 bytes count, or `login: `, and USER is set to the reply.
+/// Makes sure that USER is set (`pam_get_user(3)`). If it is, nothing else happens. Otherwise one
+/// EchoOn message is sent, USER_PROMPT if that is set, of which the first 512 bytes count, or
+/// `login: `, and USER is set to the reply.
 ///
-/// ConvErr comes exactly as of `say`. Without memory the question may be among what was said, and USER is as it was.
+/// ConvErr is returned if and only if `say` would return it. If an allocation fails, the question
+/// may be among the messages, and USER is as it was.
 pub fn get_user(
     alloc: Global,
     transaction: &mut Transaction,
@@ -66,11 +68,11 @@ pub fn get_user(
     )
 }
 
-/// Asks for a token with one EchoOff message of at most 512 bytes, and sets AUTHTOK, or where `old` OLDAUTHTOK, to
-/// the reply.
+/// Asks for a token with one EchoOff message of at most 512 bytes, and sets AUTHTOK, or if `old`
+/// OLDAUTHTOK, to the reply (`pam_get_authtok(3)`).
 ///
-/// ConvErr comes exactly as of `say`. Without memory the question may be among what was said, and the token is as it
-/// was.
+/// ConvErr is returned if and only if `say` would return it. If an allocation fails, the question
+/// may be among the messages, and the token is as it was.
 pub fn ask_token(
     alloc: Global,
     transaction: &mut Transaction,

@@ -21,7 +21,7 @@ impl Call<'_> {
         self.flags & flag > 0
     }
 
-    /// What follows a key, as `file=`, in the arguments; where it is repeated the last one holds.
+    /// What follows a key, as `file=`, in the arguments; if it is repeated the last one holds.
     pub fn value(&self, key: &[u8]) -> Option<&[u8]>
         ensures { option_copied result ≡ value_among key.now self.now.args.now }
     {
@@ -37,7 +37,7 @@ impl Call<'_> {
     }
 }
 
-/// What follows a key at the front of an argument, if it stands there.
+/// What follows a key at the beginning of an argument, if the argument begins with it.
 pub fn value_in<'a>(key: &[u8], arg: &'a [u8]) -> Option<&'a [u8]>
     ensures { option_copied result ≡ value_in key.now arg.now }
 {

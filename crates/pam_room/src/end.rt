@@ -11,8 +11,8 @@ use crate::sweep::end_data;
 use crate::transaction::Transaction;
 use conv_port::Conv;
 
-/// Ends a transaction (`pam_end(3)`): its data are cleaned up by their owners with this status, the last name first,
-/// and its conversation is given back. It takes no memory.
+/// Ends a transaction (`pam_end(3)`): its data are cleaned up by their owners with this status, the
+/// last name first, and its conversation is given back. It does not allocate.
 pub fn end_room(
     mods: &[Box<dyn Module>],
     room: Room,

@@ -7,7 +7,7 @@ ghost use Rattle.item_store.specs.declared.access.Access.TheVariants.{ModuleGets
 use item_store::Items;
 use pam_base::{ItemName, NoMemory, Refuse};
 
-/// `pam_get_item(3)` for an item that a module may read: its text, or None where it isn't set.
+/// `pam_get_item(3)` for an item that a module may read: its text, or None if it isn't set.
 pub fn get_item(items: &Items, item: ItemName) -> Option<&[u8]>
     requires { is_refused ModuleGets item ≡ false }
     ensures { option_copied result ≡ text_of items.now item }
@@ -18,7 +18,8 @@ pub fn get_item(items: &Items, item: ItemName) -> Option<&[u8]>
     }
 }
 
-/// `pam_set_item(3)` for an item that a module may set. Without memory all stays as it was.
+/// `pam_set_item(3)` for an item that a module may set. If an allocation fails, all stays as it
+/// was.
 pub fn set_item(items: &mut Items, item: ItemName, text: &[u8]) -> Result<(), NoMemory>
     requires { is_refused ModuleSets item ≡ false }
     ensures ok { OnOk result (items.new ≡ with_text items.old item (Some text.now)) }

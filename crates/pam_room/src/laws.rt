@@ -7,9 +7,9 @@ ghost use Rattle.pam_room.specs.State.{PlainTransaction, PlainProcess, Scene};
 ghost use Rattle.pam_room.specs.Stays.{Stays};
 ghost use Rattle.pam_room.specs.Module.{HasSet, LeavesAs, NamedData, Played, same_files, with_played};
 
-// Each of these does nothing: its contract is a law about the definitions, for those who call it in a proof.
+// Laws about the definitions, for proofs that cite them; these functions do nothing.
 
-/// Where no data were set, nothing changed.
+/// If no data were set, nothing changed.
 pub fn nothing_is_set()
     ensures { (owner : ℕ) (list : PlainDataList) (ledger : PlainLedger) →
         HasSet owner [] list ledger list ledger }
@@ -23,7 +23,8 @@ pub fn setting_goes_on()
         HasSet owner (first ++ next) x a z c }
 {}
 
-/// Data that were set are those of their owner, and nothing else happened to the list and the ledger.
+/// Data that were set are those of their owner, and nothing else happened to the list and the
+/// cleanup log.
 pub fn set_data_are_sets()
     ensures sets { (owner : ℕ) (ds : List NamedData) (x y : PlainDataList) (a b : PlainLedger) →
         HasSet owner ds x a y b → Sets owner x a y b }

@@ -1,5 +1,7 @@
-//! What a module is lent when it serves, what it may do with it, and one served line: a transaction's room, the
-//! world that all transactions share, the interface of modules, and the cleanup of what they replace.
+//! One `pam_sm_*` call of one module: what the module gets and may do with it, and one line of a
+//! stack run with it. A `Room` is a transaction with its conversation, a `World` is what all
+//! transactions share. Begin at `module.rt`, the interface of modules, and `serve.rt`, which runs a
+//! line and cleans up the data that its module replaced.
 #![tactic(auto)]
 
 mod ask;

@@ -3,7 +3,8 @@ ghost use Rattle.pam_room.specs.Module.{length_note};
 
 use data_cleanup::{Datum, Receipt};
 
-/// The cleanup of most modules: nothing is to be done, and the note is the payload's length, modulo 2^32.
+/// The cleanup of most modules: there is nothing to do, and the result is the payload's length,
+/// modulo 2^32.
 pub fn spend_by_length(datum: Datum, status: u32) -> Receipt
     ensures { result ≡ record {
       id = datum.id;

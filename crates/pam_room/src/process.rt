@@ -5,8 +5,8 @@ use pam_base::Text;
 #[derive(Drop)]
 pub struct Process {
     pub ledger: Ledger,
-    /// The folder that paths of the configuration and of arguments lie below.
+    /// The directory that paths of the configuration and of arguments are below.
     pub root: Text,
-    /// The user id of the calling process.
+    /// The user ID of the calling process.
     pub caller: u32,
 }

@@ -7,12 +7,12 @@ pub struct Room {
     pub conv: Box<dyn Conv>,
 }
 
-/// Names what a room holds and its conversation tells, for contracts.
+/// Names what a room holds and what is modelled of its conversation, for contracts.
 pub trait RoomTold {
     ghost use Rattle.std.specs.Prelude.{Bool};
     ghost use Rattle.pam_room.specs.State.{PlainRoom};
 
-    /// Whether the conversation tells.
+    /// Whether the conversation is modelled.
     ghost tells: { Self → Bool };
 
     ghost plain: { Self → PlainRoom };

@@ -11,12 +11,14 @@ use pam_base::{ConvErr, MAX_TEXT, NoMemory, Refuse, Style, Text};
 use std::alloc::Global;
 use std::mem;
 
-/// Hands messages to the user (`pam_conv(3)`), and gives one reply of at most 512 bytes for each, an empty one for a
-/// message that is no prompt. They are added to what was said first, all or none, and a conversation that tells shows
-/// that it was handed these very messages, as one exchange.
+/// Sends messages to the user (`pam_conv(3)`), and returns one reply of at most 512 bytes for each,
+/// an empty one for a message that is no prompt. They are added to the transaction's messages
+/// first, all or none, and a modelled conversation shows that it got these very messages, as one
+/// exchange.
 ///
-/// ConvErr comes exactly where the conversation answered Gone or Again in this call, and Again alone puts the
-/// transaction off. Without memory either nothing was said, or all of it and the conversation is as it was.
+/// ConvErr is returned if and only if the conversation returned Gone or Again in this call, and
+/// only Again leaves the call incomplete. If an allocation fails, either no message was sent, or
+/// all were added and the conversation is as it was.
 pub fn say(
     alloc: Global,
     transaction: &mut Transaction,
@@ -59,7 +61,8 @@ pub fn say(
     }
 }
 
-/// Hands one message of at most 512 bytes to the user, as `say` does, and gives its reply.
+/// Sends one message of at most 512 bytes to the user (`pam_prompt(3)`), as `say` does, and returns
+/// its reply.
 pub fn send(
     alloc: Global,
     transaction: &mut Transaction,

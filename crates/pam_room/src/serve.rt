@@ -17,25 +17,26 @@ use data_cleanup::laws;
 use pam_base::{Code, NoMemory, SharedText};
 use std::alloc::Global;
 
-/// A line of a stack, as it is visited.
+/// A line of a stack that is run.
 #[derive(Debug, Drop)]
 pub struct StackLine {
-    /// Its place among the stack's lines, from 1.
+    /// Its number among the stack's lines, from 1.
     pub place: u32,
     /// The path of its module.
     pub path: SharedText,
-    /// The number of its module, from 0; None where it isn't there.
+    /// The number of its module, from 0; None if the module doesn't exist.
     pub module_number: Option<u32>,
 }
 
-/// Serves one line of a stack: its module serves the call, each datum that it replaced is cleaned up by its owner
-/// with `DATA_REPLACE`, and the visit is added to the trail. A line whose module isn't there is answered
-/// MODULE_UNKNOWN and changes nothing else. Where the module's conversation asked to be called again later, the
-/// answer is INCOMPLETE, whatever the module made of it.
+/// Runs one line of a stack: its module serves the call, all data that it replaced are cleaned up
+/// by their owners with `DATA_REPLACE`, and the line run is added to the trace. A line whose module
+/// doesn't exist returns MODULE_UNKNOWN and changes nothing else. If the module's conversation
+/// asked to be called again later, INCOMPLETE is returned, whatever the module made of it.
 ///
-/// With spare room in the trail it takes no memory of its own. Without memory of the module's nothing is visited,
-/// but what was replaced is cleaned up too, and the module's number is still the one at work; of what modules see of
-/// the transaction, and of the files, nothing is changed but what the module may leave then.
+/// With spare room in the trace it does not allocate itself. If an allocation of the module's
+/// fails, no line run is recorded, but replaced data are cleaned up, and the module's number is
+/// still the one at work; what modules see of the transaction and the files is what the module may
+/// leave then.
 pub fn serve_line(
     alloc: Global,
     mods: &[Box<dyn Module>],
@@ -105,7 +106,7 @@ pub fn serve_line(
     Ok(answer)
 }
 
-// The module with this number serves, and what it replaced is cleaned up.
+// The module with this number serves, and the data that it replaced are cleaned up.
 fn serve_by(
     alloc: Global,
     mods: &[Box<dyn Module>],
@@ -165,7 +166,7 @@ fn serve_by(
     Ok(unless_put_off(room.transaction.put_off, code))
 }
 
-// What a served line answers, by what its module did.
+// The code of a line that was run, by what its module did.
 fn unless_put_off(put_off: bool, code: Code) -> Code
     ensures { result ≡ answer_or_incomplete put_off code }
 {

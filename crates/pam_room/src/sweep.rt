@@ -6,8 +6,8 @@ use crate::module::Module;
 use data_cleanup::{DataList, Datum, Ledger, Receipt, laws};
 use pam_base::DATA_REPLACE;
 
-// Has the owner of each datum that was replaced clean it up, the oldest first, and files the receipts. It takes
-// no memory.
+// Has all replaced data cleaned up by their owners, the oldest first, and files the cleanup
+// records. It does not allocate.
 pub(crate) fn sweep(mods: &[Box<dyn Module>], datums: &mut DataList, ledger: &mut Ledger)
     requires { AwaitCleanup (length mods.now) ledger.old (datums.old.gone ++ datums.old.live) }
     ensures datums { datums.new ≡ swept_list datums.old }
@@ -25,8 +25,8 @@ pub(crate) fn sweep(mods: &[Box<dyn Module>], datums: &mut DataList, ledger: &mu
     }
 }
 
-// Has the owner of each datum clean it up with this status, the last name first, and files the receipts. It takes
-// no memory.
+// Has all data cleaned up by their owners with this status, the last name first, and files the
+// cleanup records. It does not allocate.
 pub(crate) fn end_data(mods: &[Box<dyn Module>], datums: DataList, ledger: &mut Ledger, status: u32)
     requires none_gone { datums.gone ≡ [] }
     requires awaiting { AwaitCleanup (length mods.now) ledger.old datums.live }

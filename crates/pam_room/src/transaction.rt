@@ -10,16 +10,16 @@ use item_store::Items;
 use pam_base::NoMemory;
 use std::alloc::Global;
 
-/// A transaction (`pam_start(3)`), but for its conversation. It holds data, so it can't be dropped.
+/// A transaction (`pam_start(3)`), without its conversation. It holds data, so it can't be dropped.
 pub struct Transaction {
     pub items: Items,
     pub env: EnvList,
     pub datums: DataList,
     /// The longest delay requested since it was last forgotten.
     pub delay: Delay,
-    /// The messages that were handed to the conversation.
+    /// The messages that were sent to the conversation.
     pub said: Messages,
-    /// The lines that were visited.
+    /// The lines that were run.
     pub trail: Visits,
     /// Its number.
     pub handle: u32,
@@ -33,7 +33,8 @@ impl Transaction {
     ghost use Rattle.pam_room.specs.Plain.{plain_transaction};
     ghost use Rattle.pam_room.specs.State.{new_transaction};
 
-    /// A transaction of this number in which nothing is set, said or visited. It takes no memory.
+    /// A transaction with this number: no item is set, no message sent, no line run. It does not
+    /// allocate.
     pub fn new(alloc: Global, handle: u32) -> Self
         ensures { plain_transaction result ≡ new_transaction handle }
     {
@@ -50,8 +51,8 @@ impl Transaction {
         }
     }
 
-    /// Sets a datum of the module at work (`pam_set_data(3)`), as `DataList::set` does. Without memory all stays as
-    /// it was.
+    /// Sets data of the module at work (`pam_set_data(3)`), as `DataList::set` does. If an
+    /// allocation fails, all stays as it was.
     pub fn set_data(
         &mut self,
         alloc: Global,

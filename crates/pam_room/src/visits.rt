@@ -4,7 +4,8 @@ use pam_base::{Code, NoMemory, SharedText};
 use std::alloc::Global;
 use std::marker::Model;
 
-/// One visit of a line: its place among the stack's lines, from 1, its module's path, and what it answered.
+/// A line that was run: its number among the stack's lines, from 1, its module's path, and its
+/// return code.
 #[derive(Debug, Drop)]
 pub struct Visit {
     pub place: u32,
@@ -12,8 +13,8 @@ pub struct Visit {
     pub answer: Code,
 }
 
-/// The lines visited, in order. Contracts see the visits, and beside them the spare room: how many more can be
-/// added without memory.
+/// The lines that were run, in order. Contracts see these, and the spare room: how many more can be
+/// added without an allocation.
 #[derive(Debug, Drop)]
 pub struct Visits {
     vec: Vec<Visit>,
@@ -30,7 +31,7 @@ impl Model for Visits {
 }
 
 impl Visits {
-    /// No visits. It takes no memory.
+    /// No line was run. It does not allocate.
     pub fn new(alloc: Global) -> Self
         ensures { result.visits ≡ [] }
     {
@@ -39,8 +40,8 @@ impl Visits {
         }
     }
 
-    /// Adds a visit at the end. With spare room it takes no memory and answers Ok. Without memory the list stays
-    /// as it was.
+    /// Adds a line at the end. With spare room it does not allocate, and succeeds. If an allocation
+    /// fails, the list is as it was.
     pub fn push(&mut self, visit: Visit) -> Result<(), NoMemory>
         ensures ok { OnOk result (self.new.visits ≡ self.old.visits ++ visit ∷ []) }
         ensures err { OnErr result (self.new.visits ≡ self.old.visits) }
@@ -51,7 +52,7 @@ impl Visits {
         Ok(())
     }
 
-    /// Makes room for n more visits. The visits stay as they were.
+    /// Makes room for n more lines. The list stays as it was.
     pub fn reserve(&mut self, n: usize) -> Result<(), NoMemory>
         ensures visits { self.new.visits ≡ self.old.visits }
         ensures ok { OnOk result (n ≤ self.new.spare) }
@@ -73,7 +74,7 @@ impl Visits {
         self.items().is_empty()
     }
 
-    /// The visit at index i, from 0.
+    /// The line at index i, from 0.
     pub fn at(&self, i: usize) -> &Visit
         requires { i < length self.now.visits }
         ensures { slice_get self.now.visits i ≡ Some result.now }

@@ -10,15 +10,15 @@ pub struct World {
     pub process: Process,
 }
 
-/// Names what a world holds and its objects tell, for contracts.
+/// Names what a world holds and what is modelled of its objects, for contracts.
 pub trait WorldTold {
     ghost use Rattle.std.specs.Prelude.{Bool};
     ghost use Rattle.pam_room.specs.State.{PlainWorld};
 
-    /// Whether the vault and the clock tell, which modules are lent.
+    /// Whether the files and the clock, which modules borrow, are modelled.
     ghost lent_tells: { Self → Bool };
 
-    /// Whether vault, clock and nap tell.
+    /// Whether files, clock and sleep are modelled.
     ghost tells: { Self → Bool };
 
     ghost plain: { Self → PlainWorld };
