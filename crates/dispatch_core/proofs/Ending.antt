@@ -1,4 +1,4 @@
--- What a walk over all lines came to, by its last turn.
+-- The result of a walk over all lines, by its last turn.
 use Rattle.std.proofs.Common.{◌≡◌, true, Option, Some, None, is_some, List, refl, sym, ◌∙◌, ap, subst}
 use Rattle.pam_base.specs.declared.code.Code.{Code}
 use Rattle.frozen_chain.specs.Kept.{Answers}

@@ -1,4 +1,4 @@
--- The answers that a pass was given.
+-- The return codes that a pass was given.
 use Rattle.std.proofs.Common.{◌≡◌, ℕ, List, [], ◌++◌, take, drop, sym, ◌∙◌, ap, append-nil}
 use Rattle.std.proofs.lemmas.List.{take-append-drop}
 use Rattle.pam_base.specs.declared.code.Code.{Code}
@@ -7,7 +7,7 @@ use Rattle.dispatch_core.specs.Given.{GivenView}
 abbrev view_of : List Code → ℕ → ℕ → GivenView
 view_of answers used room = record { taken = take used answers; past = drop used answers; room = room }
 
--- where no earlier answer is left, all of them were taken
+-- if no earlier code is left, all of them were taken
 pub all_taken : (answers : List Code) (used room : ℕ) (given : GivenView) → view_of answers used room ≡ given → given.past ≡ [] → answers ≡ given.taken
 all_taken answers used room given is none =
     let past : drop used answers ≡ [] = ap (λ (g : GivenView). g.past) is ∙ none in

@@ -1,4 +1,4 @@
--- Kept answers, by index and by place.
+-- Cached return codes, by index and by rule number.
 use Rattle.std.proofs.Common.{◌≡◌, ℕ, ◌+◌, ap, add-one}
 use Rattle.frozen_chain.specs.Kept.{Answers, answer_at}
 use Rattle.dispatch_core.specs.Passes.{by_place}

@@ -1,4 +1,4 @@
--- A line's answer, by what the chain tells of the line.
+-- A line's return code, by what the chain holds of the line.
 use Rattle.std.proofs.Common.{◌≡◌, ℕ, ◌+◌, ◌<◌, ◌≤◌, Bool, true, false, if◌then◌else◌, Option, Some, None, IfSome, Result, Ok, Err, IfOk, OnErr, List, [], ◌∷◌, ◌++◌, length, map, refl, sym, ◌∙◌, ap, subst, arith}
 use Rattle.std.proofs.lemmas.List.{length-map}
 use Rattle.std.specs.Str.{bytes_eq}
@@ -59,7 +59,7 @@ number_is : {M : Type 0} (label : M → List ℕ) (plays : M → Plays) (note : 
 number_is label plays note breaks mods stack names i number within is found =
     found ∙ module_is stack names i within ∙ ap (λ (ns : List (List ℕ)). module_of ns (rule_at stack i)) (is ∙ names_are label plays note breaks mods)
 
--- a line that found no memory is no visit, and its module was at work
+-- a line that ran out of memory isn't recorded as run, and its module was at work
 pub line_at_work : {M E : Type 0} (label : M → List ℕ) (plays : M → Plays) (note : M → Note) (breaks : M → Breaks) (mods : List M) (stack : Stack) (names : List (List ℕ)) (i : ℕ) (number : Option ℕ) (result : Result Code E) (old new : PlainTransaction)
     → i < lines_in stack → names ≡ map label mods → number ≡ module_at stack names i → OnErr result (number ≡ Some new.serving) → OnErr result (new.trail ≡ old.trail)
     → OnErr result (IsAtWork (map (player_of label plays note breaks) mods) (rule_at stack i) old new)
@@ -67,13 +67,13 @@ line_at_work label plays note breaks mods stack names i number (Ok code) old new
 line_at_work label plays note breaks mods stack names i number (Err e) old new within is found work trail =
     (sym (number_is label plays note breaks mods stack names i number within is found) ∙ work, trail)
 
--- a line that answered is the visit of its index
+-- a line that returned is recorded as the line of its index
 pub line_visited : {E : Type 0} (result : Result Code E) (stack : Stack) (i place : ℕ) (path : List ℕ) (old new : List Visit) → place ≡ i + 1 → path ≡ (rule_at stack i).path
     → IfOk result (λ code. new ≡ old ++ record { place = place; path = path; answer = code } ∷ []) → IfOk result (λ code. new ≡ old ++ visited_at stack i code ∷ [])
 line_visited (Ok code) stack i place path old new at its seen = rw (← at, ← its) seen
 line_visited (Err e) stack i place path old new at its seen = tt
 
--- what a line's module serves is the line's answer
+-- ---- what a line's module returns is the line's code
 module _ {M : Type 0} (label : M → List ℕ) (plays : M → Plays) (note : M → Note) (breaks : M → Breaks) (mods : List M) (func : Func) (flags : ℕ) (stack : Stack) (i : ℕ) where
   pub line_answered : (names : List (List ℕ)) (number : Option ℕ) (place : ℕ) (path : List ℕ) (args : List (List ℕ)) (s later : State) (code : Code)
       → i < lines_in stack → names ≡ map label mods → number ≡ module_at stack names i → place ≡ i + 1 → path ≡ (rule_at stack i).path → args ≡ (rule_at stack i).args
@@ -91,7 +91,7 @@ module _ {M : Type 0} (label : M → List ℕ) (plays : M → Plays) (note : M �
       subst (λ (a : List (List ℕ)). room.AnswersAs (serve_line players (module_of (names_of players) (rule_at stack i)) (i + 1) (rule_at stack i).path (record { func = func; flags = flags; args = a }) s) code later) given third in
       record { answer_is = fourth.answer_is; state_is = fourth.state_is }
 
-  -- whatever it answered
+  -- whatever it returned
   pub line_asked : {E : Type 0} (result : Result Code E) (names : List (List ℕ)) (number : Option ℕ) (place : ℕ) (path : List ℕ) (args : List (List ℕ)) (s later : State)
       → i < lines_in stack → names ≡ map label mods → number ≡ module_at stack names i → place ≡ i + 1 → path ≡ (rule_at stack i).path → args ≡ (rule_at stack i).args
       → IfOk result (λ code. room.AnswersAs (serve_line (map (player_of label plays note breaks) mods) number place path (record { func = func; flags = flags; args = args }) s) code later)
@@ -99,7 +99,7 @@ module _ {M : Type 0} (label : M → List ℕ) (plays : M → Plays) (note : M �
   line_asked (Ok code) names number place path args s later within is found at its given answers = line_answered names number place path args s later code within is found at its given answers
   line_asked (Err e) names number place path args s later within is found at its given answers = tt
 
-  -- what a line's module left without memory is what the module of the line may leave
+  -- what a line's module left when an allocation failed is what the module of the line may leave
   pub line_broken : {E : Type 0} (result : Result Code E) (names : List (List ℕ)) (number : Option ℕ) (args : List (List ℕ)) (s later : State)
       → i < lines_in stack → names ≡ map label mods → number ≡ module_at stack names i → args ≡ (rule_at stack i).args
       → OnErr result (LineBreaks (map (player_of label plays note breaks) mods) number (record { func = func; flags = flags; args = args }) s later)

@@ -1,4 +1,4 @@
--- What a pass that keeps has kept, as its visits grow.
+-- What a pass that caches has cached, as more of its lines are run.
 use Rattle.std.proofs.Common.{◌≡◌, ◌≢◌, ℕ, zero, suc, ◌+◌, ◌<◌, Bool, true, false, nat_eq, if◌then◌else◌, List, [], ◌∷◌, ◌++◌, length, Option, Some, None, is_some, slice_get, slice_set, inl, inr, refl, sym, ◌∙◌, ap, arith, eq-eqb, ne_eqb}
 use Rattle.std.specs.Option.{option_flatten}
 use Rattle.std.proofs.lemmas.Bool.{cases_eq}
@@ -33,7 +33,7 @@ set_other (x ∷ xs) zero (suc j) answer other = refl
 set_other (x ∷ xs) (suc i) zero answer other = refl
 set_other (x ∷ xs) (suc i) (suc j) answer other = set_other xs i j answer (λ same. other (ap suc same))
 
--- ---- visits
+-- ---- lines that were run
 
 other_if : (b : Bool) (x : Code) (first second : Option Code) → second ≡ first → (if b then Some x else second) ≡ (if b then Some x else first)
 other_if true x first second is = refl
@@ -58,7 +58,7 @@ answers-more (v ∷ vs) at answer = ap (λ (cs : List Code). v.answer ∷ cs) (a
 
 -- ---- both
 
--- what was kept and taken is of these visits, and no place from index `at` on was visited
+-- what was cached and taken is of these lines, and no line from index `at` on was run
 pub record Progress (kept : Answers) (taken : List Code) (at : ℕ) (visits : List Visit) : Type 0 where
   pub taken_is : taken ≡ answers_of visits
   pub kept_is : is_some kept ≡ true → Keeps kept visits
@@ -98,7 +98,7 @@ one_more kept new taken later at next visits answer progress room held keeps tak
   below = λ place past. kept_in-other visits (at + 1) place answer (λ same. absurd (omega (arith, same))) ∙ progress.below place (omega arith);
 }
 
--- an answer more keeps the cells
+-- one more code keeps the cells
 pub lines_kept-more : (kept : Answers) (at : ℕ) (answer : Code) → lines_kept (kept_at kept at answer) ≡ lines_kept kept
 lines_kept-more None at answer = refl
 lines_kept-more (Some cells) at answer = length-set cells at (Some answer)

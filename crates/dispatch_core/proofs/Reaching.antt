@@ -1,4 +1,4 @@
--- How far a pass has come, whatever answers come after it; and where it stops that finds no memory.
+-- How far a pass has got, whatever codes come after it; and where it stops if it runs out of memory.
 use Rattle.std.proofs.Common.{◌≡◌, ℕ, ◌+◌, ◌-◌, ◌<◌, ◌⊎◌, inl, inr, Bool, ◌&&◌, IsTrue, List, [], ◌∷◌, ◌++◌, length, append_assoc, append-nil, Option, Some, None, IfSome, refl, sym, ◌∙◌, ap, subst, arith}
 use Rattle.pam_base.specs.declared.code.Code.{Code}
 use Rattle.pam_base.specs.declared.code.Code.TheVariants as codes
@@ -21,7 +21,7 @@ use Rattle.dispatch_core.specs.Lines.{answers_by}
 use Rattle.dispatch_core.proofs.Taking.{put_off, taken}
 use Rattle.dispatch_core.proofs.Turning.{begun}
 
--- a walker that acts on an answer goes by it
+-- a walker that acts on an answer follows it
 pub goes_by : (kind : PassKind) (kept : KeptAnswers) (stack : Stack) (code : Code) (old new : Walker) → old.at < lines_in stack
     → ((l : FlatLine) → Stands stack old.at l → GoesOn kind l code (decides kind kept (old.at + 1) code) old new) → GoesBy kind kept stack code old new
 goes_by kind kept stack code old new within goes = λ rest visits.
@@ -48,8 +48,8 @@ module _ (players : List Player) (func : Func) (flags : ℕ) (stack : Stack) whe
   plays_more (v ∷ vs) i code s t u on asked = (on.0, on.1, plays_more vs i code on.0 t u on.2 asked)
 
   module _ (kind : PassKind) (kept : KeptAnswers) (given : List Code) (tells : Bool) (start : State) where
-    -- The lines that were visited since the start, and the earlier answers that were taken. Whatever answers come after
-    -- those that are left, the walk from here on goes where the whole walk goes by all of them.
+    -- The lines that were run since the start, and the earlier codes that were taken. Whatever codes come after those
+    -- that are left, the walk from here on goes where the whole walk goes with all of them.
     pub record Far (walker : Walker) (past : List Code) (now : State) : Type 0 where
       pub more : List Visited
       pub early : List Visit
@@ -166,7 +166,7 @@ module _ (players : List Player) (func : Func) (flags : ℕ) (stack : Stack) whe
         (subst (λ n. GoesSoundly (notes_of players) n now.room.transaction end.room.transaction now.world.process end.world.process) (sym count) sound) nap
         (λ told. subst (λ (t : Stack). BreaksAt players func flags t walker.at now end) same (left (tell told)))
 
--- where a pass stopped is where it stopped that took its memory first, which changed nothing that is seen
+-- where a pass stopped is where it stopped after it allocated its memory, which changed nothing that is seen
 pub stopped_as : (players : List Player) (func : Func) (flags : ℕ) (stack : Stack) (kind : PassKind) (kept : KeptAnswers) (given past : List Code) (now first world : Bool) (new old : PlainRoom) (w : PlainWorld) (end : State) (U : Type 0)
     → given ≡ past → now ≡ first → new ≡ old → StopsAt players func flags stack kind kept given (now && world) (state_of new w) end
     → U ⊎ StopsAt players func flags stack kind kept past (first && world) (state_of old w) end

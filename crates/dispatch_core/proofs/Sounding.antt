@@ -1,4 +1,4 @@
--- What a pass does in any world, over several steps.
+-- What a pass does with real objects too, over several steps.
 use Rattle.std.proofs.Common.{ℕ, List, [], ◌++◌, refl, sym, ◌∙◌, ap, append_assoc, arith}
 use Rattle.std.proofs.lemmas.List.{append-nil}
 use Rattle.pam_room.specs.data_cleanup.specs.Cleanup.{Notes}

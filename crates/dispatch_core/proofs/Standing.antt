@@ -11,7 +11,7 @@ flat_lines-count (sub inner rest) level opens =
     let still : ℕ = pending (lines_in inner) opens in
     omega (arith, length-append (flat_lines (level + 1) (opens + 1) inner) (flat_lines level still rest), flat_lines-count inner (level + 1) (opens + 1), flat_lines-count rest level still)
 
--- what stands at an index, and what follows it
+-- what is at an index, and what follows it
 pub record StandsAt (stack : Stack) (i : ℕ) : Type 0 where
   pub line : FlatLine
   pub stands : drop i (flat_lines 0 0 stack) ≡ line ∷ drop (i + 1) (flat_lines 0 0 stack)
@@ -29,7 +29,7 @@ standing stack i within =
     let x : FlatLine = get_or lines i other in
     record { line = x; stands = drop_more lines i x there ∙ ap (λ (y : FlatLine). y ∷ drop (i + 1) lines) (read_same lines i x other there) }
 
--- what is said of the line of an index is said of the line that stands there
+-- what is said of the line of an index is said of the line that is there
 pub at_line-stands : {A : Type 0} (other : A) (of : FlatLine → A) (stack : Stack) (i : ℕ) (l : FlatLine) (rest : List FlatLine)
     → drop i (flat_lines 0 0 stack) ≡ l ∷ rest → at_line other of stack i ≡ of l
 at_line-stands other of stack i l rest stands = ap (of_first other of) stands

@@ -1,4 +1,4 @@
--- One turn: the answer of a line, and where the walk is after it.
+-- One turn: the return code of a line, and where the walk is after it.
 use Rattle.std.proofs.Common.{◌≡◌, ◌+◌, ◌<◌, Option, Some, None, is_none, List, [], ◌∷◌, ◌++◌, refl, subst}
 use Rattle.pam_base.specs.declared.code.Code.{Code}
 use Rattle.control_words.specs.Stack.{Stack, lines_in}
@@ -12,7 +12,7 @@ use Rattle.dispatch_core.specs.Passes.{answer_in, visits_with}
 use Rattle.dispatch_core.proofs.Turning.{halted_there, gone_on}
 
 module _ {State : Type 0} (kind : PassKind) (serve : Serving (PassState State)) (stack : Stack) (w : Walker) (s : PassState State) (past : List Code) (visits : List Visit) (state : State) where
-  -- the line gave this answer, or put the pass off
+  -- the line gave this code, or left the pass incomplete
   abbrev pub Gave : Option Code → Code → Type 0
   Gave answer deciding = ServedAs (serve (rule_at stack w.at) (w.at + 1) s) (answer_in answer) deciding (is_none answer) (pass_state past (visits_with visits (w.at + 1) answer) state)
 

@@ -1,4 +1,4 @@
--- What tells at first tells later on.
+-- What is modelled at first is modelled later on.
 use Rattle.std.proofs.Common.{◌≡◌, Bool, ◌&&◌, IsTrue}
 
 pub both_tell : (a b c d : Bool) → a ≡ b → c ≡ d → IsTrue (b && d) → IsTrue (a && c)

@@ -73,7 +73,7 @@ pub goes_ahead : (stack : Stack) (a : Action) (i next : ℕ) (new opinion : Opin
 goes_ahead stack a i next new opinion within goes = let at = standing stack i within in omega (arith, (goes at.line at.stands).next_is)
 
 module _ {State : Type 0} (kind : PassKind) (serve : Serving State) where
-  -- the first line is put off
+  -- the first line is incomplete
   halts : (stack : Stack) (i : ℕ) (sp : FlatLine) (f : Entries) (o : Opinion) (s : State) → Stands stack i sp → (serve sp.rule (i + 1) s).stopped ≡ true
       → run_from kind serve stack i f o s ≡ halted o (serve sp.rule (i + 1) s).state
   halts stack i sp f o s stands is = rw (stands, is) refl
@@ -100,7 +100,7 @@ module _ {State : Type 0} (kind : PassKind) (serve : Serving State) where
       ∙ ap (λ (xs : List FlatLine). run kind serve xs 0 (i + 1 + 1 + k) g (settled a left new) v.state) (drop-drop k (i + 1) (flat_lines 0 0 stack))
       ∙ ap (λ n. run kind serve (drop (i + 1 + k) (flat_lines 0 0 stack)) 0 n g (settled a left new) v.state) (let e : i + 1 + 1 + k ≡ i + 1 + k + 1 = omega arith in e)
 
-  -- the line that stands where a walker is, served
+  -- the line where a walker is, run
   served_line : (stack : Stack) (i : ℕ) (l : FlatLine) (s s' : State) (answer deciding : Code) (stopped : Bool)
       → Stands stack i l → ServedAs (serve (rule_at stack i) (i + 1) s) answer deciding stopped s' → ServedAs (serve l.rule (i + 1) s) answer deciding stopped s'
   served_line stack i l s s' answer deciding stopped stands served =

@@ -64,7 +64,7 @@ module _ {State : Type 0} (kind : PassKind) (serve : Serving State) where
   onward_is (after n) rest at entry o s = refl
   onward_is stop rest at entry o s = sym (all_passed rest at entry o s)
 
-  -- where a walk has ended: put off, or on to the lines that follow
+  -- where a walk has ended: incomplete, or on to the lines that follow
   abbrev behind : Walked State → List FlatLine → ℕ → Entries → Walked State
   behind w more at f = if w.stopped then w else run kind serve more 0 at f w.opinion w.state
 
@@ -87,7 +87,7 @@ module _ {State : Type 0} (kind : PassKind) (serve : Serving State) where
     goes = lands.goes ∙ ap (λ n. behind w more n lands.entries) place;
   }
 
-  -- a line that may put off
+  -- a line that may be incomplete
   lands_if : (b : Bool) (start w : Walked State) (lines level opens at : ℕ) (o : Opinion) (f : Entries) (more : List FlatLine) (s : State)
       → Lands start w lines level opens at o f more → Lands (if b then halted o s else start) (if b then halted o s else w) lines level opens at o f more
   lands_if true start w lines level opens at o f more s lands = record { entries = f; kept = λ on. absurd (true≢false on); goes = refl }

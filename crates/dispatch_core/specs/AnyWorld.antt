@@ -1,4 +1,5 @@
--- What a pass does to a transaction and to what its process shares in any world, also without memory.
+-- What a pass does to a transaction and to what its process shares, with real objects too and even if an allocation
+-- fails.
 use Rattle.std.specs.Prelude.{◌≡◌, ℕ, List, ◌++◌}
 use Rattle.pam_room.specs.data_cleanup.specs.Cleanup.{Notes}
 use Rattle.pam_room.specs.data_cleanup.specs.Grows.{Grows}
@@ -6,7 +7,7 @@ use Rattle.pam_room.specs.State.{PlainTransaction, PlainProcess}
 use Rattle.pam_room.specs.Stays.{Stays}
 use Rattle.pam_room.specs.declared.visits.Visit.{Visit}
 
--- what modules may not change stays, visits are only added, and the data and the ledger grow
+-- what modules may not change stays, lines run are only added, and the data and the cleanup log grow
 pub record GoesSoundly (note : Notes) (modules : ℕ) (old new : PlainTransaction)
     (before after : PlainProcess) : Type 0 where
   pub stays : Stays old new before after

@@ -1,5 +1,6 @@
--- The passes of the six calls that run a stack, whatever its lines answer by: which stacks they go over, what they
--- keep and follow, how they are put off and go on (the Module Writers' Guide; putting off is this project's own).
+-- The passes of the six calls that run a stack, whatever the objects: which stacks they run, what they cache and
+-- follow, how they are left incomplete and resumed (the Module Writers' Guide; INCOMPLETE with a resumption is this
+-- project's own).
 use Rattle.std.specs.Prelude.{Bool, true, false, List, [], Option, Some, None}
 use Rattle.pam_base.specs.declared.code.Code.{Code}
 use Rattle.pam_base.specs.declared.code.Code.TheVariants as codes
@@ -15,24 +16,24 @@ use Rattle.service_load.specs.Stacks.{Stacks}
 use Rattle.dispatch_core.specs.Passes.{paused_after}
 use Rattle.dispatch_core.specs.Pending.{Pending, pending_behind, past_in, first_in}
 
--- the answer that is kept for a place; where nothing is held there is none
+-- the cached code of a line; None if nothing is held
 abbrev pub answers_held : Option KeptAnswers → KeptAnswers
 answers_held None place = None
 answers_held (Some kept) place = kept place
 
--- what is kept after a pass: its own answers, what was kept before, nothing
+-- what is cached after a pass: its own codes, what was cached before, or nothing
 abbrev pub kept_behind : PassKind → List Visit → Option KeptAnswers → Option KeptAnswers
 kept_behind kinds.Keep visits kept = Some (kept_in visits)
 kept_behind kinds.Follow visits kept = kept
 kept_behind kinds.Loose visits kept = None
 
--- a pass that goes by kept answers, where any are held
+-- a pass by cached codes, if any are held
 abbrev pub following : Option KeptAnswers → PassKind
 following None = kinds.Loose
 following (Some kept) = kinds.Follow
 
--- what a transaction holds between its calls: what the last authentication and the last opening of a session kept,
--- and the call that is pending
+-- what a transaction holds between its calls: what the last authenticate and the last open_session cached, and the
+-- pending call
 pub record Held : Type 0 where
   pub authenticated : Option KeptAnswers
   pub opened : Option KeptAnswers
@@ -48,7 +49,7 @@ held authenticated opened pending = record {
 abbrev pub nothing_held : Held
 nothing_held = held None None None
 
--- a pass's code, what is kept after it, the answers that it was given where it was put off, and the state after it
+-- a pass's code, what is cached after it, the codes that it was given if it is incomplete, and the state after it
 pub record Passed (State : Type 0) : Type 0 where
   pub code : Code
   pub kept : Option KeptAnswers
@@ -64,9 +65,8 @@ passed_by kind kept w = record {
   state = w.state.state;
 }
 
--- what is held after a pass of a call: what an authentication and an opening of a session keep, and those that follow
--- them leave, and the call, where it was put off; `first` is what the first pass of a change of token kept, where
--- this is its second
+-- what is held after a pass of a call: what authenticate and open_session cache, and the calls that follow them leave,
+-- and the call, if it is incomplete; `first` is what the first pass of chauthtok cached, if this is its second
 abbrev pub held_behind : {State : Type 0} → Func → Option KeptAnswers → Passed State → Held → Held
 held_behind Authenticate first p h =
     held p.kept h.opened (pending_behind Authenticate first p.paused)
@@ -77,7 +77,7 @@ held_behind CloseSession first p h =
     held h.authenticated p.kept (pending_behind CloseSession first p.paused)
 held_behind func first p h = held h.authenticated h.opened (pending_behind func first p.paused)
 
--- what a call came to
+-- the result of a call
 pub record Went (State : Type 0) : Type 0 where
   pub code : Code
   pub held : Held
@@ -86,7 +86,7 @@ pub record Went (State : Type 0) : Type 0 where
 abbrev pub went : {State : Type 0} → Code → Held → State → Went State
 went code h s = record { code = code; held = h; state = s }
 
--- how lines answer a function of the modules; in a change of token, whether in its second pass
+-- what lines return for a function of the modules; in chauthtok, whether in its second pass
 abbrev pub Asking : Type 0 → Type 0
 Asking State = Func → Bool → Answering State
 
@@ -96,8 +96,8 @@ module _ {State : Type 0} (asking : Asking State) (stacks : Stacks) where
   passes func second kind kept stack past s =
       passed_by kind kept (pass_after kind (answers_held kept) (asking func second) stack past s)
 
-  -- the first pass of a call, after the answers that it was given in its earlier calls: over which stack, of which
-  -- kind, and by which kept answers
+  -- the first pass of a call, after the codes of its earlier calls: over which stack, of which kind, and by which
+  -- cached codes
   abbrev pub first_pass : Func → List Code → Held → State → Passed State
   first_pass Authenticate past h s =
       passes Authenticate false kinds.Keep h.authenticated stacks.auth past s
@@ -110,7 +110,7 @@ module _ {State : Type 0} (asking : Asking State) (stacks : Stacks) where
       passes CloseSession false (following h.opened) h.opened stacks.session past s
   first_pass ChAuthTok past h s = passes ChAuthTok false kinds.Keep None stacks.password past s
 
-  -- the second pass of a change of token, which follows the first
+  -- the second pass of chauthtok, which follows the first
   abbrev pub second_pass : Option KeptAnswers → List Code → State → Passed State
   second_pass first past s = passes ChAuthTok true kinds.Follow first stacks.password past s
 
@@ -125,7 +125,7 @@ module _ {State : Type 0} (asking : Asking State) (stacks : Stacks) where
       let p = second_pass first past s in
       went p.code (held_behind ChAuthTok first p h) p.state
 
-  -- the second pass follows where the first gave SUCCESS
+  -- the second pass follows if the first returned SUCCESS
   abbrev pub behind_check : Code → Option KeptAnswers → Held → State → Went State
   behind_check codes.Success kept h s = update kept [] h s
   behind_check code kept h s = went code h s
@@ -139,7 +139,7 @@ module _ {State : Type 0} (asking : Asking State) (stacks : Stacks) where
   change past None h s = check past h s
   change past (Some first) h s = update (Some first) past h s
 
-  -- after the answers that it was given in its earlier calls
+  -- after the codes of its earlier calls
   abbrev pub call_after : Func → List Code → Option KeptAnswers → Held → State → Went State
   call_after ChAuthTok past first h s = change past first h s
   call_after func past first h s = one_pass func past h s

@@ -1,4 +1,4 @@
--- A pass that found no memory: how far it had come, and what was done by then (this project's own).
+-- A pass that ran out of memory: how far it had got, and what was done by then (this project's own).
 use Rattle.std.specs.Prelude.{◌≡◌, ◌⊎◌, ℕ, ◌+◌, ◌-◌, Bool, IsTrue, List, [], ◌∷◌, ◌++◌, length, Option, Some, None}
 use Rattle.pam_base.specs.declared.code.Code.{Code}
 use Rattle.pam_base.specs.declared.code.Code.TheVariants as codes
@@ -20,16 +20,16 @@ use Rattle.dispatch_core.specs.declared.walker.Walker.{Walker}
 use Rattle.dispatch_core.specs.Index.{walk_on}
 use Rattle.dispatch_core.specs.Lines.{answers_by, call_of, names_of}
 
--- a line that isn't asked: it puts the pass off there, and its place is noted
+-- a line that isn't run: it leaves the pass incomplete there, and its rule number is recorded
 abbrev pub unasked : Answering (Option ℕ)
 unasked rule place noted = record { answer = codes.Incomplete; state = Some place }
 
--- the visits of a trail, as those of a walk
+-- the lines run in a trace, as those of a walk
 abbrev pub visits_in : List Visited → List Visit
 visits_in [] = []
 visits_in (v ∷ vs) = visit v.place v.answer ∷ visits_in vs
 
--- the visit of the line of an index
+-- the line of an index, as run
 abbrev pub visited_at : Stack → ℕ → Code → Visited
 visited_at stack i answer = record {
   place = i + 1;
@@ -37,12 +37,12 @@ visited_at stack i answer = record {
   answer = answer;
 }
 
--- the module of a rule was at work, and its line is no visit
+-- the module of a rule was at work, and its line isn't recorded as run
 abbrev pub IsAtWork : List Player → Rule → PlainTransaction → PlainTransaction → Type 0
 IsAtWork players rule old new = (module_of (names_of players) rule ≡ Some new.serving)
     × (new.trail ≡ old.trail)
 
--- Where a walker goes by an answer that was given, whatever answers come after it.
+-- Where a walker goes with a code that was given, whatever codes come after it.
 abbrev pub GoesBy : PassKind → KeptAnswers → Stack → Code → Walker → Walker → Type 0
 GoesBy kind kept stack code old new = (rest : List Code) (visits : List Visit)
     → walk_on kind (serving kind kept unasked) stack old (pass_state (code ∷ rest) visits None)
@@ -50,7 +50,7 @@ GoesBy kind kept stack code old new = (rest : List Code) (visits : List Visit)
     (pass_state rest (visits ++ visit (old.at + 1) code ∷ []) None)
 
 module _ (players : List Player) (func : Func) (flags : ℕ) (stack : Stack) where
-  -- lines were visited one after another, each of which answered as its module plays
+  -- lines were run one after another, each of which returned what its module's definition says
   abbrev pub PlayOn : List Visited → State → State → Type 0
   PlayOn [] s t = t ≡ s
   PlayOn (v ∷ vs) s t =
@@ -58,7 +58,7 @@ module _ (players : List Player) (func : Func) (flags : ℕ) (stack : Stack) whe
       × AnswersAs (answers_by players func flags (rule_at stack (v.place - 1)) v.place s) v.answer u
       × PlayOn vs u t
 
-  -- the line of an index was asked, after all answers that earlier calls were given
+  -- the line of an index was run, after all codes of earlier calls
   pub record IsAsked (tells : Bool) (i : ℕ) (code : Code) (past left : List Code) (s t : State) :
       Type 0 where
     pub none_before : past ≡ []
@@ -68,20 +68,20 @@ module _ (players : List Player) (func : Func) (flags : ℕ) (stack : Stack) whe
     pub told : IsTrue tells →
         AnswersAs (answers_by players func flags (rule_at stack i) (i + 1) s) code t
 
-  -- a line's answer is the next of those that earlier calls were given, and nothing was done; or it was asked
+  -- a line's code is the next of those of earlier calls, and nothing was done; or it was run
   abbrev pub Takes : Bool → ℕ → Code → List Code → List Code → State → State → Type 0
   Takes tells i code past left s t = ((past ≡ code ∷ left) × (t ≡ s))
       ⊎ IsAsked tells i code past left s t
 
-  -- the line of an index was asked and found no memory: what is seen then of the room, and the files, are what its
+  -- the line of an index was run and ran out of memory: what is seen then of the room, and the files, are what its
   -- module may leave
   abbrev pub BreaksAt : ℕ → State → State → Type 0
   BreaksAt i old new =
       LineBreaks players (module_of (names_of players) (rule_at stack i))
       (call_of func flags (rule_at stack i)) old new
 
-  -- Since a state, nothing was done but what the module of this line may do that finds no memory: it left what it may
-  -- leave then, and kept what modules keep. No line was visited, and nobody waited.
+  -- Since a state, only this was done: the module of this line ran out of memory, left what it may leave then, and kept
+  -- what modules keep. No line was recorded as run, and there was no sleep.
   pub record IsBroken (i : ℕ) (middle end : State) : Type 0 where
     pub left : BreaksAt i middle end
     pub sound : GoesSoundly (notes_of players) (length players) middle.room.transaction
@@ -89,10 +89,10 @@ module _ (players : List Player) (func : Func) (flags : ℕ) (stack : Stack) whe
     pub trail : end.room.transaction.trail ≡ middle.room.transaction.trail
     pub nap : end.world.nap ≡ middle.world.nap
 
-  -- Where a pass stopped, after the answers that its earlier calls were given. The lines that it visited are those
-  -- that its stack leads to by their answers, one after another, and the next that it leads to is the line of this
-  -- index, whose module was at work. Where all tells, each visited line answered as its module plays, and all that
-  -- was done since is that module's, which left what it may leave without memory.
+  -- Where a pass stopped, after the codes of its earlier calls. The lines that it ran are those that its stack leads to
+  -- by their codes, one after another, and the next that it leads to is the line of this index, whose module was at
+  -- work. If all objects are modelled, each of these lines returned what its module's definition says, and all that was
+  -- done since is that module's, which left what it may leave when an allocation fails.
   pub record StopsAt (kind : PassKind) (kept : KeptAnswers) (past : List Code) (tells : Bool)
       (start end : State) : Type 0 where
     pub more : List Visited

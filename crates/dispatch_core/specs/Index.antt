@@ -1,4 +1,4 @@
--- The walk by index: over the lines of a stack in written order, with the opinions at the entries of lists by level.
+-- The walk by index: over the lines of a stack in written order, with the states at the entries of lists by level.
 use Rattle.std.specs.Prelude.{◌≡◌, ℕ, zero, suc, ◌+◌, if◌then◌else◌, List, [], ◌∷◌, drop}
 use Rattle.pam_base.specs.declared.code.Code.{Code}
 use Rattle.control_words.specs.declared.control.Action.{Action}
@@ -12,12 +12,12 @@ use Rattle.stack_walk.specs.Walk.{Serving, Walked, walked, halted, Next, after, 
 use Rattle.dispatch_core.specs.declared.walker.Walker.{Walker}
 use Rattle.dispatch_core.specs.EntryStates.{Entries, entry_at, entered}
 
--- how many of the nodes that are left behind a line are passed over
+-- how many of the nodes that are left after a line are skipped
 abbrev pub passed : Next → ℕ → ℕ
 passed (after n) left = n
 passed stop left = left
 
--- with n lines at the front passed over
+-- with the first n lines skipped
 abbrev pub run : {State : Type 0} → PassKind → Serving State → List FlatLine → ℕ → ℕ → Entries
     → Opinion → State → Walked State
 run kind serve [] skip at entries opinion state = walked opinion state
@@ -45,7 +45,7 @@ abbrev pub walk_on : {State : Type 0} → PassKind → Serving State → Stack �
 walk_on kind serve stack walker state =
     run_from kind serve stack walker.at (entry_at walker.entries) walker.opinion state
 
--- a line stands at an index
+-- a line is at an index
 abbrev pub Stands : Stack → ℕ → FlatLine → Type 0
 Stands stack i line = drop i (flat_lines 0 0 stack) ≡ line ∷ drop (i + 1) (flat_lines 0 0 stack)
 
@@ -56,14 +56,14 @@ pub record LeadsTo (action : Action) (rest : Stack) (new : Opinion) (i : ℕ) (o
   pub next_is : next ≡ i + 1
       + lines_in_first (passed (next_of action (count rest) new) (count rest)) rest
 
--- the opinion that the action of a line comes to
+-- the state after the action of a line
 abbrev pub opinion_after : PassKind → FlatLine → Code → Code → Walker → Opinion
 opinion_after kind line answer deciding walker =
     acted kind (action_at line.rule.control deciding) answer deciding
     (entered line.level line.opens walker.opinion (entry_at walker.entries) line.level)
     walker.opinion
 
--- a walker acts on its line, which has answered
+-- a walker acts on its line, which has returned
 pub record GoesOn (kind : PassKind) (line : FlatLine) (answer deciding : Code)
     (old new : Walker) : Type 0 where
   pub entries : (k : ℕ) → entry_at new.entries k

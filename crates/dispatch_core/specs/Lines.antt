@@ -1,4 +1,4 @@
--- How the lines of a stack answer a call of modules (pam.conf(5), Linux-PAM Module Writers' Guide).
+-- What the lines of a stack return for a call of modules (pam.conf(5), Linux-PAM Module Writers' Guide).
 use Rattle.std.specs.Prelude.{ℕ, List, map}
 use Rattle.pam_base.specs.declared.call.Func.{Func}
 use Rattle.control_words.specs.declared.nodes.Rule.{Rule}
@@ -16,7 +16,7 @@ names_of players = map (λ (p : Player). p.name) players
 abbrev pub call_of : Func → ℕ → Rule → PlainCall
 call_of func flags rule = record { func = func; flags = flags; args = rule.args }
 
--- the line of a rule at a place is visited: the first player that its path names serves the call
+-- the line of a rule with this number is run: the first player that its path names serves the call
 abbrev pub answers_by : List Player → Func → ℕ → Answering State
 answers_by players func flags rule place s =
     let a = serve_line players (module_of (names_of players) rule) place rule.path

@@ -15,12 +15,12 @@ use Rattle.dispatch_core.specs.declared.walker.Walker.{Walker}
 use Rattle.dispatch_core.specs.Given.{GivenView}
 use Rattle.dispatch_core.specs.Index.{walk_on}
 
--- kept answers by the places of lines, which count from 1
+-- cached codes by rule number, from 1
 abbrev pub by_place : Answers → KeptAnswers
 by_place kept zero = None
 by_place kept (suc i) = answer_at kept i
 
--- ---- one turn: a line gave an answer, or None where it put the pass off
+-- ---- one turn: a line returned a code, or None if it left the pass incomplete
 
 abbrev pub answer_in : Option Code → Code
 answer_in None = codes.Incomplete
@@ -50,19 +50,19 @@ turned kind serve stack (Some answer) opinion walker state = walk_on kind serve 
 
 -- ---- all turns
 
--- the verdict of a walk, or None where it was put off
+-- the code of a walk, or None if it is incomplete
 abbrev pub end_of : {State : Type 0} → Walked State → Option Code
 end_of w = if w.stopped then None else Some (verdict w.opinion)
 
--- cells have the answers of visits
+-- cells have the codes of lines that were run
 abbrev pub Keeps : Answers → List Visit → Type 0
 Keeps kept visits = (place : ℕ) → by_place kept place ≡ kept_in visits place
 
--- cells are open, and have the answers of visits
+-- cells are open, and have the codes of lines that were run
 abbrev pub KeepsAll : Answers → List Visit → Type 0
 KeepsAll kept visits = (is_some kept ≡ true) × Keeps kept visits
 
--- what a walk over all lines gave, kept and took is that of a walk
+-- what a walk over all lines gave, cached and took is that of a walk
 pub record WalksAs {State : Type 0} (w : Walked (PassState State)) (ended : Option Code)
     (kept : Answers) (given : GivenView) (state : State) : Type 0 where
   pub end_is : ended ≡ end_of w
@@ -70,11 +70,11 @@ pub record WalksAs {State : Type 0} (w : Walked (PassState State)) (ended : Opti
   pub taken_is : given.taken ≡ answers_of w.state.visits
   pub state_is : state ≡ w.state.state
 
--- the answers to go on after, where a pass was put off
+-- the codes to resume with, if a pass is incomplete
 abbrev pub paused_after : {State : Type 0} → Walked (PassState State) → Option (List Code)
 paused_after w = if w.stopped then Some (answers_of w.state.visits) else None
 
--- a code, the answers kept in a pass that keeps, what is paused and a state are those of a walk
+-- a code, the codes cached in a pass that caches, what is paused and a state are those of a walk
 pub record PassesAs {State : Type 0} (kind : PassKind) (w : Walked (PassState State)) (code : Code)
     (kept : Answers) (paused : Option (List Code)) (state : State) : Type 0 where
   pub code_is : code ≡ code_of w
@@ -82,24 +82,24 @@ pub record PassesAs {State : Type 0} (kind : PassKind) (w : Walked (PassState St
   pub paused_is : paused ≡ paused_after w
   pub state_is : state ≡ w.state.state
 
--- what is kept after a pass: the answers of its visits, what was kept before, nothing
+-- what is cached after a pass: the codes of its lines, what was cached before, or nothing
 abbrev pub KeepsAfter : PassKind → List Visit → Answers → Answers → Type 0
 KeepsAfter kinds.Keep visits old new = KeepsAll new visits
 KeepsAfter kinds.Follow visits old new = new ≡ old
 KeepsAfter kinds.Loose visits old new = new ≡ None
 
--- what is kept after want of memory
+-- what is cached after an allocation failed
 abbrev pub kept_failed : PassKind → Answers → Answers
 kept_failed kinds.Keep old = None
 kept_failed kind old = old
 
--- what is kept after a pass that has answered or not, where `keeps` are its own answers
+-- what is cached after a pass that has returned a code or not, if `keeps` are its own codes
 abbrev pub kept_behind : PassKind → Bool → Answers → Answers → Answers
 kept_behind kinds.Keep answered keeps old = if answered then keeps else None
 kept_behind kinds.Follow answered keeps old = old
 kept_behind kinds.Loose answered keeps old = if answered then None else old
 
--- a code, what is kept, what is paused and a state are those of a pass
+-- a code, what is cached, what is paused and a state are those of a pass
 pub record LeavesAs {State : Type 0} (kind : PassKind) (w : Walked (PassState State))
     (before : Answers) (code : Code) (kept : Answers) (paused : Option (List Code))
     (state : State) : Type 0 where

@@ -5,7 +5,8 @@ ghost use Rattle.dispatch_core.specs.EntryStates.{entry_at, entered};
 use stack_walk::Opinion;
 use std::marker::Model;
 
-/// The opinions with which the lists round a line were entered, by how many substacks are round them: 0 to 16.
+/// The states of the stack in which the lists around a line were entered, by how many substacks are
+/// around them: 0 to 16.
 #[derive(Clone, Copy, Debug)]
 pub struct EntryStates {
     opinions: [Opinion; 17],
@@ -32,7 +33,7 @@ impl EntryStates {
         }
     }
 
-    /// The innermost n lists round a line of this level are entered with an opinion.
+    /// The innermost n lists around a line of this level are entered with a state.
     pub fn enter(&mut self, level: usize, opens: usize, opinion: Opinion)
         requires deep { level ≤ 16 }
         requires opens { opens ≤ level }
@@ -42,7 +43,7 @@ impl EntryStates {
         enter_lists(&mut self.opinions, level, opens, opinion);
     }
 
-    /// The opinion with which a list of this level was entered.
+    /// The state with which a list of this level was entered.
     pub fn at(&self, level: usize) -> Opinion
         requires { level ≤ 16 }
         ensures { result ≡ entry_at self.now level }

@@ -6,7 +6,8 @@ use pam_base::{Code, NoMemory};
 use std::alloc::Global;
 use std::marker::Model;
 
-/// The answers that a pass was given: those of its earlier calls, which come first again, and those of this one.
+/// The return codes that a pass was given: those of its earlier calls, which come first again, and
+/// those of this one.
 #[derive(Drop)]
 pub struct Given {
     answers: Vec<Code>,
@@ -29,8 +30,8 @@ impl Model for Given {
 }
 
 impl Given {
-    /// Goes on where a pass was put off, or begins anew, with room for the answers of n lines. After it no pass
-    /// is put off, also without memory.
+    /// Resumes an incomplete pass, or begins a new one, with room for the codes of n lines. After
+    /// it no pass is incomplete, even if an allocation fails.
     pub fn resume(alloc: Global, paused: &mut Paused, lines: usize) -> Result<Self, NoMemory>
         ensures past { IfOk result (λ given. given.past ≡ past_of paused.old) }
         ensures taken { IfOk result (λ given. given.taken ≡ []) }
@@ -42,7 +43,7 @@ impl Given {
         Ok(Given { answers, used: 0 })
     }
 
-    /// Takes the next answer that an earlier call was given, if one is left.
+    /// Takes the next code of an earlier call, if one is left.
     pub fn next(&mut self) -> Option<Code>
         ensures first { IfSome result (λ answer. self.old.past ≡ answer ∷ self.new.past) }
         ensures taken { IfSome result (λ answer. self.new.taken ≡ self.old.taken ++ answer ∷ []) }
@@ -55,7 +56,7 @@ impl Given {
         Some(answer)
     }
 
-    /// Adds the answer of a line that was asked. It takes no memory.
+    /// Adds the code of a line that was run. It does not allocate.
     pub fn add(&mut self, answer: Code)
         requires past { self.old.past ≡ [] }
         requires room { 0 < self.old.room }
@@ -67,7 +68,7 @@ impl Given {
         self.used += 1;
     }
 
-    /// The answers to go on after, where the pass was put off.
+    /// The codes to resume with, if the pass is incomplete.
     pub fn pause(self) -> Paused
         requires { self.past ≡ [] }
         ensures { result ≡ Some self.taken }

@@ -1,7 +1,9 @@
-//! One pass over a stack that was laid flat, by the indices of its lines: each line's module serves the call, and the
-//! walker goes on where the line's list goes on. Whatever the modules do, the pass is the walk over the nested stack.
+//! One pass over a flattened stack, libpam's `_pam_dispatch`: each line's module serves the call,
+//! and the walker goes on where the line's list does. Whatever the modules do, the pass is the walk
+//! over the nested stack of `stack_walk`.
 //!
-//! Begin at pass.rt; turn.rt is one line, and walker.rt with onward.rt decides where the pass goes on after it.
+//! Begin at pass.rt; turn.rt is one line, and walker.rt with onward.rt decides where the pass goes
+//! on after it.
 #![tactic(auto)]
 
 mod entry_states;

@@ -18,7 +18,7 @@ use pam_base::{Code, NoMemory};
 use pam_room::{Call, Module, Room, RoomTold, StackLine, World, WorldTold, serve_line};
 use std::alloc::Global;
 
-/// Visits line i: the module that its path names serves the call. It takes no memory but the module's.
+/// Runs line i: the module that its path names serves the call. Only the module may allocate.
 pub fn ask_line(
     alloc: Global,
     chain: &Chain,
@@ -70,8 +70,8 @@ pub fn ask_line(
     ensures ready { IsReady (length mods.now) (plain_transaction room.new.transaction)
         (plain_process world.new.process) }
 {
-    // It does nothing at run time: its contract says that a stack has fewer than 4,097 lines, and that a chain is made
-    // for fewer than 2^32 modules.
+    // A law, with nothing to do at run time: a stack has fewer than 4,097 lines, and a chain is
+    // made for fewer than 2^32 modules.
     let _few = chain.len();
     let line = StackLine {
         place: i as u32 + 1,

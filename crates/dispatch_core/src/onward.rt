@@ -7,14 +7,14 @@ use control_words::Action;
 use handler_chain::Chain;
 use stack_walk::Opinion;
 
-/// Where a list goes on after a line, and with what opinion.
+/// Where a list goes on after a line, and in what state.
 #[derive(Clone, Copy)]
 pub struct Onward {
     pub opinion: Opinion,
     pub next: usize,
 }
 
-/// Where the list of a line goes on after it, after an action that came to an opinion.
+/// Where the list of a line goes on after it, after an action that led to a state.
 pub fn onward_from(chain: &mut Chain, i: usize, action: Action, new: Opinion) -> Onward
     requires within { i < lines_in chain.old.nodes }
     requires few { i < 4096 }

@@ -26,7 +26,7 @@ use pam_room::{Module, Room, RoomTold, World, WorldTold};
 use stack_walk::PassKind;
 use std::alloc::Global;
 
-// Walks a stack from its first line. None where the walk is put off, else its verdict.
+// Walks a stack from its first line. Returns its code, or None if the walk is incomplete.
 fn walk(
     alloc: Global,
     chain: &mut Chain,
@@ -104,7 +104,7 @@ fn walk(
     Ok(Some(walker.opinion.verdict()))
 }
 
-// Takes all memory, walks the stack, and pauses where the walk is put off.
+// Allocates everything, walks the stack, and pauses if the walk is incomplete.
 fn walk_all(
     alloc: Global,
     chain: &mut Chain,
@@ -180,7 +180,7 @@ fn walk_all(
     }
 }
 
-// What stays kept after a pass that has answered, or for which there was no memory.
+// What stays cached after a pass that has ended, or for which an allocation failed.
 fn keep_answers(kind: PassKind, kept: &mut Kept, keeps: Kept, answered: bool)
     ensures { kept.new ≡ kept_behind kind answered keeps kept.old }
 {
@@ -192,16 +192,18 @@ fn keep_answers(kind: PassKind, kept: &mut Kept, keeps: Kept, answered: bool)
     }
 }
 
-/// One pass over a stack (`pam.conf(5)`): the module of each line that it comes to serves the call,
-/// and the visit is added to the trail. It acts by the answers that are kept, where it follows, and
-/// goes on after those of the call that it was put off in. Its code is INCOMPLETE where a line
-/// puts it off; then the answers that it was given are paused, and after no other code are any.
-/// After a pass that keeps, its answers are kept; after a loose one none are.
+/// One pass over a stack (`pam.conf(5)`; libpam: `_pam_dispatch` and `_pam_dispatch_aux`): the
+/// module of each line on its way serves the call, and the line run is added to the trace. A pass
+/// that follows acts by the cached return codes; an incomplete one is resumed after the lines that
+/// it ran. The code is INCOMPLETE if a line is; then the codes of the pass are paused, and after
+/// any other code none are. After a pass that caches, its codes are cached; after one that neither
+/// caches nor follows, none are.
 ///
-/// It takes all memory of its own before the first module serves. So after want of memory either nothing happened at
-/// all, or lines were visited as the stack leads to them, and the module of the next one found none: where all tells,
-/// items, environment, conversation, files and the like are then what that module may leave. A pass that keeps has
-/// nothing kept then, any other leaves what was kept, nothing is paused, and no datum waits for its cleanup.
+/// It allocates everything that it needs itself before the first module serves. `NoMemory`
+/// therefore means one of two things: either nothing happened, or the pass stopped in a module that
+/// ran out of memory; with modelled objects, the state is then one that this module's `breaks`
+/// allows. After it a pass that caches has nothing cached, any other leaves what was cached,
+/// nothing is paused, and all replaced data have been cleaned up.
 pub fn dispatch(
     alloc: Global,
     chain: &mut Chain,

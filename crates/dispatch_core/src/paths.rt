@@ -8,7 +8,8 @@ use std::alloc::Global;
 use std::marker::Model;
 use std::mem;
 
-/// Shares of the paths of a chain's lines, by their indices, so that a visit takes no memory for its path.
+/// Shares of the paths of a chain's lines, by their indices, so that running a line does not
+/// allocate for its path.
 #[derive(Drop)]
 pub struct Paths {
     texts: Vec<SharedText>,
@@ -33,7 +34,7 @@ impl Paths {
         Ok(Paths { texts })
     }
 
-    /// Takes the path of line i, and leaves an empty one in its place. It takes no memory.
+    /// Takes the path of line i, and leaves an empty one in its place. It does not allocate.
     pub fn take(&mut self, i: usize) -> SharedText
         requires { i < length self.old }
         ensures path { result ≡ path_in self.old i }

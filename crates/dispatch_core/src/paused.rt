@@ -5,7 +5,8 @@ use pam_base::Code;
 use std::alloc::Global;
 use std::marker::Model;
 
-/// The answers that were given to a pass that was put off, over all its calls so far, or none where no pass is put off.
+/// The return codes in an incomplete pass, over all its calls so far; none if no pass is
+/// incomplete.
 #[derive(Debug, Drop)]
 pub struct Paused {
     answers: Option<Vec<Code>>,
@@ -21,14 +22,14 @@ impl Model for Paused {
 }
 
 impl Paused {
-    /// No pass is put off. It takes no memory.
+    /// No pass is incomplete. It does not allocate.
     pub fn none() -> Self
         ensures { result ≡ None }
     {
         Paused { answers: None }
     }
 
-    /// Whether no pass is put off.
+    /// Whether no pass is incomplete.
     pub fn is_none(&self) -> bool
         ensures { result ≡ is_none self.now }
     {
@@ -43,7 +44,7 @@ impl Paused {
         }
     }
 
-    // The answers to go on after; after it no pass is put off.
+    // The codes to resume with; after it no pass is incomplete.
     pub(crate) fn take(&mut self, alloc: Global) -> Vec<Code>
         ensures answers { result.items ≡ past_of self.old }
         ensures none { self.new ≡ None }

@@ -11,7 +11,7 @@ use pam_base::NoMemory;
 use pam_room::{Room, RoomTold};
 use std::alloc::Global;
 
-/// What a pass uses up, so that it takes no memory of its own between two modules.
+/// What a pass uses up, so that it does not allocate between two modules.
 #[derive(Drop)]
 pub struct Supplies {
     pub given: Given,
@@ -19,8 +19,8 @@ pub struct Supplies {
 }
 
 impl Supplies {
-    /// Takes all memory of a pass but that of the answers that it keeps; in the room it makes spare room for visits.
-    /// After it no pass is put off, also without memory.
+    /// Allocates everything for a pass except the codes that it caches; in the room it makes spare
+    /// room for lines run. After it no pass is incomplete, even if an allocation fails.
     pub fn take(
         alloc: Global,
         chain: &Chain,

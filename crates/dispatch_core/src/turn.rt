@@ -29,14 +29,14 @@ use pam_room::{Module, Room, RoomTold, World, WorldTold};
 use stack_walk::PassKind;
 use std::alloc::Global;
 
-/// Whether an answer puts the pass off.
+/// Whether a code leaves the pass incomplete.
 pub fn puts_off(answer: Code) -> bool
     ensures { result ≡ is_incomplete answer }
 {
     answer == Code::Incomplete
 }
 
-/// The answer that decides the action of line i.
+/// The code that decides the action of line i.
 pub fn decide(kind: PassKind, kept: &Kept, i: usize, answer: Code) -> Code
     ensures { result ≡ decides kind (by_place kept.now) (i + 1) answer }
 {
@@ -47,8 +47,8 @@ pub fn decide(kind: PassKind, kept: &Kept, i: usize, answer: Code) -> Code
     }
 }
 
-/// The next answer of an earlier call, and where none is left that of line i, which is asked. None where it puts the
-/// pass off.
+/// The next code of an earlier call, or if none is left that of line i, which is run. None if it
+/// leaves the pass incomplete.
 pub fn next_answer(
     alloc: Global,
     chain: &Chain,
@@ -141,8 +141,8 @@ pub fn next_answer(
     Ok(Some(answer))
 }
 
-/// One turn: the next line gives its answer, which is kept where cells are open, and the walker acts on it. None where
-/// the line puts the pass off.
+/// One turn: the next line returns its code, which is cached if cells are open, and the walker acts
+/// on it. None if the line leaves the pass incomplete.
 pub fn walk_line(
     alloc: Global,
     chain: &mut Chain,

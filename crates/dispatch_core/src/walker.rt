@@ -4,7 +4,8 @@ use handler_chain::Chain;
 use pam_base::Code;
 use stack_walk::{Opinion, PassKind};
 
-/// Where a pass is: the index of its next line, its opinion, and those with which the lists round it were entered.
+/// Where a pass is: the index of its next line, the state of the stack, and the states with which
+/// the lists around it were entered.
 #[derive(Clone, Copy)]
 pub struct Walker {
     pub at: usize,
@@ -33,7 +34,7 @@ impl Walker {
         }
     }
 
-    /// Acts on the next line, which has answered, and goes on to where its list goes on after it.
+    /// Acts on the next line, which has returned, and goes on to where its list goes on after it.
     pub fn go_on(&mut self, chain: &mut Chain, kind: PassKind, answer: Code, deciding: Code)
         requires { self.old.at < lines_in chain.old.nodes }
         ensures goes { (line : FlatLine) → Stands chain.old.nodes self.old.at line →
@@ -44,7 +45,7 @@ impl Walker {
         ensures looks { chain.new.looks ≤ chain.old.looks + 4 }
     {
         let i = self.at;
-        // It does nothing at run time: its contract says that a stack has fewer than 4,097 lines.
+        // A law, with nothing to do at run time: a stack has fewer than 4,097 lines.
         let _few = chain.len();
         let level = chain.level(i) as usize;
         let opens = chain.opens(i) as usize;
