@@ -45,10 +45,10 @@ use Rattle.audit_laws.specs.Run.{blocks_asked, line_blocks, blocks_on, run_block
 use Rattle.audit_laws.proofs.Printing.{reports_print}
 use Rattle.audit_laws.proofs.Stepping.{steps_fit}
 
--- ---- a step that has no answer has no text
+-- ---- a step without a result has no text
 
 module _ (players : List Player) (number_of : Code → ℕ → ℕ) where
-  -- whether an answer is one of nothing, and then what the step is
+  -- whether a result is empty, and then what the step is
   abbrev Silent : Asked → SlotStepped → Type 0
   Silent step s = shown_of s.outcome.answer ≡ None → step_text (names_of players) step s.outcome s.world.process.ledger ≡ []
 

@@ -1,4 +1,4 @@
--- From the answer for the joined lines to the rules and the first fault of a text.
+-- From the result for the joined lines to the rules and the first fault of a text.
 use Rattle.std.proofs.Common.{◌≡◌, ℕ, ◌+◌, ◌<◌, ◌≤◌, Bool, true, false, ◌||◌, eqb, List, [], ◌∷◌, ◌++◌, length, take, drop, Option, Some, None, Result, Ok, Err, refl, sym, ap, ◌∙◌, subst, arith, eq-eqb, cond, nat_lt, ◌↔◌, IfOk, All, ◌⊎◌, inl, inr}
 use Rattle.std.specs.List.{flat_map, list_any}
 use Rattle.std.proofs.lemmas.List.Elements.{All-nil, All-cons, All-append}
@@ -129,7 +129,7 @@ first_kind [] f e = absurd cc
 first_kind (l ∷ ls) f e =
     elim (which_or (line_fault l) (first_fault ls) f e) [ inl h ↦ line_kind l f h | inr h ↦ first_kind ls f h ]
 
--- ---- from the answer to the definitions
+-- ---- from the result to the definitions
 
 abbrev faults : List ℕ → Option LexFault
 faults text = first_fault (joined_lines (pieces_of text))

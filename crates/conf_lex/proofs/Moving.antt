@@ -78,7 +78,7 @@ skip_moves n t rest m lines e is to =
       fits = omega (arith, left, is, lines_most n t e);
     }
 
--- ---- what stands at the front
+-- ---- how a text begins
 
 pub before_take : (n : ℕ) (t : List ℕ) → n ≤ length (before_nul t) → take n t ≡ take n (before_nul t)
 before_take zero t e = refl

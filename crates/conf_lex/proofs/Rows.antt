@@ -1,4 +1,4 @@
--- The definitions computed on texts, before any code stands on them.
+-- The definitions computed on texts, before any code depends on them.
 use Rattle.std.proofs.Common.{ℕ, true, false, List, [], ◌∷◌, ◌++◌, codes, refl, lit<, lit≤}
 use Rattle.pam_base.specs.declared.fault.FaultKind.TheVariants.{OpenBracket, NulByte}
 use Rattle.conf_lex.specs.declared.token.Token.{Token}

@@ -65,7 +65,7 @@ entries-blank blank e =
     let all : behind_space (blank ++ []) ≡ [] = behind_blank blank [] e refl in
     entries-behind_space blank ∙ ap (λ (t : List ℕ). entries_in (behind_space t)) (sym (append-nil blank)) ∙ ap entries_in all ∙ none-left [] refl
 
--- ---- an entry is its name and its action, whatever white space is round them
+-- ---- an entry is its name and its action, whatever white space is around them
 
 module _ (before left right more : List ℕ) (n a : ℕ) (ns as_ : List ℕ) (before_blank : list_all is_white before ≡ true) (left_blank : list_all is_white left ≡ true) (right_blank : list_all is_white right ≡ true)
     (named : list_all (λ b. not (ends_name b)) (n ∷ ns) ≡ true) (acting : list_all is_other (a ∷ as_) ≡ true) (ends : stops is_white more ≡ true) where

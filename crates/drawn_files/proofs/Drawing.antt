@@ -1,4 +1,4 @@
--- Draw after draw, line after line, and number after number.
+-- Number after number, line after line, and choice after choice.
 use Rattle.std.proofs.Common.{◌≡◌, ℕ, zero, suc, ◌+◌, ◌-◌, ◌*◌, ◌/◌, ◌≤◌, Bool, true, false, cond, List, [], ◌∷◌, ◌++◌, map, refl, sym, ap, ◌∙◌, add-one, arith}
 use Rattle.std.proofs.lemmas.List.{append-nil}
 use Rattle.std.proofs.lemmas.List.Concat.{flat_map-append}
@@ -52,7 +52,7 @@ next_substack old new k le so is =
     let f : 1 + (k - 1) ≡ k = omega arith in
     rw e (is ∙ ap (λ (t : List ℕ). t ++ cond (is_odd k) (substack_line k) []) so ∙ sym (rw f at (substacks_more (k - 1))))
 
--- three draws, and the line that they pick
+-- three random numbers, and the line that they pick
 pub line_drawn : (seed before s : ℕ) → s ≡ state_after seed (3 * before) → (t u v a b c : ℕ) (x y z old new : List ℕ)
     → t ≡ next_state s → u ≡ next_state t → v ≡ next_state u
     → a ≡ next_state s / 65536 → b ≡ next_state t / 65536 → c ≡ next_state u / 65536

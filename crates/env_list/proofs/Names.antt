@@ -3,7 +3,7 @@ use Rattle.std.proofs.Common.{◌≡◌, ◌≢◌, ℕ, Bool, true, false, ◌|
 use Rattle.std.specs.Str.{bytes_eq}
 use Rattle.std.proofs.lemmas.Slice.Eq.{bytes_eq-Decides}
 
--- where neither test passes
+-- if neither test passes
 pub none_of_parts : (one other : Bool) → one || other ≡ false → (one ≡ false) × (other ≡ false)
 none_of_parts true other none = absurd cc
 none_of_parts false other none = (refl, none)

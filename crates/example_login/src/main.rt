@@ -1,5 +1,5 @@
-//! An application in small: a door that asks PAM whether somebody may go through, with a module and
-//! a conversation of its own. It prints what PAM answered, and its status is that code's number.
+//! A small application: a door that asks PAM whether somebody may go through, with a module and a
+//! conversation of its own. It prints PAM's return code, and exits with that code's number.
 #![tactic(auto)]
 
 ghost use Rattle.pam_handle.specs.Plain.{plain_handle};

@@ -16,8 +16,8 @@ use std::alloc::Global;
 use std::io::{Read, Write};
 use std::marker::Model;
 
-/// A conversation with the front end of the calls, on transaction 1, over the two streams on which calls and answers
-/// go. It waits for the replies. It tells nothing.
+/// A conversation with the front end of the calls, on transaction 1, over the two streams on which
+/// calls and answers go. It waits for the replies. It isn't modelled.
 #[derive(Drop)]
 pub struct FrontConv<R: Read + Drop, W: Write + Drop> {
     reader: R,
@@ -61,7 +61,7 @@ impl<R: Read + Drop, W: Write + Drop> FrontConv<R, W> {
         }
     }
 
-    /// Why the last exchange gave no replies; None where it gave some, or there was none yet.
+    /// Why the last exchange gave no replies; None if it gave some, or there was none yet.
     pub fn cause(&self) -> Option<Cause>
         ensures { result ≡ self.now.cause }
     {
@@ -72,7 +72,7 @@ impl<R: Read + Drop, W: Write + Drop> FrontConv<R, W> {
 impl<R: Read + Drop, W: Write + Drop> Conv for FrontConv<R, W> {
     ghost conv_tells = { λ c. false };
 
-    // never told
+    // not modelled
     ghost conv_holds = { λ c. record { offers = []; waits = false; handed = [] } };
 
     ghost conv_faults = { λ c. c.faults };
@@ -136,7 +136,7 @@ impl<R: Read + Drop, W: Write + Drop> Conv for FrontConv<R, W> {
         }
     }
 
-    /// Does nothing: a front end replies when it is asked.
+    /// Does nothing: a front end replies only when it is asked.
     fn offer(&mut self, _alloc: Global, _text: &[u8]) -> Result<(), NoMemory>
         requires { length _text.now ≤ MAX_TEXT }
         ensures tells { ⟦<FrontConv<R, W> as Conv>⟧.conv_tells self.new

@@ -35,7 +35,7 @@ are_at names positions first (suc i) (s ∷ ss) (f ∷ es) e are within is =
 are_at names positions first i [] (f ∷ es) e are within is = absurd are
 are_at names positions first i (s ∷ ss) [] e are within is = absurd are
 
--- what the accessors answer
+-- what the accessors return
 pub record Answers (stack : Stack) (names : List (List ℕ)) (positions : List ℕ) (i : ℕ) (e : ChainLine) : Type 0 where
   pub rule : rule_at stack i ≡ e.rule
   pub module_number : e.module_number ≡ module_at stack names i

@@ -50,7 +50,8 @@ fn main(rt: HostRuntime) -> io::Result<ExitCode> {
     }
 }
 
-// How many authentications of all starts let in; None where the service was refused, as it is with more lines than a stack may have.
+// How many authentications of all starts let in; None if the service was refused, as it is with
+// more lines than a stack may have.
 fn let_in(alloc: Global, lines: u32, starts: u32, passes: u32) -> Result<Option<u32>, NoMemory> {
     let mut mods: Vec<Box<dyn Module>> = Vec::new(alloc);
     mods.push(Box::new(alloc, Permit::new())?)?;
@@ -102,7 +103,7 @@ fn service_of(alloc: Global, lines: u32) -> Result<Vec<u8>, NoMemory> {
     Ok(text)
 }
 
-// Authenticates n times, and answers how many of them let in.
+// Authenticates n times, and returns how many of them let in.
 fn authenticate(
     alloc: Global,
     gear: &Gear,

@@ -1,5 +1,5 @@
-//! Tests of the modules over account files and lists, and of pam_env, of what no row can show: calls of the vault that fail
-//! in turn.
+//! Tests of the modules over account files and lists, and of pam_env, for what no test case of
+//! rows/ can show: each call of `Vault` fails in turn.
 #![tactic(auto)]
 
 #[cfg(test)]

@@ -14,7 +14,7 @@ use pam_room::{
 use std::alloc::Global;
 use std::test::Fail;
 
-// The files of the vault, and what they hold.
+// The files, and what they hold.
 static FILES: [(&[u8], &[u8]); 7] = [
     (b"/etc/passwd", b"joe:x:1000:1000:Joe:/home/joe:/bin/sh\n"),
     (b"/etc/group", b"staff:x:50:joe\n"),
@@ -25,7 +25,7 @@ static FILES: [(&[u8], &[u8]); 7] = [
     (b"/etc/environment", b"B=1\n"),
 ];
 
-// What one call came to.
+// The result of one call.
 #[derive(Drop)]
 struct Outcome {
     answer: Code,
@@ -48,7 +48,7 @@ fn process(alloc: Global) -> Process
     }
 }
 
-// The vault, of which one call is to fail.
+// The files; one call of `Vault` is to fail.
 fn vault(alloc: Global, failing: u64) -> Result<MemVault, Fail> {
     let mut fails = Numbers::new(alloc);
     fails.push(failing)?;
@@ -83,7 +83,8 @@ fn serve_first(
     serve_line(alloc, mods, line, call, room, world)
 }
 
-// Has a module serve a call for joe at a terminal, with these arguments, where one call of the vault is to fail.
+// Has a module serve a call for joe at a terminal, with these arguments; one call of `Vault` is to
+// fail.
 fn serve(
     alloc: Global,
     module: Box<dyn Module>,

@@ -83,7 +83,7 @@ sets_data = refl
 sets_visit : sets.state.room.transaction.trail ≡ record { place = 1; path = codes "pam_probe.so"; answer = returns.Success } ∷ []
 sets_visit = refl
 
--- the same line where the module isn't there
+-- the same line if the module doesn't exist
 missing : (serve_line (probe ∷ []) None 1 (codes "pam_none.so") (call_of Authenticate 0 []) (start [] 0)).answer ≡ returns.ModuleUnknown
 missing = refl
 

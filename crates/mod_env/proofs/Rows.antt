@@ -66,7 +66,7 @@ assignments : assignments_of (codes "# c\nexport A=\"1 2\"\nB='x\n C=y \nD-E=z\n
 unfolding assignments_of lines_of cut
 assignments = refl
 
--- where B is 1 and TTY isn't set
+-- B is 1 and TTY isn't set
 abbrev b_is_1 : List Variable
 b_is_1 = record { name = codes "B"; value = codes "1" } ∷ []
 

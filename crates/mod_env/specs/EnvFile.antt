@@ -14,7 +14,7 @@ is_name_byte b = is_ascii_alphanumeric b || b == 95
 abbrev pub is_name : List ℕ → Bool
 is_name text = nat_lt 0 (length text) && list_all is_name_byte text
 
--- a text without the quotes round it
+-- a text without the quotes around it
 abbrev pub without_last : ℕ → List ℕ → List ℕ → List ℕ
 without_last quote inner whole =
     if ends_with nat_eq inner (quote ∷ []) then take (length inner - 1) inner else whole
@@ -23,7 +23,7 @@ abbrev pub without_quotes : ℕ → List ℕ → List ℕ
 without_quotes quote text =
     if starts_with nat_eq text (quote ∷ []) then without_last quote (drop 1 text) text else text
 
--- one pair round the whole value is taken off
+-- one pair around the whole value is taken off
 abbrev pub unquoted : List ℕ → List ℕ
 unquoted text = if starts_with nat_eq text (34 ∷ []) then without_quotes 34 text
     else without_quotes 39 text

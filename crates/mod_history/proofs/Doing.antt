@@ -70,7 +70,7 @@ module _ (path : List ℕ) (call : PlainCall) (room : SeenRoom) where
       abbrev pub Knows : Stage → Type 0
       Knows stage = present_hash stage.sight.root stage.sight.files user ≡ Some hash
 
-      -- a file is set, where nothing fails
+      -- a file is set, if nothing fails
       put : (stage : Stage) (standing : List Remembered) (fails : Bool) → Knows stage → standing_in (file_at (path_of stage.sight.root history_name) stage.sight.files) ≡ Some standing
           → DoesOne stage.sight (called (answers (by_done (not fails)) (record stage { sight = seen_after fails (path_of stage.sight.root history_name) (history_text (renewed (remember_of call.args) user hash standing)) stage.sight })))
       unfolding answers

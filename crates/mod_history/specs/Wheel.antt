@@ -50,7 +50,7 @@ abbrev pub wheel_group : Option (List ℕ) → List Group → Option Group
 wheel_group (Some name) groups = group_of name groups
 wheel_group None groups = or_root_group (group_of (codes "wheel") groups) groups
 
--- ---- the answer
+-- ---- the code
 
 -- whoever isn't kept out is ignored, or let in with `trust`
 abbrev pub trusted : Bool → Code

@@ -22,12 +22,12 @@ both false b e = absurd cc
 some_same : {A : Type 0} (x y : A) → ◌≡◌ {A = Option A} (Some x) (Some y) → x ≡ y
 some_same x y e = cc
 
--- where a test let something through
+-- if a test let something through
 let_through : {A : Type 0} (b : Bool) (x y : A) → cond b (Some x) None ≡ Some y → (b ≡ true) × (x ≡ y)
 let_through true x y e = (refl, some_same x y e)
 let_through false x y e = absurd cc
 
--- ---- moments
+-- ---- times
 
 digits_below : (ds : List ℕ) (value k : ℕ) → list_all is_ascii_digit ds ≡ true → value < 10 ^ k → fold (λ value digit. 10 * value + (digit - 48)) value ds < 10 ^ (k + length ds)
 digits_below [] value k all lt = subst (λ (n : ℕ). value < 10 ^ n) (omega arith) lt

@@ -1,4 +1,4 @@
-//! A test of `pam_room` with a module that finds no memory. It has no functions of its own.
+//! A test of `pam_room` with a module that runs out of memory. It has no functions of its own.
 #![tactic(auto)]
 
 #[cfg(test)]

@@ -16,8 +16,8 @@ use pam_room::{
 use std::alloc::Global;
 use std::test::Fail;
 
-// Sets two data, the second in place of the first, writes whether the moment 5 has come into the file /stamp, and then
-// finds no memory.
+// Sets data twice, the second in place of the first, writes whether the time 5 has come into the
+// file /stamp, and then runs out of memory.
 #[derive(Drop)]
 struct Forgetful;
 
@@ -69,13 +69,13 @@ impl Module for Forgetful {
 #[derive(Drop)]
 struct Outcome {
     answer: Result<Code, NoMemory>,
-    /// How many lines were visited.
+    /// How many lines were run.
     visits: usize,
-    /// How many receipts there were before the end.
+    /// How many cleanup records there were before the end.
     swept: usize,
-    /// What stands in the file /stamp, nothing where there is none.
+    /// The text of the file /stamp, empty if there is none.
     stamp: Text,
-    /// Id, status and note of each receipt, those of the end among them.
+    /// The id, status and result of each cleanup record, those of the end among them.
     receipts: Vec<(u64, u32, u32)>,
 }
 
@@ -118,7 +118,7 @@ fn serve_first(
     serve_line(alloc, mods, line, call, room, world)
 }
 
-// Has a module serve authenticate in a new transaction, at the moment 5 and over no files, and ends
+// Has a module serve authenticate in a new transaction, at the time 5 and over no files, and ends
 // it with the status 5.
 fn serve_once(alloc: Global, module: Box<dyn Module>) -> Result<Outcome, Fail> {
     let mut mods: Vec<Box<dyn Module>> = Vec::new(alloc);

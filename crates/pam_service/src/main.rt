@@ -35,7 +35,7 @@ use std::process::ExitCode;
 use std::rt::Env;
 use std::{env, io};
 
-/// The exit status if there is no memory for the objects that the program is given.
+/// The exit status if an allocation for the program's objects fails.
 const NO_MEMORY: u8 = 4;
 
 /// How many transactions may be open at a time, each with a conversation.
@@ -44,7 +44,7 @@ const TRANSACTIONS: usize = 16;
 /// The longest wait that the delay function returns, in microseconds.
 const LONGEST_WAIT: u32 = 60_000_000;
 
-/// Where the system tells a process its own user and group IDs.
+/// The file that has a process's own user and group IDs.
 const STATUS: &str = "/proc/self/status";
 
 /// The most bytes of that file that are read.
@@ -123,7 +123,7 @@ fn run(rt: HostRuntime) -> io::Result<u8> {
     )
 }
 
-// A process of a caller, with a ledger in which nothing was entered.
+// A process of a caller, with an empty cleanup log.
 fn process_of(alloc: Global, caller: u32) -> Process
     ensures caller { result.caller ≡ caller }
     ensures no_births { result.ledger.births ≡ [] }

@@ -1,4 +1,5 @@
-//! What the program says, and what it leaves, where calls of the source, the sink or the vault are to fail.
+//! What the program prints, and what it leaves, if calls of the input, the output or the files are
+//! to fail.
 
 ghost use Rattle.std.specs.Prelude.{◌≡◌, []};
 
@@ -7,8 +8,8 @@ use pam_outside::{MemSink, MemSource};
 use std::alloc::Global;
 use std::test::Fail;
 
-/// A run over the service file `/r/etc/pam.d/t`: the words, the script, the numbers of the calls of
-/// source, sink and vault that are to fail, and the output and the status that it must come to.
+/// A run over the service file `/r/etc/pam.d/t`: the arguments, the script, the numbers of the
+/// calls of `Source`, `Sink` and `Vault` that are to fail, and the expected output and status.
 #[derive(Clone, Copy)]
 struct Row {
     words: &'static [&'static str],
@@ -57,8 +58,8 @@ const FRAMES: Row = Row {
 };
 
 static ROWS: [Row; 19] = [
-    // A call of the vault: the folder, the file, `other` for the second type and for the last, and
-    // one that comes no more.
+    // A call of `Vault`: for the directory, the file, `other` for the second type and for the last,
+    // and one that isn't reached.
     Row {
         failing_calls: &[1],
         output: b"1 start refused /etc/pam.d 0 ReadFailed 16\n1 authenticate not open\n1 end not open\n",
@@ -102,8 +103,8 @@ static ROWS: [Row; 19] = [
         failing_writes: &[10000],
         ..LOGIN
     },
-    // The sink: at each line of a script with data, after its last line, and while a refused line
-    // or a read fault is told.
+    // A call of `Sink`: at each line of a script with data, after its last line, and while a
+    // refused line or a read fault is reported.
     Row {
         failing_writes: &[1],
         output: b"",
@@ -167,7 +168,7 @@ static ROWS: [Row; 19] = [
     },
 ];
 
-/// What a run came to: the status, and how many data were set and how many were cleaned up.
+/// The result of a run: the status, and how many data were set and how many were cleaned up.
 #[derive(Drop)]
 struct Left {
     status: u8,

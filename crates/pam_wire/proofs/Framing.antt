@@ -126,7 +126,7 @@ frame-read step more e =
     ∙ ap (λ (b : List ℕ). next_in (step_in b) (length (body_of step) + 2)) (front-size (body_of step) more)
     ∙ ap (λ (o : Option Step). next_in o (length (body_of step) + 2)) (step-read step e)
 
--- ---- and what is read in front is a frame
+-- ---- and what is read first is a frame
 
 pub record IsFrameOf (rest : List ℕ) (step : Step) (size : ℕ) : Type 0 where
   pub parts : rest ≡ frame_of step ++ drop size rest

@@ -24,7 +24,7 @@ frame_alone step e =
     let same : eqb (length (body_of step) + 2) (length (frame_of step)) ≡ true = eq-eqb _ _ (sym (frame_size step)) in
     ap (λ (f : Front). step_by f (frame_of step)) whole ∙ rw (same, step-read step e) refl
 
--- where all bytes are one frame
+-- if all bytes are one frame
 all_by : (bytes : List ℕ) (step : Step) (size : ℕ) (t : Bool) → AreBytes bytes → front_of bytes ≡ Whole size → eqb size (length bytes) ≡ t → cond t (step_in (drop 2 bytes)) None ≡ Some step → IsFrame bytes step
 all_by bytes step size false all w h e = absurd cc
 all_by bytes step size true all w h e =

@@ -17,7 +17,7 @@ use Rattle.pam_wire.proofs.Framing.{two_back, said-size, in_range, frame-read}
 abbrev zeros : ℕ → List ℕ
 zeros n = replicate n 0
 
--- ---- an open front begins a frame
+-- ---- an open prefix begins a frame
 
 -- the length is `said`, and fewer bytes follow
 record IsShort (said follow : ℕ) : Type 0 where
@@ -90,7 +90,7 @@ parts_two (a ∷ b ∷ rest) body more is some e =
 pub open-front : (rest : List ℕ) → IsOpen rest → front_of rest ≡ Open
 open-front rest o = parts_two rest o.body o.more o.body_is o.some o.parts
 
--- ---- where nothing more is read
+-- ---- if nothing more is read
 
 next_open : (o : Option Step) (n : ℕ) → next_in o n ≡ next.Open → ⊥
 next_open None n e = absurd cc

@@ -7,7 +7,7 @@ use Rattle.pam_wire.specs.declared.front.Front.TheVariants.{Open, OutOfRange, Wh
 use Rattle.pam_wire.specs.Read.{front_by, front_of}
 use Rattle.pam_wire.specs.Laws.{Settles, FrontSettles}
 
--- by a length, where n bytes follow, and others after them
+-- by a length, if n bytes follow, and others after them
 unfoldable SettlesBy : Front → ℕ → ℕ → ℕ → Type 0
 SettlesBy (Whole size) said follow all = (4 ≤ size) × (size ≤ suc (suc follow)) × (front_by said all ≡ Whole size)
 SettlesBy OutOfRange said follow all = front_by said all ≡ OutOfRange

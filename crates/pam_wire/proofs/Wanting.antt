@@ -6,7 +6,7 @@ use Rattle.pam_wire.specs.declared.kind.Kind.{Kind}
 use Rattle.pam_wire.specs.Kind.{kind_of_number}
 use Rattle.pam_wire.specs.Read.{call_in, call_of_kind, step_in, step_with}
 
--- what is made of a value is there where the value is
+-- what is made of a value is there if the value is
 made_of : {A B : Type 0} (f : A → B) (o : Option A) → is_some o ≡ true → is_some (option_map f o) ≡ true
 made_of f None e = e
 made_of f (Some x) e = refl

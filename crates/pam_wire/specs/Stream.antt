@@ -17,7 +17,7 @@ pub record FramesState : Type 0 where
   pub place : ℕ
   pub rest : List ℕ
 
--- ---- what stands in front
+-- ---- what comes next
 
 -- the step of a whole frame, if it has one
 abbrev pub next_in : Option Step → ℕ → Next

@@ -1,4 +1,4 @@
--- Cells that keep the answers of visits.
+-- Cells that hold the codes of lines that were run.
 use Rattle.std.proofs.Common.{◌≡◌, ◌≢◌, inl, inr, ℕ, ◌+◌, ◌<◌, Bool, true, false, if◌then◌else◌, nat_eq, List, [], ◌∷◌, ◌++◌, Option, Some, None, take, length, get_or, refl, sym, ◌∙◌, ap}
 use Rattle.std.specs.Option.{option_or}
 use Rattle.std.proofs.lemmas.Bool.{cases_Bool, eqb-true, eqb-false}
@@ -8,7 +8,7 @@ use Rattle.stack_walk.specs.Pass.{Visit, visit, answers_of, kept_in}
 use Rattle.pass_replay.specs.declared.visited.Visited.{Visited}
 use Rattle.pass_replay.specs.Kept.{answers_in, visits_of}
 
--- one answer more, for its place alone
+-- one code more, for its line alone
 abbrev pub one_at : ℕ → Code → ℕ → Option Code
 one_at place answer other = if nat_eq other place then Some answer else None
 
@@ -52,7 +52,7 @@ or_none : (o : Option Code) → option_or o None ≡ o
 or_none None = refl
 or_none (Some answer) = refl
 
--- a cell for one place more, where it had none
+-- a cell for one line more, if it had none
 cells_more : (old new : List (Option Code)) (at : ℕ) (answer : Code) (place : ℕ)
     → answers_in new at ≡ option_or (answers_in old at) (Some answer)
     → ((other : ℕ) → other ≢ at → answers_in new other ≡ answers_in old other)

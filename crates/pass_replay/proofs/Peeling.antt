@@ -7,7 +7,7 @@ use Rattle.control_words.specs.declared.nodes.Nodes.{Nodes}
 use Rattle.control_words.specs.declared.nodes.Rule.{Rule}
 use Rattle.control_words.specs.Stack.{Stack, none, line, sub, count, lines_in, depth, node_on, row_stack, stack_of}
 
--- ---- a node in front of a list
+-- ---- a node before a list
 
 pub count_node : (node : Node) (rest : Stack) → count (node_on node rest) ≡ count rest + 1
 count_node (Line rule) rest = refl
@@ -54,7 +54,7 @@ lines_sub node inner is =
     ap (λ (n : Node). lines_in (node_on n none)) is ∙ ap lines_in (node_on-Sub inner none)
     ∙ add-zero (lines_in (stack_of inner.vec.items))
 
--- where a node is left, the list isn't at its end
+-- if a node is left, the list isn't at its end
 pub some_left : (nodes : List Node) (i : ℕ) (node : Node) (left : ℕ) → i < length nodes → node ≡ get_or nodes i node
     → left ≡ count (stack_of (drop i nodes)) → 1 ≤ left
 some_left nodes i node left within is counted =

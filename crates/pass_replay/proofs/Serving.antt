@@ -1,4 +1,4 @@
--- A line of a pass that is replayed: its answer, and the state after it.
+-- A line of a pass that is replayed: its code, and the state after it.
 use Rattle.std.proofs.Common.{◌≡◌, ℕ, ◌+◌, Bool, false, if◌then◌else◌, List, [], ◌∷◌, ◌++◌, Option, Some, None, drop, sym, ◌∙◌, ap, subst}
 use Rattle.std.specs.List.{slice_get}
 use Rattle.pam_base.specs.declared.code.Code.{Code}
@@ -16,7 +16,7 @@ use Rattle.pass_replay.specs.Walk.{state_in}
 use Rattle.pass_replay.proofs.Dropping.{drop_next, drop_past}
 use Rattle.pass_replay.proofs.Keeping.{visits_of-append}
 
--- an answer that was given before
+-- a code that was given before
 pub given : (kind : PassKind) (kept : KeptAnswers) (rule : Rule) (past : List Code) (told : List (Option Seen))
     (old new : Replay) (answer : Code) → slice_get past old.used ≡ Some answer
     → new ≡ record old { used = old.used + 1; visits = old.visits ++ record { place = old.at + 1; answer = answer } ∷ [] }
@@ -38,7 +38,7 @@ given kind kept rule past told old new answer is new_is =
       state_is = state ∙ sym (ap (λ (s : Served (PassState Telling)). s.state) served);
     }
 
--- an answer that a line gave when it was asked
+-- a code that a line gave when it was run
 asked_once : {State : Type 0} (kind : PassKind) (kept : KeptAnswers) (at : ℕ) (visits : List Visit) (a : Answered State)
     (answer : Code) (state : State) → AnswersAs a answer state → is_incomplete answer ≡ false
     → ServedAs (served_now kind kept at visits a) answer (decides kind kept at answer) false (pass_state [] (visits ++ visit at answer ∷ []) state)

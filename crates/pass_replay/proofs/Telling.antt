@@ -1,4 +1,4 @@
--- The visits among recorded lines, from one on.
+-- The lines run among recorded lines, from one on.
 use Rattle.std.proofs.Common.{◌≡◌, ℕ, zero, suc, ◌+◌, ◌-◌, ◌≤◌, List, [], ◌∷◌, Option, Some, None, drop, length, refl, ap, arith}
 use Rattle.std.specs.List.{slice_get}
 use Rattle.std.proofs.Math.Seq.{drop-length}
@@ -20,7 +20,7 @@ none_here v e = (cc)
 nothing_there : (v : Seen) → None ≡ Some (Some v) → ⊥
 nothing_there v e = (cc)
 
--- a visit's own number leads to its line
+-- the number of a line that was run leads to its recorded line
 before_visit : (told : List (Option Seen)) (n i : ℕ) (v : Seen) → slice_get told n ≡ Some (Some v)
     → i + length (visits_in (drop n told)) ≡ length (visits_in told) → n ≡ lines_before i told
 before_visit [] n i v is counted = absurd (nothing_there v is)
@@ -47,7 +47,7 @@ pub left_end : (told : List (Option Seen)) (n : ℕ) → visits_in (drop n told)
     → length told ≡ lines_before (length (visits_in told) - length (visits_in (drop n told))) told
 left_end told n none = before_end told _ (omega (arith, ap length none))
 
--- a visit that stands at this line
+-- a line that was run is this one
 pub visit_here : (told : List (Option Seen)) (n : ℕ) (v : Seen) → slice_get told n ≡ Some (Some v)
     → visits_in (drop n told) ≡ seen_of v ∷ visits_in (drop (n + 1) told)
 visit_here told n v is = ap visits_in (drop_next told n (Some v) is)

@@ -114,7 +114,7 @@ module _ {State : Type 0} (kind : PassKind) (serve : Serving State) where
         shallow = omega (arith, was.shallow, ap depth is);
       }
 
-  -- ---- where the walk is put off
+  -- ---- if the walk is incomplete
 
   put_off : (w : Walked State) (opinion : Opinion) (state : State) → w ≡ halted opinion state → w ≡ halted w.opinion state
   put_off w opinion state is = is ∙ ap (λ (o : Opinion). halted o state) (sym (ap (λ (v : Walked State). v.opinion) is))

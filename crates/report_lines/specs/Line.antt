@@ -17,7 +17,7 @@ use Rattle.script_lang.specs.declared.command.Command.TheVariants as words
 use Rattle.service_load.specs.declared.load_fault.LoadFault.{LoadFault}
 use Rattle.stack_walk.specs.Retell.{Seen}
 
--- ---- what a step tells before its result
+-- ---- what a step reports before its result
 
 -- a cleanup record: the data's number, the status and note, the names of the owner and of the data
 pub record Cleanup : Type 0 where

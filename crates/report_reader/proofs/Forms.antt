@@ -58,7 +58,7 @@ told_ends number (told_wait code asked wait) = simp append_assoc
 told_ends number (told_missing name) = simp append_assoc
 told_ends number (told_variable variable) = simp append_assoc
 
--- ---- what is guessed of what is told
+-- ---- what is guessed of what is reported
 
 pub small_code : (c : Code) → Numeral (number_of c) (decimal (number_of c))
 small_code c = let few : number_of c < 64 = ltb-true (number_of c) 64 (known_code c).small in writes (number_of c) (omega arith)

@@ -57,7 +57,7 @@ one_more n word le w = record {
       ∙ ap (λ (x : ℕ). (x + (48 + n % 10 - 48)) % 2 ^ 64) tens ∙ ap (λ (x : ℕ). x % 2 ^ 64) same ∙ mod-eq_of_lt small;
 }
 
--- and where it stands in a line
+-- and where it is in a line
 pub record Numeral (n : ℕ) (word : List ℕ) : Type 0 where
   pub all : list_all is_ascii_digit word ≡ true
   pub value : guessed_number word ≡ n

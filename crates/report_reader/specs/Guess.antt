@@ -12,7 +12,7 @@ use Rattle.report_lines.specs.Line.{Cleanup, Told, told_message, told_visit, tol
 use Rattle.report_reader.specs.Says.{Says, tells, results, lasts, says_text}
 use Rattle.report_reader.specs.Words.{before_space, behind_space, last_word, before_last, guessed_number, guessed_status, unquoted, guessed_code, guessed_style, guessed_fault, guessed_script_fault, guessed_func, guessed_command}
 
--- ---- what is told before a result, after H and the line's word
+-- ---- what is reported before a result, after H and the line's word
 
 -- STYLE TEXT
 abbrev pub guessed_message : List ℕ → Told

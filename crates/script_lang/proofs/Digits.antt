@@ -13,7 +13,7 @@ grows radix value digit i below small =
     let power : radix ^ suc i ≡ radix * radix ^ i = pow-succ' radix i in
     rw (add-one i, power) (omega (arith, most))
 
--- where a power of the radix fits, so does a lower one
+-- if a power of the radix fits, so does a lower one
 pub fits : (radix i n : ℕ) → 2 ≤ radix → i ≤ n → radix ^ n ≤ 2 ^ 64 → radix ^ i ≤ 2 ^ 64
 fits radix i n low le all =
     let more : radix ^ i ≤ radix ^ n = pow-le-pow_right (omega arith) le in

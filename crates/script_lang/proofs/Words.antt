@@ -94,7 +94,7 @@ first_of : (words : List (List ℕ)) → 0 < length words → Some (unwrap_or (s
 first_of [] lt = absurd (omega arith)
 first_of (w ∷ ws) lt = refl
 
--- the word at a place, where this is left behind the words before it
+-- the word at a place, if this is left after the words before it
 module _ (place : Place) (before : ℕ) (line rest : List ℕ) (is : words_of rest ≡ drop before (words_of line)) where
   within : nat_lt before (length (words_of line)) ≡ true
   within = lt-ltb before (length (words_of line)) (omega (arith, has_word rest, ap length is, length-drop before (words_of line)))

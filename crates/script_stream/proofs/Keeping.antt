@@ -28,7 +28,7 @@ both : (b : Bool) → b ≡ true → b ≡ false → ⊥
 both true e f = absurd cc
 both false e f = absurd cc
 
--- ---- what stands in front
+-- ---- what comes first
 
 pub line_front : (n place : ℕ) (held : List ℕ) → IsFirstPlace (Some place) 10 held → IsItem looked n place (place + 1) held
 line_front n place held at = record {

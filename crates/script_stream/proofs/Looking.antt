@@ -8,7 +8,7 @@ pub neither : (a b : Bool) → (a || b) ≡ false → (a ≡ false) × (b ≡ fa
 neither true b e = absurd cc
 neither false b e = (refl, e)
 
--- ---- by what stands in front
+-- ---- by what comes first
 
 pub looked-line : (n : ℕ) (line more : List ℕ) (ended : Bool) → has_byte 10 line ≡ false → looked n (line ++ 10 ∷ more) ended ≡ line ∷ looked (n + 1) more ended
 unfolding looked
@@ -16,7 +16,7 @@ looked-line n line more ended e =
     let k : n + length (line ∷ (cut more).lines) ≡ (n + 1) + length (cut more).lines = omega arith in
     rw (cut-line line more e, k) refl
 
--- the last line, where it is looked at
+-- the last line, when it is looked at
 looked-one : (n : ℕ) (b : ℕ) (bs : List ℕ) (ended : Bool) → has_byte 10 (b ∷ bs) ≡ false → (ended || leb 65536 n || ltb 513 (length (b ∷ bs))) ≡ true
     → looked n (b ∷ bs) ended ≡ (b ∷ bs) ∷ []
 unfolding looked last_looked
@@ -40,7 +40,7 @@ pub looked-none : (n : ℕ) (ended : Bool) → looked n [] ended ≡ []
 unfolding looked last_looked cut
 looked-none n ended = refl
 
--- ---- the lines of a front and what follows it
+-- ---- the lines of a prefix and what follows it
 
 glued : Cut → Cut → Cut
 glued p q = record { lines = p.lines ++ q.lines; rest = q.rest }
@@ -106,7 +106,7 @@ looked-append n a b ended =
     let k : n + length ((cut a).lines ++ m.lines) ≡ (n + length (cut a).lines) + length m.lines = omega (arith, length-append (cut a).lines m.lines) in
     rw (cut-append a b, k) (append_assoc (cut a).lines m.lines (last_looked ((n + length (cut a).lines) + length m.lines) m.rest ended))
 
--- ---- where the input ends
+-- ---- at the end of the input
 
 last_all : (n : ℕ) (rest : List ℕ) → last_looked n rest true ≡ last_line rest
 unfolding last_looked

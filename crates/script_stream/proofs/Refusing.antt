@@ -15,7 +15,7 @@ or_third true b c d e h = refl
 or_third false true c d e h = refl
 or_third false false c d e h = h e
 
--- the first line that is looked at, where its beginning is over
+-- the first line that is looked at, once its beginning is over
 record IsFirst (n : ℕ) (r more : List ℕ) (ended : Bool) : Type 0 where
   line : List ℕ
   others : List (List ℕ)

@@ -55,7 +55,7 @@ nothing_left (e ∷ es) n zero counted = absurd (omega (arith, zero, counted))
 pub more_left : (old left : List Entry) (e : Entry) (n m : ℕ) → old ≡ e ∷ left → m + 1 ≡ n → n ≡ length old → m ≡ length left
 more_left old left e n m steps fewer counted = omega (arith, ap length steps, fewer, counted)
 
--- ---- in any world
+-- ---- with real objects too
 
 pub grows_none : (level : ℕ) (was : Loader) (s : Stack) → level ≤ 16 → Grows level was was s s
 grows_none level was s low = record { within = low; lines = refl; few = λ few. few; deep = λ n le left. le }
@@ -159,13 +159,13 @@ module _ (texts : List ℕ → Option (List ℕ)) (fails : List ℕ) where
   unfolding look
   look_line_over counts name number many = rw (le-leb 4096 counts.lines many) refl
 
-  -- where the file that an entry brings in stops the load, so does the entry
+  -- if the file that an entry brings in stops the load, so does the entry
   pub file_stops : (r : Refuse LoadFault) (is on : Counts) (items its : List Item) → its ≡ items
       → Looks {A = Bool} (Err r) (look texts fails is items) on → Looks {A = Option Inclusion} (Err r) (look texts fails is its) on
   file_stops (refusals.Named f) is on items its same looks = rw same looks
   file_stops refusals.NoMemory is on items its same looks = tt
 
-  -- where one entry stops the load, so do all
+  -- if one entry stops the load, so do all
   pub all_stop : (r : Refuse LoadFault) (was is on : Counts) (level : ℕ) (type : RuleType) (name : List ℕ) (all left : List Entry) (before now : Stack) (e : Entry)
       → Going was is level type name all (e ∷ left) before now
       → Looks {A = Option Inclusion} (Err r) (look texts fails is (entry_items_at texts level type name e)) on → Looks {A = Bool} (Err r) (look texts fails was (entries_items texts level type name all)) on
@@ -243,9 +243,9 @@ module _ (texts : List ℕ → Option (List ℕ)) (fails : List ℕ) where
   unfolding look
   going_end was is level type name all before now g = g.looks
 
--- ---- over a vault of which only the calls have changed
+-- ---- over files of which only the calls have changed
 
--- what a part of a load brings, said of the vault as it was
+-- what a part of a load brings, said of the files as they were
 pub record Since {A : Type 0} (r : Result A (Refuse LoadFault)) (root : List ℕ) (first old new : VaultState) (was is : Loader) (items : List Item) (before after added : Stack) : Type 0 where
   pub looks : Looks r (look (texts_of root first) first.fails (counts_of was old) items) (counts_of is new)
   pub nodes : OnOk r (after ≡ joined before added)

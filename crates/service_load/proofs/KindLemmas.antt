@@ -1,4 +1,4 @@
--- The faults of a text, of a control and of a rule are none of a vault.
+-- The faults of a text, of a control and of a rule don't come from `Vault`.
 use Rattle.std.proofs.Common.{◌≡◌, ℕ, Bool, true, false, cond, not, ◌&&◌, ◌||◌, eqb, leb, length, List, [], ◌∷◌, Option, Some, None, Result, Ok, Err, refl}
 use Rattle.std.specs.List.{filter_map, cons_option, list_all}
 use Rattle.std.specs.Char.{is_ascii_digit}
@@ -15,7 +15,7 @@ use Rattle.control_words.specs.Entries.{Entry, entries_in}
 use Rattle.control_words.specs.Keyword.{control_of_word}
 use Rattle.service_load.specs.Kinds.{is_read_failed}
 
--- a fault, if there is one, is none of a vault
+-- a fault, if there is one, doesn't come from `Vault`
 abbrev is_other : Option ControlFault → Bool
 is_other None = true
 is_other (Some f) = not (is_read_failed f.kind)

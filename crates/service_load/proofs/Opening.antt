@@ -41,13 +41,13 @@ pub long_answers : (type : RuleType) (b in_folder : Bool) (name : List ℕ) (ser
 long_answers type b in_folder name service text (refusals.Named f) fine long refused = rw (fine, held_long service text long, refused) refl
 long_answers type b in_folder name service text refusals.NoMemory fine long refused = tt
 
--- a service's file, and that of `other` where the service is there, needn't be there
+-- a service's file, and that of `other` if the service exists, need not exist
 pub needs_nothing : (because : Because) (counts : Counts) → (because ≡ openers.Service) ⊎ (because ≡ openers.Other)
     → absent_file counts (opener_of because) ≡ Ok counts
 needs_nothing because counts (inl is) = rw is refl
 needs_nothing because counts (inr is) = rw is refl
 
--- the counts once the vault was asked
+-- the counts after a call of `Vault`
 pub asked_is : (was is : Loader) (old new : VaultState) → is ≡ record was { openings = was.openings + 1 } → new ≡ counted old
     → counts_of is new ≡ asked (counts_of was old)
 asked_is was is old new one called = rw (one, called) refl
@@ -165,7 +165,7 @@ module _ (texts : List ℕ → Option (List ℕ)) (fails : List ℕ) (file : Rul
       opens_many r low many same refused =
           stopped r (opening_fault file.name opener TooManyFiles) refused (rw (items_are low, le-ltb 16 level low, le-leb 256 was.openings many, same) refl)
 
-      -- the vault is asked
+      -- `Vault` is called
       asks : (more : List Item) → level ≤ 16 → was.openings < 256
           → look texts fails was (opening file level opener ∷ more) ≡ going_on (cond (fails_next was.calls fails) (Err (record { fault = fault_at file.name 0 ReadFailed; calls = (asked was).calls })) (held_file (asked was) file opener (held texts file))) (λ c. look texts fails c more)
       unfolding look
@@ -192,7 +192,7 @@ module _ (texts : List ℕ → Option (List ℕ)) (fails : List ℕ) (file : Rul
           look_asked (holds rules) low few fine in_it
           ∙ rw (all_are_fine rules es checks, entries_are rules es checks) (look_fine (asked was) rules es (entries_items texts level type file.name es) checks)
 
-      -- the answer of a read is the file's entries
+      -- the result of a read is the file's entries
       rules_some : (es : List Entry) (rules : List RawRule) (x : Result (List Entry) LexFault) → checked_entries (is_in_folder file) rules ≡ x
           → ◌≡◌ {A = Result (Option (List Entry)) LexFault} (result_map Some x) (Ok (Some es)) → checked_entries (is_in_folder file) rules ≡ Ok es
       rules_some es rules (Ok fs) checks e = checks ∙ (let same : fs ≡ es = cc in ap Ok same)

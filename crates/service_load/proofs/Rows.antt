@@ -40,7 +40,7 @@ start = record { calls = 1; openings = 0; lines = 0 }
 alone : List ℕ → Texts
 alone text = with_service (codes "t") text empty
 
--- the load of t is refused, after n calls of the vault
+-- the load of t is refused, after n calls of `Vault`
 IsRefused : Texts → List ℕ → List ℕ → ℕ → ℕ → FaultKind → Type 0
 IsRefused texts fails file calls number kind = look texts fails start (order texts true (codes "t")) ≡ Err (record { fault = fault_at file number kind; calls = calls })
 

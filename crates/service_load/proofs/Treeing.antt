@@ -59,7 +59,7 @@ module _ (root : List ℕ) (first : VaultState) (was : Loader) (own other : Rule
   abbrev fresh : Counts
   fresh = counts_of (record was { lines = 0 }) first
 
-  -- what the file of `other` brings, where it is opened
+  -- what the file of `other` brings, if it is opened
   abbrev others : List Item
   others = cond (eqb (count (nodes texts 17 type own)) 0) (items texts 17 type (other_opener texts own) other) []
 
@@ -114,7 +114,7 @@ module _ (root : List ℕ) (first : VaultState) (was : Loader) (own other : Rule
     stop_other (refusals.Named f) looks only = record { looks = on_to_other ∙ looks; made = tt; stays = only }
     stop_other refusals.NoMemory looks only = record { looks = tt; made = tt; stays = only }
 
--- what the file of `other` brings, said of the vault as it was
+-- what the file of `other` brings, said of the files as they were
 pub other_since : (r : Result Bool (Refuse LoadFault)) (root : List ℕ) (first mid now : VaultState) (half is : Loader) (own other : RuleFile) (type : RuleType) (there : Bool) (before after : Stack)
     → OnlyCalls first mid
     → Brings r (texts_of root mid) mid now half is (items_at (texts_of root mid) 0 type (cond there as_other (as_last own.name)) other) before after (nodes_at (texts_of root mid) 0 type other)
@@ -127,7 +127,7 @@ other_since r root first mid now half is own other type there before after =
 pub only_only : (a b c : VaultState) → OnlyCalls a b → OnlyCalls b c → OnlyCalls a c
 only_only a b c one two = two ∙ ap (λ (v : VaultState). record v { calls = c.calls }) one
 
--- a later tree, said of the vault as it was
+-- a later tree, said of the files as they were
 pub makes_since : (r : Result Nodes (Refuse LoadFault)) (root : List ℕ) (first old new : VaultState) (was is : Loader) (own other : RuleFile) (type : RuleType)
     → OnlyCalls first old → Makes r (texts_of root old) old new was is own other type
     → Makes r (texts_of root first) (record first { calls = old.calls }) new was is own other type
@@ -140,7 +140,8 @@ look_none : (texts : List ℕ → Option (List ℕ)) (fails : List ℕ) (counts 
 unfolding look
 look_none texts fails counts = refl
 
--- Over the vault as it was at first, the trees of some types were made, and those of the types that are left come next.
+-- Over the files as they were at first, the trees of some types were made, and those of the types that are left come
+-- next.
 pub record Making (root : List ℕ) (first new : VaultState) (start : Counts) (is : Loader) (own other : RuleFile) (trees : Trees) (left : List RuleType) : Type 0 where
   pub looks : look (texts_of root first) first.fails start (trees_items (texts_of root first) own other)
       ≡ look (texts_of root first) first.fails (counts_of is new) (flat_map (tree_items (texts_of root first) own other) left)

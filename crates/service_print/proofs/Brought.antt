@@ -90,7 +90,7 @@ brings_both before between after a b levels one other = record {
   short = λ h. other.short (one.short h);
 }
 
--- a file that was opened, whose nodes stand where the rule is, or as a substack
+-- a file that was opened, whose nodes take the place of the rule, or are a substack
 as_included : (before after : Counts) (stack : Stack) (levels : ℕ) → Brings before after stack levels 1 → Brings before after stack levels 0
 as_included before after stack levels is = record { lines = is.lines; openings = omega (arith, is.openings); deep = omega (arith, is.deep); few = is.few; short = is.short }
 

@@ -21,7 +21,7 @@ use Rattle.service_print.specs.Tokens.{behind_space, spaced}
 use Rattle.service_print.specs.Controls.{action_word, same_action, entry_text, has_entry, entries_among}
 use Rattle.service_print.proofs.Actions.{same_action-equal, is_name, is_action, code_at, code_word-named, code_word-name, code_word-other, begins_some, code_word-some, is_fine, action_reads}
 
--- ---- the front of a text, up to the first byte that passes a test
+-- ---- the beginning of a text, up to the first byte that passes a test
 
 abbrev stops : (ℕ → Bool) → List ℕ → Bool
 stops test [] = true
@@ -179,7 +179,7 @@ same_number code other is = sym (code_at code) ∙ ap (λ n. get_or all_codes n 
 names_word : (code named : Code) → names code (code_word named) ≡ eqb (number_of named) (number_of code)
 names_word code named = rw (code_word-named named) refl
 
--- the last entry of a code among those of these codes, where this one was found before
+-- the last entry of a code among those of these codes, if this one was found before
 abbrev last_found : List Action → Code → List Code → Option Entry → Option Entry
 last_found control code codes before = last_or before (filter (λ (entry : Entry). names code entry.name) (map (entry_record control) (filter (has_entry control) codes)))
 

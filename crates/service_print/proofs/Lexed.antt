@@ -73,7 +73,7 @@ tokens_in fields = fields.first ∷ fields.more
 abbrev pub line_text : Fields → List ℕ
 line_text fields = fields_text fields.first fields.more
 
--- a space at the end of a line, where it has one
+-- a space at the end of a line, if it has one
 abbrev pub last_space : List ℕ → List ℕ
 last_space line = cond (ends_in 92 line) (32 ∷ []) []
 

@@ -28,7 +28,7 @@ meant_nodes deeper type (a_line own rule) = cond (serves type own) (line rule no
 meant_nodes deeper type (an_include own file) = cond (serves type own) (deeper file) none
 meant_nodes deeper type (a_substack own file) = cond (serves type own) (sub (deeper file) none) none
 
--- what a load meets by it, where n levels of files may open after it
+-- what a load meets through it, if n levels of files may open after it
 abbrev pub meant_items : (List ℕ → Option (List ℕ)) → ℕ → RuleType → List ℕ → ℕ → Meaning → List Item
 meant_items texts levels type name number nothing = []
 meant_items texts levels type name number (a_line own rule) = cond (serves type own) (made name number ∷ []) []

@@ -1,4 +1,4 @@
--- A vault that has just the printed files loads to the stacks that were printed.
+-- Files that are just the printed ones load to the stacks that were printed.
 use Rattle.std.proofs.Common.{◌≡◌, ℕ, ◌+◌, ◌≤◌, Bool, true, false, not, ◌&&◌, eqb, nat_lt, nat_le, List, [], ◌∷◌, ◌++◌, length, map, take, Option, None, Ok, refl, sym, ap, ◌∙◌, arith, append_assoc, length-append, inl, inr}
 use Rattle.std.specs.Prelude.{codes, nat_eq, decimal}
 use Rattle.std.specs.List.{list_all}
@@ -110,7 +110,7 @@ stands_in only root service stack name is few short =
       ];
     }
 
--- ---- the folder
+-- ---- the directory
 
 pointwise_self : (text : List ℕ) → pointwise nat_eq text text ≡ true
 pointwise_self text = (bytes_eq-Decides text text).1 refl

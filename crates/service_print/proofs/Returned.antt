@@ -24,7 +24,7 @@ pub record IsPrintable (stack : RuleType → Stack) : Type 0 where
   pub deep : (type : RuleType) → depth (stack type) ≤ 16
   pub few : (type : RuleType) → lines_in (stack type) ≤ 4096
 
--- an opening for the service's file, one for each substack, and one for `other` where the stack is empty
+-- an opening for the service's file, one for each substack, and one for `other` if the stack is empty
 abbrev pub openings_for : Stack → ℕ
 openings_for stack = 1 + subs_in stack + cond (eqb (count stack) 0) 1 0
 

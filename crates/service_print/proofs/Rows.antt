@@ -112,7 +112,7 @@ jumps : written (rule (control (codes "AUTHTOK_RECOVERY_ERR=007 auth_err=255 ign
 unfolding control rule one file of_auth two_stacks written printed list_lines substack_files numbered substack_line rule_line token_text ended same_control entries_among control_text digits entries_in entries_behind
 jumps = refl
 
--- what would not be read as one token stands in brackets, where `]` is escaped
+-- what would not be read as one token is in brackets, in which `]` is escaped
 brackets : written (rule required (codes "[m") ([] ∷ codes "a]b" ∷ codes "a] b" ∷ codes "a#b" ∷ codes "a\tb" ∷ [])) (codes "auth required [[m] [] a]b [a\\] b] [a#b] [a\tb]\n")
 unfolding control rule one file of_auth two_stacks written printed list_lines substack_files numbered substack_line rule_line token_text ended same_control entries_among control_text digits entries_in entries_behind
 brackets = refl

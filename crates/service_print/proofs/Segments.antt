@@ -48,7 +48,7 @@ lines_short (f ∷ fs) sound short =
     let shorts = and_parts (is_short_text (closed_line f)) (list_all is_short_text (lines_of (lines_text fs))) (ap (list_all is_short_text) (sym cut) ∙ short) in
     and_from (is_short_line f) (list_all is_short_line fs) shorts.0 (lines_short fs parts.1 shorts.1)
 
--- a file of such lines, where it is there and short
+-- a file of such lines, if it exists and is short
 pub short_file : OneReading → (texts : List ℕ → Option (List ℕ)) (file : File) (fs : List Fields) (ts : List (List ℕ)) (ms : List Meaning)
     → AreLines fs ts ms → list_all is_meant ms ≡ true → file.text ≡ text_of ts
     → is_short file ≡ true → texts (in_the_folder file.name) ≡ Some file.text → IsFile texts (in_the_folder file.name) ms

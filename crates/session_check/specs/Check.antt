@@ -26,7 +26,7 @@ file_text file = codes "file " ++ (file.name ++ (codes "\n" ++ file.text))
 abbrev pub files_text : List File → List ℕ
 files_text files = flat_map file_text files
 
--- what a check writes and finds, and how often the vault was called by then
+-- what a check writes and finds, and how often `Vault` was called by then
 pub record Check : Type 0 where
   pub text : List ℕ
   pub found : Found
@@ -51,8 +51,8 @@ check_of vault root service =
     check_by (tree (texts_of root vault) (has_folder vault root) service) service
     (loaded vault root service)
 
--- A check found this, and its text is written, or a front of it. Without memory the vault may have been called less
--- often.
+-- A check found this, and its text is written, or a prefix of it. If an allocation fails, `Vault` may have been called
+-- less often.
 pub record Checks (result : Result Found Stopped) (c : Check) (old new : SinkState)
     (vault : VaultState) : Type 0 where
   pub front : List ℕ
@@ -64,8 +64,8 @@ pub record Checks (result : Result Found Stopped) (c : Check) (old new : SinkSta
   pub asked : result ≢ Err NoMemory → vault.calls ≡ c.calls
   pub writes : new.calls ≤ old.calls + length front + 1
 
--- What is told of a check by the vault alone, whatever became of its text: what was found, and how often the vault was
--- called by then.
+-- What is known of a check if only the files are modelled, whatever became of its text: what was found, and how often
+-- `Vault` was called by then.
 pub record Finds (result : Result Found Stopped) (c : Check) (vault : VaultState) : Type 0 where
   pub found : IfOk result (λ found. found ≡ c.found)
   pub asked : result ≢ Err NoMemory → vault.calls ≡ c.calls

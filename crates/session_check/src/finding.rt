@@ -31,9 +31,9 @@ struct Finding {
     text: Vec<u8>,
 }
 
-/// Prints the configuration of a service under a root: for each of its files, in one form, the line `file NAME` and
-/// the text; or else the line of the first fault. Of the world only the vault's counts change. The text is complete
-/// before its first byte is written.
+/// Prints the configuration of a service under a root: for each of its files, in one form, the line
+/// `file NAME` and the text; or else the line of the first fault. Of the world only the counts of
+/// `Vault` change. The text is complete before its first byte is written.
 pub fn check<K: Sink>(
     alloc: Global,
     root: &[u8],
@@ -46,7 +46,7 @@ pub fn check<K: Sink>(
     ensures told { IsTrue (K.sink_tells out.old) → IsTrue (vault_tells vault.old) →
         Checks result (check_of (vault_holds vault.old) root.now service.now) (K.sink_holds out.old)
         (K.sink_holds out.new) (vault_holds vault.new) }
-    // If only the vault is modelled, and if only the sink is.
+    // If only the files are modelled, and if only the output is.
     ensures found { IsTrue (vault_tells vault.old) →
         Finds result (check_of (vault_holds vault.old) root.now service.now)
         (vault_holds vault.new) }

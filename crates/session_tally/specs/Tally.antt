@@ -44,7 +44,7 @@ by_file (Some text) = if nat_lt 65536 (length text) then damaged else by_text (f
 abbrev pub tally_path : List ℕ → List ℕ → List ℕ
 tally_path root user = path_of root (codes "/var/run/faillock/" ++ user)
 
--- the tally of a user under a root: unread where the call of the vault is to fail
+-- the tally of a user under a root: unread if the call of `Vault` is to fail
 unfoldable pub tally_of : VaultState → List ℕ → List ℕ → PlainTally
 tally_of vault root user = if is_failing vault then unread
     else by_file (file_at (tally_path root user) vault.files)
@@ -54,7 +54,7 @@ pub record IsTally (finding : Finding) (t : PlainTally) : Type 0 where
   pub tallied : finding.tallied ≡ t.tallied
   pub text : finding.text ≡ t.text
 
--- It was found so, and its text is written, or a front of it.
+-- It was found so, and its text is written, or a prefix of it.
 pub record Lists (result : Result Tallied Stop) (t : PlainTally) (old new : SinkState) : Type
     0 where
   pub front : List ℕ

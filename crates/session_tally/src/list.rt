@@ -10,9 +10,10 @@ use item_stream::Stop;
 use pam_outside::{Sink, Vault, write_all};
 use std::alloc::Global;
 
-/// Lists the failures in the file of a user under a root, `/var/run/faillock/USER`: each in the form of the file, and
-/// then their number; or writes that the file is damaged or can't be read. A file that doesn't exist has none. Of the
-/// world only the vault's counts change: it is called once. The text is complete before its first byte is written.
+/// Lists the failures in the file of a user under a root, `/var/run/faillock/USER`: each in the
+/// form of the file, and then their number; or writes that the file is damaged or can't be read. A
+/// file that doesn't exist has none. Of the world only the counts of `Vault` change: it is called
+/// once. The text is complete before its first byte is written.
 pub fn list_failures<K: Sink>(
     alloc: Global,
     root: &[u8],
@@ -25,17 +26,18 @@ pub fn list_failures<K: Sink>(
     ensures told { IsTrue (K.sink_tells out.old) → IsTrue (vault_tells vault.old) →
         Lists result (tally_of (vault_holds vault.old) root.now user.now) (K.sink_holds out.old)
         (K.sink_holds out.new) }
-    // What was found, if the vault is modelled, whatever becomes of the text; and what was written, if the sink is.
+    // What was found, if the files are modelled, whatever becomes of the text; and what was
+    // written, if the output is.
     ensures found { IsTrue (vault_tells vault.old) → IfOk result (λ tallied.
         tallied ≡ (tally_of (vault_holds vault.old) root.now user.now).tallied) }
     ensures writes { IsTrue (K.sink_tells out.old) →
         WritesText (K.sink_holds out.old) (K.sink_holds out.new) }
-    // One call of the vault, or none if the memory for its path can't be allocated.
+    // One call of `Vault`, or none if the memory for its path can't be allocated.
     ensures one_call { IsTrue (vault_tells vault.old) →
         (vault_holds vault.new ≡ counted (vault_holds vault.old)) ⊎ ((result ≡ Err Stop.NoMemory)
         × (vault_holds vault.new ≡ vault_holds vault.old)) }
-    // The causes, with real objects too: Unread is returned only if the vault failed; otherwise the vault failed only
-    // if the line that says so couldn't be written.
+    // The causes, with real objects too: Unread is returned only if `Vault` failed; otherwise
+    // `Vault` failed only if the line that says so couldn't be written.
     ensures unread { result ≡ Ok Tallied.Unread →
         Rose (vault_faults vault.old) (vault_faults vault.new) }
     ensures read { (result ≡ Ok Tallied.Listed) ⊎ (result ≡ Ok Tallied.Damaged) →

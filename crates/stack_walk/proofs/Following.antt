@@ -1,4 +1,4 @@
--- A walk whose lines act by cached codes goes along the route of these answers.
+-- A walk whose lines act by cached codes goes along the route of these codes.
 use Rattle.std.proofs.Common.{◌≡◌, ℕ, zero, suc, ◌+◌, ◌<◌, ◌≤◌, Bool, true, false, true≢false, ◌⊎◌, inl, inr, if◌then◌else◌, List, [], ◌∷◌, ◌++◌, length, length-append, Option, Some, None, refl, sym, ◌∙◌, ap, subst, append_assoc, append-nil, arith}
 use Rattle.pam_base.specs.declared.code.Code.{Code}
 use Rattle.control_words.specs.declared.control.Action.{Action}
@@ -147,7 +147,7 @@ module _ (State : Type 0) (kind : PassKind) (serve : Serving State) (kept : Kept
     has = λ e. absurd (true≢false (sym is ∙ e));
   }
 
-  -- where the first part ended, what it saw is all that it met
+  -- if the first part ended, what it saw is all that it met
   seen_all : (before : List ℕ) (m : Met) (w : Walked State) → w.stopped ≡ false → Along before m w → seen w.state ≡ before ++ m.places
   seen_all before m w is goes = sym (goes.places ∙ ap (λ xs. seen w.state ++ xs) (goes.ended is) ∙ append-nil (seen w.state))
 

@@ -1,4 +1,4 @@
--- What visits keep.
+-- What lines that are run cache.
 use Rattle.std.proofs.Common.{◌≡◌, ℕ, ◌+◌, ◌≤◌, Bool, true, false, nat_eq, ◌||◌, if◌then◌else◌, List, [], ◌∷◌, ◌++◌, Option, Some, None, is_some, refl, ◌∙◌, ap, arith, eq-eqb, ne_eqb}
 use Rattle.std.specs.List.{list_any}
 use Rattle.pam_base.specs.declared.code.Code.{Code}
@@ -35,7 +35,7 @@ pub kept-past : (vs : List Visit) (at place : ℕ) (p : Code) → at + 1 ≤ pla
 kept-past vs at place p le is =
     kept-next vs (visit at p ∷ []) place is ∙ ap (λ (b : Bool). if b then Some p else None) (ne_eqb place at (λ same. omega arith))
 
--- the places that have an answer are those visited
+-- the lines that have a cached code are those that were run
 some_if : (b : Bool) (x : Code) (rest : Option Code) (c : Bool) → is_some rest ≡ c → is_some (if b then Some x else rest) ≡ (b || c)
 some_if true x rest c is = refl
 some_if false x rest c is = is

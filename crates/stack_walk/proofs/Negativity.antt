@@ -1,4 +1,4 @@
--- Whether an opinion is negative goes on by the action alone, whatever the present answer.
+-- Whether a state is negative depends on the action alone, whatever the present code.
 use Rattle.std.proofs.Common.{◌≡◌, ℕ, Bool, true, false, not, if◌then◌else◌, nat_le, refl, ◌∙◌, ap}
 use Rattle.pam_base.specs.declared.code.Code.{Code}
 use Rattle.pam_base.specs.declared.code.Code.TheVariants as codes

@@ -15,7 +15,7 @@ use Rattle.stack_walk.specs.PathLaw.{GoesOn}
 use Rattle.stack_walk.proofs.Following.{state_if, state_onward, walk_keeps}
 use Rattle.stack_walk.proofs.Serving.{visited, unvisited}
 
--- visits, and more after them
+-- lines that were run, and more after them
 abbrev Grown : List Visit → List Visit → Type 0
 Grown vs ws = (more : List Visit) × (ws ≡ vs ++ more)
 
@@ -44,7 +44,7 @@ module _ (State : Type 0) (kind : PassKind) (kept : KeptAnswers) where
       walk_keeps (PassState State) kind (serving kind kept answering) (λ (at : ℕ) (x : PassState State). Grown g.visits x.visits)
       (λ rule at x grown. grown_by g.visits x.visits _ grown (line_grows answering rule at x _ refl)) (λ at later x le grown. grown) t n at entry o g (grown_same _ _ refl)
 
-  -- what a second walk does that has the first one's answers, and then others, as its past
+  -- what a second walk does that has the first one's codes, and then others, as its past
   record Again (w second : Walked (PassState State)) (rest : List Code) (s : State) : Type 0 where
     ended : w.stopped ≡ false → second ≡ walked w.opinion (pass_state rest w.state.visits s)
     put_off : w.stopped ≡ true → Grown w.state.visits second.state.visits

@@ -1,4 +1,4 @@
--- A walk whose lines record their visits in a trace, and the same walk by these visits.
+-- A walk whose lines are recorded in a trace, and the same walk replayed by these lines.
 use Rattle.std.proofs.Common.{◌≡◌, ℕ, zero, suc, ◌+◌, Bool, true, false, ◌&&◌, nat_eq, if◌then◌else◌, List, [], ◌∷◌, ◌++◌, refl, sym, ◌∙◌, ap, append_assoc, append-nil, eq-eqb}
 use Rattle.std.specs.Str.{bytes_eq}
 use Rattle.pam_base.specs.declared.code.Code.{Code}
@@ -35,7 +35,7 @@ abbrev pub walked_again : {State : Type 0} → Walked (PassState State) → List
 walked_again w more = record { opinion = w.opinion; state = pass_state w.state.past w.state.visits (telling more); stopped = w.stopped }
 
 module _ (State : Type 0) (trail : State → List Seen) where
-  -- what a line and a walk add to the trace, and that by these visits they are the same again
+  -- what a line and a walk add to the trace, and that replayed by these lines they are the same again
   pub record ServedTold (v : Served (PassState State)) (before : List Seen) (again : List Seen → Served (PassState Telling)) : Type 0 where
     pub news : List Seen
     pub adds : trail v.state.state ≡ before ++ news

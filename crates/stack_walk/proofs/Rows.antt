@@ -1,4 +1,4 @@
--- Worked stacks, computed on the definitions, over modules whose answers are fixed by the places of their lines.
+-- Worked stacks, computed on the definitions, over modules whose codes are fixed by the rule numbers of their lines.
 use Rattle.std.proofs.Common.{◌≡◌, ℕ, ◌-◌, false, nat_eq, if◌then◌else◌, List, [], ◌∷◌, None, get_or, refl}
 use Rattle.pam_base.specs.declared.code.Code.{Code}
 use Rattle.pam_base.specs.declared.code.Code.TheVariants.{Success, PermDenied, AuthErr, CredUnavail, CredErr, SessionErr, MaxTries, TryAgain, Ignore, Incomplete}
@@ -15,7 +15,7 @@ use Rattle.stack_walk.specs.Walk.{Walked, code_of}
 use Rattle.stack_walk.specs.Route.{route}
 use Rattle.stack_walk.specs.Pass.{Answering, PassState, visit, kept_in, answers_of, pass_after}
 
--- a line with a control; its module answers by its place
+-- a line with a control; its module returns a code by its rule number
 abbrev by : List Action → Rule
 by control = record { silent = false; control = control; path = []; args = [] }
 
@@ -40,7 +40,7 @@ Passed = Walked (PassState (List ℕ))
 abbrev keep : Stack → List Code → Passed
 keep stack codes = pass_after Keep (λ place. None) (fixed codes) stack [] []
 
--- a pass that follows the one that kept the first answers
+-- a pass that follows the one that cached the first codes
 abbrev follow : Stack → List Code → List Code → Passed
 follow stack first codes = pass_after Follow (kept_in (keep stack first).state.visits) (fixed codes) stack [] []
 
@@ -144,7 +144,7 @@ ended_inside-code = refl
 ended_inside-visits : (keep ended_inside (AuthErr ∷ Success ∷ Success ∷ [])).state.visits ≡ visit 1 AuthErr ∷ visit 3 Success ∷ []
 ended_inside-visits = refl
 
--- a reset in a substack goes back to the opinion at its entry
+-- a reset in a substack goes back to the state at its entry
 abbrev reset_inside : Stack
 reset_inside = line (by required) (sub (line (by required) (line (by (always actions.Reset)) none)) (line (by optional) none))
 
@@ -154,7 +154,7 @@ reset_inside-code = refl
 reset_inside-visits : (keep reset_inside (Success ∷ AuthErr ∷ Success ∷ AuthErr ∷ [])).state.visits ≡ visit 1 Success ∷ visit 2 AuthErr ∷ visit 3 Success ∷ visit 4 AuthErr ∷ []
 reset_inside-visits = refl
 
--- a pass that follows takes the way of the one that kept: a failure now does not lead it to another line
+-- a pass that follows takes the way of the one that cached: a failure now does not lead it to another line
 abbrev enough : Stack
 enough = line (by sufficient) (line (by required) none)
 
@@ -171,14 +171,14 @@ enough_followed-code = refl
 enough_followed-visits : (follow enough (Success ∷ Success ∷ []) (CredErr ∷ Success ∷ [])).state.visits ≡ visit 1 CredErr ∷ []
 enough_followed-visits = refl
 
--- an IGNORE leaves the opinion undefined, and the list still ends
+-- an IGNORE leaves the state undefined, and the list still ends
 enough_ignored-code : code_of (follow enough (Success ∷ Success ∷ []) (Ignore ∷ Success ∷ [])) ≡ PermDenied
 enough_ignored-code = refl
 
 enough_ignored-visits : (follow enough (Success ∷ Success ∷ []) (Ignore ∷ Success ∷ [])).state.visits ≡ visit 1 Ignore ∷ []
 enough_ignored-visits = refl
 
--- a run without cached codes decides by its own answers
+-- a run without cached codes decides by its own codes
 abbrev one : Stack
 one = line (by required) none
 
@@ -202,7 +202,7 @@ one_followed-code = refl
 one_followed-visits : (follow one (Success ∷ []) (Success ∷ [])).state.visits ≡ visit 1 Success ∷ []
 one_followed-visits = refl
 
--- in a pass that follows a jump counts as ok, unless the answer is IGNORE
+-- in a pass that follows a jump counts as ok, unless the code is IGNORE
 abbrev over_line : Stack
 over_line = line (by (jump 1)) (line (by required) (line (by required) none))
 
@@ -219,7 +219,7 @@ over_line_followed-code = refl
 over_line_followed-visits : (follow over_line (Success ∷ Success ∷ Success ∷ []) (CredErr ∷ Success ∷ Success ∷ [])).state.visits ≡ visit 1 CredErr ∷ visit 3 Success ∷ []
 over_line_followed-visits = refl
 
--- an optional line that was kept as a success counts, whatever it answers later
+-- an optional line that was cached as a success counts, whatever it returns later
 abbrev session : Stack
 session = line (by optional) none
 
@@ -276,7 +276,7 @@ incomplete-visits = refl
 in_substack : route (sub (line (by sufficient) (line (by required) none)) (line (by required) none)) (kept_in (visit 1 Success ∷ visit 3 Success ∷ [])) ≡ 1 ∷ 3 ∷ []
 in_substack = refl
 
--- but not where the opinion is negative
+-- but not if the state is negative
 after_bad : route failed (kept_in (visit 1 AuthErr ∷ visit 2 Success ∷ visit 3 Success ∷ [])) ≡ 1 ∷ 2 ∷ 3 ∷ []
 after_bad = refl
 
@@ -288,7 +288,7 @@ around_substack = refl
 lacking : route ended_inside (kept_in []) ≡ 1 ∷ []
 lacking = refl
 
--- A done that was kept as SUCCESS leaves an undefined opinion as it is where the present answer is IGNORE, and makes it
+-- A done that was cached as SUCCESS leaves an undefined state as it is if the present code is IGNORE, and makes it
 -- positive at a SUCCESS. Whether it is negative is the same in both, so a list ends at both or at neither.
 stays_undefined : acted Follow actions.Done Ignore Success opening opening ≡ opening
 stays_undefined = refl

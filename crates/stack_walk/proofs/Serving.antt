@@ -40,11 +40,11 @@ Any_at State at g = Unit {0}
 abbrev pub Any : (State : Type 0) → PassState State → Type 0
 Any State g = Unit {0}
 
--- no place from here on was visited
+-- no line from here on was run
 abbrev pub Below : (State : Type 0) → ℕ → PassState State → Type 0
 Below State at g = (place : ℕ) → at ≤ place → kept_in g.visits place ≡ None
 
--- what was visited is kept
+-- what was run is cached
 abbrev pub Agrees : (State : Type 0) → KeptAnswers → PassState State → Type 0
 Agrees State kept g = (place : ℕ) (k : Code) → kept_in g.visits place ≡ Some k → kept place ≡ Some k
 
@@ -64,7 +64,7 @@ follow_tells State kept answering = record {
   agrees = λ rule at g k low ok runs is. decides_kept State kept answering rule at g.past g.visits g.state k is;
 }
 
--- a pass that keeps, of which `kept` is what it will have visited
+-- a pass that caches; `kept` is what it will have run
 decides_present : (State : Type 0) (before : KeptAnswers) (answering : Answering State) (rule : Rule) (at : ℕ) (past : List Code) (vs : List Visit) (s : State)
     → (served_past kinds.Keep before answering rule at past vs s).deciding ≡ (served_past kinds.Keep before answering rule at past vs s).answer
 decides_present State before answering rule at [] vs s = refl

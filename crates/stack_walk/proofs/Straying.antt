@@ -21,8 +21,8 @@ abbrev pub Strays : Walked (PassState Telling) → Type 0
 Strays w = (w.stopped ≡ true) × (w.state.state.astray ≡ true)
 
 module _ (State : Type 0) where
-  -- What a walk visits, and what a later one is by the answers of these visits: the same where it
-  -- ended, and one that strays where it was paused.
+  -- What a walk runs, and what a later one is by the codes of these lines: the same if it ended, and one that strays if
+  -- it was paused.
   record Resumes (w : Walked (PassState State)) (before : List Visit) (again : List Code → Walked (PassState Telling)) : Type 0 where
     news : List Visit
     adds : w.state.visits ≡ before ++ news
@@ -69,7 +69,7 @@ module _ (State : Type 0) where
     abbrev served_later : Rule → ℕ → List Code → List Visit → Served (PassState Telling)
     served_later rule at past visits = served_past kind later replaying rule at past visits (telling [])
 
-    -- what is served of a line that is visited, and of one that pauses
+    -- what is known of a line that is run, and of one that pauses
     record LineResumes (v : Served (PassState State)) (rule : Rule) (at : ℕ) (visits : List Visit) : Type 0 where
       on : v.stopped ≡ false → v.state.visits ≡ visits ++ visit at v.answer ∷ []
       off : v.stopped ≡ true → v.state.visits ≡ visits

@@ -41,7 +41,7 @@ answer_told rule place [] = strays []
 answer_told rule place (v ∷ vs) = if is_of v rule place
     then record { answer = v.answer; state = telling vs } else strays (v ∷ vs)
 
--- lines answer so
+-- lines return so
 abbrev pub replaying : Answering Telling
 replaying rule place t = answer_told rule place t.left
 

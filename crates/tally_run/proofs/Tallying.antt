@@ -1,4 +1,4 @@
--- Of the lines that a run visits, those of pam_faillock.
+-- Of the lines that a run runs, those of pam_faillock.
 use Rattle.std.proofs.Common.{◌≡◌, ◌⊎◌, inl, inr, ℕ, List, [], ◌∷◌, map, Option, Some, None, slice_get, refl, ap, ◌∙◌, sym, subst}
 use Rattle.std.specs.List.{AllByRecursion}
 use Rattle.pam_outside.specs.Files.{File, file_at}
@@ -15,7 +15,7 @@ use Rattle.tally_run.specs.Tallied.{FaillockAloneWrites, IsTallied, LeavesFile, 
 
 module _ (path : List ℕ) (players : List Player) (alone : FaillockAloneWrites path players)
     (one : (path : List ℕ) (call : PlainCall) (room : SeenRoom) (held : List NamedData) (sight : Sight) → (deed : Deed) × Does path call sight (faillock_plays call room held sight) deed) where
-  -- visited lines, each with what it did, that lead the file from one state to another
+  -- lines run, each with what it did, that lead the file from one state to another
   pub record Led (before : Option (List ℕ)) (visits : List TimedVisit) (after : Option (List ℕ)) : Type 0 where
     pub lines : List TalliedVisit
     pub lines_are : map visit_in lines ≡ visits

@@ -19,7 +19,7 @@ abbrev pub FaillockAloneWrites : List ℕ → List Player → Type 0
 FaillockAloneWrites path players = (n : ℕ) (p : Player) → slice_get players n ≡ Some p
     → (p.plays ≡ faillock_plays) ⊎ LeavesFile path p.plays
 
--- ---- a visited line, and what it did to the file
+-- ---- a line that was run, and what it did to the file
 
 -- its module is pam_faillock, and this is its call; or no module that writes the file is there
 pub data TalliedVisit : Type 0 where
@@ -56,10 +56,10 @@ calls_in (passed_by t ∷ ts) = calls_in ts
 
 -- ---- a run
 
--- These visits lead the file from its state in some files to that in others: each visited line is one of
--- pam_faillock, and its call finds the file as the one before left it, or its module leaves the file. Where one
--- `fail_interval` is used, what stands in the file is what stood at the start while nothing was written, and else
--- those that count of the failures that were recorded since they were last cleared.
+-- These lines lead the file from its state in some files to that in others: each line run is one of pam_faillock, and
+-- its call finds the file as the one before left it, or its module leaves the file. If one `fail_interval` is used, the
+-- file has what it had at the start while nothing was written, and otherwise those that count of the failures that were
+-- recorded since they were last cleared.
 pub record Tallies (path : List ℕ) (players : List Player) (before : List File)
     (visits : List TimedVisit) (after : List File) : Type 0 where
   pub lines : List TalliedVisit

@@ -58,7 +58,7 @@ fn told(alloc: Global, answer: &Result<Replies, ConvFault>) -> Result<Vec<u8>, A
     Ok(text)
 }
 
-// Whether an exchange comes to this.
+// Whether an exchange gives this.
 fn gives<C: Conv>(
     conv: &mut C,
     alloc: Global,

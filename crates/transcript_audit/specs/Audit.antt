@@ -43,14 +43,14 @@ unread = record { found = Unread; text = [] }
 abbrev pub refused : LoadFault → Audit
 refused fault = record { found = Refused; text = refused_words fault ++ codes "\n" }
 
--- of a transcript against the stacks of a service, or None where it couldn't be read
+-- of a transcript against the stacks of a service, or None if it couldn't be read
 abbrev pub audit_by : Stacks → Option (List ℕ) → Audit
 audit_by stacks None = unread
 audit_by stacks (Some text) =
     if nat_lt 1048576 (length text) then too_long
     else judged (differs stacks (lines_read read_line text))
 
--- where the configuration is refused, whatever the transcript is
+-- if the configuration is refused, whatever the transcript is
 abbrev pub audit_from : (RuleType → Stack) → Result Counts Stop → Option (List ℕ) → Audit
 audit_from stack (Ok counts) input = audit_by (stacks_of stack) input
 audit_from stack (Err stop) input = refused stop.fault
@@ -61,7 +61,7 @@ audit_of vault root service input =
     audit_from (tree (texts_of root vault) (has_folder vault root) service)
     (loaded vault root service) input
 
--- how often the vault was called by the end of a load
+-- how often `Vault` was called by the end of a load
 abbrev pub calls_of : Result Counts Stop → ℕ
 calls_of (Ok counts) = counts.calls
 calls_of (Err stop) = stop.calls
@@ -76,7 +76,7 @@ abbrev pub IsAuditOf : Finding → (Option (List ℕ) → Audit) → List ℕ �
 IsAuditOf finding audit transcript = IsAudit finding (audit (Some transcript))
     ⊎ IsAudit finding (audit None)
 
--- An audit found this, and its text is written, or a front of it; without memory nothing.
+-- An audit found this, and its text is written, or a prefix of it; nothing if an allocation fails.
 pub record Audits (result : Result Audited Stopped) (a : Audit) (old new : SinkState) : Type
     0 where
   pub front : List ℕ
@@ -92,8 +92,8 @@ pub record Audits (result : Result Audited Stopped) (a : Audit) (old new : SinkS
 abbrev pub IsVerdict : Audited → Type 0
 IsVerdict found = (found ≡ Fits) ⊎ (found ≡ Differs)
 
--- how far the transcript was read, by what was found: to its end where there is a verdict, past the most bytes that one
--- may have where it is too long, and not at all where the configuration is refused
+-- how far the transcript was read, by what was found: to its end if there is a verdict, past the most bytes that one
+-- may have if it is too long, and not at all if the configuration is refused
 abbrev pub ReadsUpTo : Audited → List ℕ → List ℕ → Type 0
 ReadsUpTo Fits before left = left ≡ []
 ReadsUpTo Differs before left = left ≡ []

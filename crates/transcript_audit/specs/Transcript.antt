@@ -5,7 +5,7 @@ use Rattle.pam_outside.specs.Streams.{SourceState}
 use Rattle.transcript_audit.specs.declared.transcript.Transcript.{Transcript}
 use Rattle.transcript_audit.specs.declared.transcript.Transcript.TheVariants.{Whole, TooLong, Unread}
 
--- At most 1,048,577 bytes were taken, with at most one read more than they are, and at most one where none was left.
+-- At most 1,048,577 bytes were taken, with at most one read more than they are, and at most one if none was left.
 pub record Takes (old new : SourceState) : Type 0 where
   pub taken : List ℕ
   pub parts : old.left ≡ taken ++ new.left
@@ -34,7 +34,8 @@ abbrev pub is_unread : Transcript → Bool
 is_unread Unread = true
 is_unread transcript = false
 
--- One read: what it got stands after the text so far, or it failed and got nothing. Without memory what it got is lost.
+-- One read: what it got comes after the text so far, or it failed and got nothing. If an allocation fails, what it got
+-- is lost.
 pub record ReadsMore (result : Result (Option ℕ) NoMemory) (before after : List ℕ)
     (old new : SourceState) : Type 0 where
   pub got : List ℕ

@@ -12,14 +12,15 @@ use item_stream::Stop;
 use pam_outside::{Sink, Source, Vault, write_all};
 use std::alloc::Global;
 
-/// Audits the transcript of a run, which is read from a source, against the stacks of a service under a root, and
-/// writes the verdict on one line.
+/// Audits the transcript of a run, which is read from a source, against the stacks of a service
+/// under a root, and writes the verdict on one line.
 ///
-/// The service is loaded first. If its configuration is refused, the line of its first fault is written, and the
-/// source isn't read. A transcript with a verdict was read to its end; of one that is too long 1,048,577 bytes are
-/// read; if the source fails, nothing is written. The source is read at most once more than bytes were taken, the
-/// sink is written at most once more than bytes were written. Of the world only the vault's counts change. The text
-/// is complete before the first byte is written.
+/// The service is loaded first. If its configuration is refused, the line of its first fault is
+/// written, and the source isn't read. A transcript with a verdict was read to its end; of one that
+/// is too long 1,048,577 bytes are read; if the source fails, nothing is written. The source is
+/// read at most once more than bytes were taken, the sink is written at most once more than bytes
+/// were written. Of the world only the counts of `Vault` change. The text is complete before the
+/// first byte is written.
 pub fn audit_transcript<S: Source, K: Sink>(
     alloc: Global,
     root: &[u8],
@@ -38,7 +39,7 @@ pub fn audit_transcript<S: Source, K: Sink>(
         (Some (S.source_holds source.old).left)) (K.sink_holds out.old) (K.sink_holds out.new)
         ⊎ Audits result (audit_of (vault_holds vault.old) root.now service.now None)
         (K.sink_holds out.old) (K.sink_holds out.new) }
-    // If an allocation fails, the vault may have been called less often.
+    // If an allocation fails, `Vault` may have been called less often.
     ensures asked { IsTrue (vault_tells vault.old) → result ≢ Err Stop.NoMemory →
         (vault_holds vault.new).calls
         ≡ calls_of (loaded (vault_holds vault.old) root.now service.now) }

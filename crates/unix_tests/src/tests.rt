@@ -18,7 +18,7 @@ const PASSWD: &[u8] = b"joe:x:1000:1000:Joe:/home/joe:/bin/sh\n";
 const SHADOW: &[u8] =
     b"joe:$5$saltstring$5B8vYYiY.CVt1RlTTf8KbXBH3hsxY/GNooZaBBGWEc5:19000:0:99999:7:::\n";
 
-// What one call came to.
+// The result of one call.
 #[derive(Drop)]
 struct Outcome {
     answer: u32,
@@ -65,7 +65,8 @@ fn serve_first(
     serve_line(alloc, mods, line, call, room, world)
 }
 
-// Has pam_unix serve a call for joe, with one argument and this AUTHTOK, where one call of the vault is to fail.
+// Has pam_unix serve a call for joe, with one argument and this AUTHTOK; one call of `Vault` is to
+// fail.
 fn serve(
     alloc: Global,
     func: Func,

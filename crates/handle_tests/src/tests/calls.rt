@@ -5,8 +5,8 @@ use pam_base::{Code, Func, NoMemory};
 use pam_handle::Gear;
 use std::test::Fail;
 
-// A scene, what each call answers (None where there was no memory), what the visited lines answer,
-// and id and status of each receipt.
+// A scene, what each call returns (None if an allocation failed), what the lines run return, and
+// the id and status of each cleanup record.
 struct Row {
     scene: Scene,
     answers: &'static [Option<Code>],

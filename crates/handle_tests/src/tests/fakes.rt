@@ -49,7 +49,7 @@ impl Module for Establisher {
     }
 }
 
-// Sets a datum, and then finds no memory.
+// Sets module data, and then runs out of memory.
 #[derive(Drop)]
 struct Forgetful;
 

@@ -18,14 +18,14 @@ pub struct Scene {
     pub calls: &'static [(Func, u32)],
 }
 
-/// What came of it.
+/// Its result.
 #[derive(Drop)]
 pub struct Outcome {
-    /// What each call answered.
+    /// What each call returned.
     pub answers: Vec<Result<Code, NoMemory>>,
-    /// What the lines that were visited answered.
+    /// What the lines that were run returned.
     pub visits: Vec<Code>,
-    /// Id and status of each receipt, after an end with the status 9.
+    /// The id and status of each cleanup record, after an end with the status 9.
     pub receipts: Vec<(u64, u32)>,
 }
 

@@ -130,7 +130,7 @@ fn a_sleeping_nap_waits(rt: HostRuntime) -> Result<(), Fail> {
     Ok(())
 }
 
-// An empty folder of its own for a test of this name.
+// An empty directory of its own for a test with this name.
 fn new_folder(rt: HostRuntime, name: &str) -> Result<PathBuf, Fail> {
     let alloc = rt.alloc();
     let id = process::id(rt.process());
@@ -294,7 +294,7 @@ fn a_lock_is_taken_again_once_it_is_let_go(rt: HostRuntime) -> Result<(), Fail> 
     Ok(())
 }
 
-// How many names a folder has.
+// How many names a directory has.
 fn names_in(rt: HostRuntime, folder: &PathBuf) -> Result<usize, Fail> {
     let mut names = 0usize;
     for entry in fs::read_dir(&rt, folder.as_path())? {
