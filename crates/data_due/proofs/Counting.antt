@@ -1,4 +1,4 @@
--- What was born has one receipt, or stands once in one list.
+-- What was set has one cleanup record, or is once in one list.
 use Rattle.std.proofs.Common.{◌≡◌, ℕ, zero, suc, ◌+◌, ◌<◌, false, eqb, ltb, arith, if◌then◌else◌, List, [], ◌∷◌, ◌++◌, length, map, reverse, refl, ap, subst, ◌∙◌}
 use Rattle.std.specs.Str.{bytes_eq}
 use Rattle.std.proofs.lemmas.List.{reverse-append}
@@ -44,7 +44,7 @@ pub filed-receipts : (id : ℕ) (note : Notes) (status : ℕ) (ds : List PlainDa
 filed-receipts id note status [] = refl
 filed-receipts id note status (d ∷ ds) = ap (λ (n : ℕ). (if eqb d.id id then 1 else 0) + n) (filed-receipts id note status ds)
 
--- the new births
+-- the new data
 one_more : (id n : ℕ) → (if ltb id n then 1 else 0) + (if eqb n id then 1 else 0) ≡ (if ltb id (n + 1) then 1 else 0)
 one_more id n = grind arith
 

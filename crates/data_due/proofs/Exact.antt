@@ -1,4 +1,4 @@
--- What has no receipt stands in a list.
+-- What has no cleanup record is in a list.
 use Rattle.std.proofs.Common.{◌≡◌, ◌↔◌, ℕ, zero, suc, ◌<◌, ◌≤◌, ◌⊎◌, inl, inr, Bool, true, false, eqb, ltb, arith, if◌then◌else◌, List, [], ◌∷◌, length, refl, ap}
 use Rattle.std.specs.List.{AllByRecursion, list_any}
 use Rattle.std.specs.Str.{bytes_eq}
@@ -80,7 +80,7 @@ all_filed limit ledger lists once none id born = by_test (is_filed ledger id) (�
     let there = (unfiled_held limit ledger lists once id).0 (record { born = born; unfiled = e }) in
     absurd (omega (arith, there.2, ap (times id) (none there.0 there.1))))
 
--- no data, no births
+-- no data, no records
 placed_some : (live : List PlainDatum) (d : PlainDatum) → 0 < length (with_datum live d)
 placed_some [] d = omega arith
 placed_some (x ∷ xs) d = by_test (bytes_eq x.name d.name) (λ e. rw e (omega arith)) (λ e. rw e (omega arith))

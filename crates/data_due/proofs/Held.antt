@@ -1,4 +1,4 @@
--- The lists hold exactly what has no receipt.
+-- The lists hold exactly what has no cleanup record.
 use Rattle.std.proofs.Common.{◌≡◌, ℕ, ◌+◌, ◌<◌, ◌≤◌, false, eqb, arith, List, [], ◌∷◌, ◌++◌, length, reverse, refl, ap, ◌∙◌, length-append}
 use Rattle.std.specs.List.{AllByRecursion}
 use Rattle.data_cleanup.specs.Datum.{PlainDatum}
@@ -16,7 +16,7 @@ use Rattle.data_due.proofs.OnceMore.{nothing_below, fresh_numbers, once_growth, 
 use Rattle.data_due.proofs.Tidying.{numbered_late, each_placed}
 use Rattle.data_due.proofs.Exact.{open_lists}
 
--- one id, one birth
+-- one id, one record
 abbrev Only : List Birth → Birth → Type 0
 Only births b = AllByRecursion (λ (c : Birth). c.id ≡ b.id → c ≡ b) births
 
@@ -92,7 +92,7 @@ held_on_end note modules limit handle status before after lists next a lt is non
           (λ e. rw (same h e, births) (a.each h));
     }
 
--- what a handle holds may have receipts
+-- what a handle holds may have cleanup records
 pub held_ready : (modules limit handle : ℕ) (ledger : PlainLedger) (lists : ℕ → List PlainDatum) → HeldLive modules limit ledger lists
     → handle < limit → AwaitCleanup modules ledger (lists handle)
 held_ready modules limit handle ledger lists a lt =

@@ -1,4 +1,4 @@
--- What stands for a list of events stands for more.
+-- What models a list of events models more.
 use Rattle.std.proofs.Common.{◌≡◌, ℕ, ◌+◌, ◌<◌, ◌≤◌, false, eqb, arith, List, [], ◌∷◌, ◌++◌, length, map, reverse, refl, sym, ap, subst, ◌∙◌}
 use Rattle.std.specs.List.{AllByRecursion, IsDistinct}
 use Rattle.std.proofs.lemmas.List.{reverse-append, reverse-reverse, map-append}
@@ -25,7 +25,7 @@ use Rattle.data_due.proofs.Tidying.{numbered_late, all_tidy_more, growth_tidy, e
 abbrev Of : ℕ → List Birth → Type 0
 Of handle bs = AllByRecursion (λ (b : Birth). b.handle ≡ handle) bs
 
--- births of a handle go to its list
+-- data set for a handle go to its list
 since_births : (handle : ℕ) (past : List Event) (bs : List Birth) → Of handle bs
     → since_end handle (reverse (map birth bs) ++ past) ≡ reverse bs ++ since_end handle past
 since_births handle past [] all = refl
@@ -75,7 +75,7 @@ data_held-other_ended handle status other events e =
     ap (λ (l : List Event). with_births [] (reverse (since_end other l))) (reverse-append events (ends handle status ∷ []))
     ∙ rw away refl
 
--- nothing stands for no events
+-- nothing models no events
 pub stand_at_first : (note : Notes) (limit : ℕ) → StandLive note limit (record { births = []; filed = [] }) (λ (h : ℕ). []) []
 unfolding IsDistinct
 stand_at_first note limit = record {

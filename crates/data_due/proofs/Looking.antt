@@ -1,4 +1,4 @@
--- Looking back over the births of a handle.
+-- Looking back over the data set for a handle.
 use Rattle.std.proofs.Common.{◌≡◌, ℕ, Bool, true, false, ◌||◌, eqb, arith, if◌then◌else◌, List, [], ◌∷◌, ◌++◌, map, reverse, refl, sym, ap, ◌∙◌, append_assoc}
 use Rattle.std.specs.List.{list_any, flat_map, AllByRecursion}
 use Rattle.std.specs.Str.{bytes_eq}
@@ -13,7 +13,7 @@ use Rattle.data_cleanup.specs.declared.receipt.Receipt.{Receipt}
 use Rattle.data_due.specs.Holding.{data_held, receipts, replaced_data}
 use Rattle.data_due.proofs.Naming.{by_test, name_is, name_same, names_flip, data_named-with_datum, has, has-with_datum, Apart, apart-with_datum, renewed, placed_is}
 
--- the data that stand after some births, the newest birth first
+-- the data that are there after some were set, the newest first
 abbrev pub hold_back : List Birth → List PlainDatum
 hold_back [] = []
 hold_back (b ∷ before) = with_datum (hold_back before) (datum_of b)
@@ -54,7 +54,7 @@ pub receipts-append : (note : Notes) (status : ℕ) (xs ys : List PlainDatum)
     → receipts note status (xs ++ ys) ≡ receipts note status xs ++ receipts note status ys
 receipts-append note status xs ys = map-append _ xs ys
 
--- what the births of one handle make due
+-- what the data set for one handle make due
 data_before : (i : ℕ) (ns : List PlainDatum) (rs : List (PlainDatum × ℕ))
     → map (λ (r : PlainDatum × ℕ). r.0) (map (λ (d : PlainDatum). (d, i)) ns ++ rs) ≡ ns ++ map (λ (r : PlainDatum × ℕ). r.0) rs
 data_before i [] rs = refl

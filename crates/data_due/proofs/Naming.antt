@@ -1,4 +1,4 @@
--- Where names stand in a list of data.
+-- Where names are in a list of data.
 use Rattle.std.proofs.Common.{◌≡◌, ℕ, Bool, true, false, ◌||◌, if◌then◌else◌, List, [], ◌∷◌, ◌++◌, map, refl, sym, ap, ◌∙◌}
 use Rattle.std.specs.List.{list_any}
 use Rattle.std.specs.Str.{bytes_eq}
@@ -74,7 +74,7 @@ apart-with_datum (x ∷ xs) d a = by_test (bytes_eq x.name d.name)
     (λ e. rw e (rw (name_is x.name d.name e) at a.0, a.1))
     (λ e. rw e (rw (has-with_datum xs d x.name, names_flip x.name d.name e) a.0, apart-with_datum xs d a.1))
 
--- a datum takes the place of one of its name
+-- new data take the place of those with their name
 abbrev pub renewed : PlainDatum → List PlainDatum → List PlainDatum
 renewed new ds = map (λ (d : PlainDatum). if bytes_eq d.name new.name then new else d) ds
 

@@ -15,7 +15,7 @@ use Rattle.data_due.proofs.Tidying.{swept_receipts, tidied_receipts}
 pub nothing_below : (id n : ℕ) → n ≡ 0 → n ≡ (if ltb id 0 then 1 else 0)
 nothing_below id n e = grind arith
 
--- the births that are added are numbered from those that stood
+-- the data that are added are numbered from those that were there
 pub fresh_numbers : (before added : List Birth) → AreNumbered 0 (before ++ added) → AreNumbered (length before) added
 fresh_numbers before added is = let e : 0 + length before ≡ length before = omega arith in subst (λ (n : ℕ). AreNumbered n added) e (numbered-back 0 before added is)
 

@@ -1,4 +1,4 @@
--- A ledger in order stays so, when a list grows and when a transaction ends.
+-- A cleanup log in order stays so when a list grows and when a transaction ends.
 use Rattle.std.proofs.Common.{◌≡◌, ℕ, ◌<◌, ◌≤◌, List, ◌++◌, length, reverse, ap}
 use Rattle.std.specs.List.{AllByRecursion}
 use Rattle.data_cleanup.specs.Datum.{PlainDatum}

@@ -1,4 +1,4 @@
--- Each datum of a handle's list is the latest birth of its name.
+-- All data of a handle's list are the latest set under their name.
 use Rattle.std.proofs.Common.{◌≡◌, ℕ, ◌+◌, ◌<◌, true, false, eqb, arith, List, [], ◌∷◌, ◌++◌, length, map, reverse, refl, sym, ap, subst, ◌∙◌}
 use Rattle.std.specs.List.{AllByRecursion}
 use Rattle.std.specs.Str.{bytes_eq}
@@ -15,7 +15,7 @@ use Rattle.data_due.proofs.Naming.{by_test, name_is, name_same, Apart, has}
 use Rattle.data_due.proofs.Looking.{hold_back, apart_back, with_births-reverse}
 use Rattle.data_due.proofs.Every.{every, every-reverse}
 
--- the births, the newest first
+-- the data that were set, the newest first
 abbrev pub births_back : List Event → List Birth
 births_back [] = []
 births_back (birth b ∷ past) = b ∷ births_back past
@@ -42,7 +42,7 @@ placed_each P Q d (x ∷ xs) apart all new old = by_test (bytes_eq x.name d.name
           (λ e. absurd (let no : true ≡ false = rw e at none in cc))
           (λ e. (old y ps.0 e, others ys (rw e at none) ps.1))
 
--- a birth more
+-- data set once more
 kept_other : (handle : ℕ) (b : Birth) (births : List Birth) (d : PlainDatum) → b.id ≡ length births → (b.handle ≡ handle → b.name ≡ d.name → ⊥)
     → IsLatest handle births d → IsLatest handle (b ∷ births) d
 kept_other handle b births d number apart l = record {

@@ -1,4 +1,4 @@
--- Receipts are tidy, and stay so when data are born.
+-- Cleanup records are tidy, and stay so when data are set.
 use Rattle.std.proofs.Common.{◌≡◌, ℕ, ◌+◌, ◌<◌, ◌≤◌, arith, List, [], ◌∷◌, ◌++◌, length, map, refl, ap, ◌∙◌, length-append}
 use Rattle.std.specs.List.{AllByRecursion}
 use Rattle.std.specs.Str.{bytes_eq}
@@ -25,7 +25,7 @@ pub numbered_late : (n : ℕ) (births : List Birth) → AreNumbered n births →
 numbered_late n [] is = tt
 numbered_late n (b ∷ bs) is = (omega (arith, is.0), every (λ (c : Birth). n + 1 ≤ c.id) (λ (c : Birth). n ≤ c.id) (λ c le. omega (arith, le)) bs (numbered_late (n + 1) bs is.1))
 
--- births more
+-- more data set
 of_more : (note : Notes) (births added : List Birth) (b : Birth) (f : Filed) → AllByRecursion (λ (c : Birth). length births ≤ c.id) added
     → f.mark ≤ length births → IsReceiptOf note births b f → IsReceiptOf note (births ++ added) b f
 of_more note births added b f late within r = record {
@@ -51,7 +51,7 @@ pub all_tidy_more : (note : Notes) (births added : List Birth) (fs : List Filed)
     → AllByRecursion (IsTidy note births) fs → AllByRecursion (IsTidy note (births ++ added)) fs
 all_tidy_more note births added fs late all = every (IsTidy note births) (IsTidy note (births ++ added)) (λ f t. tidy_more note births added f late t) fs all
 
--- each birth with the datum's id is the datum's
+-- each record with the id of data is that of these data
 abbrev Known : List Birth → PlainDatum → Type 0
 Known births d = AllByRecursion (λ (b : Birth). b.id ≡ d.id → datum_of b ≡ d) births
 
@@ -84,7 +84,7 @@ each_gone P live [] all new = tt
 each_gone P live (b ∷ bs) all new = every-append _ (map (λ (d : PlainDatum). (d, b.id)) (data_named live b.name)) (replacements (with_datum live (datum_of b)) bs)
     (each_named P live b.name b.id all) (each_gone P (with_datum live (datum_of b)) bs (each_placed P live (datum_of b) all new.0) new.1)
 
--- the receipts of data that were replaced
+-- the cleanup records of data that were replaced
 swept_tidy : (note : Notes) (births : List Birth) (limit : ℕ) (rs : List (PlainDatum × ℕ)) (fs : List Filed) → AreSwept note limit rs fs
     → AllByRecursion (λ (f : Filed). f.receipt.id < f.mark) fs → AllByRecursion (λ (f : Filed). f.mark ≤ length births) fs → AllByRecursion (λ (r : PlainDatum × ℕ). Known births r.0) rs → AllByRecursion (IsTidy note births) fs
 swept_tidy note births limit [] [] s low in_list known = tt
@@ -111,7 +111,7 @@ growth_tidy note handle limit births added live fs numbered late all s low in_li
     (every (IsLatest handle births) (Known (births ++ added)) (λ d l. latest_known handle births added d late l) live all)
     (every-back _ births added (numbered_known 0 (births ++ added) numbered)))
 
--- the receipts of an end
+-- the cleanup records of an end
 pub end_tidy : (note : Notes) (handle status : ℕ) (births : List Birth) (ds : List PlainDatum) → AllByRecursion (IsLatest handle births) ds
     → AllByRecursion (IsTidy note births) (receipts_for note status (length births) ds)
 end_tidy note handle status births [] all = tt
@@ -131,7 +131,7 @@ end_tidy note handle status births (d ∷ ds) all =
       end_tidy note handle status births ds all.1,
     )
 
--- the receipts alone
+-- the cleanup records alone
 receipt_is : (i j s t n m : ℕ) → i ≡ j → s ≡ t → n ≡ m → ◌≡◌ {A = Receipt} (record { id = i; status = s; note = n }) (record { id = j; status = t; note = m })
 receipt_is i j s t n m a b c = cc
 

@@ -43,7 +43,7 @@ whole_stand note limit ledger lists events clean s = record {
   once = s.once;
 }
 
--- what stands for events is clean
+-- what models events is clean
 stand_clean : (note : Notes) (limit : ℕ) (ledger : PlainLedger) (lists : Lists) (events : List Event) → StandFor note limit ledger lists events
     → (h : ℕ) → lists h ≡ clean_list h (lists h).live
 stand_clean note limit ledger lists events s h = s.lists_are h ∙ ap (clean_list h) (sym (ap (λ (l : PlainDataList). l.live) (s.lists_are h)))

@@ -1,4 +1,4 @@
--- What the transactions hold after a run, and the receipts of data.
+-- What the transactions hold after a run, and the cleanup records.
 use Rattle.std.specs.Prelude.{ℕ, List, [], map, reverse}
 use Rattle.data_cleanup.specs.Datum.{PlainDatum}
 use Rattle.data_cleanup.specs.Cleanup.{Notes}
@@ -7,7 +7,7 @@ use Rattle.data_cleanup.specs.Due.{Event, since_end}
 use Rattle.data_cleanup.specs.declared.datum.Birth.{Birth}
 use Rattle.data_cleanup.specs.declared.receipt.Receipt.{Receipt}
 
--- the births of a transaction since its last end, in order
+-- the data set in a transaction since its last end, in order
 abbrev pub births_since : ℕ → List Event → List Birth
 births_since handle events = reverse (since_end handle (reverse events))
 
@@ -15,7 +15,7 @@ births_since handle events = reverse (since_end handle (reverse events))
 abbrev pub data_held : ℕ → List Event → List PlainDatum
 data_held handle events = with_births [] (births_since handle events)
 
--- the data that some births replace, in order
+-- the data that some new ones replace, in order
 abbrev pub replaced_data : List PlainDatum → List Birth → List PlainDatum
 replaced_data live births = map (λ (r : PlainDatum × ℕ). r.0) (replacements live births)
 

@@ -1,11 +1,11 @@
--- The data that a transaction holds, beside all births (pam_set_data(3)).
+-- The data that a transaction holds, related to all data that were set (pam_set_data(3)).
 use Rattle.std.specs.Prelude.{◌≡◌, ℕ, ◌<◌, List, length}
 use Rattle.std.specs.List.{AllByRecursion}
 use Rattle.data_cleanup.specs.Datum.{PlainDatum}
 use Rattle.data_cleanup.specs.DataList.{PlainDataList, datum_of}
 use Rattle.data_cleanup.specs.declared.datum.Birth.{Birth}
 
--- a datum of a transaction: its birth, which no later one of its name replaced
+-- data of a transaction: no later ones with their name replaced them
 pub record IsLatest (handle : ℕ) (births : List Birth) (d : PlainDatum) : Type 0 where
   pub below : d.id < length births
   pub is : AllByRecursion (λ (b : Birth). b.id ≡ d.id → (datum_of b ≡ d)
@@ -13,6 +13,6 @@ pub record IsLatest (handle : ℕ) (births : List Birth) (d : PlainDatum) : Type
   pub latest : AllByRecursion (λ (c : Birth). d.id < c.id → c.handle ≡ handle → c.name
       ≡ d.name → ⊥) births
 
--- every datum of a list is
+-- all data of a list are so
 abbrev pub AreLatest : List Birth → PlainDataList → Type 0
 AreLatest births list = AllByRecursion (IsLatest list.handle births) list.live

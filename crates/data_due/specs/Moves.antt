@@ -1,4 +1,4 @@
--- What a call does to the events that a ledger and the lists stand for (this project's own).
+-- What a call does to the events that a cleanup log and the lists model (this project's own).
 use Rattle.std.specs.Prelude.{◌≡◌, ℕ, List, ◌++◌, map}
 use Rattle.data_cleanup.specs.Ledger.{PlainLedger}
 use Rattle.data_cleanup.specs.Cleanup.{Notes}

@@ -1,4 +1,4 @@
--- What a ledger and the lists of the transactions have to do with the births and ends of a run (this project's own).
+-- What relates a cleanup log and the data lists of the transactions to the sets and ends of a run (this project's own).
 use Rattle.std.specs.Prelude.{◌≡◌, ◌<◌, ℕ, zero, suc, ◌+◌, nat_eq, nat_lt, if◌then◌else◌, List, [], ◌∷◌, length, map}
 use Rattle.std.specs.List.{AllByRecursion}
 use Rattle.data_cleanup.specs.Datum.{PlainDatum}
@@ -28,7 +28,7 @@ births_of (ends handle status ∷ events) = births_of events
 abbrev pub receipts_in : List Filed → List Receipt
 receipts_in filed = map (λ (f : Filed). f.receipt) filed
 
--- how many receipts an id has
+-- how many cleanup records an id has
 abbrev pub times_filed : ℕ → List Receipt → ℕ
 times_filed id [] = 0
 times_filed id (r ∷ rs) = (if nat_eq r.id id then 1 else 0) + times_filed id rs
@@ -38,12 +38,12 @@ unfoldable pub times_held : ℕ → ℕ → (ℕ → List PlainDatum) → ℕ
 times_held zero id data_of = 0
 times_held (suc limit) id data_of = times_held limit id data_of + times id (data_of limit)
 
--- What was set has one receipt, or is once in one list; nothing else has or is.
+-- What was set has one cleanup record, or is once in one list; nothing else has or is.
 abbrev pub EachOnce : ℕ → PlainLedger → (ℕ → List PlainDatum) → Type 0
 EachOnce limit ledger data_of = (id : ℕ) → times_filed id (receipts_in ledger.filed)
     + times_held limit id data_of ≡ (if nat_lt id (length ledger.births) then 1 else 0)
 
--- The ledger and the lists of the transactions, whose numbers are below a limit, are those of these events. A
+-- The cleanup log and the lists of the transactions, whose numbers are below a limit, are those of these events. A
 -- transaction that is closed has no data.
 pub record StandFor (note : Notes) (limit : ℕ) (ledger : PlainLedger) (lists : Lists)
     (events : List Event) : Type 0 where

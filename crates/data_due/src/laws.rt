@@ -17,7 +17,7 @@ ghost use Rattle.data_due.specs.Moves.{Moves};
 // Each of these is a law about the definitions: its contract states it, for those who call it in a
 // proof.
 
-/// Births of one transaction make due the data that they replace in its list.
+/// Data set in one transaction make due the data that they replace in its list.
 pub fn births_make_due()
     ensures { (note : Notes) (events : List Event) (handle : ℕ) (births : List Birth) →
         AllByRecursion (λ (b : Birth). b.handle ≡ handle) births →
@@ -33,8 +33,8 @@ pub fn end_makes_due()
         ≡ due note events ++ receipts note status (reverse (data_held handle events)) }
 {}
 
-/// Each record of data has one receipt that is due, or is once in one transaction's list; nothing
-/// else has or is.
+/// Each record of data set has one cleanup record that is due, or is once in one transaction's
+/// list; nothing else has or is.
 pub fn each_is_due_once()
     ensures { (note : Notes) (limit : ℕ) (events : List Event) →
         AreNumbered 0 (births_of events) → AreBelow limit events → (id : ℕ) →
@@ -48,7 +48,7 @@ pub fn no_data_where_no_births()
         (data_held handle events ≡ []) ↔ (births_since handle events ≡ []) }
 {}
 
-/// A ledger without records, and lists without data, model no events.
+/// A cleanup log without records, and lists without data, model no events.
 pub fn nothing_stands_for_none()
     ensures { (note : Notes) (limit : ℕ) →
         StandFor note limit (record { births = []; filed = [] }) (λ (h : ℕ). clean_list h []) [] }
@@ -108,14 +108,14 @@ pub fn held_data_are_latest()
         StandFor note limit ledger lists events → AreLatest ledger.births (lists handle) }
 {}
 
-/// A ledger in order stays so when a list grows.
+/// A cleanup log in order stays so when a list grows.
 pub fn growth_keeps_tidy()
     ensures { (note : Notes) (modules : ℕ) (old new : PlainDataList) (before after : PlainLedger) →
         Tidy note before → AreLatest before.births old → Grows note modules old before new after →
         IsSound after.births after.filed → AreNumbered 0 after.births → Tidy note after }
 {}
 
-/// A ledger in order stays so when the data of a list are cleaned up at its end.
+/// A cleanup log in order stays so when the data of a list are cleaned up at its end.
 pub fn end_keeps_tidy()
     ensures { (note : Notes) (status : ℕ) (list : PlainDataList) (before after : PlainLedger) →
         Tidy note before → AreLatest before.births list →
@@ -129,7 +129,7 @@ pub fn nothing_is_held()
         AreHeld modules limit (record { births = []; filed = [] }) (λ (h : ℕ). clean_list h []) }
 {}
 
-/// Growth of one transaction's list leaves the lists with exactly what has no receipt.
+/// Growth of one transaction's list leaves the lists with exactly what has no cleanup record.
 pub fn growth_holds()
     ensures { (note : Notes) (modules limit handle : ℕ) (before after : PlainLedger)
         (lists next : Lists) →
@@ -156,14 +156,14 @@ pub fn held_data_await_cleanup()
         AwaitCleanup modules ledger (lists handle).live }
 {}
 
-/// Data without a receipt is once in the list of one transaction.
+/// Data without a cleanup record are once in the list of one transaction.
 pub fn outstanding_are_held()
     ensures { (limit : ℕ) (ledger : PlainLedger) (data_of : ℕ → List PlainDatum) →
         EachOnce limit ledger data_of →
         (id : ℕ) → IsOutstanding ledger id ↔ ((h : ℕ) × (h < limit) × (times id (data_of h) ≡ 1)) }
 {}
 
-/// If no transaction has data, each record has its receipt.
+/// If no transaction has data, each record has its cleanup record.
 pub fn all_are_filed()
     ensures { (limit : ℕ) (ledger : PlainLedger) (data_of : ℕ → List PlainDatum) →
         EachOnce limit ledger data_of →
