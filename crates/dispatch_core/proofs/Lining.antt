@@ -73,7 +73,7 @@ pub line_visited : {E : Type 0} (result : Result Code E) (stack : Stack) (i plac
 line_visited (Ok code) stack i place path old new at its seen = rw (← at, ← its) seen
 line_visited (Err e) stack i place path old new at its seen = tt
 
--- ---- what a line's module returns is the line's code
+-- what a line's module returns is the line's code
 module _ {M : Type 0} (label : M → List ℕ) (plays : M → Plays) (note : M → Note) (breaks : M → Breaks) (mods : List M) (func : Func) (flags : ℕ) (stack : Stack) (i : ℕ) where
   pub line_answered : (names : List (List ℕ)) (number : Option ℕ) (place : ℕ) (path : List ℕ) (args : List (List ℕ)) (s later : State) (code : Code)
       → i < lines_in stack → names ≡ map label mods → number ≡ module_at stack names i → place ≡ i + 1 → path ≡ (rule_at stack i).path → args ≡ (rule_at stack i).args

@@ -26,7 +26,7 @@ use Rattle.session_audit.specs.Differs.{visits_good}
 use Rattle.session_audit.specs.Checked.{told_in, behind_quiet, IsCall, IsJudged}
 use Rattle.session_audit.specs.declared.judge.Judged.{Judged}
 
--- ---- visits among told lines
+-- ---- lines run among recorded lines
 
 pub visits_are : (told : List (Option Seen)) → visits_told (told_in told) ≡ visits_in told
 visits_are [] = refl
@@ -53,13 +53,13 @@ within_all (suc i) (Some v ∷ told) = omega (arith, within_all i told)
 pub named_within : (i line : ℕ) (told : List (Option Seen)) → line ≡ told_lines.lines_before i (told_in told) → line ≤ length told
 named_within i line told is = omega (arith, lines_are i told, within_all i told)
 
--- ---- no visit is among told lines exactly where all stand before the first
+-- ---- no line run is among recorded lines if and only if all come before the first
 
 skips : (i : ℕ) (told : List (Option Seen)) → lines_before i (None ∷ told) ≡ lines_before i told + 1
 skips zero told = refl
 skips (suc i) told = refl
 
--- all lines stand before a visit after the last
+-- all lines come before a line run after the last
 all_before : (told : List (Option Seen)) → lines_before (length (visits_in told)) told ≡ length told
 all_before [] = refl
 all_before (None ∷ told) = omega (arith, skips (length (visits_in told)) told, all_before told)
@@ -97,7 +97,7 @@ pub all_taken : (told : List (Option Seen)) (next : ℕ) → next ≡ lines_befo
     → eqb next (length told) ≡ is_none (visits_in (drop next told))
 all_taken told next at = by_left told next (visits_in (drop next told)) refl at
 
--- ---- of what is told to the checker
+-- ---- of what is known to the checker
 
 pub told_none : (told : List (Option Seen)) (first : ℕ) → first ≡ lines_before 0 told → length told ≤ first → visits_told (told_in told) ≡ []
 told_none told first is le = visits_are told ∙ no_visits told (omega arith)
@@ -145,7 +145,7 @@ nothing_more : (b : Bool) → false ≡ (b && false)
 nothing_more true = refl
 nothing_more false = refl
 
--- visits aside, chauthtok was refused
+-- except for lines run, chauthtok was refused
 pub refused_by : (func : Func) (code : Code) (vs : List retell.Seen) → is_refused_change func code vs ≡ (is_refused_change func code [] && is_none vs)
 refused_by funcs.Authenticate code vs = refl
 refused_by funcs.SetCred code vs = refl

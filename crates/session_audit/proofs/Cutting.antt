@@ -45,7 +45,7 @@ pub none_is : (rest : List ℕ) → is_none rest ≡ eqb (length rest) 0
 none_is [] = refl
 none_is (b ∷ rest) = past (length rest)
 
--- ---- a verdict names a line exactly where it isn't that all fits
+-- ---- a verdict names a line if and only if it isn't that all fits
 
 pub fits_names : (v : Verdict) → v ≡ verdicts.Fits → line_of v ≡ None
 fits_names v is = ap line_of is

@@ -55,7 +55,7 @@ IsCall (Some call) result = result ≡ answered (runs call.func) (shows_code cal
 IsCall None result =
     (func : Func) (code : Code) → result ≡ answered (runs func) (shows_code code) → ⊥
 
--- ---- what a block was found to come to
+-- ---- the result of a block
 
 -- it is the place after it, or else which line doesn't fit
 abbrev pub IsJudged : Judged → Option Place → ℕ → Type 0

@@ -28,7 +28,7 @@ module _ (setting : Setting) (p : Placed) (s : RunState) (w : PlainWorld) (is : 
       subst (λ (o : Option LoadFault). ComesTo (Err (Named fault)) (behind_files setting o (state_of s.slots (with_vault p.vault (from_root s.world)))) (state_of s.slots w)) (sym some)
       (refl, ap (state_of s.slots) is)
 
--- the drawn files in their places, or one of them refused
+-- the generated files are stored, or one of them is refused
 module _ (setting : Setting) (seed lines : ℕ) (s : RunState) (files : List DrawnFile) (m w : PlainWorld) (v : VaultState)
     (drawn : files ≡ drawn_files seed lines) (root : m ≡ from_root s.world) (rest : w ≡ with_vault v m) where
   same : placed files m.vault ≡ placed (drawn_files seed lines) s.world.vault

@@ -34,7 +34,7 @@ by_place : (old new : List PlainSlot) → NoneIsOpen old → ((number : ℕ) →
 by_place old new none others first zero = first
 by_place old new none others first (suc i) = ap is_open_at (others (suc (suc i)) (λ e. cc)) ∙ closed_at old none (suc i)
 
--- where no other place was changed, and the first is closed
+-- if no other slot was changed, and the first is closed
 pub none_open : (old new : List PlainSlot) → NoneIsOpen old → ((number : ℕ) → (number ≡ 1 → ⊥) → slot_at new number ≡ slot_at old number) → is_open_at (slot_at new 1) ≡ false → NoneIsOpen new
 none_open old new none others first = all_closed new (by_place old new none others first)
 
@@ -118,11 +118,11 @@ end_stays_inside status None = refl
 end_stays_inside status (Some (closed conv)) = refl
 end_stays_inside status (Some (opened h)) = refl
 
--- what tells as before
+-- what is modelled stays so
 pub both_tell : (a b x y : Bool) → a ≡ x → b ≡ y → (x && y) ≡ true → (a && b) ≡ true
 both_tell a b x y e f told = rw (e, f) told
 
--- ---- what a step came to, and a start with an authentication
+-- ---- the result of a step, and a start with an authentication
 
 module _ (setting : Setting) (s : RunState) (call : AppCall) (outcome : PlainOutcome) (slots : List PlainSlot) (w : PlainWorld)
     (steps : StepsAs (stepped setting.players setting.delay s.slots s.world (step_of call)) outcome slots w) where

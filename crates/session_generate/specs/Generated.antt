@@ -26,18 +26,18 @@ abbrev pub from_root : PlainWorld → PlainWorld
 from_root w = record w { process = record w.process { root = codes "/"; caller = 65534 } }
 
 module _ (setting : Setting) where
-  -- the login, where all files were put in their places
+  -- the login, if all files were stored
   abbrev pub behind_files : Option LoadFault → RunState → Attempt
   behind_files (Some fault) s = record { result = Err fault; state = s }
   behind_files None s = logged_in setting s
 
-  -- what is drawn from a seed is put in its place, and authenticated by
+  -- what is generated from a seed is stored, and authenticated by
   abbrev pub attempted : ℕ → ℕ → RunState → Attempt
   attempted seed lines s =
       let p = placed (drawn_files seed lines) s.world.vault in
       behind_files p.fault (state_of s.slots (with_vault p.vault (from_root s.world)))
 
--- generated LINES files K code NAME NUMBER visited COUNT
+-- `generated LINES files K code NAME NUMBER visited COUNT`
 abbrev pub generated_text : ℕ → Login → List ℕ
 generated_text lines login =
     codes "generated " ++ (decimal lines ++ (codes " files " ++ (decimal (count_of lines)
@@ -54,7 +54,7 @@ abbrev pub found_by : Result Login LoadFault → Generated
 found_by (Ok login) = Written
 found_by (Err fault) = Refused
 
--- what `generate` writes and answers, and the state after it
+-- what `generate` writes and returns, and the state after it
 pub record Generation : Type 0 where
   pub text : List ℕ
   pub generated : Generated
@@ -64,7 +64,7 @@ unfoldable pub generation : Setting → ℕ → ℕ → RunState → Generation
 generation setting seed lines s = let a = attempted setting seed lines s in
     record { text = text_of lines a.result; generated = found_by a.result; state = a.state }
 
--- what is found of an attempt, where there was memory for it
+-- what is found of an attempt, if no allocation failed
 abbrev pub IsFound : Finding → ℕ → Result Login (Refuse LoadFault) → Type 0
 IsFound finding lines (Ok login) = (finding.generated ≡ Written)
     × (finding.text ≡ generated_text lines login)
@@ -78,7 +78,8 @@ pub record Finds (finding : Finding) (g : Generation) (state : RunState) : Type 
   pub text : finding.text ≡ g.text
   pub state_is : state ≡ g.state
 
--- It came to this, and its line is written, or a front of it where a write failed. Without memory nothing is written.
+-- This was the result, and its line is written, or a prefix of it if a write failed. If an allocation fails, nothing is
+-- written.
 pub record Generates (result : Result Generated Stop) (g : Generation) (state : RunState)
     (old new : SinkState) : Type 0 where
   pub front : List ℕ
@@ -91,9 +92,9 @@ pub record Generates (result : Result Generated Stop) (g : Generation) (state : 
   pub state_is : result ≢ Err NoMemory → state ≡ g.state
   pub writes : new.calls ≤ old.calls + length front + 1
 
--- ---- the ends that it makes, in any world
+-- ---- the ends that it makes, with real objects too
 
--- of the transaction 1, with SUCCESS, or, where memory was wanting, with BUF_ERR
+-- of the transaction 1, with SUCCESS, or, if an allocation failed, with BUF_ERR
 abbrev pub IsEndWithoutMemory : ℕ → ℕ → Type 0
 IsEndWithoutMemory number status = (number ≡ 1)
     × ((status ≡ number_of Success) ⊎ (status ≡ number_of BufErr))

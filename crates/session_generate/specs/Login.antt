@@ -1,4 +1,4 @@
--- One authentication by the service that was drawn (this project's own).
+-- One authentication by the generated service (this project's own).
 use Rattle.std.specs.Prelude.{◌≡◌, ℕ, codes, length, Option, Some, None, Result, Ok, Err}
 use Rattle.pam_base.specs.Code.{number_of}
 use Rattle.pam_base.specs.declared.code.Code.{Code}
@@ -30,7 +30,7 @@ authenticate_call = calls.Authenticate 0
 abbrev pub state_in : Stepped → RunState
 state_in t = state_of t.slots t.world
 
--- the code that an authentication answers, as every one does whose transaction was started
+-- the code that an authentication returns, as each does whose transaction was started
 abbrev pub code_in : Answer → Code
 code_in (answers.Code code) = code
 code_in answer = SystemErr
@@ -38,12 +38,12 @@ code_in answer = SystemErr
 abbrev pub login_of : PlainOutcome → Login
 login_of outcome = record { code = code_in outcome.answer; visited = length outcome.trail }
 
--- why a start is refused, where it is
+-- why a start is refused, if it is
 abbrev pub refusal_in : Answer → Option LoadFault
 refusal_in (answers.Refused fault) = Some fault
 refusal_in answer = None
 
--- ---- what came of it: the code and how many lines were visited, or why the start was refused; and the state after it
+-- ---- its result: the code and how many lines were run, or why the start was refused; and the state after it
 
 pub record Attempt : Type 0 where
   pub result : Result Login LoadFault
@@ -61,7 +61,7 @@ module _ (setting : Setting) where
   authenticated s = let t = called s authenticate_call in
       record { result = Ok (login_of t.outcome); state = ended (number_of Success) (state_in t) }
 
-  -- by what the start answers: where it is refused, nothing more is called
+  -- by what the start returns: if it is refused, nothing more is called
   abbrev pub behind_start : Option LoadFault → RunState → Attempt
   behind_start (Some fault) s = record { result = Err fault; state = s }
   behind_start None s = authenticated s
@@ -70,14 +70,14 @@ module _ (setting : Setting) where
   logged_in s = let t = called s start_call in
       behind_start (refusal_in t.outcome.answer) (state_in t)
 
--- a start came to this; without memory nothing is said
+-- the result of a start; if an allocation fails nothing is said
 abbrev pub Starts : {T : Type 0} → Result T (Refuse LoadFault) → Stepped → RunState → Type 0
 Starts (Ok done) t state = (refusal_in t.outcome.answer ≡ None) × (state ≡ state_in t)
 Starts (Err (Named fault)) t state = (refusal_in t.outcome.answer ≡ Some fault)
     × (state ≡ state_in t)
 Starts (Err NoMemory) t state = Unit {0}
 
--- an authentication came to this
+-- the result of an authentication
 abbrev pub Authenticates : Login → Stepped → RunState → Type 0
 Authenticates login t state = (login ≡ login_of t.outcome) × (state ≡ state_in t)
 
@@ -91,13 +91,13 @@ Tries (Err (Named fault)) setting s state = let t = called setting s start_call 
     (refusal_in t.outcome.answer ≡ Some fault) × (state ≡ state_in t)
 Tries (Err NoMemory) setting s state = Unit {0}
 
--- an attempt came to this
+-- the result of an attempt
 abbrev pub ComesTo : Result Login (Refuse LoadFault) → Attempt → RunState → Type 0
 ComesTo (Ok login) a state = (a.result ≡ Ok login) × (state ≡ a.state)
 ComesTo (Err (Named fault)) a state = (a.result ≡ Err fault) × (state ≡ a.state)
 ComesTo (Err NoMemory) a state = Unit {0}
 
--- ---- the ends that it makes, in any world
+-- ---- the ends that it makes, with real objects too
 
 abbrev pub NoEnd : ℕ → ℕ → Type 0
 NoEnd number status = ⊥
@@ -106,7 +106,7 @@ NoEnd number status = ⊥
 abbrev pub IsEndWith : ℕ → ℕ → ℕ → Type 0
 IsEndWith ends number status = (number ≡ 1) × (status ≡ ends)
 
--- the status with which it is ended: where memory was wanting BUF_ERR, else SUCCESS
+-- the status with which it is ended: BUF_ERR if an allocation failed, else SUCCESS
 abbrev pub end_status : Result Login (Refuse LoadFault) → Code
 end_status (Err NoMemory) = BufErr
 end_status result = Success

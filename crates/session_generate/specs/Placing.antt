@@ -1,4 +1,4 @@
--- Service files that are put in place by a vault, one after another (this project's own).
+-- Service files that are stored, one after another (this project's own).
 use Rattle.std.specs.Prelude.{◌≡◌, ℕ, if◌then◌else◌, Option, Some, None, List, [], ◌∷◌, ◌++◌, codes, Result, Ok, Err}
 use Rattle.pam_base.specs.declared.fault.FaultKind.TheVariants.{ReadFailed}
 use Rattle.pam_base.specs.declared.fault.Refuse.{Refuse}
@@ -15,12 +15,12 @@ path_of_service name = codes "/etc/pam.d/" ++ name
 abbrev pub fault_of : DrawnFile → LoadFault
 fault_of file = record { file = path_of_service file.name; line = 0; kind = ReadFailed }
 
--- the vault after one that was put in its place
+-- the files after one was stored
 abbrev pub with_file : DrawnFile → VaultState → VaultState
 with_file file v = counted
     (record v { files = file_put (path_of_service file.name) file.text v.files })
 
--- the vault after the calls, and the fault of the first of them that is to fail; none comes after it
+-- the files after the calls, and the fault of the first of them that is to fail; none comes after it
 pub record Placed : Type 0 where
   pub vault : VaultState
   pub fault : Option LoadFault
@@ -31,11 +31,11 @@ placed (file ∷ files) v = if is_failing v
     then record { vault = counted v; fault = Some (fault_of file) }
     else placed files (with_file file v)
 
--- a world with another vault
+-- a world with other files
 abbrev pub with_vault : VaultState → PlainWorld → PlainWorld
 with_vault vault w = record w { vault = vault }
 
--- All files were put in their places, or all up to the fault; without memory nothing is said.
+-- All files were stored, or all up to the fault; if an allocation fails nothing is said.
 abbrev pub Places : {T : Type 0} → Result T (Refuse LoadFault) → Placed → VaultState → Type 0
 Places (Ok done) p vault = (p.fault ≡ None) × (vault ≡ p.vault)
 Places (Err (Named fault)) p vault = (p.fault ≡ Some fault) × (vault ≡ p.vault)

@@ -28,7 +28,7 @@ pub(crate) fn place_in_world(
     place_files(alloc, files, &mut *world.vault)
 }
 
-// Stores them in a vault.
+// Stores them.
 fn place_files(
     alloc: Global,
     files: &[DrawnFile],

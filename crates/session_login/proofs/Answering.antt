@@ -27,7 +27,7 @@ fit_call funcs.OpenSession flags = refl
 fit_call funcs.CloseSession flags = refl
 fit_call funcs.ChAuthTok flags = refl
 
--- a call that found no memory, where all tells
+-- a call that ran out of memory, if all objects are modelled
 pub failed_place : (a b : Bool) (call : AppCall) (old new : Option PlainSlot) → (a && b) ≡ true → FailsAt a call old new → FailsAt true call old new
 failed_place true b call old new told fails = fails
 failed_place false b call old new told fails = absurd cc
@@ -47,7 +47,7 @@ module _ (setting : Setting) (call : AppCall) (s : RunState) where
     answered : outcome.answer ≡ (make setting call s).answer
     answered = ap (λ (o : PlainOutcome). o.answer) a.outcome_is
 
-    -- there was no memory for its line
+    -- an allocation for its line failed
     pub call_unwritten : (p : SinkState) → Makes setting (make setting call s) (Err NoMemory) s (state_of slots world) p p
     call_unwritten p = stopped NoMemory (state_of slots world) p p (record { whole = []; others = make setting call s ∷ []; among = refl; part = []; written = sym (append-nil p.written); to = (refl, inl came) })
 

@@ -167,7 +167,7 @@ module _ (setting : Setting) where
           let w = all_went setting (start ∷ []) answer s t p q g in
           rw b (comes_behind (start ∷ []) answer (logging_in setting start.state) result s t u p q r g (rw (← w.at) c))
 
-    -- ---- and the transaction is ended where it is still open
+    -- ---- and the transaction is ended if it is still open
 
     ended_to : (result : Result Verdict Stop) (t u : RunState) (p q : SinkState)
         → (c : Comes setting as_it_is (login_of setting service user s) result s t p q) → NoneIsOpen s.slots

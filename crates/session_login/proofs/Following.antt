@@ -39,7 +39,7 @@ module _ (setting : Setting) where
   pub none_went : (s : RunState) (p : SinkState) → Went [] s s p p
   none_went s p = record { written = sym (append-nil p.written); at = refl }
 
-  -- the same states, by another list in front
+  -- the same states, with another list before
   to_behind : {T : Type 0} (result : Result T Stop) (xs : List Made) (s t : RunState) (whole others : List Made) (part : List ℕ)
       → GoesTo {T = T} setting result (state_behind s xs) t whole others part
       → GoesTo {T = T} setting result s t (xs ++ whole) others part

@@ -19,7 +19,7 @@ use Rattle.session_run.specs.pam_library.specs.Step.{stepped}
 use Rattle.session_run.specs.State.{RunState, Setting, state_of}
 use Rattle.session_login.specs.Login.{course, login_of, login_text}
 
--- a module that answers by the function, and sets a datum when it authenticates
+-- a module that returns a code by the function, and sets module data when it authenticates
 abbrev answers_by : (Func → Code) → Player
 answers_by by = record {
   name = codes "p";

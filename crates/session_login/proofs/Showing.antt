@@ -1,4 +1,4 @@
--- What is written, whatever is told.
+-- What is written, whatever is modelled.
 use Rattle.std.proofs.Common.{◌≡◌, ℕ, true, List, [], ◌++◌, Result, Ok, Err, sym, ap, ◌∙◌, append_assoc, append-nil, length-append, arith}
 use Rattle.pam_base.specs.declared.call.AppCall.{AppCall}
 use Rattle.pam_base.specs.declared.fault.Failed.{Failed}

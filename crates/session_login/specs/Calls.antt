@@ -61,7 +61,7 @@ call_with funcs.ChAuthTok flags = calls.ChAuthTok flags
 abbrev pub call_of : LoginCall → AppCall
 call_of c = call_with c.func c.flags
 
--- the code of an answer. One that isn't a code counts as ABORT, as the line of a call that waits for another one says
+-- the code in a result; one that isn't a code counts as ABORT, as the line of a call that waits for another one says
 abbrev pub code_in : Answer → Code
 code_in (answers.Code code) = code
 code_in answer = codes.Abort

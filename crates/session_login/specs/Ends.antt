@@ -1,4 +1,4 @@
--- Which ends a login makes, in any world (this project's own).
+-- Which ends a login makes, with real objects too (this project's own).
 use Rattle.std.specs.Prelude.{◌≡◌, ◌⊎◌, ℕ, Result, Ok, Err}
 use Rattle.pam_base.specs.declared.code.Code.{Code}
 use Rattle.pam_base.specs.declared.code.Code.TheVariants.{Success}
@@ -21,9 +21,8 @@ abbrev pub IsOwnEnd : ℕ → ℕ → Type 0
 IsOwnEnd number status = IsEndWith Success number status
     ⊎ ((code : Code) × IsDenial code × IsEndWith code number status)
 
--- With which code the transaction is ended. A refused start opens none; where the world doesn't tell so, it is closed
--- with SUCCESS.
--- Where the login stopped it is ended for that, unless it was already.
+-- With which code the transaction is ended. A refused start opens none; with a world that isn't modelled, it is closed
+-- with SUCCESS. If the login stopped it is ended for that, unless it was already.
 abbrev pub IsEndOfLogin : Result Verdict Stop → ℕ → ℕ → Type 0
 IsEndOfLogin (Ok Passed) number status = IsEndWith Success number status
 IsEndOfLogin (Ok (Denied code)) number status = IsEndWith code number status

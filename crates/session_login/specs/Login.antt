@@ -22,7 +22,7 @@ use Rattle.session_login.specs.Calls.{accepts, call_of, code_in, is_due, login_c
 
 -- ---- one call
 
--- a call that was made on the first transaction: what it answered, and the state after it
+-- a call that was made on the first transaction: what it returned, and the state after it
 pub record Made : Type 0 where
   pub call : AppCall
   pub answer : Answer
@@ -77,7 +77,7 @@ course setting (c ∷ calls) last s =
 
 -- ---- the whole login
 
--- the calls that were made, and what came of it
+-- the calls that were made, and their result
 pub record Login : Type 0 where
   pub made : List Made
   pub verdict : Verdict

@@ -20,7 +20,7 @@ use Rattle.session_login.specs.Login.{Course, Login, Made, answer_line, denied_l
 
 -- ---- a call that stops the login
 
--- The states that a call may leave that found no memory: what the library says of the first transaction, with every
+-- The states that a call may leave that ran out of memory: what the library says of the first transaction, with every
 -- other as it was, and of the data and the world.
 pub record FindsNoMemory (setting : Setting) (call : AppCall) (s t : RunState) : Type 0 where
   pub place : FailsAt true call (slot_at s.slots 1) (slot_at t.slots 1)
@@ -57,7 +57,7 @@ pub record Goes {T : Type 0} (setting : Setting) (made : List Made) (result : Re
   pub written : new.written ≡ old.written ++ (lines_of_calls whole ++ part)
   pub to : GoesTo setting result s t whole others part
 
--- one call, with its answer
+-- one call, with its result
 pub record Makes (setting : Setting) (m : Made) (result : Result Answer Stop) (s t : RunState)
     (old new : SinkState) : Type 0 where
   pub answers : IfOk result (λ (answer : Answer). answer ≡ m.answer)
@@ -71,8 +71,8 @@ pub record GoesThrough (setting : Setting) (c : Course) (result : Result (Option
 
 -- ---- the whole login
 
--- The lines of all its calls are written, and the last line; or it stopped in that one, where there is one; or in a
--- call. Where it stops something may be done to the state at last.
+-- The lines of all its calls are written, and the last line; or it stopped in that one, if there is one; or in a call.
+-- If it stops, something may be done to the state last.
 abbrev pub ComesTo : Setting → (Stop → RunState → RunState) → Login → Result Verdict Stop → RunState
     → RunState → List Made → List Made → List ℕ → Type 0
 ComesTo setting behind l (Ok verdict) s t whole others part = (others ≡ [])
@@ -96,7 +96,7 @@ pub record Comes (setting : Setting) (behind : Stop → RunState → RunState) (
 abbrev pub as_it_is : Stop → RunState → RunState
 as_it_is stop s = s
 
--- the last line of a login that is denied is written, or a front of it
+-- the last line of a login that is denied is written, or a prefix of it
 abbrev pub CutsDenial : Code → Result Verdict Stop → List ℕ → Type 0
 CutsDenial code (Ok verdict) part = part ≡ denied_line code
 CutsDenial code (Err stop) part = CutBy stop part (denied_line code)
@@ -111,14 +111,14 @@ pub record WritesDenial (code : Code) (result : Result Verdict Stop) (old new : 
 abbrev pub ended_for : Setting → Stop → RunState → RunState
 ended_for setting stop s = (make setting (end_call (stop_status stop)) s).state
 
--- A login with its verdict, and its text is written whole; or where it stopped, and a front of the text is.
+-- A login with its verdict, and its text is written whole; or where it stopped, and a prefix of the text is.
 abbrev pub LogsIn : Setting → Login → Result Verdict Stop → RunState → RunState → SinkState
     → SinkState → Type 0
 LogsIn setting l result s t old new = Comes setting (ended_for setting) l result s t old new
 
--- ---- what is written, whatever is told
+-- ---- what is written, whatever is modelled
 
--- some bytes were written, with at most one call of the sink more than they are; without that one where all went well
+-- some bytes were written, with at most one call of `Sink` more than they are; without that one if all went well
 pub record Shows {T : Type 0} (Says : T → List ℕ → Type 0) (result : Result T Stop)
     (p q : SinkState) : Type 0 where
   pub text : List ℕ
@@ -127,7 +127,7 @@ pub record Shows {T : Type 0} (Says : T → List ℕ → Type 0) (result : Resul
   pub calls_ok : OnOk result (q.calls ≤ p.calls + length text)
   pub says : IfOk result (λ (t : T). Says t text)
 
--- the line of an answer
+-- the line of a result
 abbrev pub SaysAnswer : AppCall → Answer → List ℕ → Type 0
 SaysAnswer call answer text = text ≡ answer_line call answer
 

@@ -1,4 +1,4 @@
--- Worked reports, computed: what the steps of some transactions told and answered, and their lines.
+-- Worked reports, computed: what the steps of some transactions reported and returned, and their lines.
 use Rattle.std.specs.Prelude.{◌≡◌, ℕ, true, List, [], ◌∷◌, ◌++◌, codes, Some, None}
 use Rattle.std.proofs.Common.{refl}
 use Rattle.std.specs.Fmt.{digits}
@@ -59,7 +59,7 @@ names = codes "pam_permit" ∷ codes "pam_probe" ∷ codes "pam_unix" ∷ []
 abbrev no_data : PlainLedger
 no_data = record { births = []; filed = [] }
 
--- a datum that pam_probe set
+-- module data that pam_probe set
 abbrev probed : ℕ → List ℕ → List ℕ → Birth
 probed id name payload = record { id = id; handle = 1; owner = 1; name = name; payload = payload }
 
@@ -69,14 +69,14 @@ filed id status note mark = record { receipt = record { id = id; status = status
 abbrev visit : ℕ → List ℕ → Code → Visit
 visit place path answer = record { place = place; path = path; answer = answer }
 
--- lines visited, and a code
+-- lines run, and a code
 abbrev passed : List Visit → Code → PlainOutcome
 passed visits code = record (answers_only 0 (answers.Code code)) { trail = visits }
 
 abbrev told : AppCall → PlainOutcome → PlainLedger → List ℕ
 told call outcome ledger = step_text names (record { number = 1; call = call }) outcome ledger
 
--- nothing but an answer
+-- nothing but a result
 abbrev answered : AppCall → Answer → List ℕ
 answered call answer = told call (answers_only 0 answer) no_data
 
@@ -134,7 +134,7 @@ prompted : told (calls.Authenticate 0) (record (passed (visit 1 (codes "pam_unix
 unfolding digits
 prompted = refl
 
--- a call that was put off, another call meanwhile, and the end
+-- an incomplete call, another call meanwhile, and the end
 put_off : told (calls.Authenticate 0) (record (passed (visit 1 (codes "pam_probe.so") Incomplete ∷ []) Incomplete) { said = record { style = EchoOn; text = codes "Q" } ∷ [] }) no_data
     ++ (answered (calls.SetCred 2) (answers.Pending Authenticate)
     ++ told (calls.End 5) (answers_only 0 (answers.Code Success)) (record { births = probed 0 (codes "a") (codes "x") ∷ []; filed = filed 0 5 261 1 ∷ [] }))

@@ -1,4 +1,4 @@
--- What a step answered (this project's own).
+-- The result of a step (this project's own).
 use Rattle.std.specs.Prelude.{ℕ, List, [], ◌++◌, length, codes}
 use Rattle.std.specs.List.{flat_map}
 use Rattle.pam_library.specs.declared.outcome.Answer.{Answer}
@@ -10,7 +10,7 @@ abbrev pub environment_text : ℕ → List ℕ → List (List ℕ) → List ℕ
 environment_text handle command variables = flat_map (variable_text handle) variables
     ++ words_text handle command (number_words (length variables))
 
--- the lines of an answer
+-- the lines of a result
 abbrev pub answer_text : ℕ → List ℕ → Answer → List ℕ
 answer_text handle command (answers.Code code) = words_text handle command (code_words code)
 answer_text handle command (answers.Refused fault) = words_text handle command (refused_words fault)

@@ -7,7 +7,7 @@ use Rattle.pam_library.specs.data_cleanup.specs.declared.receipt.Receipt.{Receip
 use Rattle.pam_library.specs.data_cleanup.specs.declared.receipt.Filed.{Filed}
 use Rattle.report_lines.specs.Line as lines
 
--- the line of a receipt, with the name of its datum's owner and the datum's own
+-- the line of a cleanup record, with the name of the owner and that of the data
 abbrev pub cleanup_text : ℕ → Receipt → List ℕ → List ℕ → List ℕ
 cleanup_text handle receipt owner datum =
     lines.cleanup_text handle (record {
@@ -19,21 +19,21 @@ cleanup_text handle receipt owner datum =
     })
 
 module _ (handle : ℕ) (names : List (List ℕ)) where
-  -- the line of a receipt and its datum's birth, whose owner has its name at its number, from 0
+  -- the line of a cleanup record and its data, whose owner has its name at its number, from 0
   abbrev pub receipt_text : Receipt → Option Birth → List ℕ
   receipt_text receipt (Some birth) =
       cleanup_text handle receipt (unwrap_or (slice_get names birth.owner) []) birth.name
   receipt_text receipt None = []
 
-  -- births are numbered by their places, from 0
+  -- data are numbered in the order in which they were set, from 0
   abbrev pub filed_text : List Birth → Filed → List ℕ
   filed_text births filed = receipt_text filed.receipt (slice_get births filed.receipt.id)
 
-  -- a line for each receipt of the ledger after the first n
+  -- a line for each record of the cleanup log after the first n
   abbrev pub cleanups_text : PlainLedger → ℕ → List ℕ
   cleanups_text ledger filed_from =
       flat_map (filed_text ledger.births) (drop filed_from ledger.filed)
 
--- each datum was set by one of n modules
+-- all data were set by one of n modules
 abbrev pub AreOwned : ℕ → List Birth → Type 0
 AreOwned modules births = AllByRecursion (λ (birth : Birth). birth.owner < modules) births

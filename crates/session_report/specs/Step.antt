@@ -1,4 +1,4 @@
--- The report of a step (this project's own): what it told, in this order, and what it answered.
+-- The report of a step (this project's own): what happened, in this order, and its result.
 use Rattle.std.specs.Prelude.{ℕ, List, ◌++◌}
 use Rattle.pam_base.specs.declared.call.Step.{Step}
 use Rattle.pam_library.specs.data_cleanup.specs.Ledger.{PlainLedger}
@@ -11,7 +11,7 @@ use Rattle.session_report.specs.Waited.{waited_text}
 use Rattle.session_report.specs.Missing.{all_missing_text}
 use Rattle.session_report.specs.Answered.{answer_text}
 
--- the modules have these names, by their numbers from 0, and the ledger is that after the step
+-- the modules have these names, by their numbers from 0, and the cleanup log is that after the step
 abbrev pub step_text : List (List ℕ) → Step → PlainOutcome → PlainLedger → List ℕ
 step_text names step outcome ledger =
     messages_text step.number outcome.said

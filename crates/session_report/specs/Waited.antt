@@ -7,7 +7,7 @@ use Rattle.report_lines.specs.Line as lines
 abbrev pub wait_text : ℕ → Wait → List ℕ
 wait_text handle wait = lines.wait_text handle wait.code wait.asked wait.wait
 
--- a line where there was a wait
+-- a line if there was a wait
 abbrev pub waited_text : ℕ → Option Wait → List ℕ
 waited_text handle (Some wait) = wait_text handle wait
 waited_text handle None = []

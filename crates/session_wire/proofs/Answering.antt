@@ -52,7 +52,7 @@ module _ (players : List Player) (status : Code) where
     one_cut failed w =
         (w.front, record { text = answer; first = rw whole (answered_first number s t e); written = w.written; calls = w.calls }, (w.back, w.parts))
 
-  -- there was no memory for it
+  -- an allocation for it failed
   pub one_unwritten : (number : ℕ) (s t : RunState) (p : SinkState) → EndsNext players status number s t → ClosesNext players status (Err NoMemory) s t p p
   one_unwritten number s t p e =
       ([], record { text = answer_of (text_of_end players status number s.world t.world); first = answered_first number s t e; written = sym (append-nil p.written); calls = omega arith }, refl)

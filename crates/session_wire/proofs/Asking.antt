@@ -1,4 +1,4 @@
--- Which frames of a told input the frames are that were found in it, and what they ask for.
+-- Which frames of a modelled input the frames are that were found in it, and what they ask for.
 use Rattle.std.proofs.Common.{◌≡◌, ◌+◌, ◌<◌, inl, inr, ℕ, Bool, true, List, [], ◌∷◌, ◌++◌, take, drop, Result, Ok, refl, sym, ◌∙◌, ap, append_assoc, length-append, subst, arith}
 use Rattle.std.specs.List.{AllByRecursion, concat}
 use Rattle.std.proofs.lemmas.List.Elements.{All-same}

@@ -1,4 +1,4 @@
--- Calls one after another, and that receipts stay.
+-- Calls one after another, and that cleanup records stay.
 use Rattle.std.proofs.Common.{◌≡◌, ℕ, ◌≤◌, List, [], ◌∷◌, ◌++◌, length, Option, Some, None, refl, sym, ap, ◌∙◌, length-append, reverse, arith}
 use Rattle.pam_base.specs.declared.call.AppCall.{AppCall}
 use Rattle.pam_base.specs.declared.call.AppCall.TheVariants as calls
@@ -15,7 +15,7 @@ use Rattle.session_run.specs.pam_library.specs.Slots.{PlainSlot, closed, opened}
 use Rattle.session_run.specs.Ends.{EndsAre, IsEndStep}
 use Rattle.session_run.specs.AnyWorld.{AllEndsAre, ProceedsBy}
 
--- ---- receipts stay
+-- ---- cleanup records stay
 
 grown : (note : Notes) (modules : ℕ) (old new : PlainDataList) (before after : PlainLedger) → Grows note modules old before new after → length before.filed ≤ length after.filed
 grown note modules old new before after g = rw g.filed (omega (arith, length-append before.filed g.receipts))

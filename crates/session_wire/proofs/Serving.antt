@@ -42,7 +42,7 @@ module _ (setting : Setting) where
   unfolding answers
   called_frame n s frame step outcome slots world text answer names lt asked a t m w = rw (w, t, m, a.outcome_is, a.slots_is, a.world_is) (accepted n s frame step lt asked)
 
-  -- one that was applied, and there was no memory for its answer
+  -- one that was applied, and an allocation for its answer failed
   pub applied_only : (n : ℕ) (s : RunState) (frame : List ℕ) (step : Step) (outcome : PlainOutcome) (slots : List PlainSlot) (world : PlainWorld) → n < 65536 → step_of frame ≡ Some step
       → StepsAs (stepped setting.players setting.delay s.slots s.world step) outcome slots world → IsBegun (step_at (answers setting)) (Fails setting) n frame s (state_of slots world)
   applied_only n s frame step outcome slots world lt asked a = record {
@@ -52,7 +52,7 @@ module _ (setting : Setting) where
     state = inl refl;
   }
 
-  -- one that found no memory itself
+  -- one that ran out of memory itself
   pub failed_call : (n : ℕ) (s : RunState) (frame : List ℕ) (step : Step) (d : RunState) → n < 65536 → step_of frame ≡ Some step
       → Fails setting s frame d → IsBegun (step_at (answers setting)) (Fails setting) n frame s d
   failed_call n s frame step d lt asked f = record {

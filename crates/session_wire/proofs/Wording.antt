@@ -117,7 +117,7 @@ pub completes_not : (T : Type 0) (stop : Stop) (input : List ℕ) (read_failed :
 completes_not T NoMemory input read_failed c d written = λ steps rest fault all sp no_read no_write. inr refl
 completes_not T WriteFault input read_failed c d written = λ steps rest fault all sp no_read no_write. absurd (no_write written)
 
--- ---- where all tells
+-- ---- if all objects are modelled
 
 answered_last : (s : RunState) (cs : List Closing) → last_state s (map answered_closing cs) ≡ last_state s cs
 answered_last s [] = refl
@@ -166,7 +166,7 @@ module _ (setting : Setting) (spell : BytesSpell) (runs : RunIsOfSteps (answers 
       closed = e;
     }
 
--- ---- where it stops among its frames
+-- ---- if it stops among its frames
 
 module _ (setting : Setting) (served : ServedAreSteps (answers setting)) where
   -- an item that was begun is the frame of the next step

@@ -44,7 +44,7 @@ module _ (players : List Player) (status : Code) where
   ClosesTo (Err stop) s t whole [] part = ⊥
   ClosesTo (Err stop) s t whole (c ∷ cs) part = CutBy stop part c.text × (t ≡ c.state)
 
-  -- what a told sink shows of it
+  -- what a modelled output shows of it
   pub record Closes (result : Result (Unit {0}) Stop) (s t : RunState) (old new : SinkState)
       : Type 0 where
     pub whole : List Closing

@@ -1,4 +1,4 @@
--- Which ends a run of frames makes, in any world (this project's own).
+-- Which ends a run of frames makes, with real objects too (this project's own).
 use Rattle.std.specs.Prelude.{◌≡◌, ◌⊎◌, ℕ, ◌+◌, ◌<◌, Bool, List, [], ◌∷◌, ◌++◌, length, IsTrue}
 use Rattle.pam_base.specs.Code.{number_of}
 use Rattle.pam_base.specs.declared.call.AppCall.TheVariants.{End}
@@ -28,7 +28,7 @@ pub record HasEndFrom (n : ℕ) (bytes : List ℕ) (number status : ℕ) : Type 
   pub among : AreFramesOf bytes (before ++ end_call number status ∷ []) rest
   pub few : n + length before < 65536
 
--- where the bytes are told
+-- if the bytes are modelled
 abbrev pub IsEndIn : Bool → ℕ → List ℕ → ℕ → ℕ → Type 0
 IsEndIn tells n bytes number status = IsTrue tells → HasEndFrom n bytes number status
 
@@ -46,8 +46,7 @@ IsClosingStatus status =
     ((ending : Ending FrameFault) × (status ≡ number_of (ending_status ending)))
     ⊎ ((stop : Stop) × (status ≡ number_of (stop_status stop)))
 
--- an end of a run of frames: where its input is told, one of its frames asks for it, or it was made
--- after them
+-- an end of a run of frames: if its input is modelled, one of its frames asks for it, or it was made after them
 abbrev pub IsEndOfRun : Bool → List ℕ → ℕ → ℕ → Type 0
 IsEndOfRun tells input number status =
     IsTrue tells → IsClosingStatus status ⊎ HasEndFrom 0 input number status

@@ -39,9 +39,8 @@ pub record TakesBytes (before : List ℕ) (x y : SourceState) : Type 0 where
 
 -- ---- the whole run
 
--- How a run ends by the bytes taken. They are the frames of these steps, at most 65,536, and a
--- rest: nothing, at the end of the input; nothing or the beginning of a frame, where the source
--- failed; or what is refused.
+-- How a run ends by the bytes taken. They are the frames of these steps, at most 65,536, and a rest: nothing, at the
+-- end of the input; nothing or the beginning of a frame, if the source failed; or what is refused.
 pub record SpellsTo (ending : Ending FrameFault) (taken left : List ℕ) : Type 0 where
   pub ended : Bool
   pub at_end : ended ≡ true → left ≡ []

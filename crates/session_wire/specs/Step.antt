@@ -22,8 +22,8 @@ unfoldable pub answers : Setting → CallStep RunState
 answers setting s step =
     answered (called setting step (stepped setting.players setting.delay s.slots s.world step))
 
--- The states that a frame may leave whose call found no memory: what the call says of its
--- transaction, with every other as it was, and of the data and the world. Nothing was waited.
+-- The states that a frame may leave if its call runs out of memory: what the call says of its transaction, with every
+-- other as it was, and of the data and the world. There was no sleep.
 pub record Fails (setting : Setting) (s : RunState) (frame : List ℕ) (t : RunState) : Type 0 where
   pub step : Step
   pub asked : step_of frame ≡ Some step

@@ -22,9 +22,8 @@ pub use Rattle.session_wire.specs.Endings.{ending_status, stop_status}
 use Rattle.session_wire.specs.Reading.{SpellsTo}
 use Rattle.session_wire.specs.Step.{answers, Fails}
 
--- What follows the frames, by how they ended or stopped and by what the run answers: all
--- transactions are ended and answered; or up to one whose answer isn't whole, and the others are
--- ended; or all are ended and nothing is written.
+-- What follows the frames, by how they ended or stopped and by what the run returns: all transactions are ended and
+-- answered; or up to one whose answer isn't whole, and the others are ended; or all are ended and nothing is written.
 abbrev pub IsBehind : List Player → Result (Ending FrameFault) Stop
     → Result (Ending FrameFault) Stop → RunState → RunState → SinkState → SinkState → Type 0
 IsBehind players (Ok ending) (Ok same) last end p q =
@@ -49,14 +48,14 @@ pub record RunsFrames (setting : Setting) (result : Result (Ending FrameFault) S
 
 -- ---- by the steps that the bytes taken spell
 
--- the step whose frame stands in front of some bytes
+-- the step whose frame some bytes begin with
 pub record IsNextStep (rest : List ℕ) (step : Step) : Type 0 where
   pub behind : List ℕ
   pub frames : AreFramesOf rest (step ∷ []) behind
 
 module _ (setting : Setting) where
-  -- It came to an end: what is written is the answers to these steps, one after the other, and
-  -- then the answers of the closings. The world is that after them.
+  -- It ended: what is written is the answers to these steps, one after the other, and then those of the implicit ends.
+  -- The world is that after them.
   pub record AnswersAll (ending : Ending FrameFault) (start end : RunState) (x y : SourceState)
       (p q : SinkState) : Type 0 where
     pub taken : List ℕ
@@ -69,8 +68,8 @@ module _ (setting : Setting) where
         ++ closings_text (closings setting.players (ending_status ending) last))
     pub closed : end ≡ all_closed setting.players (ending_status ending) last
 
-  -- At most the next step was begun. A write failed in its answer; or memory was wanting, before
-  -- its call, in it, or for its answer.
+  -- At most the next step was begun. A write failed in its answer; or an allocation failed, before its call, in it, or
+  -- for its answer.
   abbrev pub IsCutIn : Stop → List ℕ → RunState → RunState → List ℕ → Type 0
   IsCutIn WriteFault rest s t part =
       (step : Step) × IsNextStep rest step × (t ≡ (answers setting s step).0) × (more : List ℕ)
@@ -96,8 +95,8 @@ module _ (setting : Setting) where
     pub cut : IsCutIn stop rest (state_behind (answers setting) start steps) last part
     pub closed : end ≡ all_closed setting.players (stop_status stop) last
 
-  -- It stopped after them: all steps are answered, and some closings, up to one whose answer isn't
-  -- whole; the others are ended.
+  -- It stopped after them: all steps are answered, and some implicit ends, up to one whose answer isn't whole; the
+  -- others are ended.
   pub record StopsBehind (stop : Stop) (start end : RunState) (x y : SourceState)
       (p q : SinkState) : Type 0 where
     pub taken : List ℕ
@@ -130,8 +129,8 @@ abbrev pub ending_by : Option FrameFault → Ending FrameFault
 ending_by None = Done
 ending_by (Some fault) = Refused fault
 
--- Where the whole input is bytes that spell these steps and have this after them, and neither
--- source nor sink failed, the run ends by that, or there was no memory.
+-- If the whole input is bytes that spell these steps and have this after them, and neither source nor sink failed, the
+-- run ends by that, or out of memory.
 abbrev pub Completes : Result (Ending FrameFault) Stop → List ℕ → Type 0 → Type 0 → Type 0
 Completes result input read_failed write_failed =
     (steps : List Step) (rest : List ℕ) (fault : Option FrameFault) → AreBytes input
