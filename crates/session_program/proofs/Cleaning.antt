@@ -1,4 +1,4 @@
--- Where no transaction is open, each birth has its one receipt.
+-- If no transaction is open, all data set have their one cleanup record.
 use Rattle.std.proofs.Common.{◌≡◌, ℕ, zero, suc, ltb, if◌then◌else◌, Bool, true, false, List, [], ◌∷◌, ◌++◌, map, slice_get, Option, refl, sym, ap, subst, arith}
 use Rattle.std.specs.Prelude.{nat_eq}
 use Rattle.std.specs.List.{IsDistinct}
@@ -83,7 +83,7 @@ cleaned_up Is note before now after slots left law stand same went none =
     stood Is note after left ([] ++ events_of now went.went.calls) (events_are Is now went.went.calls went.ends_are)
     (law now after (lists_of slots) (lists_of left) [] went.went first) none
 
--- ---- where nothing happened
+-- ---- if nothing happened
 
 none_below : (id n : ℕ) → n ≡ 0 → n ≡ (if ltb id 0 then 1 else 0)
 none_below id n e = grind arith

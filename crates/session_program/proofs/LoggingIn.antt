@@ -25,7 +25,7 @@ module _ (setting : Setting) (slots ends : List PlainSlot) (root service : List 
     logs_in = subst (λ (w : PlainWorld). LogsIn setting (login_of setting service user (state_of slots w)) result (state_of slots w) (state_of ends new) p q) under.world_is logs;
   }
 
--- without memory nothing is written
+-- if an allocation fails nothing is written
 pub nothing_shown : (status : ℕ) (p : SinkState) → status ≡ 4 → ShowsLogin status p p
 nothing_shown status p is = record {
   result = Err NoMemory;

@@ -18,7 +18,7 @@ module _ (setting : Setting) (start end : RunState) (x y : SourceState) (p q : S
   abbrev NoneYet : Type 0
   NoneYet = StandFor (notes_of setting.players) 17 start.world.process.ledger (lists_of start.slots) []
 
-  -- the events of a run, by what its lines come to
+  -- the events of a run, by the results of its lines
   abbrev Due : Ending → Run RunState → Type 0
   Due ending r = AreDue (notes_of setting.players) (events_in setting ending start x.left r) end.world.process.ledger
 

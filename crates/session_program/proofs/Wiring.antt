@@ -118,7 +118,7 @@ module _ (result : Result (Ending FrameFault) Stop) (status : ℕ) (is : status 
   pub completes_by : (input : List ℕ) (R W : Type 0) → Completes result input R W → WireCompletes status input R W
   completes_by input R W complete = λ steps rest fault bytes spells no_read no_write. by_either _ (complete steps rest fault bytes spells no_read no_write)
 
--- without memory nothing is read
+-- if an allocation fails nothing is read
 some_behind : (xs ys : List ℕ) → 0 < length ys → 0 < length (xs ++ ys)
 some_behind [] ys some = some
 some_behind (x ∷ xs) ys some = omega arith

@@ -7,8 +7,8 @@ use Rattle.transcript_audit.specs.declared.finding.Audited.{Audited}
 use Rattle.transcript_audit.specs.declared.finding.Audited.TheVariants.{Fits, Differs, Refused, TooLong, Unread}
 use Rattle.transcript_audit.specs.Audit.{Audit, Audits}
 
--- 0 where the transcript fits, 11 where it doesn't, 12 where it is too long, 5 where it couldn't be read, 3 where the
--- configuration is refused
+-- 0 if the transcript fits, 11 if it doesn't, 12 if it is too long, 5 if it couldn't be read, 3 if the configuration is
+-- refused
 abbrev pub audit_status : Result Audited Stop → ℕ
 audit_status (Ok Fits) = 0
 audit_status (Ok Differs) = 11
@@ -18,7 +18,7 @@ audit_status (Ok Unread) = 5
 audit_status (Err NoMemory) = 4
 audit_status (Err WriteFault) = 6
 
--- a told audit, by its status: of the transcript, or of one that couldn't be read
+-- an audit with modelled objects, by its status: of the transcript, or of one that couldn't be read
 pub record AuditsBy (status : ℕ) (audit : Option (List ℕ) → Audit) (transcript : List ℕ)
     (old new : SinkState) : Type 0 where
   pub result : Result Audited Stop

@@ -17,10 +17,10 @@ use Rattle.session_program.specs.Command.{Request, runs, logs_in, generates, wir
 use Rattle.session_program.specs.Generate.{generate_status}
 use Rattle.session_program.specs.Login.{login_status}
 
--- Each datum that was set was cleaned up exactly once: the receipts are those that births and ends of transactions
--- make due, in their order, each with its status, and every birth has one. The ledger is in order: each receipt has
--- its owner's note, and a datum that was replaced by one of its transaction and name has the status that says so.
--- Each end, by its number and its status, is one of these.
+-- All data that were set were cleaned up exactly once: the cleanup records are those that sets and ends of transactions
+-- make due, in their order, each with its status, and all data have one. The cleanup log is in order: each record has
+-- its owner's result, and data that were replaced by others with their transaction and name have the status that says
+-- so. Each end, by its number and its status, is one of these.
 pub record IsCleanedUp (Is : ℕ → ℕ → Type 0) (note : Notes) (ledger : PlainLedger) : Type 0 where
   pub events : List Event
   pub ends_are : EndsAre Is events
@@ -30,20 +30,19 @@ pub record IsCleanedUp (Is : ℕ → ℕ → Type 0) (note : Notes) (ledger : Pl
   pub once : (id : ℕ) → times_filed id (receipts_in ledger.filed)
       ≡ (if nat_lt id (length ledger.births) then 1 else 0)
 
--- an end of a login that comes to this status
+-- an end of a login with this status
 abbrev pub EndsLogin : ℕ → ℕ → ℕ → Type 0
 EndsLogin status number ended = (result : Result Verdict Stop) × (status ≡ login_status result)
     × IsEndOfLogin result number ended
 
--- an end of a generation that comes to this status
+-- an end of a generation with this status
 abbrev pub EndsGenerate : ℕ → ℕ → ℕ → Type 0
 EndsGenerate status number ended = (result : Result Generated Stop)
     × (status ≡ generate_status result) × IsEndOfGenerate result number ended
 
--- Which ends there may be, by what the program was asked for and the status that it comes to. In a run whose script
--- is told, each transaction was ended with the status that one of the script's lines asks for, for that number, or
--- with one of those with which a run ends what is open; where frames are told, likewise by the frames. The commands
--- that open no transaction end none.
+-- Which ends there may be, by the command and the exit status. In a run whose script is modelled, each transaction was
+-- ended with the status that one of the script's lines asks for, for that number, or with one of those with which a run
+-- ends what is open; if frames are modelled, likewise by the frames. The commands that open no transaction end none.
 abbrev pub MayEnd : Option Request → Bool → List ℕ → ℕ → ℕ → ℕ → Type 0
 MayEnd (Some (runs root)) tells script status number ended = IsEndOfRun tells script number ended
 MayEnd (Some (logs_in root service user)) tells script status number ended =

@@ -14,7 +14,7 @@ pub data Request : Type 0 where
   checks : List ℕ → List ℕ → Request
   -- a login with a service under a root, of a user or of whoever is asked for
   logs_in : List ℕ → List ℕ → Option (List ℕ) → Request
-  -- a number of lines drawn from a seed
+  -- a number of lines generated from a seed
   generates : ℕ → ℕ → Request
   -- the failures of a user under a root
   tallies : List ℕ → List ℕ → Request

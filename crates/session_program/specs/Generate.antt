@@ -1,4 +1,4 @@
--- Lines drawn from a seed, by the status with which the program ends (this project's own).
+-- Lines generated from a seed, by the status with which the program ends (this project's own).
 use Rattle.std.specs.Prelude.{◌≡◌, ◌⊎◌, ℕ, List, Result, Ok, Err}
 use Rattle.pam_outside.specs.Streams.{SinkState}
 use Rattle.pam_room.specs.State.{PlainWorld}
@@ -10,7 +10,7 @@ use Rattle.session_generate.specs.declared.generating.Generated.TheVariants.{Wri
 use Rattle.session_generate.specs.Generated.{Generates, Generation, generation}
 use Rattle.session_login.specs.session_run.specs.State.{RunState, Setting, state_of}
 
--- 0 where the line is written, 3 where a file or the service is refused
+-- 0 if the line is written, 3 if a file or the service is refused
 abbrev pub generate_status : Result Drawn Stop → ℕ
 generate_status (Ok Written) = 0
 generate_status (Ok Refused) = 3
@@ -20,7 +20,7 @@ generate_status (Err WriteFault) = 6
 abbrev pub IsGenerateStatus : ℕ → Type 0
 IsGenerateStatus n = (result : Result Drawn Stop) × (n ≡ generate_status result)
 
--- the line of a generation is written, or a front of it, and the world is the one after it
+-- the line of a generation is written, or a prefix of it, and the world is the one after it
 pub record IsGenerated (status : ℕ) (g : Generation) (world : PlainWorld) (p q : SinkState) : Type
     0 where
   pub result : Result Drawn Stop
@@ -29,13 +29,13 @@ pub record IsGenerated (status : ℕ) (g : Generation) (world : PlainWorld) (p q
   pub world_is : world ≡ end.world
   pub generates : Generates result g end p q
 
--- there was no memory for the places, and nothing happened
+-- an allocation for the slots failed, and nothing happened
 pub record IsNotGenerated (status : ℕ) (old new : PlainWorld) (p q : SinkState) : Type 0 where
   pub is : status ≡ 4
   pub world : new ≡ old
   pub sink : q ≡ p
 
--- a told generation over sixteen closed places
+-- a generation over sixteen closed slots, with modelled objects
 abbrev pub GeneratesBy : Setting → ℕ → List PlainSlot → ℕ → ℕ → PlainWorld → PlainWorld → SinkState
     → SinkState → Type 0
 GeneratesBy setting status slots seed lines old new p q =

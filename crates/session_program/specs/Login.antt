@@ -11,7 +11,7 @@ use Rattle.session_login.specs.Login.{login_of}
 use Rattle.session_login.specs.Told.{LogsIn, SaysVerdict, Shows}
 use Rattle.session_login.specs.session_run.specs.State.{Setting, RunState, state_of}
 
--- 0 where the user was let in, 3 where the configuration is refused, 8 where the login is denied
+-- 0 if the user was let in, 3 if the configuration is refused, 8 if the login is denied
 abbrev pub login_status : Result Verdict Stop → ℕ
 login_status (Ok Passed) = 0
 login_status (Ok Refused) = 3
@@ -29,7 +29,7 @@ at_root root w = record w { process = record w.process { root = root } }
 pub record IsAtRoot (root : List ℕ) (old new : PlainWorld) : Type 0 where
   pub world_is : new ≡ at_root root old
 
--- before the first call: sixteen closed places, the terminal's conversation in the first
+-- before the first call: sixteen closed slots, the terminal's conversation in the first
 abbrev pub entry : List PlainSlot → List ℕ → PlainWorld → RunState
 entry slots root w = state_of slots (at_root root w)
 
@@ -42,20 +42,20 @@ pub record IsLogin (setting : Setting) (status : ℕ) (service : List ℕ) (user
   pub world_is : world ≡ end.world
   pub logs_in : LogsIn setting (login_of setting service user start) result start end p q
 
--- there was no memory for the root or the places, and nothing happened
+-- an allocation for the root or the slots failed, and nothing happened
 pub record IsNoLogin (status : ℕ) (old new : PlainWorld) (p q : SinkState) : Type 0 where
   pub is : status ≡ 4
   pub world : new ≡ old
   pub sink : q ≡ p
 
--- a told login
+-- a login with modelled objects
 abbrev pub LogsInBy : Setting → ℕ → List PlainSlot → List ℕ → List ℕ → Option (List ℕ) → PlainWorld
     → PlainWorld → SinkState → SinkState → Type 0
 LogsInBy setting status slots root service user old new p q =
     IsLogin setting status service user (entry slots root old) new p q
     ⊎ IsNoLogin status old new p q
 
--- where the sink alone tells: how often it was written, and what the verdict is written as
+-- if only the sink is modelled: how often it was written, and what the verdict is written as
 pub record ShowsLogin (status : ℕ) (p q : SinkState) : Type 0 where
   pub result : Result Verdict Stop
   pub is : status ≡ login_status result

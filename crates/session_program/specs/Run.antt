@@ -20,7 +20,7 @@ use Rattle.session_login.specs.session_run.specs.Step.{line_step}
 use Rattle.session_login.specs.session_run.specs.Closings.{all_closed}
 use Rattle.session_login.specs.session_run.specs.Whole.{RunsScript, ending_status, last_words}
 
--- the world under a root, at the moment 0 and with the random word 0
+-- the world under a root, at the time 0 and with the random word 0
 abbrev pub under_root : List ℕ → PlainWorld → PlainWorld
 under_root root w = record w {
   clock = record w.clock { moment = 0; word = 0 };
@@ -30,30 +30,29 @@ under_root root w = record w {
 pub record IsUnder (root : List ℕ) (old new : PlainWorld) : Type 0 where
   pub world_is : new ≡ under_root root old
 
--- before the first line: sixteen closed places
+-- before the first line: sixteen closed slots
 abbrev pub opening : List PlainSlot → List ℕ → PlainWorld → RunState
 opening slots root w = state_of slots (under_root root w)
 
--- what the lines among some bytes come to
+-- the result of the lines among some bytes
 abbrev pub run_over : Setting → RunState → List ℕ → Bool → Run RunState
 run_over setting start bytes ended = run_of (line_step setting) 0 start bytes ended
 
--- the report of a run that ends so: its lines', the closings, and the last line; and the world
--- after it
+-- the report of a run that ends so: its lines', the implicit ends, and the last line; and the world after it
 abbrev pub report_of : Setting → Ending → Run RunState → List ℕ
 report_of setting ending r = r.text ++ last_words setting.players ending r.items r.last
 
 abbrev pub world_behind : Setting → Ending → Run RunState → PlainWorld
 world_behind setting ending r = (all_closed setting.players (ending_status ending) r.last).world
 
--- the births and ends of a run that ends so: those of the lines that were applied, and of the
--- closings after them
+-- the data sets and ends of a run that ends so: those of the lines that were applied, and of the implicit ends after
+-- them
 abbrev pub events_in : Setting → Ending → RunState → List ℕ → Run RunState → List Event
 events_in setting ending start script r =
     run_events setting (ending_status ending) start script r.items r.last
 
--- The report of this run is written whole, and the world is the one after it. The receipts of data are those that
--- the births and ends of the run make due.
+-- The report of this run is written whole, and the world is the one after it. The cleanup records are those that the
+-- sets and ends of the run make due.
 pub record IsReported (setting : Setting) (ending : Ending) (start : RunState) (script : List ℕ)
     (r : Run RunState) (world : PlainWorld) (p q : SinkState) : Type 0 where
   pub written : q.written ≡ p.written ++ report_of setting ending r
@@ -100,23 +99,22 @@ status_of (Ok ReadFault) = 5
 status_of (Err WriteFault) = 6
 status_of (Ok (Refused kind)) = 7
 
--- there was no memory for the root or the places, and nothing happened
+-- an allocation for the root or the slots failed, and nothing happened
 pub record IsNotBegun (old new : PlainWorld) (x y : SourceState) (p q : SinkState) : Type 0 where
   pub world : new ≡ old
   pub source : y ≡ x
   pub sink : q ≡ p
 
--- The lines among some bytes, number by number: the place of each after them and the outcomes of its steps are those
--- of its own steps alone, each in the world before it; and what is reported of the lines is what is told of these
--- steps.
+-- The lines among some bytes, number by number: the slot of each after them and the outcomes of its steps are those of
+-- its own steps alone, each in the world before it; and what is reported of the lines is the report of these steps.
 pub record StandsSideBySide (setting : Setting) (start : RunState) (bytes : List ℕ)
     (ended : Bool) : Type 0 where
   pub alone : (number : ℕ) (slot : PlainSlot) → slot_at start.slots number ≡ Some slot
       → ComesAlone setting start bytes ended number slot
   pub steps : TellsSteps setting start bytes ended
 
--- a run was begun: what was taken and written, how often it was read and written, and the world after it; before it
--- there was no birth and no end; and whatever lines it comes to stand side by side
+-- a run was begun: what was taken and written, how often it was read and written, and the world after it; before it no
+-- data were set and nothing ended; and whatever its lines give is side by side
 pub record IsBegun (setting : Setting) (status : ℕ) (start : RunState) (world : PlainWorld)
     (x y : SourceState) (p q : SinkState) : Type 0 where
   pub result : Result Ending Stop
@@ -128,14 +126,14 @@ pub record IsBegun (setting : Setting) (status : ℕ) (start : RunState) (world 
       (lists_of start.slots) []
   pub side_by_side : (bytes : List ℕ) (ended : Bool) → StandsSideBySide setting start bytes ended
 
--- a told run, by its status
+-- a run with modelled objects, by its status
 abbrev pub Runs : Setting → ℕ → List PlainSlot → List ℕ → PlainWorld → PlainWorld → SourceState
     → SourceState → SinkState → SinkState → Type 0
 Runs setting status slots root old new x y p q =
     IsBegun setting status (opening slots root old) new x y p q
     ⊎ ((status ≡ 4) × IsNotBegun old new x y p q)
 
--- where no line of a told script is refused and nothing failed, it is run, or there is no memory
+-- if no line of a modelled script is refused and nothing failed, it is run, or out of memory
 abbrev pub Completes : ℕ → Type 0 → Type 0 → Setting → RunState → SourceState → Type 0
 Completes status read_failed write_failed setting start x =
     (run_over setting start x.left true).refused ≡ None → (read_failed → ⊥) → (write_failed → ⊥)
@@ -144,10 +142,10 @@ Completes status read_failed write_failed setting start x =
 abbrev pub IsStatus : ℕ → Type 0
 IsStatus n = (result : Result Ending Stop) × (n ≡ status_of result)
 
--- ---- what source or sink tells alone
+-- ---- if only source or sink is modelled
 
--- How a run ends by the bytes of a told script, and how often that was read: a run that wasn't
--- begun for want of memory took nothing.
+-- How a run ends by the bytes of a modelled script, and how often that was read: a run that wasn't begun because an
+-- allocation failed took nothing.
 pub record ReadsBy (status : ℕ) (x y : SourceState) : Type 0 where
   pub result : Result Ending Stop
   pub is : status ≡ status_of result

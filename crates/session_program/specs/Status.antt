@@ -13,21 +13,21 @@ use Rattle.session_tally.specs.declared.finding.Tallied.TheVariants.{Listed, Dam
 use Rattle.session_tally.specs.Tally.{Lists, PlainTally}
 use Rattle.session_program.specs.Command.{usage}
 
--- of a check: 0 where the service is configured, 3 where its configuration is refused
+-- of a check: 0 if the service is configured, 3 if its configuration is refused
 abbrev pub check_status : Result Found Stop → ℕ
 check_status (Ok Configured) = 0
 check_status (Ok Refused) = 3
 check_status (Err NoMemory) = 4
 check_status (Err WriteFault) = 6
 
--- a told check, by its status
+-- a check with modelled objects, by its status
 pub record ChecksBy (status : ℕ) (c : Check) (old new : SinkState) (vault : VaultState) : Type
     0 where
   pub result : Result Found Stop
   pub is : status ≡ check_status result
   pub checks : Checks result c old new vault
 
--- a check of a told vault, by its status, whatever the sink does
+-- a check of modelled files, by its status, whatever the sink does
 pub record FindsBy (status : ℕ) (c : Check) (vault : VaultState) : Type 0 where
   pub result : Result Found Stop
   pub is : status ≡ check_status result
@@ -36,8 +36,7 @@ pub record FindsBy (status : ℕ) (c : Check) (vault : VaultState) : Type 0 wher
 abbrev pub IsCheckStatus : ℕ → Type 0
 IsCheckStatus n = (result : Result Found Stop) × (n ≡ check_status result)
 
--- of a list of failures: 0 where they are listed, 9 where the file is damaged, 10 where it can't be
--- read
+-- of a list of failures: 0 if they are listed, 9 if the file is damaged, 10 if it can't be read
 abbrev pub tally_status : Result Tallied Stop → ℕ
 tally_status (Ok Listed) = 0
 tally_status (Ok Damaged) = 9
@@ -45,7 +44,7 @@ tally_status (Ok Unread) = 10
 tally_status (Err NoMemory) = 4
 tally_status (Err WriteFault) = 6
 
--- a told list, by its status
+-- a list with modelled objects, by its status
 pub record TalliesBy (status : ℕ) (t : PlainTally) (old new : SinkState) : Type 0 where
   pub result : Result Tallied Stop
   pub is : status ≡ tally_status result
@@ -54,16 +53,16 @@ pub record TalliesBy (status : ℕ) (t : PlainTally) (old new : SinkState) : Typ
 abbrev pub IsTallyStatus : ℕ → Type 0
 IsTallyStatus n = (result : Result Tallied Stop) × (n ≡ tally_status result)
 
--- the vault was called once, or, where there was no memory for the path, not at all
+-- `Vault` was called once, or, if an allocation for the path failed, not at all
 abbrev pub CallsOnce : ℕ → VaultState → VaultState → Type 0
 CallsOnce status old new = (new ≡ counted old) ⊎ ((status ≡ 4) × (new ≡ old))
 
--- the vault's faults, before and after: they rise with 10, and neither with 0 nor with 9
+-- the faults of `Vault`, before and after: they rise with 10, and neither with 0 nor with 9
 pub record CountsUnread (status before now : ℕ) : Type 0 where
   pub unread : status ≡ 10 → Rose before now
   pub read : (status ≡ 0) ⊎ (status ≡ 9) → now ≡ before
 
--- the usage line is written, or a front of it where a write failed
+-- the usage line is written, or a prefix of it if a write failed
 pub record WritesUsage (status : ℕ) (old new : SinkState) : Type 0 where
   pub front : List ℕ
   pub back : List ℕ

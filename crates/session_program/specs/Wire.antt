@@ -18,8 +18,7 @@ use Rattle.session_wire.specs.Reading.{LooksBefore, SpellsTo}
 use Rattle.session_wire.specs.Whole.{Answers, AnswersAll, ending_by}
 use Rattle.session_program.specs.Run.{IsNotBegun, opening}
 
--- 0 where the input ends after a frame, 5 where it can't be read on, 13 at a bad frame, 14 at one
--- frame too many
+-- 0 if the input ends after a frame, 5 if it can't be read on, 13 at a bad frame, 14 at one frame too many
 abbrev pub wire_status : Result (Ending FrameFault) Stop → ℕ
 wire_status (Ok Done) = 0
 wire_status (Err NoMemory) = 4
@@ -35,7 +34,7 @@ IsWireStatus n = (result : Result (Ending FrameFault) Stop) × (n ≡ wire_statu
 abbrev pub IsReadThrough : ℕ → Type 0
 IsReadThrough n = (n ≡ 0) ⊎ ((n ≡ 13) ⊎ (n ≡ 14))
 
--- ---- where all objects tell
+-- ---- if all objects are modelled
 
 -- A run of frames was begun: by the steps that the bytes taken spell, which answers are written,
 -- and the world after it.
@@ -47,34 +46,33 @@ pub record IsServed (setting : Setting) (status : ℕ) (start : RunState) (world
   pub world_is : world ≡ end.world
   pub answers : Answers setting result start end x y p q
 
--- a told run of frames, by its status; or there was no memory for the root or the places, and
--- nothing happened
+-- a run of frames with modelled objects, by its status; or an allocation for the root or the slots failed, and nothing
+-- happened
 abbrev pub Serves : Setting → ℕ → List PlainSlot → List ℕ → PlainWorld → PlainWorld → SourceState
     → SourceState → SinkState → SinkState → Type 0
 Serves setting status slots root old new x y p q =
     IsServed setting status (opening slots root old) new x y p q
     ⊎ ((status ≡ 4) × IsNotBegun old new x y p q)
 
--- the run came to this ending: all steps that the bytes taken spell are answered, and the closings
--- after them
+-- the run ended so: all steps that the bytes taken spell are answered, and the implicit ends after them
 pub record IsAnswered (setting : Setting) (ending : Ending FrameFault) (start : RunState)
     (world : PlainWorld) (x y : SourceState) (p q : SinkState) : Type 0 where
   pub end : RunState
   pub world_is : world ≡ end.world
   pub all : AnswersAll setting ending start end x y p q
 
--- with status 0, 5, 13 and 14 it came to the ending of that status
+-- with status 0, 5, 13 and 14 it ended as that status says
 abbrev pub AnswersBy : Setting → ℕ → RunState → PlainWorld → SourceState → SourceState → SinkState
     → SinkState → Type 0
 AnswersBy setting status start world x y p q =
     (ending : Ending FrameFault) → status ≡ wire_status (Ok ending)
     → IsAnswered setting ending start world x y p q
 
--- ---- where the source alone tells
+-- ---- if only the source is modelled
 
--- What was taken, with at most one read more than it has bytes. With status 0, 5, 13 and 14 it is
--- the frames of steps, at most 65,536, and a rest after them by which the run ended. A run that
--- wasn't begun for want of memory took nothing.
+-- What was taken, with at most one read more than it has bytes. With status 0, 5, 13 and 14 it is the frames of steps,
+-- at most 65,536, and a rest after them by which the run ended. A run that wasn't begun because an allocation failed
+-- took nothing.
 pub record ReadsFramesBy (status : ℕ) (x y : SourceState) : Type 0 where
   pub taken : List ℕ
   pub source : x.left ≡ taken ++ y.left
@@ -84,8 +82,8 @@ pub record ReadsFramesBy (status : ℕ) (x y : SourceState) : Type 0 where
       → SpellsTo ending taken y.left
   pub looks : LooksBefore taken
 
--- Where the whole input is bytes that spell these steps and have this after them, and nothing
--- failed, the status is that of it, or there was no memory.
+-- If the whole input is bytes that spell these steps and have this after them, and nothing failed, the status is that
+-- of it, or out of memory.
 abbrev pub WireCompletes : ℕ → List ℕ → Type 0 → Type 0 → Type 0
 WireCompletes status input read_failed write_failed =
     (steps : List Step) (rest : List ℕ) (fault : Option FrameFault) → AreBytes input

@@ -5,8 +5,8 @@ use pam_room::Module;
 use pam_room::conv_port::Conv;
 use std::mem;
 
-/// What an application provides: the modules, a conversation for each of sixteen transactions, the conversation at
-/// the terminal where a user logs in, and its delay function.
+/// The inputs of the program, which an application provides: the modules, a conversation for each
+/// of sixteen transactions, the conversation at the terminal for a login, and its delay function.
 #[derive(Drop)]
 pub struct Desk {
     pub mods: Vec<Box<dyn Module>>,
@@ -15,7 +15,7 @@ pub struct Desk {
     pub delay: DelayRule,
 }
 
-/// What contracts see of a desk.
+/// What contracts see of a `Desk`.
 pub trait DeskTold {
     ghost use Rattle.std.specs.Prelude.{Bool, List};
     ghost use Rattle.session_check.specs.pam_library.specs.Slots.{PlainSlot};

@@ -27,8 +27,8 @@ use session_wire::frame_stream::FrameFault;
 use session_wire::run_frames;
 use std::alloc::Global;
 
-/// Runs the frames of a front end under a root, in sixteen transactions with the desk's conversations. Returns the
-/// exit status.
+/// Runs the frames of a front end under a root, in sixteen transactions with the conversations of
+/// `desk`. Returns the exit status.
 pub(crate) fn answer_frames<S: Source, K: Sink>(
     alloc: Global,
     root: &[u8],

@@ -25,7 +25,7 @@ use session_check::pam_library::{Library, LibraryTold};
 use session_login::{Verdict, login};
 use std::alloc::Global;
 
-/// Logs a user in with a service under a root, at the desk's terminal. Returns the exit status.
+/// Logs a user in with a service under a root, at the terminal of `desk`. Returns the exit status.
 pub(crate) fn log_in<K: Sink>(
     alloc: Global,
     root: &[u8],

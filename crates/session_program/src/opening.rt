@@ -18,8 +18,8 @@ use session_check::pam_handle::{Gear, GearTold};
 use session_check::pam_library::{Library, LibraryTold};
 use std::alloc::Global;
 
-/// A library with a desk's modules, conversations and delay function, in which no transaction is open, over an empty
-/// cleanup log. The terminal is dropped.
+/// A library with the modules, conversations and delay function of `desk`, in which no transaction
+/// is open, over an empty cleanup log. The terminal is dropped.
 pub(crate) fn library_of(alloc: Global, desk: Desk, ledger: &Ledger) -> Result<Library, NoMemory>
     requires sixteen { length desk.convs.items ≡ 16 }
     requires few { length desk.mods.items < 2 ^ 32 }

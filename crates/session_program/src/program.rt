@@ -48,14 +48,14 @@ use transcript_audit::audit_transcript;
 ///   a root, and writes its report before it reads the next one; transactions that are open at the end are ended, the
 ///   lowest number first. It begins at the time 0 with the random word 0.
 /// - `check ROOT SERVICE` prints the configuration of a service, or its first fault. Of the world it changes only the
-///   vault's counts.
-/// - `login ROOT SERVICE [USER]` logs a user in at the desk's terminal, in the first transaction, and writes the
+///   counts of `Vault`.
+/// - `login ROOT SERVICE [USER]` logs a user in at the terminal of `desk`, in the first transaction, and writes the
 ///   result of each call, and last whether the login was denied.
 /// - `generate SEED LINES` generates a service of that many lines, authenticates with it, and writes the result.
 /// - `tally ROOT USER` lists the failures of a user that `pam_faillock(8)` has recorded. Of the world it changes only
-///   the vault's counts. A USER that can't be a file's name is not a command.
+///   the counts of `Vault`. A USER that can't be a file's name is not a command.
 /// - `audit ROOT SERVICE` writes whether a transcript, the report of a run, fits the stacks of a service, or which
-///   line doesn't. Of the world it changes only the vault's counts.
+///   line doesn't. Of the world it changes only the counts of `Vault`.
 /// - `wire ROOT` does what `run` does for the frames of a front end, at most 65,536 calls, and writes an answer to
 ///   each before it reads the next one.
 ///
@@ -175,8 +175,8 @@ pub fn pamsess<S: Source, K: Sink>(
         IsTrue (K.sink_tells out.old) → IsTrue (vault_tells (in_box world.old.vault)) →
         ChecksBy result (check_of (vault_holds (in_box world.old.vault)) root service)
         (K.sink_holds out.old) (K.sink_holds out.new) (vault_holds (in_box world.new.vault)) }
-    // If only the vault is modelled, the status is that of what was found; if only the sink is: at most one write
-    // more than bytes were written.
+    // If only the files are modelled, the status is that of what was found; if only the sink is: at
+    // most one write more than bytes were written.
     ensures check_found { (root service : List ℕ) →
         request_of words.now ≡ Some (checks root service) →
         IsTrue (vault_tells (in_box world.old.vault)) →

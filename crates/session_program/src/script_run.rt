@@ -25,8 +25,8 @@ use session_check::pam_library::{Library, LibraryTold};
 use session_login::session_run::run_script;
 use std::alloc::Global;
 
-/// Runs the lines of a script under a root, in sixteen transactions with the desk's conversations. Returns the exit
-/// status.
+/// Runs the lines of a script under a root, in sixteen transactions with the conversations of
+/// `desk`. Returns the exit status.
 pub(crate) fn run<S: Source, K: Sink>(
     alloc: Global,
     root: &[u8],

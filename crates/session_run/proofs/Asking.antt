@@ -1,4 +1,4 @@
--- Which lines of a told text the lines are that were found in it, and what they ask for.
+-- Which lines of a modelled text the lines are that were found in it, and what they ask for.
 use Rattle.std.proofs.Common.{◌≡◌, ◌+◌, ◌⊎◌, inl, inr, ℕ, Bool, true, List, [], ◌∷◌, ◌++◌, take, drop, Result, Ok, Err, refl, sym, ◌∙◌, ap, append_assoc, arith}
 use Rattle.std.proofs.lemmas.List.{append-nil}
 use Rattle.pam_base.specs.Code.{number_of}
@@ -29,7 +29,7 @@ pub all_left : (found : Result Found Failed) (n : ℕ) (before held : List ℕ) 
 all_left found n before held x y f =
     ap (λ (l : List ℕ). before ++ l) f.source ∙ sym (append_assoc before f.got y.left) ∙ ap (λ (h : List ℕ). h ++ y.left) (sym f.held_is)
 
--- all lines of a text are looked at where the input ends after it
+-- all lines of a text are looked at if the input ends after it
 abbrev pub AllLooked : Type 0
 AllLooked = (n : ℕ) (bytes : List ℕ) → looked n bytes true ≡ lines_of bytes
 
@@ -58,7 +58,7 @@ rest_whole : AllLooked → (n : ℕ) (before held left : List ℕ) (ended : Bool
 rest_whole all n before held left ended none end seen =
     ap lines_of (ap (λ (l : List ℕ). held ++ l) none ∙ append-nil held) ∙ sym (all n held) ∙ ap (looked n held) (sym end) ∙ seen
 
--- the last line of a told text whose end was seen
+-- the last line of a modelled text whose end was seen
 pub rest_lines : AllLooked → (n : ℕ) (before held : List ℕ) (x y : SourceState) → (finds : Finds looked IsOver (Ok Rest) n before held x y)
     → finds.ended.ended ≡ true → lines_of (before ++ x.left) ≡ held ∷ []
 rest_lines all n before held x y finds end =

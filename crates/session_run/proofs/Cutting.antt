@@ -1,4 +1,4 @@
--- What ledger and data stand for where a run stopped.
+-- What cleanup log and data model if a run stopped.
 use Rattle.std.proofs.Common.{◌≡◌, ◌⊎◌, ℕ, inl, inr, List, [], ◌∷◌, ◌++◌, drop, map, take, sym, ap, ◌∙◌, append_assoc}
 use Rattle.data_cleanup.specs.Due.{Event, birth, ends}
 use Rattle.data_cleanup.specs.Ledger.{PlainLedger}

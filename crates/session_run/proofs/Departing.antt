@@ -14,7 +14,7 @@ use Rattle.session_run.specs.State.{RunState, Setting, state_of}
 use Rattle.session_run.specs.Isolation.{world_left}
 use Rattle.session_run.proofs.Isolating.{Alike, OtherCalls, OwnCalls}
 
--- ---- places in a list
+-- ---- slots in a list
 
 pub at_front : (front slots : List PlainSlot) (x : PlainSlot) → slice_get (front ++ x ∷ slots) (length front) ≡ Some x
 at_front [] slots x = refl
@@ -37,16 +37,16 @@ module _ (setting : Setting) (status : Code) where
   abbrev pub end_step : ℕ → Step
   end_step number = record { number = number; call = End (number_of status) }
 
-  -- a place is ended by a call
+  -- a slot is ended by a call
   abbrev end_at : ℕ → RunState → RunState
   end_at number s = let t : Stepped = stepped setting.players setting.delay s.slots s.world (end_step number) in state_of t.slots t.world
 
-  -- n places are, one after another, after the first i
+  -- n slots are, one after another, after the first i
   unfoldable pub ends_from : ℕ → ℕ → RunState → RunState
   ends_from i zero s = s
   ends_from i (suc k) s = ends_from (suc i) k (end_at (suc i) s)
 
-  -- ---- the closings are calls
+  -- ---- the implicit ends are calls
 
   abbrev by_place : ℕ → RunState → Option PlainSlot → RunState
   by_place number s found = let t : Stepped = stepped_at setting.players setting.delay s.slots s.world number (End (number_of status)) found in state_of t.slots t.world
@@ -62,7 +62,7 @@ module _ (setting : Setting) (status : Code) where
       let stays : end_at (suc i) s ≡ s = by_found (suc i) s None (beyond s.slots i long) in
       ap (ends_from (suc i) k) stays ∙ none_left k (suc i) s (omega arith)
 
-  -- what a place is when it was ended
+  -- what a slot is when it was ended
   abbrev pub left_behind : PlainSlot → PlainSlot
   left_behind (closed conv) = closed conv
   left_behind (opened h) = closed h.room.conv

@@ -1,4 +1,4 @@
--- Where no transaction is open, none has data.
+-- If no transaction is open, none has data.
 use Rattle.std.proofs.Common.{◌≡◌, ℕ, zero, suc, Bool, true, false, List, [], ◌∷◌, Option, Some, None, refl, sym, ap, ◌∙◌}
 use Rattle.std.specs.Prelude.{slice_get}
 use Rattle.session_report.specs.pam_library.specs.Slots.{PlainSlot, NoneIsOpen, closed, opened, is_open, data_in, lists_of}

@@ -1,4 +1,4 @@
--- How the lines of a script and the closings after them change files.
+-- How the lines of a script and the implicit ends after them change files.
 use Rattle.std.proofs.Common.{◌≡◌, ℕ, ◌+◌, Bool, true, false, cond, List, [], ◌∷◌, ◌++◌, length, Result, Ok, Err, nat_le, nat_lt, refl}
 use Rattle.pam_base.specs.declared.code.Code.{Code}
 use Rattle.pam_base.specs.declared.call.Step.{Step}
@@ -66,7 +66,7 @@ module _ (setting : Setting)
   script_leads [] n s = refl
   script_leads (l ∷ ls) n s = behind n s l ls (step_at (line_step setting) n s l) (line_leads n s l) (λ t. script_leads ls (n + 1) t)
 
--- ---- the closings after them
+-- ---- the implicit ends after them
 
 module _ (players : List Player) (status : Code) where
   closings_leave : (slots front : List PlainSlot) (w : PlainWorld) (s : RunState) → s.world.vault.files ≡ w.vault.files

@@ -1,4 +1,4 @@
--- The events of a run's lines, and of its closings.
+-- The events of a run's lines, and of its implicit ends.
 use Rattle.std.proofs.Common.{◌≡◌, ℕ, zero, suc, ◌+◌, ◌≤◌, ◌<◌, false, nat_eq, List, [], ◌∷◌, ◌++◌, length, take, drop, reverse, Some, None, refl, sym, ap, ◌∙◌, subst, append_assoc, append-nil, length-append, arith}
 use Rattle.std.specs.Prelude.{slice_get}
 use Rattle.std.proofs.lemmas.Bool.Decides.{nat_tests}
@@ -52,7 +52,7 @@ module _ (setting : Setting) where
   lists_are [] n m s t text a = ap (λ (x : RunState). lists_of x.slots) (sym a.1)
   lists_are (l ∷ ls) n m s t text a = rw a.4 (lists_are ls (n + 1) m a.0 t a.2 a.6)
 
-  -- they come to that
+  -- they give that
   pub lead_runs : (ls : List (List ℕ)) (n m : ℕ) (s t : RunState) (text : List ℕ) → LeadOn setting n s ls m t text
       → run_lines (line_step setting) n s ls ≡ come_to text t m None
   unfolding run_items
@@ -88,7 +88,7 @@ module _ (setting : Setting) (m : ℕ) (s t : RunState) (input : List ℕ) (othe
       let e : m ≡ length w.served = omega (arith, w.number) in
       rw (e, w.among) (drop-front w.served others)
 
--- ---- one place among others
+-- ---- one slot among others
 
 here : (front rest : List PlainSlot) (x : PlainSlot) → slice_get (front ++ x ∷ rest) (length front) ≡ Some x
 here [] rest x = refl
@@ -108,7 +108,7 @@ other_lists front rest x y (suc i) differs = ap (data_in (suc i)) (others front 
 list_here : (front rest : List PlainSlot) (x : PlainSlot) → lists_of (front ++ x ∷ rest) (suc (length front)) ≡ data_in (suc (length front)) (Some x)
 list_here front rest x = ap (data_in (suc (length front))) (here front rest x)
 
--- ---- closings
+-- ---- implicit ends
 
 module _ (players : List Player) (code : Code) where
   abbrev EndStands : Type 0

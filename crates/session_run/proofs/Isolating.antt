@@ -111,7 +111,7 @@ module _ (setting : Setting) where
 
     module _ (own : OwnCalls) (other : OtherCalls) (n : ℕ) (f g : RunState → List Came) (u v : RunState → Run RunState) (Next : RunState → Type 0)
         (more : (x y : RunState) → Alike x y → Next x → GoAlike (f x) (g y) (u x) (v y)) where
-      -- a line that tells nothing of the number
+      -- a line that reports nothing of the number
       silent : (x y : RunState) (text words : List ℕ) → Alike x y → Next x → GoAlike (f x) (g y) (with_text text (u x)) (with_text words (v y))
       silent x y text words alike stays = let m : GoAlike (f x) (g y) (u x) (v y) = more x y alike stays in record { came = m.came; last = m.last; lines = m.lines; refused = m.refused }
 

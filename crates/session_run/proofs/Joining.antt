@@ -6,7 +6,7 @@ use Rattle.pam_base.specs.Lines.{Cut, cut, last_line, lines_of, lines_of-line, o
 use Rattle.script_lang.specs.Line.{parsed}
 use Rattle.session_run.specs.Isolation.{alone, is_on_another, script_alone, step_in, with_newline}
 
--- no newline stands in it
+-- it has no newline
 abbrev IsOneLine : List ℕ → Type 0
 IsOneLine line = has_byte 10 line ≡ false
 

@@ -1,4 +1,4 @@
--- The lowest open transaction is ended: what is left of the closings.
+-- The lowest open transaction is ended: what is left of the implicit ends.
 use Rattle.std.proofs.Common.{◌≡◌, ℕ, suc, ◌+◌, ◌<◌, ◌≤◌, List, [], ◌∷◌, ◌++◌, length, Option, Some, None, refl, sym, ap, subst, ◌∙◌, append_assoc, append-nil, length-append, reverse, arith}
 use Rattle.std.specs.Prelude.{slice_set, option_map, IfSome, IfNone}
 use Rattle.session_report.specs.conv_port.specs.Conv.{ConvState}
@@ -28,7 +28,7 @@ count-behind (opened g ∷ front) rest h = omega (arith, count-behind front rest
 -- ---- the first open place
 
 module _ (players : List Player) (status : Code) where
-  -- the open transaction with the lowest number, where the first place has the number n: those before it are closed
+  -- the open transaction with the lowest number, if the first slot has the number n: those before it are closed
   record Opens (n : ℕ) (slots : List PlainSlot) (number : ℕ) (h : PlainHandle) : Type 0 where
     before : List PlainSlot
     after : List PlainSlot
@@ -64,7 +64,7 @@ module _ (players : List Player) (status : Code) where
       let f : ◌≡◌ {A = ℕ × PlainHandle} (n, g) (number, h) = cc in
       opens_here n number g h slots (ap (λ (x : ℕ × PlainHandle). x.0) f) (ap (λ (x : ℕ × PlainHandle). x.1) f)
 
-  -- what is left where it was ended
+  -- what is left once it was ended
   core : (before after : List PlainSlot) (h : PlainHandle) (w : PlainWorld)
       → ((front rest : List PlainSlot) (v : PlainWorld) → closings_behind players status front (before ++ rest) v ≡ closings_behind players status (front ++ before) rest v)
       → closings players status (state_of (before ++ opened h ∷ after) w)
@@ -105,7 +105,7 @@ module _ (players : List Player) (status : Code) where
   unfolding closed_one
   closes_one slots w c e = by_found slots w c (first_open 1 slots) refl e
 
-  -- where none is open there is no closing
+  -- if none is open there is no implicit end
   none_behind : (n : ℕ) (front slots : List PlainSlot) (w : PlainWorld) → first_open n slots ≡ None → closings_behind players status front slots w ≡ []
   unfolding closings_behind
   none_behind n front [] w e = refl
@@ -138,7 +138,7 @@ module _ (players : List Player) (status : Code) where
   pub one_then : (number : ℕ) (s t : RunState) → EndsNext players status number s t → all_closed players status s ≡ all_closed players status t
   one_then number s t e = ap (last_state s) e.first
 
-  -- ---- what an end of the lowest one answers
+  -- ---- what an end of the lowest one returns
 
   ends_by : (number : ℕ) (slots next : List PlainSlot) (w v : PlainWorld) (o : Option ClosedOne)
       → closed_one (notes_of players) (number_of status) slots w ≡ o → ClosesAs o (Some number) slots w next v

@@ -146,7 +146,7 @@ module _ (setting : Setting) (status : Code) where
   closing_alike zero own other s t alike = refl
   closing_alike (suc k) own other s t alike = place_alike k own other s t alike
 
-  -- ---- the lines of all closings are those of each number, in order
+  -- ---- the lines of all implicit ends are those of each number, in order
 
   plain_words : (number : ℕ) (ledger : PlainLedger) (n : ℕ) →
       closing_text (names_of setting.players) number status ledger n

@@ -18,7 +18,7 @@ use Rattle.pam_base.specs.declared.code.Code.{Code}
 use Rattle.session_run.specs.Ends.{EndsAre, HasStatus, IsEndStep}
 use Rattle.session_run.specs.AnyWorld.{AllEndsAre, ProceedsBy}
 
--- ---- receipts stay
+-- ---- cleanup records stay
 
 grown : (note : Notes) (modules : ℕ) (old new : PlainDataList) (before after : PlainLedger) → Grows note modules old before new after
     → length before.filed ≤ length after.filed

@@ -38,7 +38,7 @@ module _ (players : List Player) (status : Code) where
     one_cut failed w =
         (w.front, record { text = text; first = rw (as_text_of_end number s t text names filed is n f) e.first; written = w.written; calls = w.calls }, (w.back, w.parts))
 
-  -- there was no memory for them
+  -- an allocation for them failed
   pub one_unwritten : (number : ℕ) (s t : RunState) (p : SinkState) → EndsNext players status number s t → ClosesNext players status (Err NoMemory) s t p p
   one_unwritten number s t p e =
       ([], record { text = text_of_end players status number s.world t.world; first = e.first; written = sym (append-nil p.written); calls = omega arith }, refl)

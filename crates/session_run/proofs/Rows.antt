@@ -1,4 +1,5 @@
--- Worked rows of a run, computed: a call that finds nothing open, a moment, and a word that is no command; and two transactions.
+-- Worked rows of a run, computed: a call that finds nothing open, a time, and a word that is no command; and two
+-- transactions.
 use Rattle.std.specs.Prelude.{◌≡◌, ℕ, true, false, nat_le, if◌then◌else◌, List, [], ◌∷◌, ◌++◌, length, Some, codes, refl, replicate}
 use Rattle.std.proofs.Common.{inl, sym, ◌∙◌}
 use Rattle.std.specs.Fmt.{digits}
@@ -67,11 +68,11 @@ end_with_a_high_bit : HasEnd (codes "at 5\nend 3 0x80000007\nx") 3 2147483655
 unfolding lines_of cut words_of
 end_with_a_high_bit = record { line = codes "end 3 0x80000007"; before = codes "at 5" ∷ []; behind = codes "x" ∷ []; among = refl; asks = refl }
 
--- after the lines a transaction is ended with ABORT where one was refused
+-- after the lines a transaction is ended with ABORT if one was refused
 end_behind_a_refused_line : IsEndOfRun true (codes "x") 3 26
 end_behind_a_refused_line = λ told. inl (inl (Refused BadWord, refl))
 
--- ---- two transactions, and the first of them alone: its lines are the same but for the id of its datum
+-- ---- two transactions, and the first of them alone: its lines are the same except for the id of its data
 
 abbrev sets_datum : Player
 sets_datum = record {
@@ -117,7 +118,7 @@ others_leave_files = (λ e. absurd cc, (λ e. by_these service_files refl refl, 
 
 -- ---- a step on another number that changes a file: the law's premise fails, and so does what it concludes
 
--- it answers by whether it has been served before, which it writes into a file
+-- it returns a code by whether it has been called before, which it writes into a file
 abbrev notes_in_file : Player
 notes_in_file = record {
   name = codes "p";

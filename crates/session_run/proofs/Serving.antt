@@ -32,7 +32,7 @@ without_by false line lt = omega (arith, lt)
 pub long_line : (line : List ℕ) → 513 < length line → parsed line ≡ Err LineTooLong
 long_line line lt = rw (lt-ltb 512 (length (without_return line)) (without_by (ends_with nat_eq line (codes "\r")) line lt)) refl
 
--- ---- a call that found no memory, where all tells
+-- ---- a call that ran out of memory, if all objects are modelled
 
 pub failed_place : (a b : Bool) (call : AppCall) (old new : Option PlainSlot) → (a && b) ≡ true → FailsAt a call old new → FailsAt true call old new
 failed_place true b call old new told fails = fails
@@ -72,7 +72,7 @@ module _ (setting : Setting) where
       → step_at (line_step setting) n s line ≡ Ok (state_of slots world, text)
   called_line n s line step outcome slots world text names lt asked a t m = rw (t, m, a.outcome_is, a.slots_is, a.world_is) (accepted n s line (lines.Step step) lt asked)
 
-  -- one that was applied, and there was no memory for its lines
+  -- one that was applied, and an allocation for its lines failed
   pub applied_only : (n : ℕ) (s : RunState) (line : List ℕ) (step : Step) (outcome : PlainOutcome) (slots : List PlainSlot) (world : PlainWorld)
       → n < 65536 → parsed line ≡ Ok (lines.Step step)
       → StepsAs (stepped setting.players setting.delay s.slots s.world step) outcome slots world → IsBegun (line_step setting) (Fails setting) n line s (state_of slots world)
@@ -83,7 +83,7 @@ module _ (setting : Setting) where
     state = inl refl;
   }
 
-  -- one that found no memory itself
+  -- one that ran out of memory itself
   pub failed_call : (n : ℕ) (s : RunState) (line : List ℕ) (step : Step) (d : RunState) → n < 65536 → parsed line ≡ Ok (lines.Step step)
       → Fails setting s line d → IsBegun (line_step setting) (Fails setting) n line s d
   failed_call n s line step d lt asked f = record {

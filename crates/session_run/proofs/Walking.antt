@@ -1,4 +1,4 @@
--- Which lines of a told text were served.
+-- Which lines of a modelled text were served.
 use Rattle.std.proofs.Common.{◌≡◌, ℕ, ◌+◌, ◌⊎◌, inl, inr, true, List, [], ◌∷◌, ◌++◌, Some, None, Ok, Err, refl, sym, ap, ◌∙◌, append_assoc, append-nil, length-append, arith}
 use Rattle.pam_base.specs.Lines.{lines_of}
 use Rattle.pam_base.specs.declared.fault.ScriptKind.{ScriptKind}

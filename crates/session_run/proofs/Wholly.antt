@@ -24,7 +24,7 @@ use Rattle.session_run.proofs.Lowest.{none_left}
 module _ (players : List Player) (ending : Ending) (n : ℕ) where
   -- ---- what is ended and written after the lines
 
-  -- the closings stopped
+  -- the implicit ends stopped
   cut_short : (stop : Stop) (s t : RunState) (whole others : List Closing) (part : List ℕ)
       → ClosesTo players (ending_status ending) (Err stop) s t whole others part → EndsTo players ending n (Err stop) s t whole others part
   cut_short stop s t whole [] part h = absurd h
@@ -71,7 +71,7 @@ module _ (players : List Player) (ending : Ending) (n : ℕ) where
       calls = counted w.front w.calls;
     }
 
-  -- there was no memory for it
+  -- an allocation for it failed
   pub line_unwritten : (s t : RunState) (p q : SinkState) (done : Unit {0}) → Closes players (ending_status ending) (Ok done) s t p q
       → NoneIsOpen t.slots → EndsWith players ending n (Err NoMemory) s t p q
   line_unwritten s t p q done c none = record {

@@ -1,4 +1,4 @@
--- What a run does to module data in any world (this project's own).
+-- What a run does to module data, with real objects too (this project's own).
 use Rattle.std.specs.Prelude.{◌≡◌, ℕ, List, [], ◌∷◌}
 use Rattle.data_cleanup.specs.Ledger.{PlainLedger}
 use Rattle.data_cleanup.specs.Cleanup.{Notes}
@@ -8,7 +8,7 @@ use Rattle.session_report.specs.pam_library.specs.Calls.{MoveOn, Moved, last_led
 use Rattle.session_report.specs.pam_library.specs.Slots.{PlainSlot, handle_limit, lists_of}
 use Rattle.session_run.specs.Ends.{EndsAre}
 
--- Calls of a library were made, one after another: each moved on by the births that it added and the end that it was.
+-- Calls of a library were made, one after another: each added the data that it set and the end that it was.
 pub record Proceeds (note : Notes) (before : PlainLedger) (lists : Lists) (after : PlainLedger)
     (next : Lists) : Type 0 where
   pub calls : List Moved
@@ -26,7 +26,7 @@ pub record ProceedsBy (Is : ℕ → ℕ → Type 0) (note : Notes) (before : Pla
   pub went : Proceeds note before lists after next
   pub ends_are : AllEndsAre Is went.calls
 
--- the same of a library with these modules, from its places and the ledger to those afterwards
+-- the same for a library with these modules, from its slots and the cleanup log to those afterwards
 abbrev pub ProceedsFor : (ℕ → ℕ → Type 0) → List Player → PlainLedger → List PlainSlot → PlainLedger
     → List PlainSlot → Type 0
 ProceedsFor Is players before slots after next =

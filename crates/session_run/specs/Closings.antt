@@ -26,8 +26,8 @@ module _ (players : List Player) (status : Code) where
       closing_text (names_of players) number status after.process.ledger
       (length before.process.ledger.filed)
 
-  -- Each open transaction, in the order of their places, after some that are closed. An ended transaction leaves its
-  -- conversation in its place.
+  -- Each open transaction, in the order of their slots, after some that are closed. An ended transaction leaves its
+  -- conversation in its slot.
   unfoldable pub closings_behind : List PlainSlot → List PlainSlot → PlainWorld → List Closing
   closings_behind front [] w = []
   closings_behind front (closed conv ∷ slots) w =

@@ -1,4 +1,4 @@
--- Which ends a run makes, in any world (this project's own).
+-- Which ends a run makes, with real objects too (this project's own).
 use Rattle.std.specs.Prelude.{◌≡◌, ◌<◌, ◌⊎◌, ℕ, Bool, List, [], ◌∷◌, ◌++◌, IsTrue, Ok}
 use Rattle.pam_base.specs.Code.{number_of}
 use Rattle.pam_base.specs.Lines.{lines_of}
@@ -34,7 +34,7 @@ pub record HasEnd (text : List ℕ) (number status : ℕ) : Type 0 where
   pub among : lines_of text ≡ before ++ line ∷ behind
   pub asks : AsksEnd line number status
 
--- where the text is told
+-- if the text is modelled
 abbrev pub IsEndIn : Bool → List ℕ → ℕ → ℕ → Type 0
 IsEndIn tells text number status = IsTrue tells → HasEnd text number status
 
@@ -54,7 +54,7 @@ IsClosingStatus status = ((ending : Ending) × (status ≡ number_of (ending_sta
 
 -- ---- all ends
 
--- an end of a run of a script: where its text is told, one of its lines asks for it, or it was made after them
+-- an end of a run of a script: if its text is modelled, one of its lines asks for it, or it was made after them
 abbrev pub IsEndOfRun : Bool → List ℕ → ℕ → ℕ → Type 0
 IsEndOfRun tells text number status = IsTrue tells → IsClosingStatus status
     ⊎ HasEnd text number status

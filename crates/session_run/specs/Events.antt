@@ -1,5 +1,5 @@
--- The births and ends of a run (pam_set_data(3), pam_end(3); that a run's lines and closings are their fold is this
--- project's own).
+-- The data sets and ends of a run (pam_set_data(3), pam_end(3); that a run's lines and implicit ends are their fold is
+-- this project's own).
 use Rattle.std.specs.Prelude.{◌≡◌, ◌⊎◌, ℕ, ◌+◌, List, [], ◌∷◌, ◌++◌, length, take, drop, Option, Some, None, Result, Ok, Err}
 use Rattle.pam_base.specs.Code.{number_of}
 use Rattle.pam_base.specs.Lines.{lines_of}
@@ -38,7 +38,7 @@ end_by slots (Ok (lines.Random word)) = []
 end_by slots (Ok (lines.Caller caller)) = []
 end_by slots (Err kind) = []
 
--- a line that was applied: the end that it is, and ledger and data after it
+-- a line that was applied: the end that it is, and the cleanup log and data after it
 abbrev pub moved_by : RunState → List ℕ → RunState → Moved
 moved_by s line t = record {
   ended = end_by s.slots (parsed line);
@@ -58,13 +58,13 @@ module _ (setting : Setting) where
   line_calls n s (line ∷ rest) =
       calls_behind s line (step_at (line_step setting) n s line) (λ t. line_calls (n + 1) t rest)
 
-  -- their events: of each line the births that it adds, in order, and then the end that it is
+  -- their events: for each line the data that it sets, in order, and then the end that it is
   abbrev pub line_events : RunState → List (List ℕ) → List Event
   line_events s ls = events_of s.world.process.ledger (line_calls 0 s ls)
 
--- ---- the closings
+-- ---- the implicit ends
 
--- the ends of the open transactions, the lowest number first, where the first place has this number
+-- the ends of the open transactions, the lowest number first, if the first slot has this number
 abbrev pub closing_events : ℕ → ℕ → List PlainSlot → List Event
 closing_events number status [] = []
 closing_events number status (closed conv ∷ slots) = closing_events (number + 1) status slots
@@ -79,7 +79,7 @@ run_events setting status start script lines last =
     line_events setting start (take lines (lines_of script))
     ++ closing_events 1 (number_of status) last.slots
 
--- whatever ledger and data stood for, they stand for it and then these events
+-- whatever cleanup log and data modelled, they model it and then these events
 abbrev pub StandOn : Notes → List Event → RunState → RunState → Type 0
 StandOn note added s t = (events : List Event)
     → StandFor note handle_limit s.world.process.ledger (lists_of s.slots) events
@@ -87,8 +87,8 @@ StandOn note added s t = (events : List Event)
 
 -- ---- while it goes on
 
--- Some lines lead from one state to another: each was applied, and moved ledger and data on by its births and its
--- end. This is their text.
+-- Some lines lead from one state to another: each was applied, and its sets and its end were added to cleanup log and
+-- data. This is their text.
 abbrev pub LeadOn : Setting → ℕ → RunState → List (List ℕ) → ℕ → RunState → List ℕ → Type 0
 LeadOn setting n s [] m t text = (m ≡ n) × (t ≡ s) × (text ≡ [])
 LeadOn setting n s (line ∷ rest) m t text =
@@ -98,7 +98,7 @@ LeadOn setting n s (line ∷ rest) m t text =
     s.world.process.ledger (lists_of s.slots) u.world.process.ledger (lists_of u.slots)
     × LeadOn setting (n + 1) u rest m t others
 
--- the first lines of a text were served, and their text is written; which lines stand after them
+-- the first lines of a text were served, and their text is written; which lines come after them
 pub record Served (setting : Setting) (n m : ℕ) (s t : RunState) (input : List ℕ)
     (others : List (List ℕ)) (p q : SinkState) : Type 0 where
   pub served : List (List ℕ)
@@ -113,8 +113,8 @@ abbrev pub IsAskedBy : List (List ℕ) → ℕ → ℕ → Type 0
 IsAskedBy [] number status = ⊥
 IsAskedBy (line ∷ rest) number status = AsksEnd line number status
 
--- A run stopped after m lines: the first lines of a text were served, and at most the next one was begun. What was
--- done to data after them is a birth, or the end that this line asks for.
+-- A run stopped after m lines: the first lines of a text were served, and at most the next one was begun. What was done
+-- to data after them is a set, or the end that this line asks for.
 pub record Broken (setting : Setting) (n m : ℕ) (s t : RunState) (input : List ℕ)
     (p q : SinkState) : Type 0 where
   pub middle : RunState
@@ -126,7 +126,7 @@ pub record Broken (setting : Setting) (n m : ℕ) (s t : RunState) (input : List
   pub later : ProceedsBy (IsAskedBy others) (notes_of setting.players) middle.world.process.ledger
       (lists_of middle.slots) t.world.process.ledger (lists_of t.slots)
 
--- one line that was applied, for one who doesn't know the places before it
+-- one line that was applied, whatever the slots before it
 abbrev pub MovesBy : Notes → List PlainSlot → List ℕ → PlainLedger → PlainLedger → List PlainSlot
     → Type 0
 MovesBy note slots line before after next =
@@ -156,8 +156,8 @@ abbrev pub IsLaterEnd : Code → List (List ℕ) → ℕ → ℕ → Type 0
 IsLaterEnd status others number ended = IsAskedBy others number ended
     ⊎ HasStatus status number ended
 
--- Among its lines: the whole text of n lines stands in what was written. Ledger and data stand for their events, and
--- then for others, whose ends the next line asked for or have this status.
+-- Among its lines: the whole text of n lines is in what was written. Cleanup log and data model their events, and then
+-- others, whose ends the next line asked for or have this status.
 pub record StandsCut (setting : Setting) (status : Code) (lines : ℕ) (start end : RunState)
     (input text : List ℕ) : Type 0 where
   pub middle : RunState
@@ -171,8 +171,8 @@ pub record StandsCut (setting : Setting) (status : Code) (lines : ℕ) (start en
   pub stand : StandOn (notes_of setting.players)
       (line_events setting start (take lines (lines_of input)) ++ later) start end
 
--- After them: ledger and data stand for the events of the lines, and then for others, whose ends have one of these
--- two statuses.
+-- After them: cleanup log and data model the events of the lines, and then others, whose ends have one of these two
+-- statuses.
 pub record StandsBehind (setting : Setting) (status stopped : Code) (lines : ℕ)
     (start end : RunState) (input : List ℕ) : Type 0 where
   pub later : List Event
@@ -181,7 +181,7 @@ pub record StandsBehind (setting : Setting) (status stopped : Code) (lines : ℕ
   pub stand : StandOn (notes_of setting.players)
       (line_events setting start (take lines (lines_of input)) ++ later) start end
 
--- The births and receipts of a ledger are those of these events, in order.
+-- The records of a cleanup log, of sets and of cleanups, are those of these events, in order.
 pub record AreDue (note : Notes) (events : List Event) (ledger : PlainLedger) : Type 0 where
   pub births : ledger.births ≡ births_of events
   pub receipts : receipts_in ledger.filed ≡ due note events

@@ -1,5 +1,5 @@
 -- A transaction goes as it would alone (this project's own): a script in which each step on another number is a blank
--- line, and what the steps on a number come to in a run.
+-- line, and the results of the steps on a number in a run.
 use Rattle.std.specs.Prelude.{◌≡◌, ℕ, zero, suc, ◌+◌, Bool, true, false, not, nat_eq, if◌then◌else◌, List, [], ◌∷◌, ◌++◌, map, length, take, drop, codes, slice_get, unwrap_or, Option, Some, None, Result, Ok, Err}
 use Rattle.std.specs.List.{flat_map, range_with_len}
 use Rattle.std.specs.Fmt.{decimal}
@@ -50,7 +50,7 @@ abbrev pub is_on_another : ℕ → Option Step → Bool
 is_on_another number None = false
 is_on_another number (Some step) = not (nat_eq step.number number)
 
--- a blank line stands in the place of a step on another number; every other line stays
+-- a blank line takes the place of a step on another number; every other line stays
 abbrev pub line_alone : ℕ → List ℕ → List ℕ
 line_alone number line = if is_on_another number (step_in (parsed line)) then [] else line
 
@@ -64,15 +64,15 @@ with_newline line = line ++ 10 ∷ []
 abbrev pub script_alone : ℕ → List ℕ → List ℕ
 script_alone number text = flat_map with_newline (alone number (lines_of text))
 
--- ---- what the steps on a number come to in a run
+-- ---- the results of the steps on a number in a run
 
--- a step, what it told and answered, and the ledger after it
+-- a step, what it reported and returned, and the cleanup log after it
 pub record Came : Type 0 where
   pub step : Step
   pub outcome : PlainOutcome
   pub ledger : PlainLedger
 
--- after a line: what it came to, and what the lines after it do; nothing follows a refused line
+-- after a line: its result, and what the lines after it do; nothing follows a refused line
 abbrev pub came_behind : {A : Type 0} → Result (RunState × List ℕ) ScriptKind → (List ℕ → List A)
     → (RunState → List A) → List A
 came_behind (Ok x) here next = here x.1 ++ next x.0
@@ -113,12 +113,12 @@ module _ (setting : Setting) where
         FilesStay (step_at (line_step setting) n s l) (is_on_another number (step_in (parsed l))) s
         (λ t. LeaveFiles (n + 1) t ls)
 
--- a run may begin here: places and ledger belong together, and no call of the vault is to fail
+-- a run may begin here: slots and cleanup log belong together, and no call of `Vault` is to fail
 pub record IsQuietStart (s : RunState) : Type 0 where
   pub order : AreInOrder s.slots s.world.process.ledger
   pub quiet : NoCallFails s.world.vault
 
--- ---- the lines of the report, where a datum's id is written by these words
+-- ---- the lines of the report, with the ids of data written by these words
 
 module _ (id_words : ℕ → List ℕ) (handle : ℕ) (names : List (List ℕ)) where
   abbrev pub receipt_text_with : Receipt → Option Birth → List ℕ
@@ -154,17 +154,17 @@ text_of names c = step_text names c.step c.outcome c.ledger
 -- ---- the lines with which the program closes a number after the lines of a script
 
 module _ (players : List Player) (status : Code) where
-  -- what the end of a place leaves, where it is open
+  -- what the end of a slot leaves, if it is open
   abbrev pub world_left : PlainSlot → PlainWorld → PlainWorld
   world_left (closed conv) w = w
   world_left (opened h) w = world_behind players status h w
 
-  -- the world when some places are closed, one after another
+  -- the world when some slots are closed, one after another
   unfoldable pub world_after_places : List PlainSlot → PlainWorld → PlainWorld
   world_after_places [] w = w
   world_after_places (slot ∷ slots) w = world_after_places slots (world_left slot w)
 
-  -- a closing writes what it cleaned up, and H closed NAME NUMBER; a closed place has none
+  -- the text of an implicit end: what it cleaned up, and H closed NAME NUMBER; a closed slot has none
   abbrev pub closed_text_with : (ℕ → List ℕ) → ℕ → PlainWorld → Option PlainSlot → List ℕ
   closed_text_with id_words number w None = []
   closed_text_with id_words number w (Some (closed conv)) = []
@@ -184,7 +184,7 @@ module _ (players : List Player) (status : Code) where
   abbrev pub closing_without_ids : RunState → ℕ → List ℕ
   closing_without_ids s number = closing_text_with (λ (id : ℕ). []) s number
 
-  -- of all places, from the first
+  -- of all slots, from the first
   abbrev pub all_closing_texts : RunState → List ℕ
   all_closing_texts s =
       flat_map (closing_text_with number_words s) (range_with_len 1 (length s.slots))
@@ -195,10 +195,10 @@ module _ (players : List Player) (status : Code) where
 abbrev pub state_behind : Setting → ℕ → RunState → List (List ℕ) → RunState
 state_behind setting n s script = (run_lines (line_step setting) n s script).last
 
--- A run and that of the script of one number alone, from the same start: the number's steps tell and answer the same,
--- and its births and receipts are the same, in their order and but for ids and marks, after the lines and when all is
--- ended after them. Its lines of the report are the same but for ids, also those with which the program closes it.
--- Both runs end at the same line, for the same fault if there is one.
+-- A run and that of the script of one number alone, from the same start: the number's steps report and return the same,
+-- and its sets and cleanups are the same, in their order and except for ids and positions in the log, after the lines
+-- and when all is ended after them. Its lines of the report are the same except for ids, also those with which the
+-- program closes it. Both runs end at the same line, for the same fault if there is one.
 pub record GoesAsAlone (setting : Setting) (number n : ℕ) (s : RunState)
     (script : List (List ℕ)) : Type 0 where
   pub outcomes : map (λ (c : Came). told_in c.outcome) (came_among setting number n s script)

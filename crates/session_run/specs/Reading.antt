@@ -62,7 +62,7 @@ pub record ReadsScript (result : Result Ending Stop) (x y : SourceState) : Type 
 
 -- ---- what is written
 
--- some bytes were written, with at most one call more than they are; without that one where all went well
+-- some bytes were written, with at most one call more than they are; without that one if all went well
 pub record WritesSome {T : Type 0} (result : Result T Stop) (p q : SinkState) : Type 0 where
   pub text : List ℕ
   pub written : q.written ≡ p.written ++ text

@@ -8,7 +8,7 @@ use Rattle.item_stream.specs.declared.ending.Stop.TheVariants.{NoMemory, WriteFa
 use Rattle.session_run.specs.State.{RunState}
 use Rattle.session_run.specs.Closings.{Closing, closings, closings_text, last_state}
 
--- a text is cut where a write failed, and isn't begun where memory was wanting for it
+-- a text is cut if a write failed, and isn't begun if an allocation for it failed
 abbrev pub CutBy : Stop → List ℕ → List ℕ → Type 0
 CutBy WriteFault part text = (more : List ℕ) × (text ≡ part ++ more)
 CutBy NoMemory part text = part ≡ []
@@ -40,7 +40,7 @@ module _ (players : List Player) (status : Code) where
   ClosesTo (Err stop) s t whole [] part = ⊥
   ClosesTo (Err stop) s t whole (c ∷ cs) part = CutBy stop part c.text × (t ≡ c.state)
 
-  -- what a told sink shows of it
+  -- what a modelled output shows of it
   pub record Closes (result : Result (Unit {0}) Stop) (s t : RunState) (old new : SinkState) : Type
       0 where
     pub whole : List Closing

@@ -1,4 +1,4 @@
--- What the lines of a script come to in one place (this project's own).
+-- The results of the lines of a script in one slot (this project's own).
 use Rattle.std.specs.Prelude.{◌≡◌, ℕ, ◌+◌, Bool, List, [], ◌∷◌, ◌++◌, Some, Result, Ok, Err}
 use Rattle.pam_base.specs.declared.fault.ScriptKind.{ScriptKind}
 use Rattle.session_report.specs.dispatch_core.specs.Lines.{names_of}
@@ -14,7 +14,7 @@ use Rattle.session_report.specs.Step.{step_text}
 use Rattle.session_run.specs.State.{Setting, RunState}
 use Rattle.session_run.specs.Step.{line_step}
 
--- the step that a line asks for, with the world as it stands before it; no other line has one
+-- the step that a line asks for, with the world as it is before it; no other line has one
 abbrev pub step_of : RunState → Result Line ScriptKind → List Met
 step_of s (Ok (lines.Step step)) = record { step = step; world = s.world } ∷ []
 step_of s (Ok lines.Blank) = []
@@ -36,7 +36,7 @@ module _ (setting : Setting) where
   steps_in n s (line ∷ rest) = steps_behind s line (step_at (line_step setting) n s line) (λ t.
       steps_in (n + 1) t rest)
 
-  -- what is reported of some steps, one after another: of each its outcome, with the receipts that it filed
+  -- what is reported of some steps, one after another: for each its outcome, with the cleanup records that it filed
   abbrev pub report_of_steps : List PlainSlot → List Met → List ℕ
   report_of_steps slots [] = []
   report_of_steps slots (m ∷ steps) =
@@ -48,13 +48,13 @@ module _ (setting : Setting) where
   abbrev pub steps_of : RunState → List ℕ → Bool → List Met
   steps_of s bytes ended = steps_in 0 s (looked 0 bytes ended)
 
-  -- What is reported of the lines among some bytes is what is told of their steps.
+  -- What is reported of the lines among some bytes is the report of their steps.
   abbrev pub TellsSteps : RunState → List ℕ → Bool → Type 0
   TellsSteps s bytes ended = (run_of (line_step setting) 0 s bytes ended).text
       ≡ report_of_steps s.slots (steps_of s bytes ended)
 
-  -- The place of a number after the lines among some bytes, and the outcomes of the steps on it, are what these steps
-  -- come to alone, from that place on, each in the world as it stood before it.
+  -- The slot of a number after the lines among some bytes, and the outcomes of the steps on it, are the results of
+  -- these steps alone, from that slot on, each in the world as it was before it.
   pub record ComesAlone (s : RunState) (bytes : List ℕ) (ended : Bool) (number : ℕ)
       (slot : PlainSlot) : Type 0 where
     pub slot_is : slot_at (run_of (line_step setting) 0 s bytes ended).last.slots number

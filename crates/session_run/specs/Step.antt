@@ -16,7 +16,7 @@ use Rattle.script_stream.specs.Run.{LineStep}
 use Rattle.session_report.specs.Step.{step_text}
 use Rattle.session_run.specs.State.{Setting, RunState, state_of}
 
--- the world with another moment, another random word, another caller
+-- the world with another time, another random word, another caller
 abbrev pub at_moment : ℕ → PlainWorld → PlainWorld
 at_moment moment w = record w { clock = record w.clock { moment = moment } }
 
@@ -35,7 +35,7 @@ module _ (setting : Setting) where
         t.world.process.ledger,
   )
 
-  -- the state after a line, and what is written for it: nothing but for a call
+  -- the state after a line, and what is written for it: nothing except for a call
   abbrev pub applied : RunState → Line → RunState × List ℕ
   applied s lines.Blank = (s, [])
   applied s (lines.Step step) =
@@ -52,8 +52,8 @@ module _ (setting : Setting) where
   unfoldable pub line_step : LineStep RunState
   line_step s line = applied_or_refused s (parsed line)
 
--- The states that a line may leave whose call found no memory: what the call says of its transaction, with every other
--- as it was, and of the data and the world. Nothing was waited.
+-- The states that a line may leave if its call runs out of memory: what the call says of its transaction, with every
+-- other as it was, and of the data and the world. There was no sleep.
 pub record Fails (setting : Setting) (s : RunState) (line : List ℕ) (t : RunState) : Type 0 where
   pub step : Step
   pub asked : parsed line ≡ Ok (lines.Step step)

@@ -22,7 +22,7 @@ use Rattle.session_run.specs.Reported.{CutBy}
 
 -- ---- the last line
 
--- what is written after their lines, where n lines were applied
+-- what is written after their lines, if n lines were applied
 abbrev pub last_line : Ending → ℕ → List ℕ
 last_line Done n = []
 last_line ReadFault n = read_fault_text
@@ -64,7 +64,7 @@ module _ (players : List Player) where
   StopsIn stop ending n s t (c ∷ cs) part = CutBy stop part c.text
       × (t ≡ all_closed players (stop_status stop) c.state)
 
-  -- the lines of the transactions in front of that are whole
+  -- the lines of the transactions before that are whole
   pub record StopsClosing (stop : Stop) (ending : Ending) (n : ℕ) (s t : RunState)
       (text : List ℕ) : Type 0 where
     pub whole : List Closing
@@ -77,8 +77,8 @@ module _ (players : List Player) where
 -- ---- the whole run
 
 module _ (setting : Setting) where
-  -- It ends: the lines are reported, the closings and the last line, and all transactions are ended. Whatever births
-  -- and ends ledger and data stood for, they stand for these and then those of the lines and closings.
+  -- It ends: the lines are reported, the implicit ends and the last line, and all transactions are ended. Whatever
+  -- events cleanup log and data modelled, they model these and then those of the lines and implicit ends.
   pub record EndsAs (ending : Ending) (start end : RunState) (input taken left text : List ℕ) : Type
       0 where
     pub lines : ℕ
@@ -138,8 +138,7 @@ module _ (setting : Setting) where
     pub ends : y.reads_at_end ≤ x.reads_at_end + 1
     pub writes : q.calls ≤ p.calls + length text + 1
 
--- Where no line of the script is refused and neither source nor sink failed, it was run to its end, or there was no
--- memory.
+-- If no line of the script is refused and neither source nor sink failed, it was run to its end, or out of memory.
 abbrev pub Completes : Setting → Result Ending Stop → RunState → List ℕ → Type 0 → Type 0 → Type 0
 Completes setting result start input read_failed write_failed =
     (run_of (line_step setting) 0 start input true).refused ≡ None → (read_failed → ⊥)

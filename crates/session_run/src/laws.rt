@@ -21,8 +21,8 @@ ghost use Rattle.session_run.specs.State.{RunState, Setting};
 ghost use Rattle.session_run.specs.Step.{line_step};
 ghost use Rattle.session_run.specs.Visits.{visits_in};
 
-/// If the cleanup log and the module data stand for some events before a run, they stand for these events followed by
-/// those of the run's calls after it.
+/// If the cleanup log and the module data model some events before a run, they model these events
+/// followed by those of the run's calls after it.
 pub fn proceeding_stands()
     ensures { (note : Notes) (before after : PlainLedger) (lists next : Lists)
         (events : List Event) → (p : Proceeds note before lists after next) →
