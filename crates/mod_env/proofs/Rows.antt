@@ -17,7 +17,7 @@ use Rattle.mod_env.specs.declared.value.Piece.TheVariants.{Byte, Variable as Var
 use Rattle.mod_env.specs.Conf.{conf_of, values_of}
 use Rattle.mod_env.specs.Env.{env_plays, put_in, puts_env, sees_env, sets_by, sets_variable}
 use Rattle.mod_env.specs.EnvFile.{assignments_of}
-use Rattle.mod_env.specs.Expand.{outcome_of}
+use Rattle.mod_env.specs.Expand.{expansion_of}
 use Rattle.mod_env.specs.Marks.{marks_of}
 use Rattle.mod_env.specs.Value.{pieces_of}
 
@@ -82,18 +82,18 @@ abbrev conf : File
 conf = record { path = codes "/r/etc/security/pam_env.conf"; bytes = line }
 
 opened : (open_with (conf ∷ []) []).code ≡ returns.Success
-unfolding answers sees_items sees_env sets_variable sets_by outcome_of puts_env put_in reads_file reads_passwds content_of path_of failing_of entries_of parts_of assignments_of marks_of values_of pieces_of lines_of cut
+unfolding answers sees_items sees_env sets_variable sets_by expansion_of puts_env put_in reads_file reads_passwds content_of path_of failing_of entries_of parts_of assignments_of marks_of values_of pieces_of lines_of cut
 opened = refl
 
 sets : (open_with (conf ∷ []) []).room.env ≡ record { name = codes "B"; value = codes "1" } ∷ record { name = codes "A"; value = codes "x1" } ∷ []
-unfolding answers sees_items sees_env sets_variable sets_by outcome_of puts_env put_in reads_file reads_passwds content_of path_of failing_of entries_of parts_of assignments_of marks_of values_of pieces_of lines_of cut
+unfolding answers sees_items sees_env sets_variable sets_by expansion_of puts_env put_in reads_file reads_passwds content_of path_of failing_of entries_of parts_of assignments_of marks_of values_of pieces_of lines_of cut
 sets = refl
 
 -- each of the two calls fails in turn
 first_fails : (open_with (conf ∷ []) (1 ∷ [])).code ≡ returns.ServiceErr
-unfolding answers sees_items sees_env sets_variable sets_by outcome_of puts_env put_in reads_file reads_passwds content_of path_of failing_of entries_of parts_of assignments_of marks_of values_of pieces_of lines_of cut
+unfolding answers sees_items sees_env sets_variable sets_by expansion_of puts_env put_in reads_file reads_passwds content_of path_of failing_of entries_of parts_of assignments_of marks_of values_of pieces_of lines_of cut
 first_fails = refl
 
 second_fails : (open_with (conf ∷ []) (2 ∷ [])).room.env ≡ b_is_1
-unfolding answers sees_items sees_env sets_variable sets_by outcome_of puts_env put_in reads_file reads_passwds content_of path_of failing_of entries_of parts_of assignments_of marks_of values_of pieces_of lines_of cut
+unfolding answers sees_items sees_env sets_variable sets_by expansion_of puts_env put_in reads_file reads_passwds content_of path_of failing_of entries_of parts_of assignments_of marks_of values_of pieces_of lines_of cut
 second_fails = refl

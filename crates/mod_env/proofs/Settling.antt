@@ -9,10 +9,10 @@ use Rattle.account_db.specs.declared.passwd.Passwd.{Passwd}
 use Rattle.account_files.specs.Accounts.{Known, account_in, known_passwds}
 use Rattle.account_files.specs.Act.{Act, Acts, reads_passwds, sees_items}
 use Rattle.mod_env.specs.declared.conf.Entry.{Entry}
-use Rattle.mod_env.specs.declared.expand.Outcome.{Outcome}
-use Rattle.mod_env.specs.declared.expand.Outcome.TheVariants.{TooLong, Puts}
-use Rattle.mod_env.specs.Env.{by_outcome, by_user, entry_in, entry_known, looks_if, puts_all, puts_env, sees_env, sets_all, sets_by, sets_variable}
-use Rattle.mod_env.specs.Expand.{Sources, asks_account, outcome_of}
+use Rattle.mod_env.specs.declared.expand.Expansion.{Expansion}
+use Rattle.mod_env.specs.declared.expand.Expansion.TheVariants.{TooLong, Puts}
+use Rattle.mod_env.specs.Env.{by_expansion, by_user, entry_in, entry_known, looks_if, puts_all, puts_env, sees_env, sets_all, sets_by, sets_variable}
+use Rattle.mod_env.specs.Expand.{Sources, asks_account, expansion_of}
 
 pub first_of : {A : Type 0} (whole : List A) (x : A) → 1 ≤ length whole → x ≡ get_or whole 0 x → whole ≡ x ∷ take (length whole - 1) (drop 1 whole)
 first_of [] x some is = absurd (omega (arith, some))
@@ -24,18 +24,18 @@ sources_in s account = record { items = s.room.transaction.items; env = s.room.t
 
 module _ (items : (act : ItemTexts → Act) (known : Known) (s : Scene) (code : Code) (new : Scene) → Acts (act s.room.transaction.items) known s code new → Acts (sees_items act) known s code new)
     (env : (act : List Variable → Act) (known : Known) (s : Scene) (code : Code) (new : Scene) → Acts (act s.room.transaction.env) known s code new → Acts (sees_env act) known s code new)
-    (entry : Entry) (account : Option Passwd) (known : Known) (s : Scene) (found : Outcome) where
-  seen : (act : Bool → Act) (code : Code) (new : Scene) → found ≡ outcome_of entry (sources_in s account) → Acts (by_outcome found act) known s code new → Acts (sets_by entry account act) known s code new
+    (entry : Entry) (account : Option Passwd) (known : Known) (s : Scene) (found : Expansion) where
+  seen : (act : Bool → Act) (code : Code) (new : Scene) → found ≡ expansion_of entry (sources_in s account) → Acts (by_expansion found act) known s code new → Acts (sets_by entry account act) known s code new
   unfolding sets_by
   seen act code new e a =
-      items (λ texts. sees_env (λ variables. by_outcome (outcome_of entry (record { items = texts; env = variables; entry = account })) act)) known s code new
-      (env (λ variables. by_outcome (outcome_of entry (record { items = s.room.transaction.items; env = variables; entry = account })) act) known s code new (rw (← e) a))
+      items (λ texts. sees_env (λ variables. by_expansion (expansion_of entry (record { items = texts; env = variables; entry = account })) act)) known s code new
+      (env (λ variables. by_expansion (expansion_of entry (record { items = s.room.transaction.items; env = variables; entry = account })) act) known s code new (rw (← e) a))
 
-  pub too_long : found ≡ outcome_of entry (sources_in s account) → found ≡ TooLong
+  pub too_long : found ≡ expansion_of entry (sources_in s account) → found ≡ TooLong
       → (act : Bool → Act) (code : Code) (end : Scene) → Acts (act false) known s code end → Acts (sets_by entry account act) known s code end
   too_long e f act code end a = seen act code end e (rw f a)
 
-  pub puts : (text : List ℕ) → found ≡ outcome_of entry (sources_in s account) → found ≡ Puts text
+  pub puts : (text : List ℕ) → found ≡ expansion_of entry (sources_in s account) → found ≡ Puts text
       → (act : Bool → Act) (code : Code) (end : Scene) → Acts (puts_env text (act true)) known s code end → Acts (sets_by entry account act) known s code end
   puts text e f act code end a = seen act code end e (rw f a)
 

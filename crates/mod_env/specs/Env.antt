@@ -14,11 +14,11 @@ use Rattle.account_files.specs.declared.content.Content.TheVariants.{Absent, Unr
 use Rattle.account_files.specs.Accounts.{Account, Known, account_in, found, known_passwds, missing, unreadable}
 use Rattle.account_files.specs.Act.{Act, answers, finds_account, in_room, plays_by, reads_file, sees_items, unless_answered}
 use Rattle.mod_env.specs.declared.conf.Entry.{Entry}
-use Rattle.mod_env.specs.declared.expand.Outcome.{Outcome}
-use Rattle.mod_env.specs.declared.expand.Outcome.TheVariants.{TooLong, Puts}
+use Rattle.mod_env.specs.declared.expand.Expansion.{Expansion}
+use Rattle.mod_env.specs.declared.expand.Expansion.TheVariants.{TooLong, Puts}
 use Rattle.mod_env.specs.Conf.{conf_of}
 use Rattle.mod_env.specs.EnvFile.{assignments_of}
-use Rattle.mod_env.specs.Expand.{Sources, asks_account, outcome_of}
+use Rattle.mod_env.specs.Expand.{Sources, asks_account, expansion_of}
 
 -- ---- the environment
 
@@ -61,16 +61,16 @@ looks_if true act = sees_items (λ items. by_user items.user act)
 looks_if false act = act None
 
 -- whether the variable was set: a value that is too long isn't
-abbrev pub by_outcome : Outcome → (Bool → Act) → Act
-by_outcome (Puts text) act = puts_env text (act true)
-by_outcome TooLong act = act false
+abbrev pub by_expansion : Expansion → (Bool → Act) → Act
+by_expansion (Puts text) act = puts_env text (act true)
+by_expansion TooLong act = act false
 
 abbrev pub sees_sources : Option Passwd → (Sources → Act) → Act
 sees_sources entry act =
     sees_items (λ items. sees_env (λ env. act (record { items = items; env = env; entry = entry })))
 
 unfoldable pub sets_by : Entry → Option Passwd → (Bool → Act) → Act
-sets_by entry account act = sees_sources account (λ from. by_outcome (outcome_of entry from) act)
+sets_by entry account act = sees_sources account (λ from. by_expansion (expansion_of entry from) act)
 
 unfoldable pub sets_variable : Entry → (Bool → Act) → Act
 sets_variable entry act = looks_if (asks_account entry) (λ account. sets_by entry account act)

@@ -10,8 +10,8 @@ use Rattle.mod_env.specs.declared.value.Piece.{Piece}
 use Rattle.mod_env.specs.declared.value.Piece.TheVariants as pieces
 use Rattle.mod_env.specs.declared.conf.Entry.{Entry}
 use Rattle.mod_env.specs.declared.expand.Sources.{Sources as LentSources}
-use Rattle.mod_env.specs.declared.expand.Outcome.{Outcome}
-use Rattle.mod_env.specs.declared.expand.Outcome.TheVariants.{TooLong, Puts}
+use Rattle.mod_env.specs.declared.expand.Expansion.{Expansion}
+use Rattle.mod_env.specs.declared.expand.Expansion.TheVariants.{TooLong, Puts}
 
 -- what a value may name: items, variables, and the user's entry in passwd if it exists
 pub record Sources : Type 0 where
@@ -74,14 +74,14 @@ abbrev pub value_text : Sources → Option (List Piece) → Option (Option (List
 value_text from (Some value) = fitted (fitting (expanded from value))
 value_text from None = Some None
 
-abbrev pub by_texts : List ℕ → Option (Option (List ℕ)) → Option (Option (List ℕ)) → Outcome
+abbrev pub by_texts : List ℕ → Option (Option (List ℕ)) → Option (Option (List ℕ)) → Expansion
 by_texts name (Some default) (Some over) = Puts (put_text name default over)
 by_texts name (Some default) None = TooLong
 by_texts name None over = TooLong
 
 -- the result for a variable; a value that is too long counts even if it isn't taken
-unfoldable pub outcome_of : Entry → Sources → Outcome
-outcome_of entry from = by_texts entry.name (value_text from entry.values.default)
+unfoldable pub expansion_of : Entry → Sources → Expansion
+expansion_of entry from = by_texts entry.name (value_text from entry.values.default)
     (value_text from entry.values.overriding)
 
 -- ---- the account

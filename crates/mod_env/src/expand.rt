@@ -2,7 +2,7 @@ ghost use Rattle.std.specs.Prelude.{◌≡◌, ◌||◌, ◌∷◌, ◌++◌, []
 ghost use Rattle.std.specs.Str.{bytes_eq};
 ghost use Rattle.std.specs.List.{list_any};
 ghost use Rattle.std.specs.Option.{option_copied};
-ghost use Rattle.mod_env.specs.Expand.{asks_account, expanded, fitting, home_of, item_value, names_account, outcome_of, piece_text, plain_sources, put_default, put_text, shell_of, value_names_account, value_text};
+ghost use Rattle.mod_env.specs.Expand.{asks_account, expanded, expansion_of, fitting, home_of, item_value, names_account, piece_text, plain_sources, put_default, put_text, shell_of, value_names_account, value_text};
 
 use crate::conf::Entry;
 use crate::value::{Piece, Pieces};
@@ -18,7 +18,7 @@ const VALUE_LIMIT: usize = 1024;
 
 /// What becomes of a variable.
 #[derive(Debug, Drop)]
-pub enum Outcome {
+pub enum Expansion {
     /// A value has more than 1,024 bytes.
     TooLong,
     /// The argument of `pam_putenv(3)`.
@@ -34,19 +34,19 @@ pub struct Sources<'a> {
 }
 
 /// What becomes of a variable.
-pub fn outcome_of(alloc: Global, entry: &Entry, from: Sources) -> Result<Outcome, NoMemory>
-    ensures { IfOk result (λ outcome. outcome ≡ outcome_of entry.now (plain_sources from.entry)) }
+pub fn expansion_of(alloc: Global, entry: &Entry, from: Sources) -> Result<Expansion, NoMemory>
+    ensures { IfOk result (λ made. made ≡ expansion_of entry.now (plain_sources from.entry)) }
 {
     let default = match value_text(alloc, from, &entry.values.default)? {
         Some(default) => default,
-        None => return Ok(Outcome::TooLong),
+        None => return Ok(Expansion::TooLong),
     };
     let overriding = match value_text(alloc, from, &entry.values.overriding)? {
         Some(overriding) => overriding,
-        None => return Ok(Outcome::TooLong),
+        None => return Ok(Expansion::TooLong),
     };
     let text = put_text(alloc, entry.name.bytes(), default, overriding)?;
-    Ok(Outcome::Puts(text))
+    Ok(Expansion::Puts(text))
 }
 
 // The text of a value that is given; None if it is too long.

@@ -10,7 +10,7 @@ ghost use Rattle.mod_env.specs.Env.{by_user, entry_known, entry_seen, looks_if, 
 ghost use Rattle.mod_env.specs.Puts.{Puts};
 
 use crate::conf::{Entries, Entry};
-use crate::expand::{Outcome, Sources, asks_account, outcome_of};
+use crate::expand::{Expansion, Sources, asks_account, expansion_of};
 use account_db::Passwd;
 use account_files::pam_room::{Process, Transaction, get_item};
 use account_files::{Account, Accounts, laws};
@@ -179,9 +179,9 @@ fn set_by(
         env: &transaction.env,
         entry: account,
     };
-    match outcome_of(alloc, entry, from)? {
-        Outcome::TooLong => Ok(false),
-        Outcome::Puts(text) => {
+    match expansion_of(alloc, entry, from)? {
+        Expansion::TooLong => Ok(false),
+        Expansion::Puts(text) => {
             put(text.bytes(), transaction)?;
             Ok(true)
         }

@@ -176,11 +176,11 @@ fn meet_all(
             Truth::Faulty => return Ok(Code::ServiceErr),
         }
     }
-    Ok(code_at_end(rest))
+    Ok(final_code(rest))
 }
 
 // The code if fewer than three words are left: SUCCESS if none is.
-fn code_at_end(rest: &[Text]) -> Code
+fn final_code(rest: &[Text]) -> Code
     ensures { (user : List ℕ) → length rest.now < 3 → meets_all rest.now user ≡ answers result }
 {
     match rest {

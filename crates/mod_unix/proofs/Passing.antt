@@ -11,15 +11,15 @@ use Rattle.pam_room.specs.State.{Scene}
 use Rattle.account_files.specs.Act.{Act, Acts, Leads, sees_items}
 use Rattle.module_acts.specs.Comes.{Comes, then_on}
 use Rattle.module_acts.specs.Steps.{requests_delay}
-use Rattle.mod_unix.specs.declared.authenticate.Answer.{Answer}
-use Rattle.mod_unix.specs.declared.authenticate.Answer.TheVariants.{Kept, Unkept}
+use Rattle.mod_unix.specs.declared.authenticate.Authenticated.{Authenticated}
+use Rattle.mod_unix.specs.declared.authenticate.Authenticated.TheVariants.{Kept, Unkept}
 use Rattle.mod_unix.specs.declared.look.Look.{Look}
 use Rattle.account_files.specs.Arguments.{has_argument}
 use Rattle.mod_unix.specs.Authenticate.{asks_password, by_look, by_open, by_pass, delays, is_open, is_success, try_first, unless_success, verifies_token, with_first}
 use Rattle.account_files.specs.Accounts.{Known}
 use Rattle.mod_unix.specs.Verify.{verified}
 
-module _ (r : Result Answer (Refuse ConvErr)) (look : Look) (s new : Scene) where
+module _ (r : Result Authenticated (Refuse ConvErr)) (look : Look) (s new : Scene) where
   by_use : (use_first try : Bool) → true ≡ use_first → Comes r (λ act. sees_items (λ items. with_first look items.auth_tok act)) s new → Comes r (by_pass use_first try look) s new
   by_use use_first try e h = rw (← e) h
 
@@ -52,7 +52,7 @@ module _ (look : Look) (s : Scene) where
   first_missing found e = rw (← e) (λ act known code end rest. rest)
 
 module _ (seeing : (act : ItemTexts → Act) (known : Known) (s : Scene) (code : Code) (new : Scene) → Acts (act s.room.transaction.items) known s code new → Acts (sees_items act) known s code new) (call : PlainCall) (look : Look) (s new : Scene) where
-  seen : (r : Result Answer (Refuse ConvErr)) (pick : Option (List ℕ) → (Answer → Act) → Act) → Comes r (pick s.room.transaction.items.auth_tok) s new → Comes r (λ act. sees_items (λ items. pick items.auth_tok act)) s new
+  seen : (r : Result Authenticated (Refuse ConvErr)) (pick : Option (List ℕ) → (Authenticated → Act) → Act) → Comes r (pick s.room.transaction.items.auth_tok) s new → Comes r (λ act. sees_items (λ items. pick items.auth_tok act)) s new
   seen (Ok v) pick h = λ act known code end rest. seeing (λ items. pick items.auth_tok act) known s code end (h act known code end rest)
   seen (Err (Named e)) pick h = λ act known. seeing (λ items. pick items.auth_tok act) known s returns.ConvErr new (h act known)
   seen (Err NoMemory) pick h = tt
@@ -72,7 +72,7 @@ module _ (seeing : (act : ItemTexts → Act) (known : Known) (s : Scene) (code :
   unfolding verifies_token
   tries_well token answer use_first try e f g same = by_try (Ok (Kept returns.Success)) look s new _ _ use_first try (seen (Ok (Kept returns.Success)) (try_first look) (rw same (tried_well look s _ token answer e f g)))
 
-  module _ (r : Result Answer (Refuse ConvErr)) (h : Comes r (asks_password look) s new) (use_first : false ≡ has_argument (codes "use_first_pass") call.args) where
+  module _ (r : Result Authenticated (Refuse ConvErr)) (h : Comes r (asks_password look) s new) (use_first : false ≡ has_argument (codes "use_first_pass") call.args) where
     pub tries : (token : List ℕ) (answer : Code) → true ≡ has_argument (codes "try_first_pass") call.args → Some token ≡ s.room.transaction.items.auth_tok → answer ≡ verified look token → false ≡ is_success answer
         → Comes r (verifies_token call look) s new
     unfolding verifies_token
@@ -89,24 +89,24 @@ module _ (seeing : (act : ItemTexts → Act) (known : Known) (s : Scene) (code :
 -- ---- by what is known of the user
 
 module _ (call : PlainCall) (look : Look) (s new : Scene) where
-  by_opened : (r : Result Answer (Refuse ConvErr)) (opened : Bool) → false ≡ opened → Comes r (λ act. delays (has_argument (codes "nodelay") call.args) (verifies_token call look act)) s new → Comes r (by_open opened call look) s new
+  by_opened : (r : Result Authenticated (Refuse ConvErr)) (opened : Bool) → false ≡ opened → Comes r (λ act. delays (has_argument (codes "nodelay") call.args) (verifies_token call look act)) s new → Comes r (by_open opened call look) s new
   by_opened r opened e h = rw (← e) h
 
-  by_delay : (r : Result Answer (Refuse ConvErr)) (nodelay : Bool) → true ≡ nodelay → Comes r (verifies_token call look) s new → Comes r (λ act. delays nodelay (verifies_token call look act)) s new
+  by_delay : (r : Result Authenticated (Refuse ConvErr)) (nodelay : Bool) → true ≡ nodelay → Comes r (verifies_token call look) s new → Comes r (λ act. delays nodelay (verifies_token call look act)) s new
   by_delay r nodelay e h = rw (← e) h
 
-  by_delayed : (r : Result Answer (Refuse ConvErr)) (nodelay : Bool) → false ≡ nodelay → Comes r (λ act. requests_delay 2000000 (verifies_token call look act)) s new → Comes r (λ act. delays nodelay (verifies_token call look act)) s new
+  by_delayed : (r : Result Authenticated (Refuse ConvErr)) (nodelay : Bool) → false ≡ nodelay → Comes r (λ act. requests_delay 2000000 (verifies_token call look act)) s new → Comes r (λ act. delays nodelay (verifies_token call look act)) s new
   by_delayed r nodelay e h = rw (← e) h
 
   pub opens : true ≡ is_open call look → new ≡ s → Comes (Ok (Kept returns.Success)) (by_look call look) s new
   unfolding by_look
   opens e same = rw (← e, same) (λ act known code end rest. rest)
 
-  pub goes_on : (r : Result Answer (Refuse ConvErr)) → false ≡ is_open call look → true ≡ has_argument (codes "nodelay") call.args → Comes r (verifies_token call look) s new → Comes r (by_look call look) s new
+  pub goes_on : (r : Result Authenticated (Refuse ConvErr)) → false ≡ is_open call look → true ≡ has_argument (codes "nodelay") call.args → Comes r (verifies_token call look) s new → Comes r (by_look call look) s new
   unfolding by_look
   goes_on r e f h = by_opened r _ e (by_delay r _ f h)
 
-  pub delays_then : (r : Result Answer (Refuse ConvErr)) (mid : Scene) → false ≡ is_open call look → false ≡ has_argument (codes "nodelay") call.args → Leads (requests_delay 2000000) s mid → Comes r (verifies_token call look) mid new
+  pub delays_then : (r : Result Authenticated (Refuse ConvErr)) (mid : Scene) → false ≡ is_open call look → false ≡ has_argument (codes "nodelay") call.args → Leads (requests_delay 2000000) s mid → Comes r (verifies_token call look) mid new
       → Comes r (by_look call look) s new
   unfolding by_look
   delays_then r mid e f d h = by_opened r _ e (by_delayed r _ f (then_on (requests_delay 2000000) (verifies_token call look) r s mid new d h))

@@ -12,22 +12,22 @@ use Rattle.account_files.specs.Accounts.{Known, nothing_known}
 use Rattle.account_files.specs.Act.{Act, Acts, Came, answers}
 use Rattle.module_acts.specs.Comes.{Ends, Goes}
 use Rattle.module_acts.specs.Steps.{answers_keeping}
-use Rattle.mod_unix.specs.declared.authenticate.Answer.{Answer}
-use Rattle.mod_unix.specs.declared.authenticate.Answer.TheVariants.{Kept, Unkept}
-use Rattle.mod_unix.specs.Authenticate.{setcred_return, settles}
+use Rattle.mod_unix.specs.declared.authenticate.Authenticated.{Authenticated}
+use Rattle.mod_unix.specs.declared.authenticate.Authenticated.TheVariants.{Kept, Unkept}
+use Rattle.mod_unix.specs.Authenticate.{keeps_for_setcred, setcred_return}
 
 pub refused : {A : Type 0} (e : Refuse ConvErr) (x : ConvErr) (step : (A → Act) → Act) (act : A → Act) (s b : Scene) → e ≡ Named x → Ends e step s b → Goes (step act) s returns.ConvErr b
 refused e x step act s b is h = (rw is at h) act nothing_known
 
-module _ (step : (Answer → Act) → Act) (answer : Answer) (code : Code) (s b : Scene) where
-  pub unkept : ((code : Code) (known : Known) (s : Scene) → Acts (answers code) known s code s) → answer ≡ Unkept code → Came answer step s b → Goes (step settles) s code b
-  unfolding settles
-  unkept answering is h = (rw is at h) settles nothing_known code b (answering code nothing_known b)
+module _ (step : (Authenticated → Act) → Act) (answer : Authenticated) (code : Code) (s b : Scene) where
+  pub unkept : ((code : Code) (known : Known) (s : Scene) → Acts (answers code) known s code s) → answer ≡ Unkept code → Came answer step s b → Goes (step keeps_for_setcred) s code b
+  unfolding keeps_for_setcred
+  unkept answering is h = (rw is at h) keeps_for_setcred nothing_known code b (answering code nothing_known b)
 
   pub settled : (r : Result Code Memoryless) (number : ℕ) (end : Scene) → answer ≡ Kept code → number ≡ number_of code → Came answer step s b
-      → IfOk r (λ a. Goes (answers_keeping (record { name = setcred_return; payload = number ∷ [] }) code) b a end) → IfOk r (λ a. Goes (step settles) s a end)
-  unfolding settles
+      → IfOk r (λ a. Goes (answers_keeping (record { name = setcred_return; payload = number ∷ [] }) code) b a end) → IfOk r (λ a. Goes (step keeps_for_setcred) s a end)
+  unfolding keeps_for_setcred
   settled (Ok a) number end is e h g =
-      let came : Came (Kept code) step s b = subst (λ (x : Answer). Came x step s b) is h in
-      came settles nothing_known a end (subst (λ n. Goes (answers_keeping (record { name = setcred_return; payload = n ∷ [] }) code) b a end) e g)
+      let came : Came (Kept code) step s b = subst (λ (x : Authenticated). Came x step s b) is h in
+      came keeps_for_setcred nothing_known a end (subst (λ n. Goes (answers_keeping (record { name = setcred_return; payload = n ∷ [] }) code) b a end) e g)
   settled (Err none) number end is e h g = g

@@ -6,8 +6,8 @@ use Rattle.pam_base.specs.declared.code.Code.TheVariants as returns
 use Rattle.pam_room.specs.Call.{PlainCall, has_flag}
 use Rattle.account_files.specs.Act.{Act, answers, asks_user, sees_items}
 use Rattle.module_acts.specs.Steps.{answers_keeping, asks_token, requests_delay}
-use Rattle.mod_unix.specs.declared.authenticate.Answer.{Answer}
-use Rattle.mod_unix.specs.declared.authenticate.Answer.TheVariants.{Kept, Unkept}
+use Rattle.mod_unix.specs.declared.authenticate.Authenticated.{Authenticated}
+use Rattle.mod_unix.specs.declared.authenticate.Authenticated.TheVariants.{Kept, Unkept}
 use Rattle.mod_unix.specs.declared.look.Look.{Look}
 use Rattle.mod_unix.specs.declared.look.Look.TheVariants.{Unknown, Unavailable, Plain, Shadowed}
 use Rattle.account_files.specs.Arguments.{has_argument}
@@ -35,30 +35,30 @@ abbrev pub is_success : Code → Bool
 is_success code = number_of code == 0
 
 -- a token is asked for, and verified
-unfoldable pub asks_password : Look → (Answer → Act) → Act
+unfoldable pub asks_password : Look → (Authenticated → Act) → Act
 asks_password look act =
     asks_token false (codes "Password: ") (λ token. act (Kept (verified look token)))
 
 -- `use_first_pass`: the token that an earlier module asked for, and no other
-abbrev pub with_first : Look → Option (List ℕ) → (Answer → Act) → Act
+abbrev pub with_first : Look → Option (List ℕ) → (Authenticated → Act) → Act
 with_first look (Some token) act = act (Kept (verified look token))
 with_first look None act = act (Unkept returns.AuthErr)
 
 -- `try_first_pass`: that token first, if it is set
-abbrev pub unless_success : Bool → Look → (Answer → Act) → Act
+abbrev pub unless_success : Bool → Look → (Authenticated → Act) → Act
 unless_success true look act = act (Kept returns.Success)
 unless_success false look act = asks_password look act
 
-abbrev pub try_first : Look → Option (List ℕ) → (Answer → Act) → Act
+abbrev pub try_first : Look → Option (List ℕ) → (Authenticated → Act) → Act
 try_first look (Some token) act = unless_success (is_success (verified look token)) look act
 try_first look None act = asks_password look act
 
-abbrev pub by_pass : Bool → Bool → Look → (Answer → Act) → Act
+abbrev pub by_pass : Bool → Bool → Look → (Authenticated → Act) → Act
 by_pass true try look act = sees_items (λ items. with_first look items.auth_tok act)
 by_pass false true look act = sees_items (λ items. try_first look items.auth_tok act)
 by_pass false false look act = asks_password look act
 
-unfoldable pub verifies_token : PlainCall → Look → (Answer → Act) → Act
+unfoldable pub verifies_token : PlainCall → Look → (Authenticated → Act) → Act
 verifies_token call look act = by_pass (has_argument (codes "use_first_pass") call.args)
     (has_argument (codes "try_first_pass") call.args) look act
 
@@ -67,15 +67,15 @@ abbrev pub delays : Bool → Act → Act
 delays true act = act
 delays false act = requests_delay 2000000 act
 
-abbrev pub by_open : Bool → PlainCall → Look → (Answer → Act) → Act
+abbrev pub by_open : Bool → PlainCall → Look → (Authenticated → Act) → Act
 by_open true call look act = act (Kept returns.Success)
 by_open false call look act =
     delays (has_argument (codes "nodelay") call.args) (verifies_token call look act)
 
-unfoldable pub by_look : PlainCall → Look → (Answer → Act) → Act
+unfoldable pub by_look : PlainCall → Look → (Authenticated → Act) → Act
 by_look call look act = by_open (is_open call look) call look act
 
-unfoldable pub authenticates : PlainCall → (Answer → Act) → Act
+unfoldable pub authenticates : PlainCall → (Authenticated → Act) → Act
 authenticates call act = asks_user (λ user. looks user (λ look. by_look call look act))
 
 -- the name of the data whose code setcred returns
@@ -83,7 +83,7 @@ abbrev pub setcred_return : List ℕ
 setcred_return = codes "unix_setcred_return"
 
 -- the code is kept for setcred, except that of `use_first_pass` without a token
-unfoldable pub settles : Answer → Act
-settles (Kept code) =
+unfoldable pub keeps_for_setcred : Authenticated → Act
+keeps_for_setcred (Kept code) =
     answers_keeping (record { name = setcred_return; payload = number_of code ∷ [] }) code
-settles (Unkept code) = answers code
+keeps_for_setcred (Unkept code) = answers code

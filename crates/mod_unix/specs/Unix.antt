@@ -14,7 +14,7 @@ use Rattle.account_files.specs.Act.{Act, answers, plays_by}
 use Rattle.module_acts.specs.Steps.{sees_data}
 use Rattle.mod_unix.specs.Account.{checks_account}
 use Rattle.mod_unix.specs.Change.{changes_token}
-use Rattle.mod_unix.specs.Authenticate.{authenticates, setcred_return, settles}
+use Rattle.mod_unix.specs.Authenticate.{authenticates, keeps_for_setcred, setcred_return}
 
 -- the code with a number
 abbrev pub code_numbered : ℕ → Option Code
@@ -36,7 +36,7 @@ abbrev pub kept_code : List NamedData → Code
 kept_code held = code_in (payload_named setcred_return held)
 
 abbrev pub by_func : Func → PlainCall → Act
-by_func Authenticate call = authenticates call settles
+by_func Authenticate call = authenticates call keeps_for_setcred
 by_func SetCred call = sees_data (λ held. answers (kept_code held))
 by_func AcctMgmt call = checks_account answers
 by_func ChAuthTok call = changes_token call answers

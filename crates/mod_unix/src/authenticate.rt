@@ -19,7 +19,7 @@ use std::alloc::Global;
 
 /// What authenticate returns.
 #[derive(Clone, Copy)]
-pub(crate) enum Answer {
+pub(crate) enum Authenticated {
     /// A code that is kept for setcred, too.
     Kept(Code),
     Unkept(Code),
@@ -33,7 +33,7 @@ pub(crate) fn authenticate(
     process: &Process,
     conv: &mut dyn Conv,
     vault: &mut dyn Vault,
-) -> Result<Answer, Refuse<ConvErr>>
+) -> Result<Authenticated, Refuse<ConvErr>>
     ensures conv_tells { conv_tells conv.new ≡ conv_tells conv.old }
     ensures vault_tells { vault_tells vault.new ≡ vault_tells vault.old }
     ensures told { IsTrue (conv_tells conv.old) → IsTrue (vault_tells vault.old) →
@@ -58,7 +58,7 @@ fn by_look(
     look: &Look,
     transaction: &mut Transaction,
     conv: &mut dyn Conv,
-) -> Result<Answer, Refuse<ConvErr>>
+) -> Result<Authenticated, Refuse<ConvErr>>
     ensures tells { conv_tells conv.new ≡ conv_tells conv.old }
     ensures told { IsTrue (conv_tells conv.old) →
         (vault : VaultState) (clock : ClockState) (process : PlainProcess) →
@@ -69,7 +69,7 @@ fn by_look(
 {
     laws::talking();
     if is_open(call, look) {
-        return Ok(Answer::Kept(Code::Success));
+        return Ok(Authenticated::Kept(Code::Success));
     }
     if has_argument(b"nodelay", call.args) {
         return verify_token(alloc, call, look, transaction, conv);
@@ -104,7 +104,7 @@ fn verify_token(
     look: &Look,
     transaction: &mut Transaction,
     conv: &mut dyn Conv,
-) -> Result<Answer, Refuse<ConvErr>>
+) -> Result<Authenticated, Refuse<ConvErr>>
     ensures tells { conv_tells conv.new ≡ conv_tells conv.old }
     ensures told { IsTrue (conv_tells conv.old) →
         (vault : VaultState) (clock : ClockState) (process : PlainProcess) →
@@ -117,8 +117,8 @@ fn verify_token(
     laws::talking();
     if has_argument(b"use_first_pass", call.args) {
         return match get_item(&transaction.items, ItemName::AuthTok) {
-            Some(token) => Ok(Answer::Kept(verify(alloc, look, token)?)),
-            None => Ok(Answer::Unkept(Code::AuthErr)),
+            Some(token) => Ok(Authenticated::Kept(verify(alloc, look, token)?)),
+            None => Ok(Authenticated::Unkept(Code::AuthErr)),
         };
     }
     if !has_argument(b"try_first_pass", call.args) {
@@ -129,7 +129,7 @@ fn verify_token(
         None => return ask_password(alloc, look, transaction, conv),
     };
     if is_success(code) {
-        return Ok(Answer::Kept(Code::Success));
+        return Ok(Authenticated::Kept(Code::Success));
     }
     ask_password(alloc, look, transaction, conv)
 }
@@ -146,7 +146,7 @@ fn ask_password(
     look: &Look,
     transaction: &mut Transaction,
     conv: &mut dyn Conv,
-) -> Result<Answer, Refuse<ConvErr>>
+) -> Result<Authenticated, Refuse<ConvErr>>
     ensures tells { conv_tells conv.new ≡ conv_tells conv.old }
     ensures told { IsTrue (conv_tells conv.old) →
         (vault : VaultState) (clock : ClockState) (process : PlainProcess) →
@@ -157,7 +157,7 @@ fn ask_password(
 {
     require_token(alloc, transaction, conv, false, b"Password: ")?;
     match get_item(&transaction.items, ItemName::AuthTok) {
-        Some(token) => Ok(Answer::Kept(verify(alloc, look, token)?)),
+        Some(token) => Ok(Authenticated::Kept(verify(alloc, look, token)?)),
         None => unreachable!(),
     }
 }

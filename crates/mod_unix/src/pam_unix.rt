@@ -8,13 +8,13 @@ ghost use Rattle.pam_room.specs.Plain.{plain_process};
 ghost use Rattle.pam_room.specs.State.{Scene};
 ghost use Rattle.account_files.specs.Act.{Act};
 ghost use Rattle.module_acts.specs.Comes.{Comes, Goes, lent};
-ghost use Rattle.mod_unix.specs.declared.authenticate.Answer.{Answer};
-ghost use Rattle.mod_unix.specs.Authenticate.{settles};
+ghost use Rattle.mod_unix.specs.declared.authenticate.Authenticated.{Authenticated};
+ghost use Rattle.mod_unix.specs.Authenticate.{keeps_for_setcred};
 ghost use Rattle.mod_unix.specs.Unix.{code_in, kept_code, payload_named, unix_plays};
 
 use crate::account::check_account;
 use crate::aging::day_of;
-use crate::authenticate::{Answer, authenticate};
+use crate::authenticate::{Authenticated, authenticate};
 use crate::change::change_token;
 use conv_port::Conv;
 use data_cleanup::{DataList, Datum, Receipt};
@@ -67,7 +67,7 @@ impl Module for Unix {
         match call.func {
             Func::Authenticate => {
                 let answer = authenticate(alloc, call, transaction, process, conv, vault);
-                settle(alloc, transaction, process, answer)
+                keep_for_setcred(alloc, transaction, process, answer)
             }
             Func::SetCred => Ok(kept_code(&transaction.datums)),
             Func::AcctMgmt => {
@@ -99,18 +99,18 @@ impl Module for Unix {
 }
 
 // Returns a code, and keeps it for setcred.
-fn settle(
+fn keep_for_setcred(
     alloc: Global,
     transaction: &mut Transaction,
     process: &mut Process,
-    answer: Result<Answer, Refuse<ConvErr>>,
+    answer: Result<Authenticated, Refuse<ConvErr>>,
 ) -> Result<Code, NoMemory>
     requires { transaction.old.datums.handle ≡ transaction.old.handle }
-    ensures told { (step : (Answer → Act) → Act) (s : Scene) (conv : ConvState) (vault : VaultState)
-        (clock : ClockState) →
+    ensures told { (step : (Authenticated → Act) → Act) (s : Scene) (conv : ConvState)
+        (vault : VaultState) (clock : ClockState) →
         Comes answer step s (lent transaction.old conv vault clock (plain_process process.old)) →
-        IfOk result (λ code. Goes (step settles) s code (lent transaction.new conv vault clock
-        (plain_process process.new))) }
+        IfOk result (λ code. Goes (step keeps_for_setcred) s code (lent transaction.new conv vault
+        clock (plain_process process.new))) }
     ensures sets { Sets transaction.old.serving transaction.old.datums process.old.ledger
         transaction.new.datums process.new.ledger }
     ensures data_handle { transaction.new.datums.handle ≡ transaction.old.datums.handle }
@@ -121,11 +121,11 @@ fn settle(
     laws::talking();
     match answer {
         Ok(answer) => match answer {
-            Answer::Kept(code) => {
+            Authenticated::Kept(code) => {
                 let number = [code_number(code) as u8];
                 answer_and_keep(alloc, transaction, process, SETCRED_RETURN, &number, code)
             }
-            Answer::Unkept(code) => Ok(code),
+            Authenticated::Unkept(code) => Ok(code),
         },
         Err(refused) => match refused {
             Refuse::NoMemory => Err(NoMemory),

@@ -37,4 +37,4 @@ returns-in-Faulty-clause-told g c = λ tells conv clock.
 
 pub returns-clause-told : goal.returns-clause-told
 returns-clause-told g c = λ tells conv clock.
-    c.loop-rest.invariant.told tells conv clock _ _ (rw (c.code_at_end.ensures (unwrap_or c.args.transaction.now.items.user []) c.in_default.len_below) (c.act_steps.ensures.answers _ _ _))
+    c.loop-rest.invariant.told tells conv clock _ _ (rw (c.final_code.ensures (unwrap_or c.args.transaction.now.items.user []) c.in_default.len_below) (c.act_steps.ensures.answers _ _ _))

@@ -2,8 +2,8 @@ use Rattle.std.proofs.Common.{◌≡◌, Err, false, codes, rules}
 use Rattle.module_acts.specs.Comes.{early}
 use Rattle.module_acts.specs.Steps.{asks_token}
 use Rattle.account_files.specs.Act.{Act}
-use Rattle.mod_unix.specs.declared.authenticate.Answer.{Answer}
-use Rattle.mod_unix.specs.declared.authenticate.Answer.TheVariants.{Kept}
+use Rattle.mod_unix.specs.declared.authenticate.Authenticated.{Authenticated}
+use Rattle.mod_unix.specs.declared.authenticate.Authenticated.TheVariants.{Kept}
 use Rattle.mod_unix.specs.Authenticate.{asks_password}
 use Rattle.mod_unix.specs.Verify.{verified}
 use Rattle.mod_unix.proofs.Verifying.{kept}
@@ -13,7 +13,7 @@ pub returns-in_err-require_token-clause-told : goal.returns-in_err-require_token
 unfolding asks_password
 returns-in_err-require_token-clause-told g c = λ talks vault clock process.
     let answered : c.from_residual.result ≡ Err c.in_err-require_token.field-0.0 = search rules in
-    rw answered (early (asks_token false (codes "Password: ")) (λ token (act : Answer → Act). act (Kept (verified c.args.look.now token))) _ _ _ (c.in_err-require_token.ensures.told talks vault clock process))
+    rw answered (early (asks_token false (codes "Password: ")) (λ token (act : Authenticated → Act). act (Kept (verified c.args.look.now token))) _ _ _ (c.in_err-require_token.ensures.told talks vault clock process))
 
 pub returns-clause-told : goal.returns-clause-told
 unfolding asks_password

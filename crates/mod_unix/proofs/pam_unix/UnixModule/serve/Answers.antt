@@ -19,17 +19,17 @@ returns-in-Authenticate-clause-told g c = λ told.
     let vault_tells = (goal.Vault-dyn g vault).vault_tells vault.1 in
     let clock_tells = (goal.Clock-dyn g clock).clock_tells clock.1 in
     let call = plain_call c.args.call.now in
-    c.act_steps.ensures.playing unix_act call _ _ c.settle.result
-    (by_this _ Authenticate call c.settle.result _ _ c.in-Authenticate.is
-    (c.settle.ensures.told (authenticates call) _ _ _ _ (c.authenticate-answer.ensures.told (conv_of _ vault_tells clock_tells told) (vault_of _ vault_tells clock_tells told) _)))
+    c.act_steps.ensures.playing unix_act call _ _ c.keep_for_setcred.result
+    (by_this _ Authenticate call c.keep_for_setcred.result _ _ c.in-Authenticate.is
+    (c.keep_for_setcred.ensures.told (authenticates call) _ _ _ _ (c.authenticate-answer.ensures.told (conv_of _ vault_tells clock_tells told) (vault_of _ vault_tells clock_tells told) _)))
 
 pub returns-in-Authenticate-clause-stays : goal.returns-in-Authenticate-clause-stays
 returns-in-Authenticate-clause-stays g c =
-    keeping_stays c.args.transaction.now c.authenticate-answer.new.transaction _ _ _ c.authenticate-answer.ensures.talks c.settle.ensures.others c.settle.ensures.data_handle (ap plain_process c.settle.ensures.process)
+    keeping_stays c.args.transaction.now c.authenticate-answer.new.transaction _ _ _ c.authenticate-answer.ensures.talks c.keep_for_setcred.ensures.others c.keep_for_setcred.ensures.data_handle (ap plain_process c.keep_for_setcred.ensures.process)
 
 pub returns-in-Authenticate-clause-sets : goal.returns-in-Authenticate-clause-sets
 returns-in-Authenticate-clause-sets g c =
-    keeping_sets c.args.transaction.now c.authenticate-answer.new.transaction _ (plain_process c.args.process.now) (plain_process c.settle.new.process) c.authenticate-answer.ensures.talks c.settle.ensures.others c.settle.ensures.data_handle (ap plain_process c.settle.ensures.process) c.settle.ensures.sets
+    keeping_sets c.args.transaction.now c.authenticate-answer.new.transaction _ (plain_process c.args.process.now) (plain_process c.keep_for_setcred.new.process) c.authenticate-answer.ensures.talks c.keep_for_setcred.ensures.others c.keep_for_setcred.ensures.data_handle (ap plain_process c.keep_for_setcred.ensures.process) c.keep_for_setcred.ensures.sets
 
 pub returns-in-SetCred-clause-told : goal.returns-in-SetCred-clause-told
 returns-in-SetCred-clause-told g c = λ told.
