@@ -1,4 +1,4 @@
--- What is waited after an authentication, pam_fail_delay(3).
+-- How long to wait after an authentication, pam_fail_delay(3).
 use Rattle.std.specs.Prelude.{ℕ, Bool, true, false, ◌==◌, ◌||◌, Option, Some, None, if◌then◌else◌}
 use Rattle.pam_base.specs.declared.code.Code.{Code}
 use Rattle.pam_base.specs.Code.{number_of}

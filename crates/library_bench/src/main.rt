@@ -1,6 +1,7 @@
-//! What a start and a pass cost by themselves, without a report. `library_bench LINES STARTS PASSES` has a service of LINES lines
-//! `auth required pam_permit.so` in memory, starts it STARTS times, and authenticates PASSES times after each start. It prints
-//! how many authentications let in; what they cost is counted from outside (`bench/library.sh`).
+//! What a start and a pass cost by themselves, without a report. `library_bench LINES STARTS
+//! PASSES` has a service of LINES lines `auth required pam_permit.so` in memory, starts it STARTS
+//! times, and authenticates PASSES times after each start. It prints how many authentications let
+//! in; their cost is measured from outside (`bench/library.sh`).
 #![tactic(auto)]
 
 ghost use Rattle.std.specs.Prelude.{IfOk};

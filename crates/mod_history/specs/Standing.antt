@@ -114,7 +114,7 @@ Follow path before (s ∷ ss) after =
 abbrev pub Remembers : ℕ → Served → Type 0
 Remembers remember s = remember_of s.call.args ≡ remember
 
--- ---- what stands after it
+-- ---- what the file has after it
 
 -- a user's hashes: each pass that replaced the file for the user adds the present one, and keeps the last n
 abbrev pub kept_by : ℕ → List ℕ → List Deed → List (List ℕ) → List (List ℕ)

@@ -50,7 +50,7 @@ const STATUS: &str = "/proc/self/status";
 /// The most bytes of that file that are read.
 const MAX_STATUS: u32 = 65_536;
 
-/// The caller if the system doesn't tell: nobody.
+/// The caller if the system doesn't say: nobody.
 const NOBODY: u32 = 65_534;
 
 // What the program brings: its modules, a conversation for each transaction, and one that is never used.

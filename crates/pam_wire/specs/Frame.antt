@@ -10,7 +10,7 @@ use Rattle.pam_base.specs.Item.{item_number}
 use Rattle.pam_base.specs.ServiceName.{is_service_name}
 use Rattle.pam_wire.specs.Kind.{number_of, kind_of_call}
 
--- ---- what stands after a kind
+-- ---- what follows a kind
 
 -- a number has four bytes, big-endian
 abbrev pub number_bytes : ℕ → List ℕ

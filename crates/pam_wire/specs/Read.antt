@@ -15,7 +15,7 @@ use Rattle.pam_wire.specs.declared.front.Front.TheVariants.{Open, OutOfRange, Wh
 use Rattle.pam_wire.specs.Frame.{is_text, is_name}
 use Rattle.pam_wire.specs.Kind.{kind_of_number}
 
--- ---- what stands after a kind
+-- ---- what follows a kind
 
 abbrev pub number_in : List ℕ → Option ℕ
 number_in rest = if length rest == 4 then Some (from_be_bytes w32 rest) else None

@@ -75,7 +75,7 @@ fn call_in(alloc: Global, kind: Kind, rest: &[u8]) -> Result<Option<AppCall>, No
     })
 }
 
-// ---- what stands after a kind
+// ---- what follows a kind
 
 fn number_in(rest: &[u8]) -> Option<u32>
     ensures { result ≡ number_in rest.now }

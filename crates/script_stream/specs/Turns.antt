@@ -17,7 +17,7 @@ Ending = endings.Ending ScriptKind
 abbrev pub LineFails : Type 0 → Type 1
 LineFails State = State → List ℕ → State → Type 0
 
--- memory was wanting
+-- an allocation failed
 abbrev pub IsBegun : {State : Type 0} → LineStep State → LineFails State → ℕ → List ℕ → State
     → State → Type 0
 IsBegun step Fails = items.IsBegun (step_at step) Fails

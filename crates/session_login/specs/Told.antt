@@ -31,7 +31,8 @@ pub record FindsNoMemory (setting : Setting) (call : AppCall) (s t : RunState) :
   pub caller : t.world.process.caller ≡ s.world.process.caller
   pub world : leaves_world (slot_at s.slots 1) call ≡ true → t.world ≡ s.world
 
--- A write failed: the call was made. Memory was wanting: it was made, or it wasn't begun, or it found none.
+-- A write failed: the call was made. An allocation failed: the call was made, or it wasn't begun, or it ran out of
+-- memory.
 abbrev pub StopsIn : Setting → Stop → RunState → Made → RunState → Type 0
 StopsIn setting WriteFault s m t = t ≡ m.state
 StopsIn setting NoMemory s m t = (t ≡ m.state) ⊎ ((t ≡ s) ⊎ FindsNoMemory setting m.call s t)

@@ -20,8 +20,8 @@ end_call number status = record { number = number; call = End status }
 abbrev pub AsksEndAt : ℕ → List ℕ → ℕ → ℕ → Type 0
 AsksEndAt n frame number status = (n < 65536) × IsFrame frame (end_call number status)
 
--- Some bytes, before which n frames stand, are the frames of steps, then that of this call, and
--- others; with it there are at most 65,536.
+-- Some bytes, after n frames, are the frames of steps, then that of this call, and others; with it there are at most
+-- 65,536.
 pub record HasEndFrom (n : ℕ) (bytes : List ℕ) (number status : ℕ) : Type 0 where
   pub before : List Step
   pub rest : List ℕ
@@ -32,7 +32,7 @@ pub record HasEndFrom (n : ℕ) (bytes : List ℕ) (number status : ℕ) : Type 
 abbrev pub IsEndIn : Bool → ℕ → List ℕ → ℕ → ℕ → Type 0
 IsEndIn tells n bytes number status = IsTrue tells → HasEndFrom n bytes number status
 
--- after the frames of steps, before which n stand and after which m do, others begin
+-- after the frames of steps, n before them and m after them, others begin
 pub record LeadsTo (n m : ℕ) (bytes rest : List ℕ) : Type 0 where
   pub steps : List Step
   pub frames : AreFramesOf bytes steps rest

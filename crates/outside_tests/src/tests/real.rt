@@ -35,7 +35,7 @@ impl Read for Interrupted {
     }
 }
 
-// A system whose clock stands at this second, or has an error, and that has no random words.
+// A system whose clock shows this second, or has an error, and that has no random words.
 #[derive(Clone, Copy)]
 struct Stopped {
     second: Option<u64>,
