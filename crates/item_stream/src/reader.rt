@@ -1,9 +1,9 @@
-ghost use Rattle.std.specs.Prelude.{◌≡◌, ◌≤◌, ◌<◌, ◌+◌, ◌++◌, ◌==◌, if◌then◌else◌, [], drop, length, List, ℕ, IsTrue, IfOk, OnErr, is_err};
+ghost use Rattle.std.specs.Prelude.{◌≡◌, ◌≤◌, ◌<◌, ◌+◌, ◌++◌, ◌==◌, if◌then◌else◌, [], drop, length, List, ℕ, IsTrue, IfOk, OnErr, is_err, vec_capacity};
 ghost use Rattle.pam_outside.specs.Counts.{RisesIf};
 ghost use Rattle.item_stream.specs.Taking.{Adds, Fills, Finds, IsFound};
 
 use crate::stepping::{Front, Stepping};
-use pam_base::{Failed, NoMemory};
+use pam_base::{Failed, NoMemory, wipe};
 use pam_outside::Source;
 use std::alloc::Global;
 use std::marker::Model;
@@ -13,12 +13,25 @@ const CHUNK: usize = 512;
 /// Room for 581 bytes that are waited with, and for what one read adds to it.
 const ROOM: usize = 1093;
 
-/// The bytes that were taken from a source and not handed on.
-#[derive(Drop)]
+/// The bytes that were taken from a source and not handed on. They may hold a password, so those that
+/// were handed on are overwritten before more is read, and all of them when the reader goes.
 pub struct Reader {
     held: Vec<u8>,
     // The number of bytes at its beginning that were handed on. They stay there until more is read.
     handed: usize,
+    // What a read is made into. It is overwritten once its bytes are held.
+    piece: [u8; CHUNK],
+}
+
+impl Drop for Reader {
+    fn drop(self) {
+        let Reader {
+            held: mut bytes,
+            handed: _,
+            piece: _,
+        } = self;
+        wipe(&mut bytes);
+    }
 }
 
 impl Model for Reader {
@@ -50,6 +63,7 @@ impl Reader {
         Ok(Reader {
             held: Vec::with_capacity(alloc, ROOM)?,
             handed: 0,
+            piece: [0; CHUNK],
         })
     }
 
@@ -116,22 +130,24 @@ impl Reader {
         ensures faults { RisesIf (is_err result) (S.source_faults source.old)
             (S.source_faults source.new) }
     {
-        let mut chunk = [0u8; CHUNK];
-        let n = source.read(&mut chunk)?;
-        self.add(&chunk[..n]);
+        wipe_first(&mut self.held, self.handed);
+        self.handed = 0;
+        let n = source.read(&mut self.piece)?;
+        self.held.extend_from_slice(&self.piece[..n]).unwrap();
+        wipe(&mut self.piece);
         Ok(n)
     }
+}
 
-    // Adds bytes after those that are held. The bytes that were handed on make room for them first.
-    fn add(&mut self, bytes: &[u8])
-        requires held { length self.old ≤ 581 }
-        requires few { length bytes.now ≤ 512 }
-        ensures { self.new ≡ self.old ++ bytes.now }
-    {
-        let left = self.held.len() - self.handed;
-        self.held.rotate_left(self.handed);
-        self.held.truncate(left);
-        self.handed = 0;
-        self.held.extend_from_slice(bytes).unwrap();
-    }
+// Takes the first n bytes away. Nothing of them is left in the memory behind the others, either.
+fn wipe_first(held: &mut Vec<u8>, n: usize)
+    requires { n ≤ length held.old.items }
+    ensures items { held.new.items ≡ drop n held.old.items }
+    ensures room { vec_capacity held.old ≤ vec_capacity held.new }
+{
+    let all = held.len();
+    held.rotate_left(n);
+    held.truncate(all - n);
+    held.resize(all, 0).unwrap();
+    held.truncate(all - n);
 }

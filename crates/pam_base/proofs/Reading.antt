@@ -1,7 +1,7 @@
 -- Taking the lines of a text one by one.
-use Rattle.std.proofs.Common.{◌≡◌, ℕ, zero, suc, ◌+◌, ◌-◌, ◌<◌, Bool, true, false, ◌||◌, cond, List, [], ◌∷◌, ◌++◌, length, take, drop, slice_get, get_or, Option, Some, None, All, refl, sym, ap, ◌∙◌, arith, eqb, length-drop}
+use Rattle.std.proofs.Common.{◌≡◌, ℕ, ◌+◌, ◌-◌, ◌<◌, List, [], ◌∷◌, length, take, drop, slice_get, Option, Some, None, refl, sym, ap, ◌∙◌, arith, length-drop}
 use Rattle.std.proofs.lemmas.List.{take_all, nil_from_length}
-use Rattle.pam_base.specs.Bytes.{has_byte, IsFirstPlace}
+use Rattle.pam_base.specs.Bytes.{IsFirstPlace}
 use Rattle.pam_base.specs.Lines.{lines_of, lines_of-line, lines_of-part, last_line}
 
 -- a slice from a place to the end

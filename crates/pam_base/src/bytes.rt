@@ -4,7 +4,7 @@ ghost use Rattle.std.specs.Str.{str_to_ascii_lowercase};
 ghost use Rattle.pam_base.specs.Bytes.{IsFirstPlace};
 
 use crate::fault::NoMemory;
-use crate::sequence::Text;
+use crate::text::Text;
 use std::alloc::Global;
 
 /// The place of the byte's first occurrence in the text, from 0; None exactly where it has none.

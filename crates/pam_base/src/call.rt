@@ -1,5 +1,5 @@
 use crate::item::ItemName;
-use crate::sequence::Text;
+use crate::text::Text;
 
 /// The longest text of a message or of a reply, in bytes (PAM_MAX_MSG_SIZE and PAM_MAX_RESP_SIZE).
 pub const MAX_TEXT: usize = 512;

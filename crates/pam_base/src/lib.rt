@@ -17,6 +17,7 @@ mod sequence;
 mod service_name;
 mod shared_text;
 mod style;
+mod text;
 mod white;
 
 pub use bytes::{first_place, lowercase};
@@ -32,8 +33,9 @@ pub use lines::Lines;
 pub use number::{are_digits, number_in};
 pub use parts::Parts;
 pub use quote::{push_quoted, quoted};
-pub use sequence::{Numbers, Sequence, Text, Texts};
+pub use sequence::{Numbers, Sequence, Texts};
 pub use service_name::is_service_name;
 pub use shared_text::SharedText;
 pub use style::Style;
+pub use text::{Text, wipe};
 pub use white::is_white;

@@ -1,6 +1,7 @@
-ghost use Rattle.std.specs.Prelude.{◌≡◌, ◌==◌, ◌<◌, [], ◌∷◌, ◌++◌, length, slice_get, Some, OnOk, OnErr, IfOk};
+ghost use Rattle.std.specs.Prelude.{◌≡◌, ◌==◌, ◌<◌, [], ◌∷◌, ◌++◌, length, slice_get, Some, OnOk, OnErr};
 
 use crate::fault::NoMemory;
+use crate::text::Text;
 use std::alloc::Global;
 use std::marker::Model;
 
@@ -17,9 +18,6 @@ impl<T> Model for Sequence<T> {
 
     ghost view = { λ s. s.vec.items };
 }
-
-/// Bytes.
-pub type Text = Sequence<u8>;
 
 /// Texts, in order.
 pub type Texts = Sequence<Text>;
@@ -86,22 +84,5 @@ impl<T> Sequence<T> {
         ensures { result.items ≡ self }
     {
         self.vec
-    }
-}
-
-impl Sequence<u8> {
-    pub fn bytes(&self) -> &[u8]
-        ensures { result.now ≡ self.now }
-    {
-        &self.vec
-    }
-
-    /// A copy of the bytes.
-    pub fn from_bytes(alloc: Global, bytes: &[u8]) -> Result<Self, NoMemory>
-        ensures { IfOk result (λ text. text ≡ bytes.now) }
-    {
-        Ok(Sequence {
-            vec: Vec::from_slice(alloc, bytes)?,
-        })
     }
 }

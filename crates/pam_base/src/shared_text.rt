@@ -1,7 +1,7 @@
 ghost use Rattle.std.specs.Prelude.{◌≡◌, [], IfOk};
 
 use crate::fault::NoMemory;
-use crate::sequence::Text;
+use crate::text::Text;
 use std::alloc::Global;
 use std::marker::Model;
 use std::rc::Rc;
