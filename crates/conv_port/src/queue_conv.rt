@@ -1,4 +1,4 @@
-ghost use Rattle.std.specs.Prelude.{◌≡◌, ◌<◌, ◌≤◌, [], drop, length, IfOk, IsTrue, OnErr};
+ghost use Rattle.std.specs.Prelude.{◌≡◌, ◌<◌, ◌≤◌, nat_le, [], drop, length, IfOk, IsTrue, OnErr};
 ghost use Rattle.pam_base.specs.Counts.{next_count};
 ghost use Rattle.pam_base.specs.Style.{is_prompt};
 ghost use Rattle.conv_port.specs.Message.{prompt_count};
@@ -67,7 +67,7 @@ impl Conv for QueueConv {
 
     fn talk(&mut self, alloc: Global, messages: &Messages) -> Result<Replies, ConvFault> {
         self.handed.reserve(1).map_err(|_| ConvFault::NoMemory)?;
-        if prompts_in(messages.items()) <= ready_in(&self.offers) {
+        if are_ready(prompts_in(messages.items()), &self.offers) {
             let replies = take_replies(alloc, messages.items(), &mut self.offers)?;
             self.handed.push(Snapshot::of(messages)).unwrap();
             return Ok(Replies::from_vec(replies));
@@ -90,15 +90,18 @@ impl Conv for QueueConv {
     }
 }
 
-// How many replies stand before the first mark, or in all.
-pub(crate) fn ready_in(offers: &VecDeque<Offer>) -> usize
-    ensures { result ≡ length (ready_replies offers.now.items) }
+// Whether that many replies stand before the first mark, or in all. It looks at no more of them, however many wait.
+pub(crate) fn are_ready(wanted: usize, offers: &VecDeque<Offer>) -> bool
+    ensures { result ≡ nat_le wanted (length (ready_replies offers.now.items)) }
 {
     let mut ready = 0;
-    while let Some(Offer::Answer(_)) = offers.get(ready) {
+    while ready < wanted {
+        let Some(Offer::Answer(_)) = offers.get(ready) else {
+            return false;
+        };
         ready += 1;
     }
-    ready
+    true
 }
 
 // Takes a mark that stands in front, and says whether there was one.

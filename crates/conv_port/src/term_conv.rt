@@ -176,16 +176,17 @@ fn read_line<R: Read>(alloc: Global, reader: &mut R) -> Result<Text, ConvFault>
     ensures typed { IfOk result (λ text. TypesLine text (R.remaining reader.old)
         (R.remaining reader.new)) }
 {
-    let mut bytes = Vec::with_capacity(alloc, MAX_TEXT).map_err(|_| ConvFault::NoMemory)?;
-    while bytes.len() < MAX_TEXT {
+    let room = Vec::with_capacity(alloc, MAX_TEXT).map_err(|_| ConvFault::NoMemory)?;
+    let mut text = Text::from_vec(room);
+    while text.len() < MAX_TEXT {
         match read_byte(reader)? {
-            Some(b'\n') => return Ok(Text::from_vec(bytes)),
-            Some(byte) => bytes.push(byte).unwrap(),
-            None if bytes.is_empty() => return Err(ConvFault::Gone),
-            None => return Ok(Text::from_vec(bytes)),
+            Some(b'\n') => return Ok(text),
+            Some(byte) => text.push(byte)?,
+            None if text.is_empty() => return Err(ConvFault::Gone),
+            None => return Ok(text),
         }
     }
-    Ok(Text::from_vec(bytes))
+    Ok(text)
 }
 
 // The next byte; None at the end of input.

@@ -3,7 +3,7 @@ ghost use Rattle.std.specs.Prelude.{◌≡◌, []};
 use crate::conv::{Conv, ConvFault};
 use crate::message::{Messages, Replies, prompts_in};
 use crate::offer::Offer;
-use crate::queue_conv::{ready_in, take_replies};
+use crate::queue_conv::{are_ready, take_replies};
 use pam_base::{NoMemory, Text};
 use std::alloc::Global;
 use std::collections::VecDeque;
@@ -62,7 +62,7 @@ impl Conv for WireConv {
 
     fn talk(&mut self, alloc: Global, messages: &Messages) -> Result<Replies, ConvFault> {
         self.handed.reserve(1).map_err(|_| ConvFault::NoMemory)?;
-        if prompts_in(messages.items()) <= ready_in(&self.offers) {
+        if are_ready(prompts_in(messages.items()), &self.offers) {
             let replies = take_replies(alloc, messages.items(), &mut self.offers)?;
             self.handed.push(Snapshot::of(messages)).unwrap();
             return Ok(Replies::from_vec(replies));

@@ -1,6 +1,6 @@
 pub mod Sound
 pub mod Apart
-pub mod Placing
+pub mod Named
 pub mod Cleaning
 pub mod Growing
 pub mod Setting

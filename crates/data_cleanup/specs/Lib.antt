@@ -1,5 +1,6 @@
 pub mod Datum
 pub mod DataList
+pub mod DataListInside
 pub mod Ledger
 pub mod LedgerInside
 pub mod Cleanup

@@ -1,37 +1,36 @@
 ghost use Rattle.std.specs.Prelude.{◌≡◌, [], ◌∷◌, ◌++◌, length, OnErr, OnOk, MatchOption, MatchResult};
-ghost use Rattle.std.specs.List.{position};
-ghost use Rattle.std.specs.Str.{bytes_eq};
 ghost use Rattle.data_cleanup.specs.DataList.{birth_of, data_named, hold, payloads_of};
 
 use crate::datum::Datum;
 use crate::ledger::Ledger;
+use indexmap::IndexMap;
 use pam_base::{NoMemory, NoModuleData};
 use std::alloc::Global;
+use std::collections::VecDeque;
 use std::marker::Model;
-use std::mem;
 
 /// The data of one transaction, by name (`pam_set_data(3)`), and the replaced data that wait for
 /// their cleanup. It can't be dropped while it may hold data: `dismiss` gives it up.
 pub struct DataList {
     handle: u32,
-    live: Vec<Datum>,
-    gone: Vec<Datum>,
+    // Hashed by name: looking one up takes no longer where there are many.
+    live: IndexMap<Vec<u8>, Datum>,
+    gone: VecDeque<Datum>,
 }
 
 impl Model for DataList {
-    ghost use Rattle.data_cleanup.specs.DataList.{PlainDataList, AreApart};
+    ghost use Rattle.data_cleanup.specs.DataList.{PlainDataList};
+    ghost use Rattle.data_cleanup.specs.DataListInside.{AreNamed, data_of};
 
     ghost Value = { PlainDataList };
 
-    ghost view = { λ l. record { handle = l.handle; live = l.live.items; gone = l.gone.items } };
+    ghost view = { λ l. record {
+      handle = l.handle;
+      live = data_of l.live.entries;
+      gone = l.gone.items;
+    } };
 
-    ghost invariant = { λ l. AreApart l.live.items };
-}
-
-fn place_of(data: &[Datum], name: &[u8]) -> Option<usize>
-    ensures { result ≡ position (λ d. bytes_eq d.name name.now) «data».now }
-{
-    data.iter().position(|datum| datum.name() == name)
+    ghost invariant = { λ l. AreNamed l.live.entries };
 }
 
 impl DataList {
@@ -42,8 +41,8 @@ impl DataList {
     {
         DataList {
             handle,
-            live: Vec::new(alloc),
-            gone: Vec::new(alloc),
+            live: IndexMap::new(alloc),
+            gone: VecDeque::new(alloc),
         }
     }
 
@@ -71,18 +70,12 @@ impl DataList {
         ensures err_ledger { OnErr result (ledger.new ≡ ledger.old) }
     {
         // What may fail comes first, so that the data is made only once there is room for it.
-        match place_of(&self.live, name) {
-            Some(i) => {
-                self.gone.reserve(1)?;
-                let datum = ledger.add_birth(alloc, self.handle, owner, name, payload)?;
-                let old = mem::replace(&mut self.live[i], datum);
-                self.gone.push(old).unwrap();
-            }
-            None => {
-                self.live.reserve(1)?;
-                let datum = ledger.add_birth(alloc, self.handle, owner, name, payload)?;
-                self.live.push(datum).unwrap();
-            }
+        let key = Vec::from_slice(alloc, name)?;
+        self.live.reserve(1)?;
+        self.gone.reserve(1)?;
+        let datum = ledger.add_birth(alloc, self.handle, owner, name, payload)?;
+        if let Some(old) = self.live.insert(key, datum).unwrap() {
+            self.gone.push_back(old).unwrap();
         }
         Ok(())
     }
@@ -94,8 +87,8 @@ impl DataList {
             (λ payload. payloads_of (data_named self.now.live name.now) ≡ payload.now ∷ [])
             (λ _. data_named self.now.live name.now ≡ []) }
     {
-        match place_of(&self.live, name) {
-            Some(i) => Ok(self.live[i].payload()),
+        match self.live.get(name) {
+            Some(datum) => Ok(datum.payload()),
             None => Err(NoModuleData),
         }
     }
@@ -107,10 +100,7 @@ impl DataList {
             (λ d. (self.old.gone ≡ d ∷ self.new.gone) × (self.new
             ≡ record self.old { gone = self.new.gone })) }
     {
-        if self.gone.is_empty() {
-            return None;
-        }
-        Some(self.gone.remove(0))
+        self.gone.pop_front()
     }
 
     /// Takes the data whose name was set last; None if and only if no name is set. It does not
@@ -120,7 +110,8 @@ impl DataList {
             (λ d. (self.old.live ≡ self.new.live ++ d ∷ []) × (self.new
             ≡ record self.old { live = self.new.live })) }
     {
-        self.live.pop()
+        let (_key, datum) = self.live.pop()?;
+        Some(datum)
     }
 
     /// Gives up a list without data. It does not allocate.

@@ -57,12 +57,6 @@ impl Datum {
         self.owner
     }
 
-    pub(crate) fn name(&self) -> &[u8]
-        ensures { result.now ≡ self.now.name }
-    {
-        self.name.bytes()
-    }
-
     pub fn payload(&self) -> &[u8]
         ensures { result.now ≡ self.now.payload }
     {
