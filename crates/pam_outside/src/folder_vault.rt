@@ -5,7 +5,9 @@ ghost use Rattle.pam_outside.specs.Files.{ReadsFile, TellsFolder, Replaces, coun
 
 use crate::beside::replace_beside;
 use crate::held::{Held, LockKind, hold_path};
-use crate::limited::{CHUNK, read_to_limit};
+use crate::held_file::{HeldFile, put_held, take_held};
+use crate::limited::{CHUNK, read_of_size, read_to_limit};
+use crate::read_at::ReadAt;
 use crate::reader_source::ReaderSource;
 use crate::vault::{ReplaceFault, Vault, VaultFault};
 use pam_base::{Failed, Text};
@@ -24,6 +26,8 @@ pub struct FolderVault {
     faults: u64,
     /// What a read goes by, so that it isn't cleared for each.
     piece: [u8; CHUNK],
+    /// The files that stay open. Each is read anew, but opened only where its path names another one by now.
+    held: Vec<HeldFile>,
 }
 
 impl Model for FolderVault {
@@ -44,6 +48,7 @@ impl FolderVault {
             rt,
             faults: 0,
             piece: [0; CHUNK],
+            held: Vec::new(rt.alloc()),
         }
     }
 }
@@ -81,7 +86,7 @@ impl Vault for FolderVault {
         ensures stays { result ≢ Err VaultFault.Failed → self.new ≡ self.old }
         ensures not_text { ¬ (IsUtf8 path.now) → result ≡ Err VaultFault.Failed }
     {
-        let result = file_bytes(&self.rt, alloc, &mut self.piece, path, limit);
+        let result = self.file_bytes(alloc, path, limit);
         if let Err(VaultFault::Failed) = result {
             self.faults = self.faults.saturating_add(1);
         }
@@ -187,25 +192,49 @@ impl Vault for FolderVault {
     }
 }
 
-fn file_bytes(
+impl FolderVault {
+    // What the path names is looked at before it is opened, so that what isn't a regular file isn't waited for. The same
+    // look tells whether it is a file that is open already, and its size; files of /proc say that they have no bytes,
+    // and have some.
+    fn file_bytes(&mut self, alloc: Global, path: &[u8], limit: u32) -> Result<Text, VaultFault>
+        ensures bound { IfOk result (λ text. length text ≤ limit) }
+        ensures not_text { ¬ (IsUtf8 path.now) → result ≡ Err VaultFault.Failed }
+        ensures stays { self.new ≡ self.old }
+    {
+        let name = str::from_utf8(path).map_err(|_| VaultFault::Failed)?;
+        let found = self.rt.metadata(name);
+        let held = take_held(&mut self.held, path, &found);
+        let found = found.map_err(|error| opening_fault(error.kind()))?;
+        if !found.is_file() {
+            return Err(VaultFault::Failed);
+        }
+        let held = match held {
+            Some(held) => held,
+            None => opened(&self.rt, alloc, path, name)?,
+        };
+        let mut source = ReaderSource::new(ReadAt {
+            file: &held.file,
+            offset: 0,
+        });
+        let text = match found.len() {
+            0 => read_to_limit(alloc, &mut source, &mut self.piece, limit)?,
+            size => read_of_size(alloc, &mut source, &mut self.piece, limit, size)?,
+        };
+        put_held(&mut self.held, held);
+        Ok(text)
+    }
+}
+
+fn opened(
     rt: &HostRuntime,
     alloc: Global,
-    piece: &mut [u8; CHUNK],
     path: &[u8],
-    limit: u32,
-) -> Result<Text, VaultFault>
-    ensures bound { IfOk result (λ text. length text ≤ limit) }
-    ensures not_text { ¬ (IsUtf8 path.now) → result ≡ Err VaultFault.Failed }
-{
-    let path = str::from_utf8(path).map_err(|_| VaultFault::Failed)?;
-    let found = rt
-        .metadata(path)
-        .map_err(|error| opening_fault(error.kind()))?;
-    if !found.is_file() {
-        return Err(VaultFault::Failed);
-    }
-    let file = fs::open(rt, path).map_err(|error| opening_fault(error.kind()))?;
-    read_to_limit(alloc, &mut ReaderSource::new(file), piece, limit)
+    name: &str,
+) -> Result<HeldFile, VaultFault> {
+    let path = Text::from_bytes(alloc, path).map_err(|_| VaultFault::NoMemory)?;
+    let file = fs::open(rt, name).map_err(|error| opening_fault(error.kind()))?;
+    let then = file.metadata().map_err(|_| VaultFault::Failed)?;
+    Ok(HeldFile { path, then, file })
 }
 
 // Why a file isn't opened.

@@ -1,4 +1,4 @@
-ghost use Rattle.std.specs.Prelude.{◌≡◌, ◌≢◌, ◌≤◌, ◌<◌, ◌+◌, length, IfOk, IfSome, Ok, Err, vec_len, Option, List, ℕ};
+ghost use Rattle.std.specs.Prelude.{◌≡◌, ◌≢◌, ◌≤◌, ◌<◌, ◌+◌, length, IfOk, IfSome, Ok, Err, Some, vec_len, Option, List, ℕ};
 ghost use Rattle.std.specs.Io.KnownBytes.{Consumes, IsAtEnd};
 ghost use Rattle.pam_outside.specs.Counts.{next_count};
 
@@ -31,10 +31,59 @@ pub fn read_to_limit<F: Read + Drop>(
         source.new.faults ≡ next_count source.old.faults }
     ensures no_fault { result ≢ Err VaultFault.Failed → source.new.faults ≡ source.old.faults }
 {
+    read_until(alloc, source, piece, limit, None)
+}
+
+/// As read_to_limit, of a regular file of this size: a read that reaches the size and gives fewer bytes than were
+/// asked for is the last.
+pub fn read_of_size<F: Read + Drop>(
+    alloc: Global,
+    source: &mut ReaderSource<F>,
+    piece: &mut [u8; CHUNK],
+    limit: u32,
+    size: u64,
+) -> Result<Text, VaultFault>
+    ensures bound { IfOk result (λ text. length text ≤ limit) }
+    ensures whole { IfOk result (λ text. length text ≢ size →
+        IfSome (F.remaining source.old.inner) (λ left. text ≡ left)) }
+    ensures front { IfOk result
+        (λ text. Consumes (F.remaining source.old.inner) (F.remaining source.new.inner) text) }
+    ensures too_long { result ≡ Err VaultFault.TooLong →
+        IfSome (F.remaining source.old.inner) (λ left. limit < length left) }
+    ensures not_absent { result ≢ Err VaultFault.Absent }
+    ensures failed { result ≡ Err VaultFault.Failed →
+        source.new.faults ≡ next_count source.old.faults }
+    ensures no_fault { result ≢ Err VaultFault.Failed → source.new.faults ≡ source.old.faults }
+{
+    read_until(alloc, source, piece, limit, Some(size))
+}
+
+// Reads until a read gives nothing or, where the size is known, reaches it and gives fewer bytes than were asked for.
+fn read_until<F: Read + Drop>(
+    alloc: Global,
+    source: &mut ReaderSource<F>,
+    piece: &mut [u8; CHUNK],
+    limit: u32,
+    size: Option<u64>,
+) -> Result<Text, VaultFault>
+    ensures bound { IfOk result (λ text. length text ≤ limit) }
+    ensures whole { IfOk result (λ text. size ≢ Some (length text) →
+        IfSome (F.remaining source.old.inner) (λ left. text ≡ left)) }
+    ensures front { IfOk result
+        (λ text. Consumes (F.remaining source.old.inner) (F.remaining source.new.inner) text) }
+    ensures too_long { result ≡ Err VaultFault.TooLong →
+        IfSome (F.remaining source.old.inner) (λ left. limit < length left) }
+    ensures not_absent { result ≢ Err VaultFault.Absent }
+    ensures failed { result ≡ Err VaultFault.Failed →
+        source.new.faults ≡ next_count source.old.faults }
+    ensures no_fault { result ≢ Err VaultFault.Failed → source.new.faults ≡ source.old.faults }
+{
     let mut bytes = Vec::new(alloc);
     let most = limit as usize + 1;
     while bytes.len() < most {
-        if read_more(source, piece, &mut bytes, most)? == 0 {
+        let n = read_more(source, piece, &mut bytes, most)?;
+        let is_short = n < CHUNK && bytes.len() < most;
+        if n == 0 || (is_short && size == Some(bytes.len() as u64)) {
             return Ok(Text::from_vec(bytes));
         }
     }

@@ -1,0 +1,59 @@
+use pam_base::Text;
+use std::fs::{File, Metadata};
+use std::io;
+use std::os::unix::fs::MetadataExt;
+
+/// How many files stay open.
+const MOST: usize = 8;
+
+/// The rights of its owner, its group and all others to read a file.
+const EVERYBODY: u32 = 0o444;
+
+/// A file that was opened by a path, and what it was then. As long as it is open, no other file has its device and
+/// inode.
+#[derive(Drop)]
+pub(crate) struct HeldFile {
+    pub(crate) path: Text,
+    pub(crate) then: Metadata,
+    pub(crate) file: File,
+}
+
+/// Takes out the file that was opened by this path, if that is what the path names now, with the same rights; else it
+/// is closed. A file that is written, or gets another owner or mode, has another time of change.
+pub(crate) fn take_held(
+    held: &mut Vec<HeldFile>,
+    path: &[u8],
+    found: &io::Result<Metadata>,
+) -> Option<HeldFile> {
+    for i in 0..held.len() {
+        if held[i].path.bytes() == path {
+            let taken = held.swap_remove(i);
+            let then = &taken.then;
+            let is_same = match found {
+                Ok(now) => {
+                    then.dev() == now.dev()
+                        && then.ino() == now.ino()
+                        && then.ctime() == now.ctime()
+                        && then.ctime_nsec() == now.ctime_nsec()
+                }
+                Err(_) => false,
+            };
+            return is_same.then_some(taken);
+        }
+    }
+    None
+}
+
+/// Lets a file stay open, and if there are many closes another one. Only a regular file that everybody may read stays
+/// open, so that no secrets are within reach of what the process becomes later; and none of a file system that gives
+/// each file the number 0, which doesn't tell them apart. Without memory it is closed.
+pub(crate) fn put_held(held: &mut Vec<HeldFile>, file: HeldFile) {
+    let then = &file.then;
+    if !then.is_file() || then.ino() == 0 || then.mode() & EVERYBODY != EVERYBODY {
+        return;
+    }
+    if held.len() >= MOST {
+        held.swap_remove(0);
+    }
+    let _ = held.push(file);
+}
