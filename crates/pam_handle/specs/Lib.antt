@@ -18,3 +18,4 @@ pub mod AnyWorld
 pub mod Plain
 pub mod Ready
 pub mod Stopping
+pub mod StackCalled

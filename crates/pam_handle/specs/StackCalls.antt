@@ -25,6 +25,11 @@ update_authtok = 0x2000
 abbrev pub has_pass_flag : ℕ → Bool
 has_pass_flag flags = has_flag flags prelim_check || has_flag flags update_authtok
 
+-- a call is refused for its flags: a change of token with one of these
+abbrev pub is_refused_for_flags : Func → ℕ → Bool
+is_refused_for_flags ChAuthTok flags = has_pass_flag flags
+is_refused_for_flags func flags = false
+
 -- PAM_ESTABLISH_CRED, which the flags 0 stand for (pam_setcred(3))
 abbrev pub establish_cred : ℕ
 establish_cred = 0x2

@@ -1,4 +1,4 @@
-ghost use Rattle.std.specs.Prelude.{◌≡◌, ◌<◌, ◌^◌, ◌&&◌, false, None, Ok, is_some, IfOk, OnErr, IsTrue, length};
+ghost use Rattle.std.specs.Prelude.{◌≡◌, ◌<◌, ◌^◌, ◌&&◌, None, is_some, IfOk, OnErr, IsTrue, length};
 ghost use Rattle.dispatch_core.specs.AnyWorld.{GoesSoundly};
 ghost use Rattle.dispatch_core.specs.Given.{past_of};
 ghost use Rattle.dispatch_core.specs.Lines.{names_of};
@@ -6,21 +6,21 @@ ghost use Rattle.dispatch_core.specs.pam_room.specs.Module.{notes_of};
 ghost use Rattle.dispatch_core.specs.pam_room.specs.Plain.{plain_process, plain_transaction};
 ghost use Rattle.dispatch_core.specs.pam_room.specs.State.{state_of};
 ghost use Rattle.dispatch_core.specs.pam_room.specs.Stays.{IsReady};
-ghost use Rattle.pam_handle.specs.AnyWorld.{FailsAs, LeavesOthers, LeavesPending, RunsSoundly};
-ghost use Rattle.dispatch_core.specs.Pending.{is_other_pending, pending_behind};
-ghost use Rattle.pam_handle.specs.Call.{CallsAs};
+ghost use Rattle.dispatch_core.specs.Pending.{pending_behind};
 ghost use Rattle.pam_handle.specs.Handle.{PlainHandle};
 ghost use Rattle.pam_handle.specs.Pass.{kept_answers};
-ghost use Rattle.pam_handle.specs.Plain.{plain_handle, room_in};
+ghost use Rattle.pam_handle.specs.Plain.{plain_handle};
 ghost use Rattle.pam_handle.specs.Ready.{IsReadyFor};
-ghost use Rattle.pam_handle.specs.StackCalls.{change_goes_on, changed, chauthtok, check, has_pass_flag, update};
-ghost use Rattle.pam_handle.specs.Stopping.{StopsChanging, StopsInChange, StopsInCheck, StopsInUpdate};
+ghost use Rattle.pam_handle.specs.StackCalled.{StackCalled};
+ghost use Rattle.pam_handle.specs.StackCalls.{change_goes_on, changed, check, update};
+ghost use Rattle.pam_handle.specs.Stopping.{StopsInChange, StopsInCheck, StopsInUpdate};
 
 use crate::flags::has_pass_flag;
 use crate::gear::{Gear, GearTold};
 use crate::handle::Handle;
 use crate::pass::pass;
 use crate::pending::{clear_unless_pending, clear_unless_put_off, taken_up};
+use dispatch_core::fail_delay::{DelayFn, DelayTold};
 use dispatch_core::handler_chain::Chain;
 use dispatch_core::pam_room::{Room, RoomTold, World, WorldTold};
 use dispatch_core::stack_walk::PassKind;
@@ -46,53 +46,12 @@ impl Handle {
         requires { IsReadyFor (⟦<Gear as GearTold>⟧.players gear.now)
             (plain_handle ⟦<Room as RoomTold>⟧.plain self.old)
             (⟦<World as WorldTold>⟧.plain world.old).process }
-        ensures tells { ⟦<Room as RoomTold>⟧.tells (room_in self.new)
-            ≡ ⟦<Room as RoomTold>⟧.tells (room_in self.old) }
-        ensures world_tells { ⟦<World as WorldTold>⟧.tells world.new
-            ≡ ⟦<World as WorldTold>⟧.tells world.old }
-        ensures told { IsTrue (⟦<Room as RoomTold>⟧.tells (room_in self.old)
-            && ⟦<World as WorldTold>⟧.tells world.old) →
-            IfOk result (λ code. CallsAs (chauthtok (⟦<Gear as GearTold>⟧.players gear.now) flags
-            (plain_handle ⟦<Room as RoomTold>⟧.plain self.old)
-            (⟦<World as WorldTold>⟧.plain world.old)) code
-            (plain_handle ⟦<Room as RoomTold>⟧.plain self.new)
-            (⟦<World as WorldTold>⟧.plain world.new)) }
-        ensures refused { IsTrue (has_pass_flag flags) →
-            (result ≡ Ok Code.SystemErr) × (self.new ≡ self.old) × (world.new ≡ world.old) }
-        ensures aborted { has_pass_flag flags ≡ false →
-            IsTrue (is_other_pending
-            (plain_handle ⟦<Room as RoomTold>⟧.plain self.old).pending Func.ChAuthTok) →
-            (result ≡ Ok Code.Abort) × (self.new ≡ self.old) × (world.new ≡ world.old) }
-        ensures left { has_pass_flag flags ≡ false →
-            is_other_pending
-            (plain_handle ⟦<Room as RoomTold>⟧.plain self.old).pending Func.ChAuthTok ≡ false →
-            IfOk result (λ code. LeavesPending Func.ChAuthTok code
-            (plain_handle ⟦<Room as RoomTold>⟧.plain self.old)
-            (plain_handle ⟦<Room as RoomTold>⟧.plain self.new)
-            (plain_handle ⟦<Room as RoomTold>⟧.plain self.new).pending) }
+        ensures called { StackCalled Func.ChAuthTok flags (⟦<Gear as GearTold>⟧.players gear.now)
+            (⟦<DelayFn as DelayTold>⟧.delay_is gear.now.delay)
+            ⟦<Room as RoomTold>⟧.tells ⟦<Room as RoomTold>⟧.plain
+            ⟦<World as WorldTold>⟧.tells ⟦<World as WorldTold>⟧.plain
+            result self.old self.new world.old world.new }
         ensures no_nap { OnErr result (world.new.nap ≡ world.old.nap) }
-        ensures stopped { OnErr result (StopsChanging (⟦<Gear as GearTold>⟧.players gear.now) flags
-            (⟦<Room as RoomTold>⟧.tells (room_in self.old)
-            && ⟦<World as WorldTold>⟧.tells world.old)
-            (plain_handle ⟦<Room as RoomTold>⟧.plain self.old)
-            (plain_handle ⟦<Room as RoomTold>⟧.plain self.new)
-            (⟦<World as WorldTold>⟧.plain world.old) (⟦<World as WorldTold>⟧.plain world.new)
-            world.old world.new) }
-        ensures err { OnErr result (FailsAs Func.ChAuthTok
-            (plain_handle ⟦<Room as RoomTold>⟧.plain self.old)
-            (plain_handle ⟦<Room as RoomTold>⟧.plain self.new)) }
-        ensures others { LeavesOthers Func.ChAuthTok
-            (plain_handle ⟦<Room as RoomTold>⟧.plain self.old)
-            (plain_handle ⟦<Room as RoomTold>⟧.plain self.new) }
-        ensures sound { RunsSoundly (notes_of (⟦<Gear as GearTold>⟧.players gear.now))
-            (length (⟦<Gear as GearTold>⟧.players gear.now))
-            (plain_handle ⟦<Room as RoomTold>⟧.plain self.old)
-            (plain_handle ⟦<Room as RoomTold>⟧.plain self.new)
-            (⟦<World as WorldTold>⟧.plain world.old).process
-            (⟦<World as WorldTold>⟧.plain world.new).process }
-        ensures ready { IsReadyFor (⟦<Gear as GearTold>⟧.players gear.now)
-            (plain_handle ⟦<Room as RoomTold>⟧.plain self.new)
-            (⟦<World as WorldTold>⟧.plain world.new).process }
     {
         data_cleanup::laws::nothing_grows();
         if has_pass_flag(flags) {

@@ -1,12 +1,7 @@
-ghost use Rattle.std.specs.Prelude.{◌≡◌, ◌<◌, ◌^◌, ◌&&◌, false, None, Ok, IfOk, OnErr, IsTrue, length};
-ghost use Rattle.dispatch_core.specs.pam_room.specs.Module.{notes_of};
-ghost use Rattle.pam_handle.specs.AnyWorld.{FailsAs, LeavesOthers, LeavesPending, RunsSoundly};
-ghost use Rattle.dispatch_core.specs.Pending.{is_other_pending};
-ghost use Rattle.pam_handle.specs.Call.{CallsAs};
-ghost use Rattle.pam_handle.specs.Plain.{plain_handle, room_in};
+ghost use Rattle.std.specs.Prelude.{◌≡◌, ◌<◌, ◌^◌, OnErr};
+ghost use Rattle.pam_handle.specs.Plain.{plain_handle};
 ghost use Rattle.pam_handle.specs.Ready.{IsReadyFor};
-ghost use Rattle.pam_handle.specs.StackCalls.{setcred};
-ghost use Rattle.pam_handle.specs.Stopping.{StopsOnce};
+ghost use Rattle.pam_handle.specs.StackCalled.{StackCalled};
 
 use crate::flags::credential_flags;
 use crate::gear::{Gear, GearTold};
@@ -15,6 +10,7 @@ use crate::pass::{following, pass};
 use crate::pending::taken_up;
 use data_cleanup::laws;
 use dispatch_core::PassRequest;
+use dispatch_core::fail_delay::{DelayFn, DelayTold};
 use dispatch_core::pam_room::{Room, RoomTold, World, WorldTold};
 use frozen_chain::Kept;
 use pam_base::{Code, Func, NoMemory};
@@ -36,50 +32,12 @@ impl Handle {
         requires { IsReadyFor (⟦<Gear as GearTold>⟧.players gear.now)
             (plain_handle ⟦<Room as RoomTold>⟧.plain self.old)
             (⟦<World as WorldTold>⟧.plain world.old).process }
-        ensures tells { ⟦<Room as RoomTold>⟧.tells (room_in self.new)
-            ≡ ⟦<Room as RoomTold>⟧.tells (room_in self.old) }
-        ensures world_tells { ⟦<World as WorldTold>⟧.tells world.new
-            ≡ ⟦<World as WorldTold>⟧.tells world.old }
-        ensures told { IsTrue (⟦<Room as RoomTold>⟧.tells (room_in self.old)
-            && ⟦<World as WorldTold>⟧.tells world.old) →
-            IfOk result (λ code. CallsAs (setcred (⟦<Gear as GearTold>⟧.players gear.now) flags
-            (plain_handle ⟦<Room as RoomTold>⟧.plain self.old)
-            (⟦<World as WorldTold>⟧.plain world.old)) code
-            (plain_handle ⟦<Room as RoomTold>⟧.plain self.new)
-            (⟦<World as WorldTold>⟧.plain world.new)) }
-        ensures aborted { IsTrue (is_other_pending
-            (plain_handle ⟦<Room as RoomTold>⟧.plain self.old).pending Func.SetCred) →
-            (result ≡ Ok Code.Abort) × (self.new ≡ self.old) × (world.new ≡ world.old) }
-        ensures left { is_other_pending (plain_handle ⟦<Room as RoomTold>⟧.plain self.old).pending
-            Func.SetCred ≡ false →
-            IfOk result (λ code. LeavesPending Func.SetCred code
-            (plain_handle ⟦<Room as RoomTold>⟧.plain self.old)
-            (plain_handle ⟦<Room as RoomTold>⟧.plain self.new)
-            (plain_handle ⟦<Room as RoomTold>⟧.plain self.new).pending) }
+        ensures called { StackCalled Func.SetCred flags (⟦<Gear as GearTold>⟧.players gear.now)
+            (⟦<DelayFn as DelayTold>⟧.delay_is gear.now.delay)
+            ⟦<Room as RoomTold>⟧.tells ⟦<Room as RoomTold>⟧.plain
+            ⟦<World as WorldTold>⟧.tells ⟦<World as WorldTold>⟧.plain
+            result self.old self.new world.old world.new }
         ensures no_nap { OnErr result (world.new.nap ≡ world.old.nap) }
-        ensures stopped { OnErr result (StopsOnce (⟦<Gear as GearTold>⟧.players gear.now)
-            Func.SetCred flags
-            (⟦<Room as RoomTold>⟧.tells (room_in self.old)
-            && ⟦<World as WorldTold>⟧.tells world.old)
-            (plain_handle ⟦<Room as RoomTold>⟧.plain self.old)
-            (plain_handle ⟦<Room as RoomTold>⟧.plain self.new)
-            (⟦<World as WorldTold>⟧.plain world.old) (⟦<World as WorldTold>⟧.plain world.new)
-            world.old world.new) }
-        ensures err { OnErr result (FailsAs Func.SetCred
-            (plain_handle ⟦<Room as RoomTold>⟧.plain self.old)
-            (plain_handle ⟦<Room as RoomTold>⟧.plain self.new)) }
-        ensures others { LeavesOthers Func.SetCred
-            (plain_handle ⟦<Room as RoomTold>⟧.plain self.old)
-            (plain_handle ⟦<Room as RoomTold>⟧.plain self.new) }
-        ensures sound { RunsSoundly (notes_of (⟦<Gear as GearTold>⟧.players gear.now))
-            (length (⟦<Gear as GearTold>⟧.players gear.now))
-            (plain_handle ⟦<Room as RoomTold>⟧.plain self.old)
-            (plain_handle ⟦<Room as RoomTold>⟧.plain self.new)
-            (⟦<World as WorldTold>⟧.plain world.old).process
-            (⟦<World as WorldTold>⟧.plain world.new).process }
-        ensures ready { IsReadyFor (⟦<Gear as GearTold>⟧.players gear.now)
-            (plain_handle ⟦<Room as RoomTold>⟧.plain self.new)
-            (⟦<World as WorldTold>⟧.plain world.new).process }
     {
         laws::nothing_grows();
         if self.is_other_pending(Func::SetCred) {

@@ -1,4 +1,4 @@
-use Rattle.std.proofs.Common.{Option, None, map, length, refl, sym, ◌∙◌, ap}
+use Rattle.std.proofs.Common.{Option, None, map, length, refl, sym, ◌∙◌, ap, rules}
 use Rattle.std.specs.Option.{option_map}
 use Rattle.item_store.specs.Items.{ItemTexts}
 use Rattle.pam_base.specs.declared.call.Func.TheVariants.{Authenticate}
@@ -14,18 +14,39 @@ use Rattle.pam_handle.proofs.Changing.{room_behind, runs_soundly}
 use Rattle.pam_handle.proofs.Stopping.{ended_behind, on_err_from, stops_once}
 use Rattle.pam_handle.proofs.handle.Handle.authenticate.Goals as goal
 
-pub returns-clause-told : goal.returns-clause-told
-returns-clause-told g c = λ number is told.
+pub returns-clause-called : goal.returns-clause-called
+returns-clause-called g c =
     let h : PlainHandle = plain_handle (plain_room (λ b. (goal.Conv-dyn g (b.vtable, b.value)).conv_holds b.value)) c.args.self.now in
     let w = plain_world (λ b. (goal.Vault-dyn g (b.vtable, b.value)).vault_holds b.value) (λ b. (goal.Clock-dyn g (b.vtable, b.value)).clock_holds b.value) (λ b. (goal.Nap-dyn g (b.vtable, b.value)).nap_holds b.value) c.args.world.now in
     let players = map (player_of (λ b. (goal.Module-dyn g (b.vtable, b.value)).label b.value) (λ b. (goal.Module-dyn g (b.vtable, b.value)).plays b.value) (λ b. (goal.Module-dyn g (b.vtable, b.value)).note b.value) (λ b. (goal.Module-dyn g (b.vtable, b.value)).breaks b.value)) c.args.gear.now.mods.items in
-    authenticated_as c.pass-result.result players number c.args.flags h w _ _ (kept_answers c.pass-result.new.kept) c.pass-result.new.paused
-    (plain_room (λ b. (goal.Conv-dyn g (b.vtable, b.value)).conv_holds b.value) c.pass-result.new.room) _ _ c.longest-longest.result c.wait_behind.new.waited _
-    (sym c.is_other_pending.ensures ∙ c.if-is_other_pending.false)
-    (c.taken_up-paused.ensures.past ∙ ap (λ (p : Option PutOff). past_in (option_map pending_of p)) c.take.ensures.value)
-    c.clear_unless_pending.ensures (c.pass-result.ensures.told told) c.longest-longest.ensures.longest
-    (rw c.code_at_end-code.ensures at (c.wait_behind.ensures.told number is (tells_beside _ _ _ c.pass-result.ensures.world_tells told)))
-    (c.settle.ensures.plain ∙ rw (c.pass-result.ensures.nodes, c.pass-result.ensures.names, c.clear_unless_put_off.ensures, c.none.ensures) refl)
+    record {
+      tells = search rules;
+      world_tells = search rules;
+      told = λ number is told. authenticated_as c.pass-result.result players number c.args.flags h w _ _ (kept_answers c.pass-result.new.kept) c.pass-result.new.paused
+          (plain_room (λ b. (goal.Conv-dyn g (b.vtable, b.value)).conv_holds b.value) c.pass-result.new.room) _ _ c.longest-longest.result c.wait_behind.new.waited _
+          (sym c.is_other_pending.ensures ∙ c.if-is_other_pending.false)
+          (c.taken_up-paused.ensures.past ∙ ap (λ (p : Option PutOff). past_in (option_map pending_of p)) c.take.ensures.value)
+          c.clear_unless_pending.ensures (c.pass-result.ensures.told told) c.longest-longest.ensures.longest
+          (rw c.code_at_end-code.ensures at (c.wait_behind.ensures.told number is (tells_beside _ _ _ c.pass-result.ensures.world_tells told)))
+          (c.settle.ensures.plain ∙ rw (c.pass-result.ensures.nodes, c.pass-result.ensures.names, c.clear_unless_put_off.ensures, c.none.ensures) refl);
+      refused = search rules;
+      aborted = search rules;
+      left = search rules;
+      stopped = stops_once players Authenticate c.args.flags _ h _ (plain_world (λ b. (goal.Vault-dyn g (b.vtable, b.value)).vault_holds b.value) (λ b. (goal.Clock-dyn g (b.vtable, b.value)).clock_holds b.value) (λ b. (goal.Nap-dyn g (b.vtable, b.value)).nap_holds b.value)) c.args.world.now c.pass-result.result c.pass-result.new.world c.wait_behind.new.world _ _ _ ((plain_room (λ b. (goal.Conv-dyn g (b.vtable, b.value)).conv_holds b.value)) c.pass-result.new.room) _ _ _ _
+          (ap (λ (items : ItemTexts). record h.room { transaction = record h.room.transaction { items = items } }) c.clear_unless_pending.ensures) refl refl refl
+          (c.taken_up-paused.ensures.past ∙ ap (λ (p : Option PutOff). past_in (option_map pending_of p)) c.take.ensures.value)
+          (ended_behind c.pass-result.result c.pass-result.new.paused ((plain_room (λ b. (goal.Conv-dyn g (b.vtable, b.value)).conv_holds b.value)) c.pass-result.new.room) (record h { authenticated = kept_answers c.pass-result.new.kept; waited = c.wait_behind.new.waited }) _ (pending_behind Authenticate None c.pass-result.new.paused) c.pass-result.ensures.paused
+          (c.settle.ensures.plain ∙ rw (c.pass-result.ensures.nodes, c.pass-result.ensures.names, c.clear_unless_put_off.ensures, c.none.ensures) refl))
+          (not_rested c.pass-result.result c.pass-result.new.paused _ _ _ _ c.code_at_end-code.ensures refl c.wait_behind.ensures.stays) c.pass-result.ensures.stopped;
+      err = search rules;
+      others = search rules;
+      sound = runs_soundly (notes_of players) (length players) h (record h { authenticated = kept_answers c.pass-result.new.kept; waited = c.wait_behind.new.waited }) _ c.clear_unless_pending.new.items (pending_behind Authenticate None c.pass-result.new.paused) c.pass-result.new.paused
+          (plain_room (λ b. (goal.Conv-dyn g (b.vtable, b.value)).conv_holds b.value) c.pass-result.new.room) _ _
+          c.clear_unless_pending.ensures refl refl refl
+          (c.settle.ensures.plain ∙ rw (c.pass-result.ensures.nodes, c.pass-result.ensures.names, c.clear_unless_put_off.ensures, c.none.ensures) refl)
+          (rw c.wait_behind.ensures.process c.pass-result.ensures.sound);
+      ready = search rules;
+    }
 
 pub returns-clause-waited : goal.returns-clause-waited
 returns-clause-waited g c = λ other.
@@ -34,27 +55,6 @@ returns-clause-waited g c = λ other.
     (c.settle.ensures.plain ∙ rw (c.pass-result.ensures.nodes, c.pass-result.ensures.names, c.clear_unless_put_off.ensures, c.none.ensures) refl)
     (rw c.code_at_end-code.ensures at c.wait_behind.ensures.sound)
 
-pub returns-clause-sound : goal.returns-clause-sound
-returns-clause-sound g c =
-    let h : PlainHandle = plain_handle (plain_room (λ b. (goal.Conv-dyn g (b.vtable, b.value)).conv_holds b.value)) c.args.self.now in
-    let players = map (player_of (λ b. (goal.Module-dyn g (b.vtable, b.value)).label b.value) (λ b. (goal.Module-dyn g (b.vtable, b.value)).plays b.value) (λ b. (goal.Module-dyn g (b.vtable, b.value)).note b.value) (λ b. (goal.Module-dyn g (b.vtable, b.value)).breaks b.value)) c.args.gear.now.mods.items in
-    runs_soundly (notes_of players) (length players) h (record h { authenticated = kept_answers c.pass-result.new.kept; waited = c.wait_behind.new.waited }) _ c.clear_unless_pending.new.items (pending_behind Authenticate None c.pass-result.new.paused) c.pass-result.new.paused
-    (plain_room (λ b. (goal.Conv-dyn g (b.vtable, b.value)).conv_holds b.value) c.pass-result.new.room) _ _
-    c.clear_unless_pending.ensures refl refl refl
-    (c.settle.ensures.plain ∙ rw (c.pass-result.ensures.nodes, c.pass-result.ensures.names, c.clear_unless_put_off.ensures, c.none.ensures) refl)
-    (rw c.wait_behind.ensures.process c.pass-result.ensures.sound)
-
 pub returns-clause-no_nap : goal.returns-clause-no_nap
 returns-clause-no_nap g c =
     on_err_from c.pass-result.result (λ same. rw same c.pass-result.ensures.nap) (not_rested c.pass-result.result c.pass-result.new.paused _ c.pass-result.new.world c.pass-result.new.world c.wait_behind.new.world c.code_at_end-code.ensures refl c.wait_behind.ensures.stays)
-
-pub returns-clause-stopped : goal.returns-clause-stopped
-returns-clause-stopped g c =
-    let h : PlainHandle = plain_handle (plain_room (λ b. (goal.Conv-dyn g (b.vtable, b.value)).conv_holds b.value)) c.args.self.now in
-    let players = map (player_of (λ b. (goal.Module-dyn g (b.vtable, b.value)).label b.value) (λ b. (goal.Module-dyn g (b.vtable, b.value)).plays b.value) (λ b. (goal.Module-dyn g (b.vtable, b.value)).note b.value) (λ b. (goal.Module-dyn g (b.vtable, b.value)).breaks b.value)) c.args.gear.now.mods.items in
-    stops_once players Authenticate c.args.flags _ h _ (plain_world (λ b. (goal.Vault-dyn g (b.vtable, b.value)).vault_holds b.value) (λ b. (goal.Clock-dyn g (b.vtable, b.value)).clock_holds b.value) (λ b. (goal.Nap-dyn g (b.vtable, b.value)).nap_holds b.value)) c.args.world.now c.pass-result.result c.pass-result.new.world c.wait_behind.new.world _ _ _ ((plain_room (λ b. (goal.Conv-dyn g (b.vtable, b.value)).conv_holds b.value)) c.pass-result.new.room) _ _ _ _
-    (ap (λ (items : ItemTexts). record h.room { transaction = record h.room.transaction { items = items } }) c.clear_unless_pending.ensures) refl refl refl
-    (c.taken_up-paused.ensures.past ∙ ap (λ (p : Option PutOff). past_in (option_map pending_of p)) c.take.ensures.value)
-    (ended_behind c.pass-result.result c.pass-result.new.paused ((plain_room (λ b. (goal.Conv-dyn g (b.vtable, b.value)).conv_holds b.value)) c.pass-result.new.room) (record h { authenticated = kept_answers c.pass-result.new.kept; waited = c.wait_behind.new.waited }) _ (pending_behind Authenticate None c.pass-result.new.paused) c.pass-result.ensures.paused
-    (c.settle.ensures.plain ∙ rw (c.pass-result.ensures.nodes, c.pass-result.ensures.names, c.clear_unless_put_off.ensures, c.none.ensures) refl))
-    (not_rested c.pass-result.result c.pass-result.new.paused _ _ _ _ c.code_at_end-code.ensures refl c.wait_behind.ensures.stays) c.pass-result.ensures.stopped

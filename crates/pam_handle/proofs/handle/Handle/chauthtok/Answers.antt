@@ -1,4 +1,4 @@
-use Rattle.std.proofs.Common.{Option, map, length, refl, sym, ◌∙◌, ap}
+use Rattle.std.proofs.Common.{Option, map, length, refl, sym, ◌∙◌, ap, rules}
 use Rattle.std.specs.Option.{option_map}
 use Rattle.item_store.specs.Items.{ItemTexts}
 use Rattle.pam_base.specs.declared.call.Func.TheVariants.{ChAuthTok}
@@ -14,49 +14,41 @@ use Rattle.pam_handle.proofs.Changing.{changed_as, failed_change, runs_soundly}
 use Rattle.pam_handle.proofs.Stopping.{ended_behind, stops_changing}
 use Rattle.pam_handle.proofs.handle.Handle.chauthtok.Goals as goal
 
-pub returns-clause-told : goal.returns-clause-told
-returns-clause-told g c = λ told.
+pub returns-clause-called : goal.returns-clause-called
+returns-clause-called g c =
     let h : PlainHandle = plain_handle (plain_room (λ b. (goal.Conv-dyn g (b.vtable, b.value)).conv_holds b.value)) c.args.self.now in
     let w = plain_world (λ b. (goal.Vault-dyn g (b.vtable, b.value)).vault_holds b.value) (λ b. (goal.Clock-dyn g (b.vtable, b.value)).clock_holds b.value) (λ b. (goal.Nap-dyn g (b.vtable, b.value)).nap_holds b.value) c.args.world.now in
     let players = map (player_of (λ b. (goal.Module-dyn g (b.vtable, b.value)).label b.value) (λ b. (goal.Module-dyn g (b.vtable, b.value)).plays b.value) (λ b. (goal.Module-dyn g (b.vtable, b.value)).note b.value) (λ b. (goal.Module-dyn g (b.vtable, b.value)).breaks b.value)) c.args.gear.now.mods.items in
-    changed_as c.change-result.result players c.args.flags h w _ _ c.clear_unless_pending.new.items (kept_answers c.change-result.new.first) c.change-result.new.paused
-    (plain_room (λ b. (goal.Conv-dyn g (b.vtable, b.value)).conv_holds b.value) c.change-result.new.room) _ _
-    (sym c.has_pass_flag.ensures ∙ c.if-has_pass_flag.false) (sym c.is_other_pending.ensures ∙ c.if-is_other_pending.false)
-    (c.taken_up-paused.ensures.past ∙ ap (λ (p : Option PutOff). past_in (option_map pending_of p)) c.take.ensures.value)
-    (c.taken_up-paused.ensures.first ∙ ap (λ (p : Option PutOff). first_in (option_map pending_of p)) c.take.ensures.value)
-    c.clear_unless_pending.ensures (c.change-result.ensures.told told (with_items c.clear_unless_pending.new.items h) refl refl)
-    (c.settle.ensures.plain ∙ rw (c.change-result.ensures.nodes, c.clear_unless_put_off.ensures) refl)
-
-pub returns-clause-err : goal.returns-clause-err
-returns-clause-err g c =
-    let h : PlainHandle = plain_handle (plain_room (λ b. (goal.Conv-dyn g (b.vtable, b.value)).conv_holds b.value)) c.args.self.now in
-    failed_change c.change-result.result (kept_answers c.change-result.new.first) c.change-result.new.paused (plain_room (λ b. (goal.Conv-dyn g (b.vtable, b.value)).conv_holds b.value) c.change-result.new.room) h _ c.change-result.ensures.paused
-    (c.settle.ensures.plain ∙ rw (c.change-result.ensures.nodes, c.clear_unless_put_off.ensures) refl)
-
-pub returns-clause-others : goal.returns-clause-others
-returns-clause-others g c = record {
-  authenticated = ap (λ (h : PlainHandle). h.authenticated) c.settle.ensures.plain;
-  opened = ap (λ (h : PlainHandle). h.opened) c.settle.ensures.plain;
-  waited = ap (λ (h : PlainHandle). h.waited) c.settle.ensures.plain;
-}
-
-pub returns-clause-sound : goal.returns-clause-sound
-returns-clause-sound g c =
-    let h : PlainHandle = plain_handle (plain_room (λ b. (goal.Conv-dyn g (b.vtable, b.value)).conv_holds b.value)) c.args.self.now in
-    let players = map (player_of (λ b. (goal.Module-dyn g (b.vtable, b.value)).label b.value) (λ b. (goal.Module-dyn g (b.vtable, b.value)).plays b.value) (λ b. (goal.Module-dyn g (b.vtable, b.value)).note b.value) (λ b. (goal.Module-dyn g (b.vtable, b.value)).breaks b.value)) c.args.gear.now.mods.items in
-    runs_soundly (notes_of players) (length players) h h _ c.clear_unless_pending.new.items (pending_behind ChAuthTok (kept_answers c.change-result.new.first) c.change-result.new.paused) c.change-result.new.paused (plain_room (λ b. (goal.Conv-dyn g (b.vtable, b.value)).conv_holds b.value) c.change-result.new.room) _ _
-    c.clear_unless_pending.ensures refl refl refl
-    (c.settle.ensures.plain ∙ rw (c.change-result.ensures.nodes, c.clear_unless_put_off.ensures) refl)
-    c.change-result.ensures.sound
-
-pub returns-clause-stopped : goal.returns-clause-stopped
-returns-clause-stopped g c =
-    let h : PlainHandle = plain_handle (plain_room (λ b. (goal.Conv-dyn g (b.vtable, b.value)).conv_holds b.value)) c.args.self.now in
-    let players = map (player_of (λ b. (goal.Module-dyn g (b.vtable, b.value)).label b.value) (λ b. (goal.Module-dyn g (b.vtable, b.value)).plays b.value) (λ b. (goal.Module-dyn g (b.vtable, b.value)).note b.value) (λ b. (goal.Module-dyn g (b.vtable, b.value)).breaks b.value)) c.args.gear.now.mods.items in
-    stops_changing players c.args.flags _ h _ (plain_world (λ b. (goal.Vault-dyn g (b.vtable, b.value)).vault_holds b.value) (λ b. (goal.Clock-dyn g (b.vtable, b.value)).clock_holds b.value) (λ b. (goal.Nap-dyn g (b.vtable, b.value)).nap_holds b.value)) c.args.world.now _ c.change-result.result _ ((plain_room (λ b. (goal.Conv-dyn g (b.vtable, b.value)).conv_holds b.value)) c.change-result.new.room) _ _
-    (ap (λ (items : ItemTexts). record h.room { transaction = record h.room.transaction { items = items } }) c.clear_unless_pending.ensures)
-    (c.taken_up-paused.ensures.first ∙ ap (λ (p : Option PutOff). first_in (option_map pending_of p)) c.take.ensures.value)
-    (c.taken_up-paused.ensures.past ∙ ap (λ (p : Option PutOff). past_in (option_map pending_of p)) c.take.ensures.value)
-    (ended_behind c.change-result.result c.change-result.new.paused ((plain_room (λ b. (goal.Conv-dyn g (b.vtable, b.value)).conv_holds b.value)) c.change-result.new.room) h _ (pending_behind ChAuthTok (kept_answers c.change-result.new.first) c.change-result.new.paused) c.change-result.ensures.paused
-    (c.settle.ensures.plain ∙ rw (c.change-result.ensures.nodes, c.clear_unless_put_off.ensures) refl))
-    c.change-result.ensures.stopped
+    record {
+      tells = search rules;
+      world_tells = search rules;
+      told = λ number is told. changed_as c.change-result.result players c.args.flags h w _ _ c.clear_unless_pending.new.items (kept_answers c.change-result.new.first) c.change-result.new.paused
+          (plain_room (λ b. (goal.Conv-dyn g (b.vtable, b.value)).conv_holds b.value) c.change-result.new.room) _ _
+          (sym c.has_pass_flag.ensures ∙ c.if-has_pass_flag.false) (sym c.is_other_pending.ensures ∙ c.if-is_other_pending.false)
+          (c.taken_up-paused.ensures.past ∙ ap (λ (p : Option PutOff). past_in (option_map pending_of p)) c.take.ensures.value)
+          (c.taken_up-paused.ensures.first ∙ ap (λ (p : Option PutOff). first_in (option_map pending_of p)) c.take.ensures.value)
+          c.clear_unless_pending.ensures (c.change-result.ensures.told told (with_items c.clear_unless_pending.new.items h) refl refl)
+          (c.settle.ensures.plain ∙ rw (c.change-result.ensures.nodes, c.clear_unless_put_off.ensures) refl);
+      refused = search rules;
+      aborted = search rules;
+      left = search rules;
+      stopped = stops_changing players c.args.flags _ h _ (plain_world (λ b. (goal.Vault-dyn g (b.vtable, b.value)).vault_holds b.value) (λ b. (goal.Clock-dyn g (b.vtable, b.value)).clock_holds b.value) (λ b. (goal.Nap-dyn g (b.vtable, b.value)).nap_holds b.value)) c.args.world.now _ c.change-result.result _ ((plain_room (λ b. (goal.Conv-dyn g (b.vtable, b.value)).conv_holds b.value)) c.change-result.new.room) _ _
+          (ap (λ (items : ItemTexts). record h.room { transaction = record h.room.transaction { items = items } }) c.clear_unless_pending.ensures)
+          (c.taken_up-paused.ensures.first ∙ ap (λ (p : Option PutOff). first_in (option_map pending_of p)) c.take.ensures.value)
+          (c.taken_up-paused.ensures.past ∙ ap (λ (p : Option PutOff). past_in (option_map pending_of p)) c.take.ensures.value)
+          (ended_behind c.change-result.result c.change-result.new.paused ((plain_room (λ b. (goal.Conv-dyn g (b.vtable, b.value)).conv_holds b.value)) c.change-result.new.room) h _ (pending_behind ChAuthTok (kept_answers c.change-result.new.first) c.change-result.new.paused) c.change-result.ensures.paused
+          (c.settle.ensures.plain ∙ rw (c.change-result.ensures.nodes, c.clear_unless_put_off.ensures) refl))
+          c.change-result.ensures.stopped;
+      err = failed_change c.change-result.result (kept_answers c.change-result.new.first) c.change-result.new.paused (plain_room (λ b. (goal.Conv-dyn g (b.vtable, b.value)).conv_holds b.value) c.change-result.new.room) h _ c.change-result.ensures.paused
+          (c.settle.ensures.plain ∙ rw (c.change-result.ensures.nodes, c.clear_unless_put_off.ensures) refl);
+      others = record {
+        authenticated = ap (λ (h : PlainHandle). h.authenticated) c.settle.ensures.plain;
+        opened = ap (λ (h : PlainHandle). h.opened) c.settle.ensures.plain;
+        waited = ap (λ (h : PlainHandle). h.waited) c.settle.ensures.plain;
+      };
+      sound = runs_soundly (notes_of players) (length players) h h _ c.clear_unless_pending.new.items (pending_behind ChAuthTok (kept_answers c.change-result.new.first) c.change-result.new.paused) c.change-result.new.paused (plain_room (λ b. (goal.Conv-dyn g (b.vtable, b.value)).conv_holds b.value) c.change-result.new.room) _ _
+          c.clear_unless_pending.ensures refl refl refl
+          (c.settle.ensures.plain ∙ rw (c.change-result.ensures.nodes, c.clear_unless_put_off.ensures) refl)
+          c.change-result.ensures.sound;
+      ready = search rules;
+    }

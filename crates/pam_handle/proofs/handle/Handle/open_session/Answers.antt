@@ -1,4 +1,4 @@
-use Rattle.std.proofs.Common.{List, Option, map, refl, sym, ◌∙◌, ap}
+use Rattle.std.proofs.Common.{List, Option, map, refl, sym, ◌∙◌, ap, rules}
 use Rattle.std.specs.Option.{option_map}
 use Rattle.pam_base.specs.declared.code.Code.{Code}
 use Rattle.pam_handle.specs.Call.{request_behind}
@@ -16,28 +16,29 @@ use Rattle.dispatch_core.specs.stack_walk.specs.declared.pass_kind.PassKind.TheV
 use Rattle.pam_handle.proofs.Stopping.{on_err_from, stops_once}
 use Rattle.pam_handle.proofs.handle.Handle.open_session.Goals as goal
 
-pub returns-clause-told : goal.returns-clause-told
-returns-clause-told g c = λ told.
+pub returns-clause-called : goal.returns-clause-called
+returns-clause-called g c =
     let h : PlainHandle = plain_handle (plain_room (λ b. (goal.Conv-dyn g (b.vtable, b.value)).conv_holds b.value)) c.args.self.now in
     let w = plain_world (λ b. (goal.Vault-dyn g (b.vtable, b.value)).vault_holds b.value) (λ b. (goal.Clock-dyn g (b.vtable, b.value)).clock_holds b.value) (λ b. (goal.Nap-dyn g (b.vtable, b.value)).nap_holds b.value) c.args.world.now in
     let players = map (player_of (λ b. (goal.Module-dyn g (b.vtable, b.value)).label b.value) (λ b. (goal.Module-dyn g (b.vtable, b.value)).plays b.value) (λ b. (goal.Module-dyn g (b.vtable, b.value)).note b.value) (λ b. (goal.Module-dyn g (b.vtable, b.value)).breaks b.value)) c.args.gear.now.mods.items in
-    ran_once c.pass-result.result OpenSession h.pending _ (λ past. passed players OpenSession c.args.flags Keep h.opened h.stacks.session past (state_of h.room w))
-    (λ kept. record h { opened = kept }) _ (kept_answers c.pass-result.new.kept) c.pass-result.new.paused _ _ _
-    (sym c.is_other_pending.ensures ∙ c.if-is_other_pending.false) (c.taken_up-paused.ensures.past ∙ ap (λ (p : Option PutOff). past_in (option_map pending_of p)) c.take.ensures.value)
-    (c.settle.ensures.plain ∙ rw (c.pass-result.ensures.nodes, c.none.ensures) refl)
-    (c.pass-result.ensures.told told)
-
-pub returns-clause-err : goal.returns-clause-err
-returns-clause-err g c =
-    let h : PlainHandle = plain_handle (plain_room (λ b. (goal.Conv-dyn g (b.vtable, b.value)).conv_holds b.value)) c.args.self.now in
-    failed c.pass-result.result OpenSession c.pass-result.new.paused (plain_room (λ b. (goal.Conv-dyn g (b.vtable, b.value)).conv_holds b.value) c.pass-result.new.room) h (record h { opened = kept_answers c.pass-result.new.kept }) _
-    c.pass-result.ensures.paused (c.settle.ensures.plain ∙ rw (c.pass-result.ensures.nodes, c.none.ensures) refl) (on_err c.pass-result.result refl) (kept_nothing c.pass-result.result c.args.self.now.opened c.pass-result.new.kept c.pass-result.ensures.kept) refl tt refl refl refl
-
-pub returns-clause-stopped : goal.returns-clause-stopped
-returns-clause-stopped g c =
-    let h : PlainHandle = plain_handle (plain_room (λ b. (goal.Conv-dyn g (b.vtable, b.value)).conv_holds b.value)) c.args.self.now in
-    let players = map (player_of (λ b. (goal.Module-dyn g (b.vtable, b.value)).label b.value) (λ b. (goal.Module-dyn g (b.vtable, b.value)).plays b.value) (λ b. (goal.Module-dyn g (b.vtable, b.value)).note b.value) (λ b. (goal.Module-dyn g (b.vtable, b.value)).breaks b.value)) c.args.gear.now.mods.items in
-    stops_once players OpenSession c.args.flags _ h _ (plain_world (λ b. (goal.Vault-dyn g (b.vtable, b.value)).vault_holds b.value) (λ b. (goal.Clock-dyn g (b.vtable, b.value)).clock_holds b.value) (λ b. (goal.Nap-dyn g (b.vtable, b.value)).nap_holds b.value)) c.args.world.now c.pass-result.result c.pass-result.new.world _ _ _ _ ((plain_room (λ b. (goal.Conv-dyn g (b.vtable, b.value)).conv_holds b.value)) c.pass-result.new.room) _ _ _ _
-    refl refl refl refl
-    (c.taken_up-paused.ensures.past ∙ ap (λ (p : Option PutOff). past_in (option_map pending_of p)) c.take.ensures.value)
-    (on_err_from c.pass-result.result (λ p. ap (λ (k : PlainHandle). k.room) c.settle.ensures.plain ∙ ap (λ (o : Option (List Code)). request_behind o ((plain_room (λ b. (goal.Conv-dyn g (b.vtable, b.value)).conv_holds b.value)) c.pass-result.new.room)) p) c.pass-result.ensures.paused) (on_err c.pass-result.result refl) c.pass-result.ensures.stopped
+    record {
+      tells = search rules;
+      world_tells = search rules;
+      told = λ number is told. ran_once c.pass-result.result OpenSession h.pending _ (λ past. passed players OpenSession c.args.flags Keep h.opened h.stacks.session past (state_of h.room w))
+          (λ kept. record h { opened = kept }) _ (kept_answers c.pass-result.new.kept) c.pass-result.new.paused _ _ _
+          (sym c.is_other_pending.ensures ∙ c.if-is_other_pending.false) (c.taken_up-paused.ensures.past ∙ ap (λ (p : Option PutOff). past_in (option_map pending_of p)) c.take.ensures.value)
+          (c.settle.ensures.plain ∙ rw (c.pass-result.ensures.nodes, c.none.ensures) refl)
+          (c.pass-result.ensures.told told);
+      refused = search rules;
+      aborted = search rules;
+      left = search rules;
+      stopped = stops_once players OpenSession c.args.flags _ h _ (plain_world (λ b. (goal.Vault-dyn g (b.vtable, b.value)).vault_holds b.value) (λ b. (goal.Clock-dyn g (b.vtable, b.value)).clock_holds b.value) (λ b. (goal.Nap-dyn g (b.vtable, b.value)).nap_holds b.value)) c.args.world.now c.pass-result.result c.pass-result.new.world _ _ _ _ ((plain_room (λ b. (goal.Conv-dyn g (b.vtable, b.value)).conv_holds b.value)) c.pass-result.new.room) _ _ _ _
+          refl refl refl refl
+          (c.taken_up-paused.ensures.past ∙ ap (λ (p : Option PutOff). past_in (option_map pending_of p)) c.take.ensures.value)
+          (on_err_from c.pass-result.result (λ p. ap (λ (k : PlainHandle). k.room) c.settle.ensures.plain ∙ ap (λ (o : Option (List Code)). request_behind o ((plain_room (λ b. (goal.Conv-dyn g (b.vtable, b.value)).conv_holds b.value)) c.pass-result.new.room)) p) c.pass-result.ensures.paused) (on_err c.pass-result.result refl) c.pass-result.ensures.stopped;
+      err = failed c.pass-result.result OpenSession c.pass-result.new.paused (plain_room (λ b. (goal.Conv-dyn g (b.vtable, b.value)).conv_holds b.value) c.pass-result.new.room) h (record h { opened = kept_answers c.pass-result.new.kept }) _
+          c.pass-result.ensures.paused (c.settle.ensures.plain ∙ rw (c.pass-result.ensures.nodes, c.none.ensures) refl) (on_err c.pass-result.result refl) (kept_nothing c.pass-result.result c.args.self.now.opened c.pass-result.new.kept c.pass-result.ensures.kept) refl tt refl refl refl;
+      others = search rules;
+      sound = search rules;
+      ready = search rules;
+    }
