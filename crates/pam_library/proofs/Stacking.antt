@@ -18,6 +18,7 @@ use Rattle.pam_handle.specs.declared.wait.Wait.{Wait}
 use Rattle.pam_handle.specs.Handle.{PlainHandle}
 use Rattle.pam_handle.specs.Items.{all_told}
 use Rattle.pam_handle.specs.Call.{Called, CallsAs}
+use Rattle.pam_handle.specs.StackCalled.{DelayGives}
 use Rattle.pam_handle.specs.StackCalls.{stack_call}
 use Rattle.pam_handle.specs.AnyWorld.{FailsAs, RunsSoundly}
 use Rattle.pam_library.specs.declared.outcome.Answer.{Answer}
@@ -31,6 +32,15 @@ use Rattle.pam_library.specs.AnyWorld.{AnswersBy, CanAnswer, Fails, SpendsAt, is
 use Rattle.pam_library.specs.InPlace.{GoesInPlace, stack_app_call}
 
 -- ---- the six calls
+
+-- what the delay function gives is known to every call where it is known to authenticate
+pub delay_gives : (func : Func) (gives : (Code → ℕ → ℕ) → Type 0) (number_of : Code → ℕ → ℕ) → gives number_of → DelayGives func gives number_of
+delay_gives funcs.Authenticate gives number_of given = given
+delay_gives funcs.SetCred gives number_of given = tt
+delay_gives funcs.AcctMgmt gives number_of given = tt
+delay_gives funcs.OpenSession gives number_of given = tt
+delay_gives funcs.CloseSession gives number_of given = tt
+delay_gives funcs.ChAuthTok gives number_of given = tt
 
 step_is : (players : List Player) (number_of : Code → ℕ → ℕ) (number : ℕ) (func : Func) (flags : ℕ) (h : PlainHandle) (w : PlainWorld)
     → slot_step players number_of number (opened h) w (stack_app_call func flags) ≡ stack_step players number_of func flags (all_told h) w

@@ -23,7 +23,7 @@ use Rattle.pam_library.specs.Slots.{PlainSlot, closed, opened, data_in}
 use Rattle.conv_port.specs.Conv.{ConvState}
 use Rattle.pam_library.specs.SlotStep.{SlotStepsAs, filed_in, offered, open_step, slot_step}
 use Rattle.pam_library.specs.Sound.{IsAtPlace}
-use Rattle.pam_library.specs.AnyWorld.{AnswersBy, CanAnswer, Fails, SpendsAt, is_free, refusal, stays_inside, takes_no_memory}
+use Rattle.pam_library.specs.AnyWorld.{AnswersBy, CanAnswer, CountsRefusal, Fails, HidesNoFault, SpendsAt, is_free, leaves_world, refusal, stays_inside, takes_no_memory}
 
 -- a place that may be called: an open transaction is the one of its number, and its data await their cleanup
 abbrev pub IsReadyAt : ℕ → PlainSlot → PlainProcess → Type 0
@@ -51,6 +51,22 @@ pub record GoesInPlace (players : List Player) (gives : (Code → ℕ → ℕ) �
       after.process.ledger
   pub root : after.process.root ≡ before.process.root
   pub caller : after.process.caller ≡ before.process.caller
+
+-- A step on a place, with the world before and after it: what it comes to, and what it leaves of the world. The two
+-- functions say whether a world tells and what it holds; `tells` and `faults`, whether the place's conversation tells
+-- and what the vault counts.
+pub record StepsPlace {World : Type 0} (players : List Player) (gives : (Code → ℕ → ℕ) → Type 0)
+    (number : ℕ) (call : AppCall) (world_tell : World → Bool) (plain_world : World → PlainWorld)
+    (tells : Bool) (old : PlainSlot) (before : World) (faults : ℕ)
+    (result : Result Outcome NoMemory)
+    (tells_after : Bool) (new : PlainSlot) (after : World) (faults_after : ℕ) : Type 0 where
+  pub still_tells : tells_after ≡ tells
+  pub world_tells : world_tell after ≡ world_tell before
+  pub goes : GoesInPlace players gives tells (world_tell before) number call old
+      (plain_world before) result new (plain_world after)
+  pub world : leaves_world (Some old) call ≡ true → after ≡ before
+  pub counts : IfOk result (λ o. CountsRefusal o.answer faults faults_after)
+  pub hides_none : OnErr result (HidesNoFault call faults faults_after)
 
 -- A call that stays inside an open transaction which told all that it had to tell: it is exact in any world.
 pub record GoesInside (call : AppCall) (filed : ℕ) (old : PlainHandle)

@@ -1,6 +1,6 @@
 -- One call on one place (the calls of the Application Developers' Guide; that a call may be put off, the delay
 -- function and the replies are this project's own).
-use Rattle.std.specs.Prelude.{◌≡◌, ℕ, Bool, false, if◌then◌else◌, List, [], ◌∷◌, ◌++◌, map, length, Option, Some, None, Result, Ok, Err}
+use Rattle.std.specs.Prelude.{◌≡◌, ℕ, Bool, if◌then◌else◌, List, [], ◌∷◌, ◌++◌, map, length, Option, Some, None, Result, Ok, Err}
 use Rattle.pam_base.specs.declared.code.Code.{Code}
 use Rattle.pam_base.specs.declared.code.Code.TheVariants as codes
 use Rattle.pam_base.specs.declared.call.Func.{Func}
@@ -20,7 +20,8 @@ use Rattle.pam_handle.specs.dispatch_core.specs.Lines.{names_of}
 use Rattle.pam_handle.specs.dispatch_core.specs.Pending.{Pending, same_func}
 use Rattle.pam_handle.specs.Handle.{PlainHandle}
 use Rattle.pam_handle.specs.Call.{Called}
-use Rattle.pam_handle.specs.StackCalls.{stack_call, has_pass_flag}
+pub use Rattle.pam_handle.specs.StackCalls.{is_refused_for_flags}
+use Rattle.pam_handle.specs.StackCalls.{stack_call}
 use Rattle.pam_handle.specs.Items.{with_items, with_environment, with_request, with_delay_function, with_conversation, all_told, missing_from}
 use Rattle.pam_handle.specs.Start.{started}
 use Rattle.pam_handle.specs.End.{world_after_end}
@@ -98,11 +99,6 @@ told_by filed answer c = record {
     answer = answer;
   };
 }
-
--- the flags of the two passes of a change of token are refused first
-abbrev pub is_refused_for_flags : Func → ℕ → Bool
-is_refused_for_flags funcs.ChAuthTok flags = has_pass_flag flags
-is_refused_for_flags func flags = false
 
 -- another call that is pending
 abbrev pub other_pending : Option Pending → Func → Option Func

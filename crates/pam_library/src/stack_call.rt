@@ -1,12 +1,8 @@
-ghost use Rattle.std.specs.Prelude.{◌≡◌, ◌<◌, ◌^◌, ◌&&◌, ℕ, false, true, None, Some, IfOk, OnErr, IsTrue, length};
-ghost use Rattle.pam_base.specs.declared.code.Code.{Code};
-ghost use Rattle.pam_handle.specs.pam_room.specs.Module.{notes_of};
-ghost use Rattle.pam_handle.specs.AnyWorld.{FailsAs, RunsSoundly};
-ghost use Rattle.pam_handle.specs.Call.{CallsAs};
+ghost use Rattle.std.specs.Prelude.{◌≡◌, ◌<◌, ◌^◌, true, Some, OnErr};
 ghost use Rattle.pam_handle.specs.Items.{all_told};
 ghost use Rattle.pam_handle.specs.Plain.{plain_handle, room_in};
 ghost use Rattle.pam_handle.specs.Ready.{IsReadyFor};
-ghost use Rattle.pam_handle.specs.StackCalls.{stack_call};
+ghost use Rattle.pam_handle.specs.StackCalled.{StackCalled};
 ghost use Rattle.pam_library.specs.AnyWorld.{leaves_world, stack_refusal};
 ghost use Rattle.pam_library.specs.InPlace.{GoesInPlace, stack_app_call};
 ghost use Rattle.pam_library.specs.Slots.{opened};
@@ -48,29 +44,12 @@ fn call_handle(
     requires { IsReadyFor (⟦<Gear as GearTold>⟧.players gear.now)
         (plain_handle ⟦<Room as RoomTold>⟧.plain handle.old)
         (⟦<World as WorldTold>⟧.plain world.old).process }
-    ensures tells { ⟦<Room as RoomTold>⟧.tells (room_in handle.new)
-        ≡ ⟦<Room as RoomTold>⟧.tells (room_in handle.old) }
-    ensures world_tells { ⟦<World as WorldTold>⟧.tells world.new
-        ≡ ⟦<World as WorldTold>⟧.tells world.old }
-    ensures told { (number : Code → ℕ → ℕ) →
-        ⟦<DelayFn as DelayTold>⟧.delay_is gear.now.delay number →
-        IsTrue (⟦<Room as RoomTold>⟧.tells (room_in handle.old)
-        && ⟦<World as WorldTold>⟧.tells world.old) →
-        IfOk result (λ code. CallsAs
-        (stack_call (⟦<Gear as GearTold>⟧.players gear.now) number func flags
-        (plain_handle ⟦<Room as RoomTold>⟧.plain handle.old)
-        (⟦<World as WorldTold>⟧.plain world.old)) code
-        (plain_handle ⟦<Room as RoomTold>⟧.plain handle.new)
-        (⟦<World as WorldTold>⟧.plain world.new)) }
-    ensures err { OnErr result (FailsAs func (plain_handle ⟦<Room as RoomTold>⟧.plain handle.old)
-        (plain_handle ⟦<Room as RoomTold>⟧.plain handle.new)) }
+    ensures called { StackCalled func flags (⟦<Gear as GearTold>⟧.players gear.now)
+        (⟦<DelayFn as DelayTold>⟧.delay_is gear.now.delay)
+        ⟦<Room as RoomTold>⟧.tells ⟦<Room as RoomTold>⟧.plain
+        ⟦<World as WorldTold>⟧.tells ⟦<World as WorldTold>⟧.plain
+        result handle.old handle.new world.old world.new }
     ensures no_nap { OnErr result (world.new.nap ≡ world.old.nap) }
-    ensures sound { RunsSoundly (notes_of (⟦<Gear as GearTold>⟧.players gear.now))
-        (length (⟦<Gear as GearTold>⟧.players gear.now))
-        (plain_handle ⟦<Room as RoomTold>⟧.plain handle.old)
-        (plain_handle ⟦<Room as RoomTold>⟧.plain handle.new)
-        (⟦<World as WorldTold>⟧.plain world.old).process
-        (⟦<World as WorldTold>⟧.plain world.new).process }
 {
     match func {
         Func::Authenticate => handle.authenticate(alloc, gear, world, flags),

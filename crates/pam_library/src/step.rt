@@ -1,9 +1,8 @@
-ghost use Rattle.std.specs.Prelude.{◌≡◌, ◌<◌, ◌^◌, true, Some, IfOk, IsTrue, OnErr, length};
+ghost use Rattle.std.specs.Prelude.{◌≡◌, ◌<◌, ◌^◌, IsTrue, OnErr, length};
 ghost use Rattle.pam_handle.specs.dispatch_core.specs.Lines.{names_of};
 ghost use Rattle.pam_handle.specs.pam_room.specs.Stays.{IsReady};
 ghost use Rattle.pam_handle.specs.Plain.{in_box, plain_handle, room_in};
-ghost use Rattle.pam_library.specs.AnyWorld.{CountsRefusal, HidesNoFault, leaves_world};
-ghost use Rattle.pam_library.specs.InPlace.{GoesInPlace, IsReadyAt};
+ghost use Rattle.pam_library.specs.InPlace.{IsReadyAt, StepsPlace};
 ghost use Rattle.pam_library.specs.Slots.{closed, opened};
 ghost use Rattle.pam_library.specs.Sound.{IsAtPlace, IsPlaced};
 ghost use Rattle.pam_base.specs.Call.{is_fit};
@@ -30,24 +29,14 @@ impl Slot {
         requires ready { IsReadyAt (length (⟦<Gear as GearTold>⟧.players gear.now))
             (⟦<Slot as SlotTold>⟧.plain self) (⟦<World as WorldTold>⟧.plain world.old).process }
         requires fit { IsTrue (is_fit step.now.call) }
-        ensures tells { ⟦<Slot as SlotTold>⟧.tells result.slot ≡ ⟦<Slot as SlotTold>⟧.tells self }
-        ensures world_tells { ⟦<World as WorldTold>⟧.tells world.new
-            ≡ ⟦<World as WorldTold>⟧.tells world.old }
-        ensures goes { GoesInPlace (⟦<Gear as GearTold>⟧.players gear.now)
-            (⟦<DelayFn as DelayTold>⟧.delay_is gear.now.delay) (⟦<Slot as SlotTold>⟧.tells self)
-            (⟦<World as WorldTold>⟧.tells world.old)
-            step.now.number step.now.call (⟦<Slot as SlotTold>⟧.plain self)
-            (⟦<World as WorldTold>⟧.plain world.old)
-            result.outcome (⟦<Slot as SlotTold>⟧.plain result.slot)
-            (⟦<World as WorldTold>⟧.plain world.new) }
-        ensures world { leaves_world (Some (⟦<Slot as SlotTold>⟧.plain self)) step.now.call ≡ true →
-            world.new ≡ world.old }
-        ensures faults { IfOk result.outcome (λ outcome.
-            CountsRefusal outcome.answer (vault_faults (in_box world.old.vault))
-            (vault_faults (in_box world.new.vault))) }
+        ensures called { StepsPlace (⟦<Gear as GearTold>⟧.players gear.now)
+            (⟦<DelayFn as DelayTold>⟧.delay_is gear.now.delay) step.now.number step.now.call
+            ⟦<World as WorldTold>⟧.tells ⟦<World as WorldTold>⟧.plain
+            (⟦<Slot as SlotTold>⟧.tells self) (⟦<Slot as SlotTold>⟧.plain self) world.old
+            (vault_faults (in_box world.old.vault)) result.outcome
+            (⟦<Slot as SlotTold>⟧.tells result.slot) (⟦<Slot as SlotTold>⟧.plain result.slot)
+            world.new (vault_faults (in_box world.new.vault)) }
         ensures no_nap { OnErr result.outcome (world.new.nap ≡ world.old.nap) }
-        ensures hides_none { OnErr result.outcome (HidesNoFault step.now.call
-            (vault_faults (in_box world.old.vault)) (vault_faults (in_box world.new.vault))) }
     {
         match self {
             Slot::Closed(conv) => step_closed(alloc, gear, world, conv, step),
@@ -65,24 +54,14 @@ fn step_closed(
     step: &Step,
 ) -> Stepped
     requires fit { IsTrue (is_fit step.now.call) }
-    ensures tells { ⟦<Slot as SlotTold>⟧.tells result.slot ≡ conv_tells conv }
-    ensures world_tells { ⟦<World as WorldTold>⟧.tells world.new
-        ≡ ⟦<World as WorldTold>⟧.tells world.old }
-    ensures goes { GoesInPlace (⟦<Gear as GearTold>⟧.players gear.now)
-        (⟦<DelayFn as DelayTold>⟧.delay_is gear.now.delay) (conv_tells conv)
-        (⟦<World as WorldTold>⟧.tells world.old)
-        step.now.number step.now.call (closed (conv_holds conv))
-        (⟦<World as WorldTold>⟧.plain world.old)
-        result.outcome (⟦<Slot as SlotTold>⟧.plain result.slot)
-        (⟦<World as WorldTold>⟧.plain world.new) }
-    ensures world { leaves_world (Some (closed (conv_holds conv))) step.now.call ≡ true →
-        world.new ≡ world.old }
-    ensures faults { IfOk result.outcome (λ outcome.
-        CountsRefusal outcome.answer (vault_faults (in_box world.old.vault))
-        (vault_faults (in_box world.new.vault))) }
+    ensures called { StepsPlace (⟦<Gear as GearTold>⟧.players gear.now)
+        (⟦<DelayFn as DelayTold>⟧.delay_is gear.now.delay) step.now.number step.now.call
+        ⟦<World as WorldTold>⟧.tells ⟦<World as WorldTold>⟧.plain
+        (conv_tells conv) (closed (conv_holds conv)) world.old
+        (vault_faults (in_box world.old.vault)) result.outcome
+        (⟦<Slot as SlotTold>⟧.tells result.slot) (⟦<Slot as SlotTold>⟧.plain result.slot)
+        world.new (vault_faults (in_box world.new.vault)) }
     ensures no_nap { OnErr result.outcome (world.new.nap ≡ world.old.nap) }
-    ensures hides_none { OnErr result.outcome (HidesNoFault step.now.call
-        (vault_faults (in_box world.old.vault)) (vault_faults (in_box world.new.vault))) }
 {
     match &step.call {
         AppCall::Start { service, user } => {
@@ -111,25 +90,15 @@ fn step_open(alloc: Global, gear: &Gear, world: &mut World, handle: Handle, step
         (plain_handle ⟦<Room as RoomTold>⟧.plain handle).room.transaction
         (⟦<World as WorldTold>⟧.plain world.old).process }
     requires fit { IsTrue (is_fit step.now.call) }
-    ensures tells { ⟦<Slot as SlotTold>⟧.tells result.slot
-        ≡ ⟦<Room as RoomTold>⟧.tells (room_in handle) }
-    ensures world_tells { ⟦<World as WorldTold>⟧.tells world.new
-        ≡ ⟦<World as WorldTold>⟧.tells world.old }
-    ensures goes { GoesInPlace (⟦<Gear as GearTold>⟧.players gear.now)
-        (⟦<DelayFn as DelayTold>⟧.delay_is gear.now.delay)
-        (⟦<Room as RoomTold>⟧.tells (room_in handle)) (⟦<World as WorldTold>⟧.tells world.old)
-        step.now.number step.now.call (opened (plain_handle ⟦<Room as RoomTold>⟧.plain handle))
-        (⟦<World as WorldTold>⟧.plain world.old)
-        result.outcome (⟦<Slot as SlotTold>⟧.plain result.slot)
-        (⟦<World as WorldTold>⟧.plain world.new) }
-    ensures world { leaves_world (Some (opened (plain_handle ⟦<Room as RoomTold>⟧.plain handle)))
-        step.now.call ≡ true → world.new ≡ world.old }
-    ensures faults { IfOk result.outcome (λ outcome.
-        CountsRefusal outcome.answer (vault_faults (in_box world.old.vault))
-        (vault_faults (in_box world.new.vault))) }
+    ensures called { StepsPlace (⟦<Gear as GearTold>⟧.players gear.now)
+        (⟦<DelayFn as DelayTold>⟧.delay_is gear.now.delay) step.now.number step.now.call
+        ⟦<World as WorldTold>⟧.tells ⟦<World as WorldTold>⟧.plain
+        (⟦<Room as RoomTold>⟧.tells (room_in handle))
+        (opened (plain_handle ⟦<Room as RoomTold>⟧.plain handle)) world.old
+        (vault_faults (in_box world.old.vault)) result.outcome
+        (⟦<Slot as SlotTold>⟧.tells result.slot) (⟦<Slot as SlotTold>⟧.plain result.slot)
+        world.new (vault_faults (in_box world.new.vault)) }
     ensures no_nap { OnErr result.outcome (world.new.nap ≡ world.old.nap) }
-    ensures hides_none { OnErr result.outcome (HidesNoFault step.now.call
-        (vault_faults (in_box world.old.vault)) (vault_faults (in_box world.new.vault))) }
 {
     let mut handle = handle;
     // What a call on the handle alone told before is dropped.

@@ -50,51 +50,51 @@ stepped_in g c =
     (search rules) (search rules) c.put_back.ensures.swapped
 
 pub returns-clause-tells : goal.returns-clause-tells
-returns-clause-tells g c = tell_as (slot_tells (λ b. (goal.Conv-dyn g (b.vtable, b.value)).conv_tells b.value)) _ _ _ _ _ (stepped_in g c) c.step-slot.ensures.tells
+returns-clause-tells g c = tell_as (slot_tells (λ b. (goal.Conv-dyn g (b.vtable, b.value)).conv_tells b.value)) _ _ _ _ _ (stepped_in g c) c.step-slot.ensures.called.still_tells
 
 pub returns-clause-others : goal.returns-clause-others
 returns-clause-others g c = others_stay _ _ _ _ _ _ _ _ _ _ _ _ _
-    (put (plain_slot (λ b. (goal.Conv-dyn g (b.vtable, b.value)).conv_holds b.value)) _ _ _ _ _ (omega (arith, c.if-number-eq0.false)) (stepped_in g c)) c.step-slot.ensures.goes
+    (put (plain_slot (λ b. (goal.Conv-dyn g (b.vtable, b.value)).conv_holds b.value)) _ _ _ _ _ (omega (arith, c.if-number-eq0.false)) (stepped_in g c)) c.step-slot.ensures.called.goes
 
 pub returns-clause-sound : goal.returns-clause-sound
 returns-clause-sound g c = sound_after _ _ _ _ _ _ _ _ _ _ _ _ _
-    (put (plain_slot (λ b. (goal.Conv-dyn g (b.vtable, b.value)).conv_holds b.value)) _ _ _ _ _ (omega (arith, c.if-number-eq0.false)) (stepped_in g c)) c.step-slot.ensures.goes
+    (put (plain_slot (λ b. (goal.Conv-dyn g (b.vtable, b.value)).conv_holds b.value)) _ _ _ _ _ (omega (arith, c.if-number-eq0.false)) (stepped_in g c)) c.step-slot.ensures.called.goes
     c.one_place_moves.ensures.sound c.requires.sound c.ledger_is_sound.ensures.numbered
 
 pub returns-clause-spends : goal.returns-clause-spends
 returns-clause-spends g c = spends_after _ _ _ _ _ _ _ _ _ _ _ _ _
-    (put (plain_slot (λ b. (goal.Conv-dyn g (b.vtable, b.value)).conv_holds b.value)) _ _ _ _ _ (omega (arith, c.if-number-eq0.false)) (stepped_in g c)) c.step-slot.ensures.goes
+    (put (plain_slot (λ b. (goal.Conv-dyn g (b.vtable, b.value)).conv_holds b.value)) _ _ _ _ _ (omega (arith, c.if-number-eq0.false)) (stepped_in g c)) c.step-slot.ensures.called.goes
 
 pub returns-clause-moves : goal.returns-clause-moves
 returns-clause-moves g c = moves_after _ _ _ _ _ _ _ _ _ _ _ _ _
-    (put (plain_slot (λ b. (goal.Conv-dyn g (b.vtable, b.value)).conv_holds b.value)) _ _ _ _ _ (omega (arith, c.if-number-eq0.false)) (stepped_in g c)) c.step-slot.ensures.goes
+    (put (plain_slot (λ b. (goal.Conv-dyn g (b.vtable, b.value)).conv_holds b.value)) _ _ _ _ _ (omega (arith, c.if-number-eq0.false)) (stepped_in g c)) c.step-slot.ensures.called.goes
     c.one_place_moves.ensures.moves c.requires.sound c.ledger_is_sound.ensures.numbered
 
 pub returns-clause-world : goal.returns-clause-world
-returns-clause-world g c = λ leaves. c.step-slot.ensures.world (subst (λ (o : Option PlainSlot). leaves_world o c.args.step.now.call ≡ true)
+returns-clause-world g c = λ leaves. c.step-slot.ensures.called.world (subst (λ (o : Option PlainSlot). leaves_world o c.args.step.now.call ≡ true)
     (held_in (plain_slot (λ b. (goal.Conv-dyn g (b.vtable, b.value)).conv_holds b.value)) c.args.self.now.slots.items c.args.step.now.number c.swap_remove-slot.result
     (omega (arith, c.if-number-eq0.false)) (omega (arith, c.if-number-eq0.false, c.if-len-number.false, c.len.ensures)) c.swap_remove-slot.ensures.value) leaves)
 
 pub returns-clause-answer : goal.returns-clause-answer
 returns-clause-answer g c = answer_after _ _ _ _ _ _ _ _ _ _ _ _ _
-    (put (plain_slot (λ b. (goal.Conv-dyn g (b.vtable, b.value)).conv_holds b.value)) _ _ _ _ _ (omega (arith, c.if-number-eq0.false)) (stepped_in g c)) c.step-slot.ensures.goes
+    (put (plain_slot (λ b. (goal.Conv-dyn g (b.vtable, b.value)).conv_holds b.value)) _ _ _ _ _ (omega (arith, c.if-number-eq0.false)) (stepped_in g c)) c.step-slot.ensures.called.goes
 
 pub returns-clause-inside : goal.returns-clause-inside
 returns-clause-inside g c = λ number_of inside.
     let is = put (plain_slot (λ b. (goal.Conv-dyn g (b.vtable, b.value)).conv_holds b.value)) _ _ _ _ _ (omega (arith, c.if-number-eq0.false)) (stepped_in g c) in
-    all_step _ number_of _ _ c.args.step.now _ _ _ _ _ is (c.step-slot.ensures.goes.alone number_of (inside_after _ _ _ _ _ _ _ _ _ _ _ _ _ is c.step-slot.ensures.goes inside))
+    all_step _ number_of _ _ c.args.step.now _ _ _ _ _ is (c.step-slot.ensures.called.goes.alone number_of (inside_after _ _ _ _ _ _ _ _ _ _ _ _ _ is c.step-slot.ensures.called.goes inside))
 
 pub returns-clause-told : goal.returns-clause-told
 returns-clause-told g c = λ number_of given all.
     let is = put (plain_slot (λ b. (goal.Conv-dyn g (b.vtable, b.value)).conv_holds b.value)) _ _ _ _ _ (omega (arith, c.if-number-eq0.false)) (stepped_in g c) in
-    all_step _ number_of _ _ c.args.step.now _ _ _ _ _ is (c.step-slot.ensures.goes.told number_of given
+    all_step _ number_of _ _ c.args.step.now _ _ _ _ _ is (c.step-slot.ensures.called.goes.told number_of given
     (both_of _ _ (tells_at (slot_tells (λ b. (goal.Conv-dyn g (b.vtable, b.value)).conv_tells b.value)) _ _ _ _ _ (stepped_in g c) (first_of _ _ all)) (second_of _ _ all)))
 
 pub returns-clause-succeeds : goal.returns-clause-succeeds
 returns-clause-succeeds g c = succeeds_after _ _ _ _ _ _ _ _ _ _ _ _ _
-    (put (plain_slot (λ b. (goal.Conv-dyn g (b.vtable, b.value)).conv_holds b.value)) _ _ _ _ _ (omega (arith, c.if-number-eq0.false)) (stepped_in g c)) c.step-slot.ensures.goes
+    (put (plain_slot (λ b. (goal.Conv-dyn g (b.vtable, b.value)).conv_holds b.value)) _ _ _ _ _ (omega (arith, c.if-number-eq0.false)) (stepped_in g c)) c.step-slot.ensures.called.goes
 
 pub returns-clause-fails : goal.returns-clause-fails
 returns-clause-fails g c = fails_after _ _ _ _ _ _ _ _ _ _ _ _ _
-    (put (plain_slot (λ b. (goal.Conv-dyn g (b.vtable, b.value)).conv_holds b.value)) _ _ _ _ _ (omega (arith, c.if-number-eq0.false)) (stepped_in g c)) c.step-slot.ensures.goes
+    (put (plain_slot (λ b. (goal.Conv-dyn g (b.vtable, b.value)).conv_holds b.value)) _ _ _ _ _ (omega (arith, c.if-number-eq0.false)) (stepped_in g c)) c.step-slot.ensures.called.goes
     _ (tells_at (slot_tells (λ b. (goal.Conv-dyn g (b.vtable, b.value)).conv_tells b.value)) _ _ _ _ _ (stepped_in g c))
