@@ -20,9 +20,9 @@ pub struct Pending {
 /// open_session cached, and the pending stack call. Contracts read it by `held_of`.
 #[derive(Debug, Drop)]
 pub struct Held {
-    pub(crate) authenticated: Option<Answers>,
-    pub(crate) opened: Option<Answers>,
-    pub(crate) pending: Option<Pending>,
+    pub authenticated: Option<Answers>,
+    pub opened: Option<Answers>,
+    pub pending: Option<Pending>,
 }
 
 impl Held {

@@ -6,12 +6,12 @@
 //! code of a line.
 #![tactic(auto)]
 
-mod answers;
-mod held;
-mod onward;
-mod pass;
-mod passed;
-mod replay;
+pub mod answers;
+pub mod held;
+pub mod onward;
+pub mod pass;
+pub mod passed;
+pub mod replay;
 mod retelling;
 mod retold;
 mod told;
