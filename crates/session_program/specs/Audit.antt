@@ -1,11 +1,11 @@
 -- The statuses of an audit (this project's own).
-use Rattle.std.specs.Prelude.{◌≡◌, ◌⊎◌, ℕ, List, Option, Some, None, Result, Ok, Err}
+use Rattle.std.specs.Prelude.{◌≡◌, ◌⊎◌, ℕ, List, Option, Some, None, Result, Ok, Err, IfOk}
 use Rattle.pam_outside.specs.Streams.{SinkState}
 use Rattle.item_stream.specs.declared.ending.Stop.{Stop}
 use Rattle.item_stream.specs.declared.ending.Stop.TheVariants.{NoMemory, WriteFault}
 use Rattle.transcript_audit.specs.declared.finding.Audited.{Audited}
 use Rattle.transcript_audit.specs.declared.finding.Audited.TheVariants.{Fits, Differs, Refused, TooLong, Unread}
-use Rattle.transcript_audit.specs.Audit.{Audit, Audits}
+use Rattle.transcript_audit.specs.Audit.{Audit, Audits, ReadsUpTo}
 
 -- 0 if the transcript fits, 11 if it doesn't, 12 if it is too long, 5 if it couldn't be read, 3 if the configuration is
 -- refused
@@ -25,6 +25,12 @@ pub record AuditsBy (status : ℕ) (audit : Option (List ℕ) → Audit) (transc
   pub is : status ≡ audit_status result
   pub audits : Audits result (audit (Some transcript)) old new
       ⊎ Audits result (audit None) old new
+
+-- how far a modelled source was read, by the status, whatever the files and the output do
+pub record ReadsAudited (status : ℕ) (before left : List ℕ) : Type 0 where
+  pub result : Result Audited Stop
+  pub is : status ≡ audit_status result
+  pub reads : IfOk result (λ found. ReadsUpTo found before left)
 
 abbrev pub IsAuditStatus : ℕ → Type 0
 IsAuditStatus n = (result : Result Audited Stop) × (n ≡ audit_status result)

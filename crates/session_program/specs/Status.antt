@@ -1,5 +1,5 @@
 -- The statuses of the commands that read no script (this project's own).
-use Rattle.std.specs.Prelude.{◌≡◌, ◌⊎◌, ℕ, ◌+◌, ◌≤◌, List, ◌++◌, length, Result, Ok, Err}
+use Rattle.std.specs.Prelude.{◌≡◌, ◌⊎◌, ℕ, ◌+◌, ◌≤◌, List, ◌++◌, length, Result, Ok, Err, IfOk}
 use Rattle.pam_outside.specs.Counts.{Rose}
 use Rattle.pam_outside.specs.Files.{VaultState, counted}
 use Rattle.pam_outside.specs.Streams.{SinkState}
@@ -49,6 +49,12 @@ pub record TalliesBy (status : ℕ) (t : PlainTally) (old new : SinkState) : Typ
   pub result : Result Tallied Stop
   pub is : status ≡ tally_status result
   pub lists : Lists result t old new
+
+-- a list of failures in modelled files, by its status, whatever the output does
+pub record FindsTally (status : ℕ) (t : PlainTally) : Type 0 where
+  pub result : Result Tallied Stop
+  pub is : status ≡ tally_status result
+  pub found : IfOk result (λ tallied. tallied ≡ t.tallied)
 
 abbrev pub IsTallyStatus : ℕ → Type 0
 IsTallyStatus n = (result : Result Tallied Stop) × (n ≡ tally_status result)

@@ -16,12 +16,12 @@ ghost use Rattle.session_check.specs.Check.{check_of};
 ghost use Rattle.session_program.specs.Command.{request_of, runs, checks, logs_in, generates, tallies, audits, wires};
 ghost use Rattle.transcript_audit.specs.Audit.{audit_of};
 ghost use Rattle.transcript_audit.specs.Transcript.{Takes};
-ghost use Rattle.session_program.specs.Audit.{AuditsBy, IsAuditStatus};
+ghost use Rattle.session_program.specs.Audit.{AuditsBy, IsAuditStatus, ReadsAudited};
 ghost use Rattle.session_program.specs.CleanedUp.{IsCleanedUp, MayEnd};
 ghost use Rattle.session_program.specs.Generate.{GeneratesBy, IsGenerateStatus};
 ghost use Rattle.session_program.specs.Login.{IsLoginStatus, LogsInBy, ShowsLogin};
 ghost use Rattle.session_program.specs.Run.{Completes, HasRefused, IsAccepted, IsDone, IsRefused, IsStatus, IsUnread, ReadsBy, Runs, opening};
-ghost use Rattle.session_program.specs.Status.{CallsOnce, ChecksBy, CountsUnread, FindsBy, IsCheckStatus, IsTallyStatus, TalliesBy, WritesUsage};
+ghost use Rattle.session_program.specs.Status.{CallsOnce, ChecksBy, CountsUnread, FindsBy, FindsTally, IsCheckStatus, IsTallyStatus, TalliesBy, WritesUsage};
 ghost use Rattle.session_program.specs.Wire.{AnswersBy, IsReadThrough, IsWireStatus, ReadsFramesBy, Serves, WireCompletes};
 ghost use Rattle.session_tally.specs.Tally.{tally_of};
 
@@ -237,6 +237,14 @@ pub fn pamsess<S: Source, K: Sink>(
         IsTrue (K.sink_tells out.old) → IsTrue (vault_tells (in_box world.old.vault)) →
         TalliesBy result (tally_of (vault_holds (in_box world.old.vault)) root user)
         (K.sink_holds out.old) (K.sink_holds out.new) }
+    // If only the files are modelled, the status is that of what was found; if only the output is:
+    // at most one write more than bytes were written.
+    ensures tally_found { (root user : List ℕ) → request_of words.now ≡ Some (tallies root user) →
+        IsTrue (vault_tells (in_box world.old.vault)) →
+        FindsTally result (tally_of (vault_holds (in_box world.old.vault)) root user) }
+    ensures tally_writes { (root user : List ℕ) →
+        request_of words.now ≡ Some (tallies root user) → IsTrue (K.sink_tells out.old) →
+        WritesText (K.sink_holds out.old) (K.sink_holds out.new) }
     ensures tally_statuses { (root user : List ℕ) →
         request_of words.now ≡ Some (tallies root user) → IsTallyStatus result }
     ensures tally_stays { (root user : List ℕ) →
@@ -268,9 +276,17 @@ pub fn pamsess<S: Source, K: Sink>(
         request_of words.now ≡ Some (audits root service) →
         IsTrue (vault_tells (in_box world.old.vault)) →
         OnlyCalls (vault_holds (in_box world.old.vault)) (vault_holds (in_box world.new.vault)) }
+    // If only the source is modelled: what was taken, and by the status how far it was read, to its end or past the
+    // most bytes that a transcript may have; if only the sink is: at most one write more than bytes were written.
     ensures audit_takes { (root service : List ℕ) →
         request_of words.now ≡ Some (audits root service) → IsTrue (S.source_tells script.old) →
         Takes (S.source_holds script.old) (S.source_holds script.new) }
+    ensures audit_reads { (root service : List ℕ) →
+        request_of words.now ≡ Some (audits root service) → IsTrue (S.source_tells script.old) →
+        ReadsAudited result (S.source_holds script.old).left (S.source_holds script.new).left }
+    ensures audit_writes { (root service : List ℕ) →
+        request_of words.now ≡ Some (audits root service) → IsTrue (K.sink_tells out.old) →
+        WritesText (K.sink_holds out.old) (K.sink_holds out.new) }
     ensures audit_refused { (root service : List ℕ) →
         request_of words.now ≡ Some (audits root service) → result ≡ 3 → script.new ≡ script.old }
     ensures audit_no_read_fault { (root service : List ℕ) →
