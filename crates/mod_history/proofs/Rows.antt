@@ -1,5 +1,5 @@
 -- Worked rows, computed on the definitions.
-use Rattle.std.proofs.Common.{◌≡◌, ℕ, false, List, [], ◌∷◌, ◌++◌, Option, Some, None, codes, refl}
+use Rattle.std.proofs.Common.{◌≡◌, ℕ, false, List, [], ◌∷◌, ◌++◌, replicate, Option, Some, None, codes, refl}
 use Rattle.pam_base.specs.declared.code.Code.TheVariants as returns
 use Rattle.pam_base.specs.declared.call.Func.{Func}
 use Rattle.pam_base.specs.declared.call.Func.TheVariants.{Authenticate, ChAuthTok}
@@ -254,6 +254,27 @@ pwhistory_third_file = refl
 pwhistory_damaged : (second [] (file (codes "/etc/security/pamsess_history") (codes "joe:A\n\n") ∷ []) []).code ≡ returns.AuthtokErr
 unfolding answers asks_user checks_token looks by_look renews takes_token remembers remember_of reads_file sees_items sees_caller history_of content_of path_of failing_of entries_of parts_of lines_of cut
 pwhistory_damaged = refl
+
+-- with use_authtok the new password is AUTHTOK: it is set, and has 1 to 512 bytes
+abbrev with_token : Option (List ℕ) → Played
+with_token token = let t = new_transaction 1 in
+    play pwhistory_plays (call_of ChAuthTok (codes "use_authtok" ∷ [])) (room_of (record t { items = record no_texts { user = Some (codes "joe"); auth_tok = token } }) (record { offers = []; waits = false; handed = [] })) (passwd ∷ []) 0 []
+
+token_unset : (with_token None).code ≡ returns.AuthtokErr
+unfolding answers asks_user checks_token looks by_look renews takes_token remembers remember_of reads_file sees_items sees_caller stores_text replaces_file history_of history_text content_of path_of failing_of entries_of parts_of lines_of cut
+token_unset = refl
+
+token_empty : (with_token (Some [])).code ≡ returns.AuthtokErr
+unfolding answers asks_user checks_token looks by_look renews takes_token remembers remember_of reads_file sees_items sees_caller stores_text replaces_file history_of history_text content_of path_of failing_of entries_of parts_of lines_of cut
+token_empty = refl
+
+token_of_512 : (with_token (Some (replicate 512 110))).code ≡ returns.Success
+unfolding answers asks_user checks_token looks by_look renews takes_token remembers remember_of reads_file sees_items sees_caller stores_text replaces_file history_of history_text content_of path_of failing_of entries_of parts_of lines_of cut
+token_of_512 = refl
+
+token_of_513 : (with_token (Some (replicate 513 110))).code ≡ returns.AuthtokErr
+unfolding answers asks_user checks_token looks by_look renews takes_token remembers remember_of reads_file sees_items sees_caller stores_text replaces_file history_of history_text content_of path_of failing_of entries_of parts_of lines_of cut
+token_of_513 = refl
 
 -- the first pass
 pwhistory_first_pass : (play pwhistory_plays (record { func = ChAuthTok; flags = 0x4000; args = [] }) (room_with (codes "joe") None) [] 0 []).code ≡ returns.Success
