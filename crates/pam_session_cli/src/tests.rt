@@ -57,7 +57,17 @@ const FRAMES: Row = Row {
     ..LOGIN
 };
 
-static ROWS: [Row; 19] = [
+/// The service `gen` of 33 lines, made by seed 1. It has two files, `gen.1` with 32 lines and `gen.2` with one.
+const GENERATE: Row = Row {
+    words: &["generate", "1", "33"],
+    script: b"",
+    failing_calls: &[1],
+    output: b"refused /etc/pam.d/gen.1 0 ReadFailed 16\n",
+    status: 3,
+    ..LOGIN
+};
+
+static ROWS: [Row; 28] = [
     // A call of `Vault`: for the directory, the file, `other` for the second type and for the last,
     // and one that isn't reached.
     Row {
@@ -165,6 +175,53 @@ static ROWS: [Row; 19] = [
         output: b"\x00\x00\x00\x00\x00\x00\x00\x121 start SUCCESS 0\n\x00\x00\x00\x00\x00\x00\x00\x161 closed SYSTEM_ERR 4\n",
         status: 5,
         ..FRAMES
+    },
+    Row {
+        words: &["login", "/r", "t", "joe"],
+        failing_writes: &[2],
+        output: b"1 start SUCCESS 0\n",
+        status: 6,
+        ..LOGIN
+    },
+    Row {
+        words: &["audit", "/r", "t"],
+        script: b"1 start SUCCESS 0\n",
+        failing_reads: &[2],
+        output: b"",
+        status: 5,
+        ..LOGIN
+    },
+    // Generated files are stored, each by one call, and then loaded: the directory, `gen`, and the
+    // files that it includes.
+    GENERATE,
+    Row {
+        failing_calls: &[2],
+        output: b"refused /etc/pam.d/gen.2 0 ReadFailed 16\n",
+        ..GENERATE
+    },
+    Row {
+        failing_calls: &[3],
+        output: b"refused /etc/pam.d/gen 0 ReadFailed 16\n",
+        ..GENERATE
+    },
+    Row {
+        failing_calls: &[4],
+        output: b"refused /etc/pam.d 0 ReadFailed 16\n",
+        ..GENERATE
+    },
+    Row {
+        failing_calls: &[5],
+        output: b"refused /etc/pam.d/gen 0 ReadFailed 16\n",
+        ..GENERATE
+    },
+    Row {
+        failing_calls: &[6],
+        ..GENERATE
+    },
+    Row {
+        failing_calls: &[7],
+        output: b"refused /etc/pam.d/gen.2 0 ReadFailed 16\n",
+        ..GENERATE
     },
 ];
 

@@ -1,4 +1,5 @@
-//! A test of the form of `handler_chain`. It has no functions of its own.
+//! Tests of a flattened stack: what its copy takes, and how often a run looks at it. It has no
+//! functions of its own.
 #![tactic(auto)]
 
 #[cfg(test)]

@@ -1,3 +1,5 @@
+mod looks;
+
 use control_words::Nodes;
 use handler_chain::Chain;
 use std::mem::size_of;

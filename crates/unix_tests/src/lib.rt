@@ -1,5 +1,5 @@
-//! Tests of mod_unix for what no test case of rows/ can show: each call of `Vault` fails in turn,
-//! and a token is longer than a script's line.
+//! Tests of mod_unix for what no test case of rows/ can show: each call of `Vault` fails in turn, a
+//! token is empty, and one is longer than a script's line.
 #![tactic(auto)]
 
 #[cfg(test)]

@@ -139,8 +139,10 @@ fn each_call_of_the_vault_fails_in_turn(rt: HostRuntime) -> Result<(), Fail> {
 }
 
 #[test]
-fn a_token_has_512_bytes_at_most(rt: HostRuntime) -> Result<(), Fail> {
+fn a_token_has_1_to_512_bytes(rt: HostRuntime) -> Result<(), Fail> {
     let alloc = rt.alloc();
+    let outcome = serve(alloc, Func::ChAuthTok, b"use_authtok", b"", 0)?;
+    assert_eq!(rt; (outcome.answer, outcome.kept), (20, true));
     let mut token = Vec::new(alloc);
     for _ in 0..512usize {
         token.push(b'x')?;

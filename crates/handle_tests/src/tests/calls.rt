@@ -20,6 +20,7 @@ static ROWS: &[Row] = &[
         scene: Scene {
             file: b"auth required establisher.so\n",
             calls: &[(Func::SetCred, 0), (Func::SetCred, 4), (Func::SetCred, 2)],
+            status: 9,
         },
         answers: &[
             Some(Code::Success),
@@ -29,15 +30,28 @@ static ROWS: &[Row] = &[
         visits: &[Code::Success, Code::CredErr, Code::Success],
         receipts: &[],
     },
-    // what was set before memory ran out is cleaned up at the end
+    // what was set before memory ran out is cleaned up: at once if it is replaced, else at the end, the
+    // last name first
     Row {
         scene: Scene {
             file: b"account required establisher.so\naccount required forgetful.so\n",
             calls: &[(Func::AcctMgmt, 0), (Func::AcctMgmt, 2)],
+            status: 9,
         },
         answers: &[None, None],
         visits: &[Code::CredErr, Code::Success],
-        receipts: &[(0, 0x2000_0000), (1, 9)],
+        receipts: &[(0, 0x2000_0000), (1, 0x2000_0000), (3, 9), (2, 9)],
+    },
+    // what another module set before is, too; the program ends such a transaction with PAM_BUF_ERR (5)
+    Row {
+        scene: Scene {
+            file: b"auth required pam_probe.so set=a:w\nauth required forgetful.so\n",
+            calls: &[(Func::Authenticate, 0)],
+            status: 5,
+        },
+        answers: &[None],
+        visits: &[Code::Success],
+        receipts: &[(0, 0x2000_0000), (2, 5), (1, 5)],
     },
 ];
 

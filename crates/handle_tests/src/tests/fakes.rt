@@ -4,6 +4,7 @@ ghost use Rattle.pam_room.specs.Module.{answered, keeps_files, length_note, neve
 
 use conv_port::Conv;
 use data_cleanup::{Datum, Receipt};
+use mod_basic::Probe;
 use pam_base::{Code, NoMemory};
 use pam_outside::{Clock, Vault};
 use pam_room::{Call, Module, Process, Transaction, laws, spend_by_length};
@@ -49,7 +50,7 @@ impl Module for Establisher {
     }
 }
 
-// Sets module data, and then runs out of memory.
+// Sets module data twice, and then runs out of memory.
 #[derive(Drop)]
 struct Forgetful;
 
@@ -79,9 +80,11 @@ impl Module for Forgetful {
         _clock: &mut dyn Clock,
     ) -> Result<Code, NoMemory> {
         laws::nothing_is_set();
+        laws::setting_goes_on();
         laws::set_data_are_sets();
         laws::files_stay();
         transaction.set_data(alloc, &mut process.ledger, b"a", b"xyz")?;
+        transaction.set_data(alloc, &mut process.ledger, b"b", b"z")?;
         Err(NoMemory)
     }
 
@@ -90,9 +93,11 @@ impl Module for Forgetful {
     }
 }
 
+/// The modules of the tests: these two, and pam_probe, which sets data too.
 pub fn fakes(alloc: Global) -> Result<Vec<Box<dyn Module>>, Fail> {
     let mut mods: Vec<Box<dyn Module>> = Vec::new(alloc);
     mods.push(Box::new(alloc, Establisher)?)?;
     mods.push(Box::new(alloc, Forgetful)?)?;
+    mods.push(Box::new(alloc, Probe::new())?)?;
     Ok(mods)
 }

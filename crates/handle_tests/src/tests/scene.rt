@@ -16,6 +16,8 @@ pub struct Scene {
     pub file: &'static [u8],
     /// Stack calls with their flags, in order.
     pub calls: &'static [(Func, u32)],
+    /// The status of its end.
+    pub status: u32,
 }
 
 /// Its result.
@@ -25,7 +27,7 @@ pub struct Outcome {
     pub answers: Vec<Result<Code, NoMemory>>,
     /// What the lines that were run returned.
     pub visits: Vec<Code>,
-    /// The id and status of each cleanup record, after an end with the status 9.
+    /// The id and status of each cleanup record, those of the end among them.
     pub receipts: Vec<(u64, u32)>,
 }
 
@@ -44,7 +46,7 @@ fn world(alloc: Global, file: &[u8]) -> Result<World, Fail> {
     })
 }
 
-/// Plays a scene in a new transaction, which is ended with the status 9.
+/// Plays a scene in a new transaction, which is then ended.
 pub fn play(alloc: Global, gear: &Gear, scene: &Scene) -> Result<Outcome, Fail> {
     let mut world = world(alloc, scene.file)?;
     let conv = Box::new(alloc, QueueConv::new(alloc))?;
@@ -53,7 +55,7 @@ pub fn play(alloc: Global, gear: &Gear, scene: &Scene) -> Result<Outcome, Fail> 
     };
     let answers = call_all(alloc, gear, &mut world, &mut handle, scene.calls);
     let told = handle.take_told(alloc);
-    let _conv = handle.end(gear, &mut world, 9);
+    let _conv = handle.end(gear, &mut world, scene.status);
     outcome_of(alloc, answers?, &told, &world.process.ledger)
 }
 
