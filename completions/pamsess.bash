@@ -38,6 +38,11 @@ _pamsess() {
     local word=${COMP_WORDS[COMP_CWORD]} command=${COMP_WORDS[0]##*/} first=${COMP_WORDS[1]-} kinds number=$COMP_CWORD root
     case $command in
         pamsess-check-all) kinds="directory" ;;
+        pamsess-explain)
+            kinds="directory service"
+            # (an option in front of ROOT)
+            [ "$first" != --html ] || kinds="option directory service"
+            ;;
         pamsess-stand-in) kinds="directory directory user" ;;
         pamsess-try) kinds="directory service user call call call call call call" ;;
         *)
@@ -51,9 +56,11 @@ _pamsess() {
             ;;
     esac
     root=${COMP_WORDS[1]-}
-    [ "${kinds%% *}" != command ] || root=${COMP_WORDS[2]-}
+    case ${kinds%% *} in
+        command | option) root=${COMP_WORDS[2]-} ;;
+    esac
     set -- $kinds
     _pamsess_kind "$word" "${!number-}" "$root"
 }
 
-complete -F _pamsess pamsess pamsess-check-all pamsess-stand-in pamsess-try
+complete -F _pamsess pamsess pamsess-check-all pamsess-explain pamsess-stand-in pamsess-try

@@ -1,0 +1,22 @@
+-- The text of the passes of chauthtok that are left.
+use Rattle.std.proofs.Common.{◌≡◌, ℕ, List, ◌++◌, Option, None, sym, ap, subst}
+use Rattle.std.specs.Prelude.{Result, Ok, Err, OnOk}
+use Rattle.pam_base.specs.declared.code.Code.{Code}
+use Rattle.service_load.specs.Stacks.{Stacks}
+use Rattle.stack_walk.specs.Retell.{Telling}
+use Rattle.stack_walk.specs.Route.{KeptAnswers}
+use Rattle.pass_replay.specs.dispatch_core.specs.Calls.{Held}
+use Rattle.explain_lines.specs.declared.origin.Sources.{Sources}
+use Rattle.explain_calls.specs.Calls.{change_text, check_text}
+
+-- what follows from a fact of a success
+on_ok : {A E P Q : Type 0} (r : Result A E) → (P → Q) → OnOk r P → OnOk r Q
+on_ok (Ok x) f p = f p
+on_ok (Err e) f p = tt
+
+-- both passes, if no codes of a first one are held
+pub both_left : {A E : Type 0} (stacks : Stacks) (sources : Sources) (number : ℕ) (past : List Code) (first : Option KeptAnswers) (h : Held) (told : Telling) (old new : List ℕ) (r : Result A E)
+    → first ≡ None → OnOk r ((any : Held) → new ≡ old ++ check_text stacks sources number past any told)
+    → OnOk r (new ≡ old ++ change_text stacks sources number past first h told)
+both_left stacks sources number past first h told old new r is adds =
+    on_ok r (λ all. subst (λ (f : Option KeptAnswers). new ≡ old ++ change_text stacks sources number past f h told) (sym is) (all h)) adds

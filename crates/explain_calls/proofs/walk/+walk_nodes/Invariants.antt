@@ -1,0 +1,23 @@
+use Rattle.std.proofs.Common.{drop}
+use Rattle.control_words.specs.Stack.{depth, stack_of}
+use Rattle.pass_replay.specs.dispatch_core.specs.Calls.{answers_held}
+use Rattle.stack_walk.specs.Pass.{serving}
+use Rattle.stack_walk.specs.Retell.{replaying}
+use Rattle.pass_replay.specs.Kept.{kept_answers}
+use Rattle.pass_replay.specs.Walk.{state_in}
+use Rattle.pass_replay.proofs.Walking.{IsWalking}
+use Rattle.explain_calls.proofs.Showing.{IsShowing}
+use Rattle.explain_calls.proofs.walk.+walk_nodes.Given as goal
+
+abbrev pub decreases-walk_nodes : goal.decreases-walk_nodes
+decreases-walk_nodes l = depth (stack_of l.nodes.now.vec.items)
+
+abbrev pub invariant-loop-node : goal.invariant-loop-node
+invariant-loop-node l = record {
+  walking : IsWalking l.kind (serving l.kind (answers_held (kept_answers l.follows)) replaying) (stack_of l.nodes.vec.items)
+      l.fn.replay.at l.entry (state_in l.past l.told l.fn.replay)
+      (stack_of (drop l.node-index l.node-items)) l.skip l.replay.at l.left l.opinion (state_in l.past l.told l.replay);
+  showing : IsShowing l.kind (serving l.kind (answers_held (kept_answers l.follows)) replaying) (stack_of l.nodes.vec.items)
+      l.fn.replay.at l.entry (state_in l.past l.told l.fn.replay) l.fn.reason l.fn.shown
+      (stack_of (drop l.node-index l.node-items)) l.skip l.replay.at l.opinion (state_in l.past l.told l.replay) l.why l.shown;
+}

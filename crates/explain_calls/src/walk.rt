@@ -1,0 +1,195 @@
+ghost use Rattle.std.specs.Prelude.{◌≡◌, ◌<◌, ◌≤◌, ◌+◌, ◌++◌, IfOk, IfSome, OnOk};
+ghost use Rattle.control_words.specs.Stack.{Stack, count, line, lines_in, node_on, none, stack_of};
+ghost use Rattle.pass_replay.specs.dispatch_core.specs.Calls.{answers_held};
+ghost use Rattle.stack_walk.specs.Pass.{decides, serving};
+ghost use Rattle.stack_walk.specs.Retell.{replaying};
+ghost use Rattle.stack_walk.specs.Walk.{walk};
+ghost use Rattle.pass_replay.specs.Kept.{kept_answers};
+ghost use Rattle.pass_replay.specs.Walk.{Comes, state_in};
+ghost use Rattle.explain_calls.specs.Rows.{rows, rows_behind, rows_over};
+ghost use Rattle.explain_calls.specs.Walk.{after_turn};
+
+use crate::turn::{Turn, why_after};
+use control_words::{Node, Nodes, Rule};
+use explain_lines::{Fate, Row, Rows};
+use pam_base::{Code, NoMemory};
+use pass_replay::answers::Answers;
+use pass_replay::onward::onward_from;
+use pass_replay::replay::{Replay, next_answer};
+use stack_walk::{Opinion, PassKind, Seen};
+
+// Adds the rows of lines that weren't run, the first of which has the rule number `at` + 1. Returns
+// the rule number of the last one.
+fn pass_over(nodes: &Nodes, why: Fate, at: usize, shown: &mut Rows) -> Result<usize, NoMemory>
+    requires few { at + lines_in (stack_of nodes.now.vec.items) ≤ 4096 }
+    ensures shows { OnOk result (shown.new ≡ shown.old
+        ++ rows_over why (at + 1) (stack_of nodes.now.vec.items)) }
+    ensures at { IfOk result (λ last. last ≡ at + lines_in (stack_of nodes.now.vec.items)) }
+{
+    let mut last = at;
+    for node in &nodes.vec {
+        match node {
+            Node::Line(rule) => {
+                last += 1;
+                shown.push(Row::of(rule, last, why)?)?;
+            }
+            Node::Sub(inner) => last = pass_over(inner, why, last, shown)?,
+        }
+    }
+    Ok(last)
+}
+
+fn pass_over_node(node: &Node, why: Fate, at: usize, shown: &mut Rows) -> Result<usize, NoMemory>
+    requires few { at + lines_in (node_on node.now none) ≤ 4096 }
+    ensures shows { OnOk result (shown.new ≡ shown.old
+        ++ rows_over why (at + 1) (node_on node.now none)) }
+    ensures at { IfOk result (λ last. last ≡ at + lines_in (node_on node.now none)) }
+{
+    match node {
+        Node::Line(rule) => {
+            shown.push(Row::of(rule, at + 1, why)?)?;
+            Ok(at + 1)
+        }
+        Node::Sub(inner) => pass_over(inner, why, at, shown),
+    }
+}
+
+// The code that decides the action of the line with this rule number.
+fn decide(kind: PassKind, follows: &Option<Answers>, place: usize, answer: Code) -> Code
+    ensures { result ≡ decides kind (answers_held (kept_answers follows.now)) place answer }
+{
+    match kind {
+        PassKind::Follow => held_at(follows, place).unwrap_or(answer),
+        PassKind::Keep | PassKind::Loose => answer,
+    }
+}
+
+fn held_at(follows: &Option<Answers>, place: usize) -> Option<Code>
+    ensures { result ≡ answers_held (kept_answers follows.now) place }
+{
+    match follows {
+        Some(kept) => kept.at(place),
+        None => None,
+    }
+}
+
+// Walks the present line, after which `left` nodes of its list are left, and adds its row; None if
+// the walk waits there.
+fn walk_line(
+    rule: &Rule,
+    left: usize,
+    kind: PassKind,
+    follows: &Option<Answers>,
+    entry: Opinion,
+    opinion: Opinion,
+    past: &[Code],
+    told: &[Option<Seen>],
+    why: Fate,
+    replay: &mut Replay,
+    shown: &mut Rows,
+) -> Result<Option<Turn>, NoMemory>
+    requires few { replay.old.at < 4096 }
+    ensures goes { IfOk result (λ turn. (rest : Stack) → count rest ≡ left →
+        walk kind (serving kind (answers_held (kept_answers follows.now)) replaying)
+        0 (line rule.now rest) (replay.old.at + 1) entry opinion
+        (state_in past.now told.now replay.old)
+        ≡ after_turn kind (serving kind (answers_held (kept_answers follows.now)) replaying)
+        rest (replay.old.at + 1 + 1) entry opinion turn
+        (state_in past.now told.now replay.new)) }
+    ensures shows { IfOk result (λ turn. (rest : Stack) → count rest ≡ left →
+        shown.old ++ rows kind
+        (serving kind (answers_held (kept_answers follows.now)) replaying)
+        0 why (line rule.now rest) (replay.old.at + 1) entry opinion
+        (state_in past.now told.now replay.old)
+        ≡ shown.new ++ rows_behind kind
+        (serving kind (answers_held (kept_answers follows.now)) replaying)
+        rest (replay.old.at + 1 + 1) entry turn
+        (state_in past.now told.now replay.new)) }
+    ensures at { IfOk result (λ turn. IfSome turn (λ _. replay.new.at ≡ replay.old.at + 1)) }
+{
+    let Some(answer) = next_answer(rule, past, told, replay)? else {
+        shown.push(Row::of(rule, replay.at + 1, Fate::Waits)?)?;
+        return Ok(None);
+    };
+    replay.at += 1;
+    let deciding = decide(kind, follows, replay.at, answer);
+    let action = rule.control.action(deciding);
+    let new = opinion.after(kind, action, answer, deciding, entry);
+    let onward = onward_from(action, left, new);
+    let state = onward.opinion;
+    let fate = Fate::Ran {
+        answer,
+        deciding,
+        action,
+        state,
+    };
+    shown.push(Row::of(rule, replay.at, fate)?)?;
+    Ok(Some(Turn {
+        opinion: state,
+        skip: onward.skip,
+        why: why_after(action, left, new, replay.at),
+    }))
+}
+
+/// Walks a list from a state, which is also that at its entry, and adds the rows of its lines; None
+/// if the walk waits at one of them, which is then the last row.
+pub fn walk_nodes(
+    nodes: &Nodes,
+    kind: PassKind,
+    follows: &Option<Answers>,
+    entry: Opinion,
+    past: &[Code],
+    told: &[Option<Seen>],
+    reason: Fate,
+    replay: &mut Replay,
+    shown: &mut Rows,
+) -> Result<Option<Opinion>, NoMemory>
+    requires few { replay.old.at + lines_in (stack_of nodes.now.vec.items) ≤ 4096 }
+    ensures comes { IfOk result (λ end. Comes
+        (walk kind (serving kind (answers_held (kept_answers follows.now)) replaying)
+        0 (stack_of nodes.now.vec.items) (replay.old.at + 1) entry entry
+        (state_in past.now told.now replay.old))
+        end (state_in past.now told.now replay.new)) }
+    ensures shows { OnOk result (shown.new ≡ shown.old ++ rows kind
+        (serving kind (answers_held (kept_answers follows.now)) replaying)
+        0 reason (stack_of nodes.now.vec.items) (replay.old.at + 1) entry entry
+        (state_in past.now told.now replay.old)) }
+    ensures at { IfOk result (λ end. IfSome end (λ _. replay.new.at
+        ≡ replay.old.at + lines_in (stack_of nodes.now.vec.items))) }
+{
+    let mut opinion = entry;
+    let mut why = reason;
+    let mut skip = 0;
+    let mut left = nodes.len();
+    for node in &nodes.vec {
+        left -= 1;
+        if skip > 0 {
+            skip -= 1;
+            replay.at = pass_over_node(node, why, replay.at, shown)?;
+        } else {
+            match node {
+                Node::Line(rule) => {
+                    let Some(turn) = walk_line(
+                        rule, left, kind, follows, entry, opinion, past, told, why, replay, shown,
+                    )?
+                    else {
+                        return Ok(None);
+                    };
+                    opinion = turn.opinion;
+                    skip = turn.skip;
+                    why = turn.why;
+                }
+                Node::Sub(inner) => {
+                    let Some(inside) = walk_nodes(
+                        inner, kind, follows, opinion, past, told, why, replay, shown,
+                    )?
+                    else {
+                        return Ok(None);
+                    };
+                    opinion = inside;
+                }
+            }
+        }
+    }
+    Ok(Some(opinion))
+}

@@ -1,0 +1,180 @@
+ghost use Rattle.std.specs.Prelude.{◌≡◌, ◌++◌, [], Some, IfOk, OnOk, map, string_bytes};
+ghost use Rattle.std.specs.Option.{option_map};
+ghost use Rattle.service_load.specs.Load.{AreBounded};
+ghost use Rattle.pass_replay.specs.Held.{held_of};
+ghost use Rattle.pass_replay.specs.Retold.{stacks_in};
+ghost use Rattle.report_reader.specs.Form.{result_of};
+ghost use Rattle.report_reader.specs.Guess.{read_line};
+ghost use Rattle.report_reader.specs.Says.{bare, results};
+ghost use Rattle.session_audit.specs.Checked.{place_of, told_in};
+ghost use Rattle.session_audit.specs.Fits.{is_refused_change, place_at, visits_told};
+ghost use Rattle.explain_report.specs.Report.{Takes, block_text, called_text};
+
+use explain_calls::{write_call, write_refused};
+use explain_lines::Sources;
+use pam_base::{Code, Func, NoMemory};
+use pass_replay::first_visit;
+use pass_replay::held::Held;
+use report_reader::{Answer, Form, Outcome, Spoken, read_line};
+use service_load::Trees;
+use session_audit::{Place, judge_at};
+use stack_walk::Seen;
+use std::alloc::Global;
+
+/// How far a report is explained: what is known of each transaction, the lines of the block that has
+/// begun, and the text.
+#[derive(Drop)]
+pub struct Explainer {
+    pub places: Vec<Place>,
+    pub told: Vec<Option<Seen>>,
+    pub text: String,
+}
+
+impl Explainer {
+    /// Takes the next line, given without its newline, and adds the text of the stack call that
+    /// ends with it. False if no line after it is read: it has no form, is a last one, or doesn't
+    /// fit.
+    pub fn take_line(
+        &mut self,
+        alloc: Global,
+        trees: &Trees,
+        sources: &Sources,
+        line: &[u8],
+    ) -> Result<bool, NoMemory>
+        requires bounded { AreBounded trees.now }
+        ensures { IfOk result (λ goes_on. Takes (stacks_in trees.now) sources.now self.old
+            (option_map bare (read_line line.now)) goes_on self.new) }
+    {
+        match read_line(alloc, line)? {
+            Some(Form::Told { visit, .. }) => {
+                self.told.push(visit)?;
+                Ok(true)
+            }
+            Some(Form::Result { number, outcome }) => {
+                self.take_result(alloc, trees, sources, number, outcome)
+            }
+            Some(Form::Last) | None => Ok(false),
+        }
+    }
+
+    fn take_result(
+        &mut self,
+        alloc: Global,
+        trees: &Trees,
+        sources: &Sources,
+        number: u32,
+        outcome: Outcome,
+    ) -> Result<bool, NoMemory>
+        requires bounded { AreBounded trees.now }
+        ensures { IfOk result (λ goes_on. Takes (stacks_in trees.now) sources.now self.old
+            (Some (results number (result_of outcome))) goes_on self.new) }
+    {
+        let told = std::mem::replace(&mut self.told, Vec::new(alloc));
+        let places = self.places.as_slice();
+        write_block(
+            alloc,
+            trees,
+            sources,
+            &mut self.text,
+            places,
+            number,
+            &told,
+            outcome,
+        )?;
+        match judge_at(alloc, trees, &mut self.places, number, &told, outcome)? {
+            None => Ok(true),
+            Some(_) => Ok(false),
+        }
+    }
+}
+
+// Adds the text of a block.
+fn write_block(
+    alloc: Global,
+    trees: &Trees,
+    sources: &Sources,
+    text: &mut String,
+    places: &[Place],
+    number: u32,
+    told: &[Option<Seen>],
+    outcome: Outcome,
+) -> Result<(), NoMemory>
+    requires bounded { AreBounded trees.now }
+    ensures { OnOk result (string_bytes text.new ≡ string_bytes text.old
+        ++ block_text (stacks_in trees.now) sources.now number
+        (place_at (map place_of places.now) number) (visits_told (told_in told.now))
+        (result_of outcome)) }
+{
+    if number == 0 || number as usize > places.len() {
+        return Ok(());
+    }
+    let place = &places[number as usize - 1];
+    write_at(alloc, trees, sources, text, place, number, told, outcome)
+}
+
+// Adds the text of a block of a transaction of which this is known.
+fn write_at(
+    alloc: Global,
+    trees: &Trees,
+    sources: &Sources,
+    text: &mut String,
+    place: &Place,
+    number: u32,
+    told: &[Option<Seen>],
+    outcome: Outcome,
+) -> Result<(), NoMemory>
+    requires bounded { AreBounded trees.now }
+    ensures { OnOk result (string_bytes text.new ≡ string_bytes text.old
+        ++ block_text (stacks_in trees.now) sources.now number (Some (place_of place.now))
+        (visits_told (told_in told.now)) (result_of outcome)) }
+{
+    match place {
+        Place::Open(held) => match outcome {
+            Outcome::Answered(Spoken::Run(func), Answer::Code(code)) => {
+                write_called(alloc, trees, sources, text, held, number, func, code, told)
+            }
+            _ => Ok(()),
+        },
+        Place::Closed => Ok(()),
+    }
+}
+
+// Adds the text of a stack call with its code.
+fn write_called(
+    alloc: Global,
+    trees: &Trees,
+    sources: &Sources,
+    text: &mut String,
+    held: &Held,
+    number: u32,
+    func: Func,
+    code: Code,
+    told: &[Option<Seen>],
+) -> Result<(), NoMemory>
+    requires bounded { AreBounded trees.now }
+    ensures { OnOk result (string_bytes text.new ≡ string_bytes text.old
+        ++ called_text (stacks_in trees.now) sources.now number func code (held_of held.now)
+        (visits_told (told_in told.now))) }
+{
+    if is_refused_change(func, code, told) {
+        write_refused(text, number)
+    } else {
+        write_call(alloc, trees, sources, text, number, func, held, told)
+    }
+}
+
+// A chauthtok whose flags are refused runs no line.
+fn is_refused_change(func: Func, code: Code, told: &[Option<Seen>]) -> bool
+    ensures { result ≡ is_refused_change func code (visits_told (told_in told.now)) }
+{
+    if first_visit(told) < told.len() {
+        return false;
+    }
+    is_change_fault(func, code)
+}
+
+fn is_change_fault(func: Func, code: Code) -> bool
+    ensures { result ≡ is_refused_change func code [] }
+{
+    func == Func::ChAuthTok && code == Code::SystemErr
+}
