@@ -7,7 +7,7 @@ use Rattle.std.proofs.lemmas.Bool.Decides.{nat_tests}
 use Rattle.pam_base.specs.Bytes.{has_byte, IsFirstPlace}
 use Rattle.pam_base.specs.Parts.{parts_of}
 
--- a slice from a place to the end
+-- a slice from an index to the end
 rest_is : (text : List ℕ) (n : ℕ) → take (length text - n) (drop n text) ≡ drop n text
 rest_is text n = take_all (length text - n) (drop n text) (omega (arith, length-drop n text))
 

@@ -4,7 +4,7 @@ use Rattle.std.proofs.lemmas.List.{take_all, nil_from_length}
 use Rattle.pam_base.specs.Bytes.{IsFirstPlace}
 use Rattle.pam_base.specs.Lines.{lines_of, lines_of-line, lines_of-part, last_line}
 
--- a slice from a place to the end
+-- a slice from an index to the end
 rest_is : (text : List ℕ) (n : ℕ) → take (length text - n) (drop n text) ≡ drop n text
 rest_is text n = take_all (length text - n) (drop n text) (omega (arith, length-drop n text))
 

@@ -1,4 +1,4 @@
--- What a transaction may be asked (this project's own).
+-- The calls on a transaction (this project's own).
 use Rattle.std.specs.Prelude.{Bool, true, length, nat_le}
 use Rattle.pam_base.specs.ServiceName.{is_service_name}
 use Rattle.pam_base.specs.declared.call.AppCall.{AppCall}

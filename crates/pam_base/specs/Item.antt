@@ -21,7 +21,7 @@ item_number XDisplay = 11
 item_number XAuthData = 12
 item_number AuthTokType = 13
 
--- the word that stands for an item in a script: its name without PAM_, in lower case
+-- the word for an item in a script: its name without PAM_, in lower case
 abbrev pub item_word : ItemName → List ℕ
 item_word Service = codes "service"
 item_word User = codes "user"

@@ -8,7 +8,7 @@ pub record Cut : Type 0 where
   pub lines : List (List ℕ)
   pub rest : List ℕ
 
--- a byte in front of the first line
+-- a byte before the first line
 abbrev pub onto : ℕ → List (List ℕ) → List ℕ → Cut
 onto b [] rest = record { lines = []; rest = b ∷ rest }
 onto b (l ∷ ls) rest = record { lines = (b ∷ l) ∷ ls; rest = rest }
@@ -18,7 +18,7 @@ cut [] = record { lines = []; rest = [] }
 cut (b ∷ bs) = if b == 10 then record { lines = [] ∷ (cut bs).lines; rest = (cut bs).rest }
     else onto b (cut bs).lines (cut bs).rest
 
--- what follows the last newline is a line where it isn't empty
+-- what follows the last newline is a line if it isn't empty
 abbrev pub last_line : List ℕ → List (List ℕ)
 last_line [] = []
 last_line (b ∷ bs) = (b ∷ bs) ∷ []
@@ -42,7 +42,7 @@ cut-line (b ∷ bs) more e =
     let both = neither (eqb b 10) (has_byte 10 bs) e in
     rw (both.0, cut-line bs more both.1) refl
 
--- bytes without a newline are no whole line
+-- bytes without a newline are no complete line
 pub cut-part : (part : List ℕ) → has_byte 10 part ≡ false
     → cut part ≡ record { lines = []; rest = part }
 unfolding cut

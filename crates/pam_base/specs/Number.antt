@@ -11,7 +11,7 @@ value_of_digits digits = fold (λ value digit. 10 * value + (digit - 48)) 0 digi
 abbrev pub is_numeral : List ℕ → Bool
 is_numeral word = nat_lt 0 (length word) && nat_le (length word) 10 && list_all is_ascii_digit word
 
--- the number that a word stands for, if it is one
+-- the number that a word means, if it is one
 abbrev pub number_of_word : List ℕ → Option ℕ
 number_of_word word = if is_numeral word && nat_lt (value_of_digits word) (2 ^ 32)
     then Some (value_of_digits word) else None

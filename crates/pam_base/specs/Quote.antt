@@ -1,5 +1,5 @@
--- Quoted text (this project's own): printable ASCII stands for itself, a backslash is doubled, and any
--- other byte is written as \x and two hexadecimal digits.
+-- Quoted text (this project's own): printable ASCII is written as it is, a backslash is doubled, and any other byte is
+-- written as \x and two hexadecimal digits.
 use Rattle.std.specs.Prelude.{ℕ, ◌+◌, ◌/◌, ◌%◌, List, [], ◌∷◌, ◌++◌, codes, ◌==◌, ◌&&◌, nat_le, nat_lt, if◌then◌else◌}
 use Rattle.std.specs.List.{flat_map}
 
@@ -12,7 +12,7 @@ quoted_byte b =
     else if nat_le 32 b && nat_le b 126 then b ∷ []
     else codes "\\x" ++ (hex_digit (b / 16) ∷ hex_digit (b % 16) ∷ [])
 
--- a number that is no byte counts by its remainder
+-- a number that is no byte counts modulo 256
 abbrev pub quoted_rest : ℕ → List ℕ
 quoted_rest b = quoted_byte (b % 256)
 

@@ -10,7 +10,7 @@ style_number EchoOn = 2
 style_number ErrorMsg = 3
 style_number TextInfo = 4
 
--- whether a message of this style is a prompt, which wants a reply
+-- whether a message of this style is a prompt, which needs a reply
 abbrev pub is_prompt : Style → Bool
 is_prompt EchoOff = true
 is_prompt EchoOn = true

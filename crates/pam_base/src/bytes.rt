@@ -7,7 +7,7 @@ use crate::fault::NoMemory;
 use crate::text::Text;
 use std::alloc::Global;
 
-/// The place of the byte's first occurrence in the text, from 0; None exactly where it has none.
+/// The position of the byte's first occurrence in the text, from 0; None if and only if there is none.
 pub fn first_place(byte: u8, text: &[u8]) -> Option<usize>
     ensures { IsFirstPlace result byte text.now }
 {

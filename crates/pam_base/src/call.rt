@@ -52,7 +52,7 @@ pub enum AppCall {
     EnvList,
     /// `pam_fail_delay(3)`, in microseconds.
     FailDelay { micros: u32 },
-    /// Turns the application's own delay function (PAM_FAIL_DELAY) on or off.
+    /// Switches the application's own delay function (PAM_FAIL_DELAY) on or off.
     DelayFn { on: bool },
     /// A reply that the conversation gives to a later prompt.
     Reply { text: Text },

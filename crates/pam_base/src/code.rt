@@ -12,11 +12,11 @@ pub enum Code {
     SymbolErr,
     /// PAM_SERVICE_ERR (3): an error in a module.
     ServiceErr,
-    /// PAM_SYSTEM_ERR (4).
+    /// PAM_SYSTEM_ERR (4): an error of the system, or a call with flags that are not allowed.
     SystemErr,
     /// PAM_BUF_ERR (5): out of memory, or a text is too long.
     BufErr,
-    /// PAM_PERM_DENIED (6).
+    /// PAM_PERM_DENIED (6): the user is refused.
     PermDenied,
     /// PAM_AUTH_ERR (7): authentication failed.
     AuthErr,
@@ -24,21 +24,21 @@ pub enum Code {
     CredInsufficient,
     /// PAM_AUTHINFO_UNAVAIL (9): the authentication data cannot be read.
     AuthinfoUnavail,
-    /// PAM_USER_UNKNOWN (10).
+    /// PAM_USER_UNKNOWN (10): there is no such account.
     UserUnknown,
-    /// PAM_MAXTRIES (11).
+    /// PAM_MAXTRIES (11): too many attempts; don't ask again.
     MaxTries,
     /// PAM_NEW_AUTHTOK_REQD (12): the password has expired and must be changed.
     NewAuthtokReqd,
-    /// PAM_ACCT_EXPIRED (13).
+    /// PAM_ACCT_EXPIRED (13): the account has expired.
     AcctExpired,
-    /// PAM_SESSION_ERR (14).
+    /// PAM_SESSION_ERR (14): the session could not be opened or closed.
     SessionErr,
-    /// PAM_CRED_UNAVAIL (15).
+    /// PAM_CRED_UNAVAIL (15): the credentials cannot be retrieved.
     CredUnavail,
-    /// PAM_CRED_EXPIRED (16).
+    /// PAM_CRED_EXPIRED (16): the credentials have expired.
     CredExpired,
-    /// PAM_CRED_ERR (17).
+    /// PAM_CRED_ERR (17): the credentials could not be set.
     CredErr,
     /// PAM_NO_MODULE_DATA (18): `pam_get_data(3)` found no data of this name.
     NoModuleData,
@@ -46,27 +46,27 @@ pub enum Code {
     ConvErr,
     /// PAM_AUTHTOK_ERR (20): the new password could not be stored.
     AuthtokErr,
-    /// PAM_AUTHTOK_RECOVERY_ERR (21): the old password could not be had.
+    /// PAM_AUTHTOK_RECOVERY_ERR (21): the old password could not be obtained.
     AuthtokRecoveryErr,
-    /// PAM_AUTHTOK_LOCK_BUSY (22).
+    /// PAM_AUTHTOK_LOCK_BUSY (22): the password file is locked.
     AuthtokLockBusy,
-    /// PAM_AUTHTOK_DISABLE_AGING (23).
+    /// PAM_AUTHTOK_DISABLE_AGING (23): password aging is switched off.
     AuthtokDisableAging,
     /// PAM_TRY_AGAIN (24): the first pass of `pam_chauthtok(3)` failed.
     TryAgain,
     /// PAM_IGNORE (25): the module does not count.
     Ignore,
-    /// PAM_ABORT (26).
+    /// PAM_ABORT (26): the call was aborted.
     Abort,
-    /// PAM_AUTHTOK_EXPIRED (27).
+    /// PAM_AUTHTOK_EXPIRED (27): the password has expired.
     AuthtokExpired,
     /// PAM_MODULE_UNKNOWN (28): there is no such module.
     ModuleUnknown,
-    /// PAM_BAD_ITEM (29).
+    /// PAM_BAD_ITEM (29): the item may not be read or set.
     BadItem,
     /// PAM_CONV_AGAIN (30): the conversation has no reply yet.
     ConvAgain,
-    /// PAM_INCOMPLETE (31): the call is to be made again once there is a reply.
+    /// PAM_INCOMPLETE (31): the call has to be made again once there is a reply.
     Incomplete,
 }
 

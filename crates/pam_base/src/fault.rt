@@ -3,7 +3,7 @@ ghost use Rattle.pam_base.specs.Fault.{fault_number, fault_name, script_fault_nu
 
 use std::alloc::{AllocError, AllocFailed};
 
-/// There was no memory.
+/// Out of memory.
 #[derive(Clone, Copy, Debug, PartialEq, Eq)]
 pub struct NoMemory;
 
@@ -11,7 +11,7 @@ pub struct NoMemory;
 #[derive(Clone, Copy, Debug, PartialEq, Eq)]
 pub struct BadItem;
 
-/// The outside failed: a device, a folder or a stream.
+/// The outside failed: a device, a directory or a stream.
 #[derive(Clone, Copy, Debug, PartialEq, Eq)]
 pub struct Failed;
 
@@ -19,11 +19,11 @@ pub struct Failed;
 #[derive(Clone, Copy, Debug, PartialEq, Eq)]
 pub struct ConvErr;
 
-/// No datum of this name is set (`PAM_NO_MODULE_DATA`).
+/// No module data of this name are set (`PAM_NO_MODULE_DATA`).
 #[derive(Clone, Copy, Debug, PartialEq, Eq)]
 pub struct NoModuleData;
 
-/// Why a call was refused: there was no memory, or one of its own faults.
+/// Why a call was refused: out of memory, or one of its own faults.
 #[derive(Clone, Copy, Debug, PartialEq, Eq)]
 pub enum Refuse<F> {
     NoMemory,
@@ -44,17 +44,17 @@ pub enum FaultKind {
     BadControl = 5,
     /// A name in brackets is neither `default` nor the word of a code.
     BadReturnName = 6,
-    /// An action in brackets is no word of an action and no number from 1 to 255.
+    /// An action in brackets is neither a keyword nor a number from 1 to 255.
     BadAction = 7,
-    /// A jump over no node.
+    /// A jump over 0 lines.
     ZeroJump = 8,
     /// The first field of a rule is no type (`auth account password session`).
     BadType = 9,
     /// A rule ends before its next field.
     MissingField = 10,
-    /// A file that a rule includes isn't there.
+    /// A file that a rule includes doesn't exist.
     IncludeAbsent = 11,
-    /// A file would be the seventeenth that is included inside one another.
+    /// A file would be the seventeenth in a chain of includes.
     TooDeep = 12,
     /// A stack would have more than 4,096 lines.
     TooManyLines = 13,
@@ -69,9 +69,9 @@ pub enum FaultKind {
 /// What is wrong with a line of a script.
 #[derive(Clone, Copy, Debug, PartialEq, Eq)]
 pub enum ScriptKind {
-    /// A word isn't of its form, or there are too few or too many.
+    /// A word doesn't have the right form, or there are too few or too many words.
     BadWord = 1,
-    /// A number isn't of its form.
+    /// A number doesn't have the right form.
     BadNumeral = 2,
     /// The line has more than 512 bytes.
     LineTooLong = 3,

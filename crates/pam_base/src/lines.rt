@@ -27,7 +27,7 @@ impl<'a> Lines<'a> {
         Lines { rest: text }
     }
 
-    /// The next line; None exactly where none is left.
+    /// The next line; None if and only if none is left.
     pub fn next_line(&mut self) -> Option<&'a [u8]>
         ensures line { option_map (λ l. l.now) result ≡ slice_get self.old 0 }
         ensures left { self.new ≡ drop 1 self.old }

@@ -5,8 +5,8 @@ ghost use Rattle.pam_base.specs.Number.{is_numeral, number_of_word, value_of_dig
 
 const MAX_DIGITS: usize = 10;
 
-/// The number that a word stands for: 1 to 10 decimal digits, leading zeros allowed, of value at most
-/// 4,294,967,295. None exactly for all other words.
+/// The number that a word means: 1 to 10 decimal digits, leading zeros allowed, with a value of at most 4,294,967,295.
+/// None for exactly all other words.
 pub fn number_in(word: &[u8]) -> Option<u32>
     ensures { result ≡ number_of_word word.now }
 {
@@ -27,7 +27,7 @@ fn is_numeral(word: &[u8]) -> bool
     !word.is_empty() && word.len() <= MAX_DIGITS && are_digits(word)
 }
 
-/// Whether all bytes of the word are decimal digits; those of an empty word are.
+/// Whether all bytes of the word are decimal digits; an empty word counts as such.
 pub fn are_digits(word: &[u8]) -> bool
     ensures { result ≡ list_all is_ascii_digit word.now }
 {

@@ -4,8 +4,8 @@ ghost use Rattle.pam_base.specs.Parts.{parts_of};
 use crate::bytes::first_place;
 use std::marker::Model;
 
-/// Takes the parts of a text round its separators one by one. Contracts see the parts that are left. An empty
-/// text has one empty part.
+/// Takes the parts of a text between its separators one by one. Contracts see the parts that are left. An empty text
+/// has one empty part.
 #[derive(Drop)]
 pub struct Parts<'a> {
     separator: u8,
@@ -34,7 +34,7 @@ impl<'a> Parts<'a> {
         }
     }
 
-    /// The next part; None exactly where none is left.
+    /// The next part; None if and only if none is left.
     pub fn next_part(&mut self) -> Option<&'a [u8]>
         ensures part { option_map (λ p. p.now) result ≡ slice_get self.old 0 }
         ensures left { self.new ≡ drop 1 self.old }

@@ -26,7 +26,7 @@ pub type Texts = Sequence<Text>;
 pub type Numbers = Sequence<u64>;
 
 impl<T> Sequence<T> {
-    /// An empty list. It takes no memory before the first `push`.
+    /// An empty list. Allocates nothing before the first `push`.
     pub fn new(alloc: Global) -> Self
         ensures { result ≡ [] }
     {
@@ -35,7 +35,7 @@ impl<T> Sequence<T> {
         }
     }
 
-    /// Adds an element at the end. Without memory the list stays as it was.
+    /// Adds an element at the end. If memory runs out, the list stays as it was.
     pub fn push(&mut self, element: T) -> Result<(), NoMemory>
     where
         T: Drop,
@@ -72,14 +72,14 @@ impl<T> Sequence<T> {
         &self.vec
     }
 
-    /// Takes no memory.
+    /// Allocates nothing.
     pub fn from_vec(vec: Vec<T>) -> Self
         ensures { result ≡ vec.items }
     {
         Sequence { vec }
     }
 
-    /// Takes no memory.
+    /// Allocates nothing.
     pub fn into_vec(self) -> Vec<T>
         ensures { result.items ≡ self }
     {

@@ -6,10 +6,10 @@ use std::alloc::Global;
 use std::marker::Model;
 use std::rc::Rc;
 
-/// Bytes with one or more owners, in one thread. They go with their last owner. Contracts see the list of bytes.
+/// Bytes with one or more owners, in one thread. They are freed with their last owner. Contracts see the list of bytes.
 #[derive(Debug, Drop)]
 pub struct SharedText {
-    // None stands for an empty text, which takes no memory.
+    // None means an empty text, which needs no memory.
     shared: Option<Rc<Text>>,
 }
 
@@ -22,7 +22,7 @@ impl Model for SharedText {
 }
 
 impl SharedText {
-    /// An empty text. It takes no memory.
+    /// An empty text. Allocates nothing.
     pub fn new() -> Self
         ensures { result ≡ [] }
     {
@@ -39,8 +39,7 @@ impl SharedText {
         })
     }
 
-    /// One owner more of the same bytes. It takes no memory, and answers `NoMemory` only where they have 2^64 - 1
-    /// owners.
+    /// One more owner of the same bytes. Allocates nothing, and returns `NoMemory` only if they have 2^64 - 1 owners.
     pub fn share(&self) -> Result<Self, NoMemory>
         ensures { IfOk result (λ text. text ≡ self.now) }
     {

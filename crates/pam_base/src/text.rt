@@ -34,7 +34,7 @@ pub fn wipe(bytes: &mut [u8])
 }
 
 impl Text {
-    /// An empty text. It takes no memory before the first `push`.
+    /// An empty text. Allocates nothing before the first `push`.
     pub fn new(alloc: Global) -> Self
         ensures { result ≡ [] }
     {
@@ -52,7 +52,7 @@ impl Text {
         })
     }
 
-    /// Takes no memory.
+    /// Allocates nothing.
     pub fn from_vec(vec: Vec<u8>) -> Self
         ensures { result ≡ vec.items }
     {
@@ -71,8 +71,8 @@ impl Text {
         Ok(())
     }
 
-    // Moves the bytes to where there is room for more. A push that moved them would free them as they
-    // are.
+    // Moves the bytes to memory with room for more. A push that moved them would free the old memory without
+    // overwriting it.
     fn grow(&mut self) -> Result<(), NoMemory>
         ensures { self.new ≡ self.old }
     {
