@@ -2,7 +2,7 @@
 use Rattle.std.proofs.Common.{◌≡◌, ℕ, ◌+◌, ◌≤◌, List, ◌++◌, length}
 use Rattle.pam_outside.specs.Streams.{SinkState}
 
--- a front was written, and the rest is left
+-- a prefix was written, and the rest is left
 pub record IsWritten (text rest : List ℕ) (old now : SinkState) : Type 0 where
   pub front : List ℕ
   pub parts : text ≡ front ++ rest

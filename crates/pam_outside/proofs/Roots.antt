@@ -15,7 +15,7 @@ root_before-slash : (front : List ℕ) → root_before (front ++ 47 ∷ []) ≡ 
 root_before-slash [] = refl
 root_before-slash (b ∷ bs) = rw (all-slash (b ∷ bs), root_before-slash bs) refl
 
--- without one at the end all stays
+-- without a slash at the end it stays as it is
 last_is : List ℕ → Bool
 last_is [] = false
 last_is (b ∷ []) = eqb b 47

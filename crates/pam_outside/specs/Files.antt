@@ -1,4 +1,4 @@
--- What a vault may tell, and what its calls answer (this project's own).
+-- The content of a modelled file store, and what its calls return (this project's own).
 use Rattle.std.specs.Prelude.{◌≡◌, ℕ, ◌≤◌, ◌<◌, Bool, true, false, if◌then◌else◌, Option, Some, None, List, [], ◌∷◌, ◌++◌, length, codes, nat_eq, Result, Ok, Err, IsSomeAnd}
 use Rattle.std.specs.List.{list_any, starts_with}
 use Rattle.std.specs.Str.{bytes_eq}
@@ -12,17 +12,17 @@ pub record File : Type 0 where
   pub path : List ℕ
   pub bytes : List ℕ
 
--- the files, the number of calls so far, and the numbers of the calls that are to fail
+-- the files, the number of calls so far, and the numbers of the calls planned to fail
 pub record VaultState : Type 0 where
   pub files : List File
   pub calls : ℕ
   pub fails : List ℕ
 
--- after one call more
+-- after one more call
 abbrev pub counted : VaultState → VaultState
 counted s = record s { calls = next_count s.calls }
 
--- whether the next call is to fail
+-- whether the next call is planned to fail
 abbrev pub is_failing : VaultState → Bool
 is_failing s = fails_next s.calls s.fails
 
@@ -31,7 +31,7 @@ abbrev pub file_at : List ℕ → List File → Option (List ℕ)
 file_at path [] = None
 file_at path (f ∷ fs) = if bytes_eq f.path path then Some f.bytes else file_at path fs
 
--- the files with this one set whole
+-- the files with this one replaced or added
 abbrev pub file_put : List ℕ → List ℕ → List File → List File
 file_put path bytes [] = record { path = path; bytes = bytes } ∷ []
 file_put path bytes (f ∷ fs) = if bytes_eq f.path path
@@ -45,8 +45,7 @@ is_below folder path = starts_with nat_eq path (folder ++ codes "/")
 abbrev pub is_folder : List ℕ → List File → Bool
 is_folder path files = list_any (λ f. is_below path f.path) files
 
--- what a read of a file may answer: a call that is to fail answers Failed and nothing else, and want of memory is
--- free at every other
+-- the result of reading a file: a call planned to fail returns Failed and nothing else; any other may run out of memory
 abbrev pub ReadsFile : Result (List ℕ) VaultFault → List ℕ → ℕ → VaultState → Type 0
 ReadsFile (Ok bytes) path limit s = (is_failing s ≡ false) × (file_at path s.files ≡ Some bytes)
     × (length bytes ≤ limit)
@@ -57,13 +56,13 @@ ReadsFile (Err read_faults.TooLong) path limit s = (is_failing s ≡ false)
 ReadsFile (Err read_faults.Failed) path limit s = is_failing s ≡ true
 ReadsFile (Err read_faults.NoMemory) path limit s = is_failing s ≡ false
 
--- what the question whether a path is a folder may answer
+-- the result of asking whether a path is a directory
 abbrev pub TellsFolder : Result Bool ReplaceFault → List ℕ → VaultState → Type 0
 TellsFolder (Ok found) path s = (is_failing s ≡ false) × (found ≡ is_folder path s.files)
 TellsFolder (Err replace_faults.Failed) path s = is_failing s ≡ true
 TellsFolder (Err replace_faults.NoMemory) path s = is_failing s ≡ false
 
--- what setting a file whole may answer, and what is told after it: where it is refused, the files are as before
+-- the result of replacing or adding a file, and the files after it: if it is refused, they are as before
 abbrev pub Replaces : {T : Type 0} → Result T ReplaceFault → List ℕ → List ℕ → VaultState
     → VaultState → Type 0
 Replaces (Ok done) path bytes old new = (is_failing old ≡ false)

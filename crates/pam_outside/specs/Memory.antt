@@ -1,9 +1,9 @@
--- What the objects in memory hold (this project's own).
+-- The content of the objects in memory (this project's own).
 use Rattle.std.specs.Prelude.{ℕ, List}
 use Rattle.pam_outside.specs.Files.{File}
 
--- a source: the bytes that are left, the reads so far and those of them at the end, the faults, and the numbers of
--- the calls that are to fail
+-- a source: the bytes that are left, the reads so far and those of them at the end, the failures, and the numbers of
+-- the calls planned to fail
 pub record SourceMemory : Type 0 where
   pub left : List ℕ
   pub calls : ℕ
@@ -11,8 +11,8 @@ pub record SourceMemory : Type 0 where
   pub faults : ℕ
   pub fails : List ℕ
 
--- a sink: the bytes that were written, the bytes that it has room for still, the calls and the faults so far,
--- and the numbers of the calls that are to fail
+-- a sink: the bytes that were written, the bytes for which it still has room, the calls and the failures so far, and
+-- the numbers of the calls planned to fail
 pub record SinkMemory : Type 0 where
   pub written : List ℕ
   pub room : ℕ
@@ -20,7 +20,7 @@ pub record SinkMemory : Type 0 where
   pub faults : ℕ
   pub fails : List ℕ
 
--- a vault: the files, the calls and the faults so far, and the numbers of the calls that are to fail
+-- a file store: the files, the calls and the failures so far, and the numbers of the calls planned to fail
 pub record VaultMemory : Type 0 where
   pub files : List File
   pub calls : ℕ

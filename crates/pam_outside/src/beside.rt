@@ -9,7 +9,7 @@ use std::io::{self, ErrorKind, Write};
 use std::os::unix::fs::{MetadataExt, OpenOptionsExt, fchown};
 use std::rt::{Clock as SystemClock, Files};
 
-/// Writes a file beside and renames it to the path, so that the path never names a file that is written in part,
+/// Writes a file beside the old one and renames it to the path, so that the path never names a partly written file,
 /// whoever else writes it.
 pub fn replace_beside(
     rt: &HostRuntime,
@@ -38,10 +38,10 @@ pub fn replace_beside(
     Err(ReplaceFault::Failed)
 }
 
-// How many names are tried.
+// The number of names that are tried.
 const TRIES: u32 = 64;
 
-// What the name of a file that is being written ends with.
+// The suffix of the name of a file that is being written.
 const ENDING: &str = ".pamsess-new";
 
 // A new file that only its owner may read, locked until it is closed; None if the name is taken. Whoever removes what

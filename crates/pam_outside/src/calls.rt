@@ -3,12 +3,12 @@ ghost use Rattle.pam_outside.specs.Counts.{next_count, fails_next};
 
 use pam_base::Numbers;
 
-/// The calls of an object in memory, which fails at those whose numbers it was given.
+/// The calls of an object in memory; those with the given numbers fail.
 #[derive(Drop)]
 pub struct Calls {
     pub made: u64,
     pub faults: u64,
-    /// The numbers, from 1, of the calls that are to fail.
+    /// The numbers, from 1, of the calls planned to fail.
     pub fails: Numbers,
 }
 
@@ -23,7 +23,7 @@ impl Calls {
         }
     }
 
-    /// Counts a call, and says whether it is to fail.
+    /// Counts a call, and returns whether it is planned to fail.
     pub fn next_fails(&mut self) -> bool
         ensures counted { self.new ≡ record self.old { made = next_count self.old.made } }
         ensures fails { result ≡ fails_next self.old.made self.old.fails }
@@ -35,7 +35,7 @@ impl Calls {
         self.fails.items().contains(&self.made)
     }
 
-    /// Counts a fault.
+    /// Counts a failure.
     pub fn count_fault(&mut self)
         ensures counted { self.new ≡ record self.old { faults = next_count self.old.faults } }
         ensures later { self.old.faults ≤ self.new.faults }

@@ -17,16 +17,15 @@ use std::io::ErrorKind;
 use std::marker::Model;
 use std::rt::Files;
 
-/// The files of a runtime, as `main` is given one, by their paths; a relative path begins at the working folder.
-/// It tells nothing but its faults: each Failed counts one, and nothing else does. A path that isn't UTF-8 is
-/// Failed.
+/// The files of a runtime that `main` gets, by their paths; a relative path begins at the working directory. Only its
+/// failures are modelled: each Failed counts one, and nothing else does. A path that isn't UTF-8 is Failed.
 #[derive(Drop)]
 pub struct FolderVault {
     rt: HostRuntime,
     faults: u64,
-    /// What a read goes by, so that it isn't cleared for each.
+    /// The buffer of a read, so that it isn't cleared for each.
     piece: [u8; CHUNK],
-    /// The files that stay open. Each is read anew, but opened only where its path names another one by now.
+    /// The files that stay open. Each is read anew, but opened again only if its path names another one by now.
     held: Vec<HeldFile>,
 }
 
@@ -40,7 +39,7 @@ impl Model for FolderVault {
 }
 
 impl FolderVault {
-    /// A vault that hasn't failed yet.
+    /// A file store that hasn't failed yet.
     pub fn new(rt: HostRuntime) -> Self
         ensures { result ≡ record { inner = rt; faults = 0 } }
     {
@@ -56,14 +55,14 @@ impl FolderVault {
 impl Vault for FolderVault {
     ghost vault_tells = { λ v. false };
 
-    // never told
+    // never modelled
     ghost vault_holds = { λ v. record { files = []; calls = 0; fails = [] } };
 
     ghost vault_faults = { λ v. v.faults };
 
-    /// Absent comes where opening answers that there is no such file, or no folder on the way to it, and nowhere
-    /// else. What isn't a regular file is Failed, and isn't opened; so are a path that the
-    /// system refuses, and any other error.
+    /// Absent is returned if the system says that there is no such file, or no directory on the way to it, and only
+    /// then. What isn't a regular file is Failed, and isn't opened; so are a path that the system refuses, and any
+    /// other error.
     fn read(&mut self, alloc: Global, path: &[u8], limit: u32) -> Result<Text, VaultFault>
         ensures bound { IfOk result (λ text. length text ≤ limit) }
         ensures tells { ⟦<FolderVault as Vault>⟧.vault_tells self.new ≡
@@ -93,8 +92,8 @@ impl Vault for FolderVault {
         result
     }
 
-    /// Whether the path is a folder, be it empty or not: no, where there is a file or nothing. Any other error of
-    /// the system is Failed. It takes no memory.
+    /// Whether the path is a directory, even an empty one; not if there is a file or nothing. Any other error of the
+    /// system is Failed. Allocates nothing.
     fn folder(&mut self, _alloc: Global, path: &[u8]) -> Result<bool, ReplaceFault>
         ensures tells { ⟦<FolderVault as Vault>⟧.vault_tells self.new ≡
             ⟦<FolderVault as Vault>⟧.vault_tells self.old }
@@ -163,8 +162,8 @@ impl Vault for FolderVault {
         result
     }
 
-    /// Locks the file at this path, which is made where it isn't there, and tries for 15 seconds. Where its folder
-    /// isn't there, nothing is held. A path that isn't UTF-8, what isn't a file, and any other error are Failed.
+    /// Locks the file at this path, which is made if it doesn't exist, and tries for 15 seconds. If its directory
+    /// doesn't exist, nothing is locked. A path that isn't UTF-8, what isn't a file, and any other error are Failed.
     fn hold(&mut self, path: &[u8], kind: LockKind) -> Result<Held, Failed>
         ensures tells { ⟦<FolderVault as Vault>⟧.vault_tells self.new ≡
             ⟦<FolderVault as Vault>⟧.vault_tells self.old }
@@ -193,9 +192,9 @@ impl Vault for FolderVault {
 }
 
 impl FolderVault {
-    // What the path names is looked at before it is opened, so that what isn't a regular file isn't waited for. The same
-    // look tells whether it is a file that is open already, and its size; files of /proc say that they have no bytes,
-    // and have some.
+    // The type of the file is checked before it is opened, so that opening anything but a regular file can't block. The
+    // same check finds out whether the file is already open, and its size; files in /proc claim to have no bytes, and
+    // have some.
     fn file_bytes(&mut self, alloc: Global, path: &[u8], limit: u32) -> Result<Text, VaultFault>
         ensures bound { IfOk result (λ text. length text ≤ limit) }
         ensures not_text { ¬ (IsUtf8 path.now) → result ≡ Err VaultFault.Failed }

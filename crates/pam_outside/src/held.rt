@@ -16,23 +16,23 @@ pub enum LockKind {
     Whole,
 }
 
-/// What is held of a vault, until it is dropped.
+/// A lock on files, held until it is dropped.
 #[derive(Drop)]
 pub struct Held {
     lock: Lock,
 }
 
-// An open file that is locked. Its lock ends when it is closed, as it is when the process ends.
+// An open file that is locked. Its lock ends when it is closed, and with the process.
 #[derive(Drop)]
 enum Lock {
     Nothing,
-    // The kit's database files are what takes a lock by fcntl(2); no byte of the file is read or written.
+    // The database files of Rattle's library lock by fcntl(2); no byte of the file is read or written.
     Record(Files<sqlite_std_file::File>),
     Whole(File),
 }
 
 impl Held {
-    /// Nothing is held.
+    /// Nothing is locked.
     pub fn nothing() -> Held {
         Held {
             lock: Lock::Nothing,
@@ -40,10 +40,10 @@ impl Held {
     }
 }
 
-// How often a lock is tried, a tenth of a second apart: 15 seconds, as lckpwdf(3) waits.
+// The number of attempts at a lock, a tenth of a second apart: 15 seconds, as in lckpwdf(3).
 const TRIES: u32 = 150;
 
-/// Locks the file at this path, and makes it if it isn't there. If its directory isn't there, nothing is held.
+/// Locks the file at this path, and makes it if it doesn't exist. If its directory doesn't exist, nothing is locked.
 pub fn hold_path(rt: &HostRuntime, path: &[u8], kind: LockKind) -> Result<Held, Failed> {
     let path = str::from_utf8(path).map_err(|_| Failed)?;
     match locked(rt, path, kind) {
@@ -69,7 +69,7 @@ fn locked(rt: &HostRuntime, path: &str, kind: LockKind) -> io::Result<Lock> {
 
 // None if another process has the lock.
 fn record_lock(rt: &HostRuntime, path: &str) -> io::Result<Option<Lock>> {
-    // The file is made here, so that nobody but its owner may open it: whoever may open it may lock it.
+    // The file is made here, so that only its owner may open it: whoever may open it may lock it.
     let _file = opened(rt, path)?;
     match sqlite_std_file::open(rt, path, Unknown) {
         Ok(files) => {
@@ -82,7 +82,7 @@ fn record_lock(rt: &HostRuntime, path: &str) -> io::Result<Option<Lock>> {
     }
 }
 
-// The file that the kit makes beside a database. Only who holds the lock has it.
+// The file that Rattle's library makes beside a database. Only the process with the lock has it.
 fn remove_log(rt: &HostRuntime, path: &str) -> io::Result<()> {
     let log = format!(in rt.alloc(); "{path}-wal")?;
     fs::remove_file(rt, log.as_str())

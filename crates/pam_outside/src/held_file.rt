@@ -3,14 +3,13 @@ use std::fs::{File, Metadata};
 use std::io;
 use std::os::unix::fs::MetadataExt;
 
-/// How many files stay open.
+/// The number of files that stay open.
 const MOST: usize = 8;
 
-/// The rights of its owner, its group and all others to read a file.
+/// The permission bits by which its owner, its group and all others may read a file.
 const EVERYBODY: u32 = 0o444;
 
-/// A file that was opened by a path, and what it was then. As long as it is open, no other file has its device and
-/// inode.
+/// A file that was opened by a path, and its state then. As long as it is open, no other file has its device and inode.
 #[derive(Drop)]
 pub(crate) struct HeldFile {
     pub(crate) path: Text,
@@ -18,8 +17,8 @@ pub(crate) struct HeldFile {
     pub(crate) file: File,
 }
 
-/// Takes out the file that was opened by this path, if that is what the path names now, with the same rights; else it
-/// is closed. A file that is written, or gets another owner or mode, has another time of change.
+/// Takes out the file that was opened by this path, if the path still names it, with the same permissions; else it is
+/// closed. A file that is written, or gets another owner or mode, has another time of change.
 pub(crate) fn take_held(
     held: &mut Vec<HeldFile>,
     path: &[u8],
@@ -44,9 +43,9 @@ pub(crate) fn take_held(
     None
 }
 
-/// Lets a file stay open, and if there are many closes another one. Only a regular file that everybody may read stays
-/// open, so that no secrets are within reach of what the process becomes later; and none of a file system that gives
-/// each file the number 0, which doesn't tell them apart. Without memory it is closed.
+/// Lets a file stay open; if there are too many, another one is closed. Only a regular file that everybody may read
+/// stays open, so that no secrets are within reach of what the process becomes later; and none of a file system that
+/// gives all files the inode number 0, since files can't be distinguished there. If memory runs out, it is closed.
 pub(crate) fn put_held(held: &mut Vec<HeldFile>, file: HeldFile) {
     let then = &file.then;
     if !then.is_file() || then.ino() == 0 || then.mode() & EVERYBODY != EVERYBODY {

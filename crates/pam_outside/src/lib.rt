@@ -1,6 +1,6 @@
-//! What the runtime reaches of the outside: where bytes come from, where they go, files by their paths, the time
-//! of day, random words, and waits. An object may tell what it holds, as those in memory do; the real ones tell
-//! nothing but their faults.
+//! What the runtime uses of its surroundings: where bytes come from and go to, files by path, the time of day, random
+//! words, and sleep. Contracts know the content of the objects in memory: these are modelled. Of the real ones they
+//! only know the number of failures. Begin at `vault.rt`.
 #![tactic(auto)]
 
 mod beside;

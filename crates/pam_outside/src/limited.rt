@@ -9,12 +9,11 @@ use pam_base::Text;
 use std::alloc::Global;
 use std::io::Read;
 
-/// How many bytes are read at once.
+/// The number of bytes read at once.
 pub const CHUNK: usize = 4096;
 
-/// All that a reader has left, where it is at most n bytes, read by way of a piece of memory.
-/// TooLong comes only where it is more, Failed only where the reader gave an error, and Absent
-/// never.
+/// Everything that a reader has left, if that is at most n bytes, read through a small buffer. TooLong is returned only
+/// if it is more, Failed only if the reader gave an error, and Absent never.
 pub fn read_to_limit<F: Read + Drop>(
     alloc: Global,
     source: &mut ReaderSource<F>,
@@ -34,8 +33,8 @@ pub fn read_to_limit<F: Read + Drop>(
     read_until(alloc, source, piece, limit, None)
 }
 
-/// As read_to_limit, of a regular file of this size: a read that reaches the size and gives fewer bytes than were
-/// asked for is the last.
+/// As read_to_limit, for a regular file of this size: a read that reaches the size and returns fewer bytes than
+/// requested is the last.
 pub fn read_of_size<F: Read + Drop>(
     alloc: Global,
     source: &mut ReaderSource<F>,
@@ -58,7 +57,7 @@ pub fn read_of_size<F: Read + Drop>(
     read_until(alloc, source, piece, limit, Some(size))
 }
 
-// Reads until a read gives nothing or, where the size is known, reaches it and gives fewer bytes than were asked for.
+// Reads until a read returns nothing or, if the size is known, reaches it and returns fewer bytes than requested.
 fn read_until<F: Read + Drop>(
     alloc: Global,
     source: &mut ReaderSource<F>,
@@ -90,7 +89,7 @@ fn read_until<F: Read + Drop>(
     Err(VaultFault::TooLong)
 }
 
-// Reads once, and adds what it read to the bytes, at most n in all.
+// Reads once, and adds the bytes read, at most n in all.
 fn read_more<F: Read + Drop>(
     source: &mut ReaderSource<F>,
     piece: &mut [u8; CHUNK],

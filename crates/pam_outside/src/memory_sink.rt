@@ -8,7 +8,7 @@ use pam_base::{Failed, NoMemory, Numbers};
 use std::alloc::Global;
 use std::marker::Model;
 
-/// A sink into memory of a fixed size, which can be told to fail. It tells what it holds.
+/// A sink into memory of a fixed size, with planned failures. It is modelled.
 #[derive(Drop)]
 pub struct MemSink {
     bytes: Vec<u8>,
@@ -34,8 +34,8 @@ impl Model for MemSink {
 }
 
 impl MemSink {
-    /// An empty sink with room for n bytes, which it takes here and not later. `fails` has the numbers,
-    /// from 1, of the writes that are to fail.
+    /// An empty sink with room for n bytes, which is allocated here and not later. `fails` has the numbers, from 1, of
+    /// the writes planned to fail.
     pub fn new(alloc: Global, room: usize, fails: Numbers) -> Result<MemSink, NoMemory>
         ensures { IfOk result
             (λ sink. sink ≡ record {
@@ -70,9 +70,8 @@ impl Sink for MemSink {
 
     ghost sink_faults = { λ s. s.faults };
 
-    /// Fails exactly at the writes whose numbers were given and where the piece is longer than the room that is
-    /// left, and otherwise takes the whole piece. A write that fails counts one fault, and no other does. It
-    /// takes no memory.
+    /// Fails exactly at the writes with the given numbers and if the piece is longer than the room left; otherwise
+    /// takes the whole piece. A failed write counts one failure, and no other does. Allocates nothing.
     fn write(&mut self, piece: &[u8]) -> Result<usize, Failed>
         requires { 0 < length piece.now }
         ensures bound { IfOk result (λ n. n ≤ length piece.now) }

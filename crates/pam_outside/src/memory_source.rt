@@ -7,7 +7,7 @@ use crate::source::Source;
 use pam_base::{Failed, Numbers, Text};
 use std::marker::Model;
 
-/// A source of bytes in memory, which can be told to fail. It tells what it holds.
+/// A source of bytes in memory, with planned failures. It is modelled.
 #[derive(Drop)]
 pub struct MemSource {
     bytes: Text,
@@ -34,7 +34,7 @@ impl Model for MemSource {
 }
 
 impl MemSource {
-    /// A source of these bytes. `fails` has the numbers, from 1, of the reads that are to fail.
+    /// A source of these bytes. `fails` has the numbers, from 1, of the reads planned to fail.
     pub fn new(bytes: Text, fails: Numbers) -> MemSource
         ensures { result ≡ record {
           left = bytes;
@@ -77,8 +77,8 @@ impl Source for MemSource {
 
     ghost source_faults = { λ s. s.faults };
 
-    /// Fails exactly at the reads whose numbers were given, and otherwise takes as many bytes as the buffer and
-    /// what is left allow. A read that fails counts one fault, and no other does.
+    /// Fails exactly at the reads with the given numbers, and otherwise takes as many bytes as the buffer and the rest
+    /// allow. A failed read counts one failure, and no other does.
     fn read(&mut self, into: &mut [u8]) -> Result<usize, Failed>
         requires { 0 < length into.old }
         ensures bound { IfOk result (λ n. n ≤ length into.new) }

@@ -25,8 +25,7 @@ impl Model for StoredFile {
     ghost view = { λ f. record { path = f.path; bytes = f.bytes } };
 }
 
-/// Files in memory, by any paths. It tells what it holds: each call fails exactly where its number is among those
-/// that it was given.
+/// Files in memory, with any paths. It is modelled: exactly the calls with the given numbers fail.
 #[derive(Drop)]
 pub struct MemVault {
     files: Vec<StoredFile>,
@@ -47,7 +46,7 @@ impl Model for MemVault {
 }
 
 impl MemVault {
-    /// A vault without files. `fails` has the numbers, from 1, of the calls that are to fail. It takes no memory.
+    /// A store without files. `fails` has the numbers, from 1, of the calls planned to fail. Allocates nothing.
     pub fn new(alloc: Global, fails: Numbers) -> MemVault
         ensures { result ≡ record { files = []; calls = 0; faults = 0; fails = fails } }
     {
@@ -57,8 +56,8 @@ impl MemVault {
         }
     }
 
-    /// Sets the file with this path, whole: one that is there is replaced, and keeps its place. It is no counted
-    /// call. Without memory the vault stays as it was.
+    /// Sets the file with this path: an existing one is replaced, and keeps its position. This isn't counted as a call.
+    /// If memory runs out, nothing changes.
     pub fn put(&mut self, alloc: Global, path: &[u8], bytes: &[u8]) -> Result<(), NoMemory>
         ensures ok { OnOk result
             (self.new ≡ record self.old { files = file_put path.now bytes.now self.old.files }) }
@@ -79,7 +78,7 @@ impl MemVault {
     }
 }
 
-// The place of the file with this path.
+// The index of the file with this path.
 fn place_of(path: &[u8], files: &[StoredFile]) -> Option<usize>
     ensures { result ≡ position (λ file. bytes_eq file.path path.now) files.now }
 {
@@ -138,7 +137,7 @@ impl Vault for MemVault {
         Text::from_bytes(alloc, bytes).map_err(|_| VaultFault::NoMemory)
     }
 
-    /// It takes no memory.
+    /// Allocates nothing.
     fn folder(&mut self, _alloc: Global, path: &[u8]) -> Result<bool, ReplaceFault> {
         if self.calls.next_fails() {
             self.calls.count_fault();

@@ -3,20 +3,20 @@ ghost use Rattle.pam_outside.specs.Time.{NapState, rested};
 
 /// How the program waits.
 pub trait Nap: Drop {
-    /// Whether it tells what it holds. It does so for ever or never.
+    /// Whether contracts know its content: it is modelled. This never changes.
     ghost nap_tells: { Self → Bool };
 
-    /// How often it waited, and the sum of the waits in microseconds, where it tells.
+    /// How often it waited, and the sum of the waits in microseconds, if it is modelled.
     ghost nap_holds: { Self → NapState };
 
-    /// Waits n microseconds. It can't fail, and takes no memory.
+    /// Waits n microseconds. It can't fail, and allocates nothing.
     fn rest(&mut self, micros: u32)
         ensures tells { nap_tells self.new ≡ nap_tells self.old }
         ensures told { IsTrue (nap_tells self.old) →
             nap_holds self.new ≡ rested (nap_holds self.old) micros };
 }
 
-/// `Nap::rest` of a nap that is lent.
+/// `Nap::rest` of a borrowed sleep.
 pub fn rest(nap: &mut dyn Nap, micros: u32)
     ensures tells { nap_tells nap.new ≡ nap_tells nap.old }
     ensures told { IsTrue (nap_tells nap.old) →

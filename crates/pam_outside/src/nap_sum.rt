@@ -3,8 +3,8 @@ ghost use Rattle.std.specs.Prelude.{◌≡◌};
 use crate::nap::Nap;
 use std::marker::Model;
 
-/// A nap that doesn't wait: it adds up how often it would have, and how long. Both counts stand still at the end
-/// of their 64 bits. It tells them.
+/// A sleep that doesn't wait: it counts how often it would have, and adds up how long. Both counts stop at the maximum
+/// of 64 bits. It is modelled.
 #[derive(Drop)]
 pub struct NapSum {
     waits: u64,
@@ -20,7 +20,7 @@ impl Model for NapSum {
 }
 
 impl NapSum {
-    /// A nap that hasn't waited yet.
+    /// A sleep that hasn't waited yet.
     pub fn new() -> NapSum
         ensures { result ≡ record { waits = 0; sum = 0 } }
     {

@@ -8,7 +8,9 @@ use std::alloc::Global;
 pub(crate) fn joined(alloc: Global, front: &[u8], back: &[u8]) -> Result<Text, NoMemory>
     ensures { IfOk result (λ text. text ≡ front.now ++ back.now) }
 {
-    let mut text = Vec::from_slice(alloc, front)?;
+    let length = front.len().saturating_add(back.len());
+    let mut text = Vec::with_capacity(alloc, length)?;
+    text.extend_from_slice(front)?;
     text.extend_from_slice(back)?;
     Ok(Text::from_vec(text))
 }
@@ -31,7 +33,7 @@ fn root_before(root: &[u8]) -> &[u8]
     rest
 }
 
-// What stands before a slash at the end.
+// What comes before a slash at the end.
 fn before_slash(root: &[u8]) -> Option<&[u8]>
     ensures shorter { IfSome result (λ front. length front.now < length root.now) }
     ensures same { IfSome result (λ front. root_before root.now ≡ root_before front.now) }

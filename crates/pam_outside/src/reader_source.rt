@@ -8,7 +8,7 @@ use pam_base::Failed;
 use std::io::Read;
 use std::marker::Model;
 
-/// A source over any reader, as standard input. It tells nothing but its faults.
+/// A source on any reader, such as standard input. Only its failures are modelled.
 #[derive(Drop)]
 pub struct ReaderSource<R: Read + Drop> {
     inner: R,
@@ -35,12 +35,13 @@ impl<R: Read + Drop> ReaderSource<R> {
 impl<R: Read + Drop> Source for ReaderSource<R> {
     ghost source_tells = { λ s. false };
 
-    // never told
+    // never modelled
     ghost source_holds = { λ s. record { left = []; calls = 0; reads_at_end = 0 } };
 
     ghost source_faults = { λ s. s.faults };
 
-    /// Gives what the reader gives. Each error of the reader is Failed and counts a fault, and nothing else does.
+    /// Returns what the reader returns. Each error of the reader is Failed and counts as a failure, and nothing else
+    /// does.
     fn read(&mut self, into: &mut [u8]) -> Result<usize, Failed>
         requires { 0 < length into.old }
         ensures bound { IfOk result (λ n. n ≤ length into.new) }

@@ -4,19 +4,19 @@ ghost use Rattle.pam_outside.specs.Streams.{SinkState, Writes};
 
 use pam_base::Failed;
 
-/// Where bytes go, as standard output.
+/// Where bytes go, such as standard output.
 pub trait Sink {
-    /// Whether it tells what it holds. It does so for ever or never.
+    /// Whether contracts know its content: it is modelled. This never changes.
     ghost sink_tells: { Self → Bool };
 
-    /// The bytes that were written and how often it was called, where it tells.
+    /// The bytes that were written and how often it was called, if it is modelled.
     ghost sink_holds: { Self → SinkState };
 
-    /// How often it has failed. The count never falls, and stands still at 2^64 - 1.
+    /// How often it has failed. The count never falls, and stops at 2^64 - 1.
     ghost sink_faults: { Self → ℕ };
 
-    /// Writes bytes of the piece's front and answers how many. Failed writes none. Failed, and the answer 0,
-    /// come only where the count of faults rose; the count rises with no other answer.
+    /// Writes a prefix of the piece and returns its length. Failed writes nothing. Failed, and the result 0, are
+    /// returned only if the count of failures rose; the count rises with no other result.
     fn write(&mut self, piece: &[u8]) -> Result<usize, Failed>
         requires { 0 < length piece.now }
         ensures bound { IfOk result (λ n. n ≤ length piece.now) }

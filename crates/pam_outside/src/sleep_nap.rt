@@ -5,7 +5,7 @@ use std::rt::Clock as SystemClock;
 use std::thread;
 use std::time::Duration;
 
-/// Waits by the clock of a runtime, as `main` is given one. It tells nothing.
+/// Waits by the clock of a runtime that `main` gets. It isn't modelled.
 #[derive(Drop)]
 pub struct SleepNap<R: SystemClock + Drop> {
     rt: R,
@@ -20,7 +20,7 @@ impl<R: SystemClock + Drop> SleepNap<R> {
 impl<R: SystemClock + Drop> Nap for SleepNap<R> {
     ghost nap_tells = { λ n. false };
 
-    // never told
+    // never modelled
     ghost nap_holds = { λ n. record { waits = 0; sum = 0 } };
 
     fn rest(&mut self, micros: u32) {

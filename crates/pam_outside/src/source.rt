@@ -4,20 +4,20 @@ ghost use Rattle.pam_outside.specs.Streams.{SourceState, Reads};
 
 use pam_base::Failed;
 
-/// Where bytes come from, as standard input.
+/// Where bytes come from, such as standard input.
 pub trait Source {
-    /// Whether it tells what it holds. It does so for ever or never.
+    /// Whether contracts know its content: it is modelled. This never changes.
     ghost source_tells: { Self → Bool };
 
-    /// The bytes that are left, how often it was read, and how often of these at its end, where it tells.
+    /// The bytes that are left, how often it was read, and how often of these at its end, if it is modelled.
     ghost source_holds: { Self → SourceState };
 
-    /// How often it has failed. The count never falls, and stands still at 2^64 - 1.
+    /// How often it has failed. The count never falls, and stops at 2^64 - 1.
     ghost source_faults: { Self → ℕ };
 
-    /// Takes the next bytes into the front of the buffer and answers how many, at most the buffer's length.
-    /// 0 comes exactly at the end. Failed takes none, and comes only where the count of faults rose; the count
-    /// rises with no other answer.
+    /// Takes the next bytes into the beginning of the buffer and returns how many, at most the buffer's length. 0 is
+    /// returned exactly at the end. Failed takes none, and is returned only if the count of failures rose; the count
+    /// rises with no other result.
     fn read(&mut self, into: &mut [u8]) -> Result<usize, Failed>
         requires { 0 < length into.old }
         ensures bound { IfOk result (λ n. n ≤ length into.new) }

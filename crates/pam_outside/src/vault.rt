@@ -18,7 +18,7 @@ pub enum VaultFault {
     Failed,
 }
 
-/// Why a file isn't replaced, or a folder not looked for.
+/// Why a file isn't replaced, or a directory not looked for.
 #[derive(Clone, Copy, Debug, PartialEq, Eq)]
 pub enum ReplaceFault {
     NoMemory,
@@ -26,23 +26,23 @@ pub enum ReplaceFault {
     Failed,
 }
 
-/// Files by their paths, as a folder has them.
+/// Files by their paths, as in a directory.
 ///
-/// Each call but `hold` counts one call, and leaves the numbers of the calls that are to fail. Where the vault tells, Failed
-/// comes exactly at these calls, before every other answer, NoMemory too. In any world Failed comes only where the
-/// count of faults rose, and the count rises with no other answer.
+/// Each call except `hold` counts one call, and leaves the numbers of the calls planned to fail. If the store is
+/// modelled, Failed is returned exactly at these calls, and takes precedence over every other result, NoMemory too.
+/// With real files Failed is returned only if the count of failures rose, and the count rises with no other result.
 pub trait Vault: Drop {
-    /// Whether it tells what it holds. It does so for ever or never.
+    /// Whether contracts know its content: it is modelled. This never changes.
     ghost vault_tells: { Self → Bool };
 
-    /// The files, how often it was called, and the numbers of the calls that are to fail, where it tells.
+    /// The files, how often it was called, and the numbers of the calls planned to fail, if it is modelled.
     ghost vault_holds: { Self → VaultState };
 
-    /// How often it has failed. The count never falls, and stands still at 2^64 - 1.
+    /// How often it has failed. The count never falls, and stops at 2^64 - 1.
     ghost vault_faults: { Self → ℕ };
 
-    /// The bytes of the file, where they are at most `limit`. Absent comes exactly where there is no such file,
-    /// and TooLong exactly where it has more bytes. The files stay.
+    /// The bytes of the file, if there are at most `limit`. Absent is returned exactly if there is no such file, and
+    /// TooLong exactly if it has more bytes. The files stay.
     fn read(&mut self, alloc: Global, path: &[u8], limit: u32) -> Result<Text, VaultFault>
         ensures bound { IfOk result (λ text. length text ≤ limit) }
         ensures tells { vault_tells self.new ≡ vault_tells self.old }
@@ -69,8 +69,7 @@ pub trait Vault: Drop {
         ensures no_fault { result ≢ Err ReplaceFault.Failed →
             vault_faults self.new ≡ vault_faults self.old };
 
-    /// Sets the file whole, whether it was there or not. Where it is refused, the files are as before; every other
-    /// file always stays.
+    /// Replaces the file, or adds it. If it is refused, the files are as before; every other file always stays.
     fn replace(&mut self, alloc: Global, path: &[u8], bytes: &[u8]) -> Result<(), ReplaceFault>
         ensures tells { vault_tells self.new ≡ vault_tells self.old }
         ensures told { IsTrue (vault_tells self.old) →
@@ -86,8 +85,8 @@ pub trait Vault: Drop {
         ensures no_fault { result ≢ Err ReplaceFault.Failed →
             vault_faults self.new ≡ vault_faults self.old };
 
-    /// Holds what is behind this path until the answer is dropped: whoever holds it too waits, for a while at most.
-    /// It is no counted call and changes no file, and a vault that tells never refuses it.
+    /// Takes the lock at this path, and holds it until the result is dropped: another process that takes it waits, for
+    /// a limited time. It isn't counted as a call and changes no file, and a modelled store never refuses it.
     fn hold(&mut self, path: &[u8], kind: LockKind) -> Result<Held, Failed>
         ensures tells { vault_tells self.new ≡ vault_tells self.old }
         ensures told { IsTrue (vault_tells self.old) →
@@ -98,7 +97,7 @@ pub trait Vault: Drop {
         ensures no_fault { OnOk result (vault_faults self.new ≡ vault_faults self.old) };
 }
 
-/// `Vault::read` of a vault that is lent.
+/// `Vault::read` of a borrowed store.
 pub fn read_file(
     vault: &mut dyn Vault,
     alloc: Global,
@@ -120,7 +119,7 @@ pub fn read_file(
     vault.read(alloc, path, limit)
 }
 
-/// `Vault::folder` of a vault that is lent.
+/// `Vault::folder` of a borrowed store.
 pub fn is_folder(vault: &mut dyn Vault, alloc: Global, path: &[u8]) -> Result<bool, ReplaceFault>
     ensures tells { vault_tells vault.new ≡ vault_tells vault.old }
     ensures told { IsTrue (vault_tells vault.old) →
@@ -136,7 +135,7 @@ pub fn is_folder(vault: &mut dyn Vault, alloc: Global, path: &[u8]) -> Result<bo
     vault.folder(alloc, path)
 }
 
-/// `Vault::replace` of a vault that is lent.
+/// `Vault::replace` of a borrowed store.
 pub fn replace_file(
     vault: &mut dyn Vault,
     alloc: Global,
@@ -159,7 +158,7 @@ pub fn replace_file(
     vault.replace(alloc, path, bytes)
 }
 
-/// `Vault::hold` of a vault that is lent.
+/// `Vault::hold` of a borrowed store.
 pub fn hold_file(vault: &mut dyn Vault, path: &[u8], kind: LockKind) -> Result<Held, Failed>
     ensures tells { vault_tells vault.new ≡ vault_tells vault.old }
     ensures told { IsTrue (vault_tells vault.old) →

@@ -5,9 +5,9 @@ ghost use Rattle.pam_outside.specs.Streams.{WritesWhole};
 use crate::sink::Sink;
 use pam_base::Failed;
 
-/// Writes all of the text, in as many calls as it takes, each for at least one byte. Failed comes only where the
-/// count of faults rose, leaves a front of the text written, and no write goes on after it: where all is written
-/// the count is as before. An empty text makes no call.
+/// Writes all of the text, in as many calls as needed, each for at least one byte. Failed is returned only if the count
+/// of failures rose; then a prefix of the text is written, and no write follows. If all is written, the count is as
+/// before. An empty text makes no call.
 pub fn write_all<K: Sink>(sink: &mut K, text: &[u8]) -> Result<(), Failed>
     ensures tells { K.sink_tells sink.new ≡ K.sink_tells sink.old }
     ensures told { IsTrue (K.sink_tells sink.old) →

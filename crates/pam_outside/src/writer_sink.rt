@@ -8,7 +8,7 @@ use pam_base::Failed;
 use std::io::Write;
 use std::marker::Model;
 
-/// A sink over any writer, as standard output. It tells nothing but its faults.
+/// A sink on any writer, such as standard output. Only its failures are modelled.
 #[derive(Drop)]
 pub struct WriterSink<W: Write + Drop> {
     inner: W,
@@ -35,12 +35,12 @@ impl<W: Write + Drop> WriterSink<W> {
 impl<W: Write + Drop> Sink for WriterSink<W> {
     ghost sink_tells = { λ s. false };
 
-    // never told
+    // never modelled
     ghost sink_holds = { λ s. record { written = []; calls = 0 } };
 
     ghost sink_faults = { λ s. s.faults };
 
-    /// Hands the piece to the writer. Each error of the writer is Failed and counts a fault, as the answer 0
+    /// Passes the piece to the writer. Each error of the writer is Failed and counts as a failure, as the result 0
     /// does, and nothing else does.
     fn write(&mut self, piece: &[u8]) -> Result<usize, Failed>
         requires { 0 < length piece.now }
