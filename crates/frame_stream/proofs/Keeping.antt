@@ -1,4 +1,4 @@
--- Frames are cut and refused as the stream wants it.
+-- Frames are cut and refused as the stream requires.
 use Rattle.std.proofs.Common.{◌≡◌, ℕ, zero, suc, ◌+◌, ◌≤◌, ◌<◌, inl, inr, Bool, true, false, cond, List, [], ◌∷◌, ◌++◌, length, take, drop, Option, Some, None, Result, Ok, Err, nat_le, refl, sym, ap, subst, ◌∙◌, arith, length-drop}
 use Rattle.std.proofs.lemmas.Bool.{le-leb, lt-leb, cases_lt}
 use Rattle.std.proofs.lemmas.List.{take-append-le, drop-append-le, nil_from_length}
@@ -14,7 +14,7 @@ use Rattle.frame_stream.specs.declared.fault.FrameFault.TheVariants.{BadFrame, T
 use Rattle.frame_stream.specs.Looked.{looked_by, looked_most, looked, refuses}
 use Rattle.frame_stream.specs.Run.{CallStep, called, step_at}
 
--- ---- which frames are looked at
+-- ---- which frames are processed
 
 pub looked-many : (n : ℕ) (bytes : List ℕ) (ended : Bool) → 65536 ≤ n → 0 < length bytes → looked n bytes ended ≡ bytes ∷ []
 unfolding looked looked_most
@@ -52,7 +52,7 @@ module _ (settles : FrontSettles) where
   pub open_of : (bytes : List ℕ) → front_of bytes ≡ Open → length bytes ≤ 581
   open_of bytes e = subst (λ f. Settles f bytes []) e (settles bytes [])
 
-  -- as many as there are bytes are enough
+  -- no more frames than bytes have to be considered
   same_by : (f g n : ℕ) (bytes : List ℕ) (ended : Bool) (front : Front) → front_of bytes ≡ front → ((size : ℕ) → 4 ≤ size → looked_most f (n + 1) (drop size bytes) ended ≡ looked_most g (n + 1) (drop size bytes) ended)
       → looked_by front bytes ended (λ size. looked_most f (n + 1) (drop size bytes) ended) ≡ looked_by front bytes ended (λ size. looked_most g (n + 1) (drop size bytes) ended)
   same_by f g n bytes ended Open e same = refl
@@ -139,7 +139,7 @@ module _ (settles : FrontSettles) where
     unfolding run_of run_items
     refused_run n c bytes item ended k e s = ap (run_items (step_at answers) n c) e ∙ ap (λ r. after n c r (λ d. come_to [] d (n + 1) None)) s
 
-    -- the first frame is whole
+    -- the first frame is complete
     pub whole_run : (n : ℕ) (c : State) (bytes item behind : List ℕ) (ended : Bool) → looked n bytes ended ≡ item ∷ looked (n + 1) behind ended
         → run_of looked (step_at answers) n c bytes ended ≡ after n c (step_at answers n c item) (λ d. run_of looked (step_at answers) (n + 1) d behind ended)
     unfolding run_of run_items
@@ -191,7 +191,7 @@ module _ (settles : FrontSettles) where
       stays = λ n c taken more ended kind r. stay (length taken) n c taken more ended kind (omega arith) r;
     }
 
-  -- ---- what stands in front
+  -- ---- what the bytes begin with
 
   pub empty_front : (n : ℕ) (held : List ℕ) → length held ≡ 0 → (looked n held false ≡ []) × (length held ≤ 581)
   empty_front n held e = (ap (λ (z : List ℕ). looked n z false) (nil_from_length held e) ∙ looked-none n false, omega (arith, e))

@@ -1,4 +1,4 @@
--- The frames of steps are looked at first.
+-- The frames of steps are processed first.
 use Rattle.std.proofs.Common.{◌≡◌, ℕ, ◌+◌, ◌≤◌, ◌<◌, Bool, true, false, cond, eqb, List, [], ◌∷◌, ◌++◌, length, drop, map, Some, None, refl, ap, subst, ◌∙◌, arith, append_assoc}
 use Rattle.std.proofs.Math.Seq.{take-append_seam, drop-append_seam}
 use Rattle.std.proofs.lemmas.Bool.{eqb-true}
@@ -17,7 +17,7 @@ size_by : (bytes : List ℕ) (step : Step) (size : ℕ) (t : Bool) → eqb size 
 size_by bytes step size true h e = eqb-true size (length bytes) h
 size_by bytes step size false h e = absurd cc
 
--- what is read as a step is a whole frame
+-- what is read as a step is a complete frame
 whole_by : (bytes : List ℕ) (step : Step) (f : Front) → step_by f bytes ≡ Some step → f ≡ Whole (length bytes)
 whole_by bytes step Open e = absurd cc
 whole_by bytes step OutOfRange e = absurd cc

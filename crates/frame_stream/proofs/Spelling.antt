@@ -48,7 +48,7 @@ not_none o step e n =
     absurd cc
 
 module _ (settles : FrontSettles) where
-  -- ---- all bytes are looked at
+  -- ---- all bytes are processed
 
   all_front : (n : ℕ) (bytes : List ℕ) (f : Front) → n < 65536 → 0 < length bytes → front_of bytes ≡ f
       → ((size : ℕ) → 4 ≤ size → concat (looked (n + 1) (drop size bytes) true) ≡ drop size bytes) → concat (looked n bytes true) ≡ bytes
@@ -69,7 +69,7 @@ module _ (settles : FrontSettles) where
   all_looked = λ n bytes. all_most (length bytes) n bytes (omega arith)
 
 module _ (settles : FrontSettles) (reads : ReadsTable) (opens : OpensByTable) where
-  -- ---- what stands in front
+  -- ---- what the bytes begin with
 
   one_parts : (rest : List ℕ) (step : Step) (more : List ℕ) → AreFramesOf rest (step ∷ []) more → rest ≡ frame_of step ++ more
   one_parts rest step more is = is.parts ∙ append_assoc (frame_of step) [] more
@@ -83,7 +83,7 @@ module _ (settles : FrontSettles) (reads : ReadsTable) (opens : OpensByTable) wh
   out_none : (rest : List ℕ) → front_of rest ≡ OutOfRange → HasNoFrame rest
   out_none rest e = λ step more has is. out_whole (front_of rest) _ e (framed_front rest step more has is)
 
-  -- a whole one that is no call
+  -- a complete one that is no call
   call_none : (rest : List ℕ) (size : ℕ) → front_of rest ≡ Whole size → step_of (take size rest) ≡ None → HasNoFrame rest
   call_none rest size w none = λ step more has is.
       let same : size ≡ length (frame_of step) = same_size (front_of rest) _ _ w (framed_front rest step more has is) in
@@ -92,7 +92,7 @@ module _ (settles : FrontSettles) (reads : ReadsTable) (opens : OpensByTable) wh
       let read : step_of (take size rest) ≡ Some step = ap step_of taken ∙ (reads (frame_of step) step).0 (record { within = has; bytes_are = refl }) in
       not_none (step_of (take size rest)) step read none
 
-  -- a whole one that is a call
+  -- a complete one that is a call
   record IsCut (rest : List ℕ) (step : Step) (more : List ℕ) : Type 0 where
     within : has_frame step ≡ true
     parts : rest ≡ frame_of step ++ more
@@ -177,7 +177,7 @@ module _ (settles : FrontSettles) (reads : ReadsTable) (opens : OpensByTable) wh
   pub bytes_spell : BytesSpell
   bytes_spell = λ n bytes ended few all. spell (length bytes) n bytes ended (omega arith) few all
 
-  -- ---- what a run over them comes to
+  -- ---- the result of a run over them
 
   module _ {State : Type 0} (answers : CallStep State) where
     none_run : (n : ℕ) (s : State) (bytes : List ℕ) (ended : Bool) → looked n bytes ended ≡ [] → run_of looked (step_at answers) n s bytes ended ≡ come_to [] s n None

@@ -1,11 +1,11 @@
--- Which frames of a stream are looked at, of the bytes that were taken so far.
+-- Which frames of a stream are processed, of the bytes read so far.
 use Rattle.std.specs.Prelude.{◌≡◌, ◌⊎◌, ℕ, zero, suc, ◌+◌, ◌≤◌, Bool, List, [], ◌∷◌, length, take, drop, None, nat_le, if◌then◌else◌}
 use Rattle.pam_wire.specs.declared.front.Front.{Front}
 use Rattle.pam_wire.specs.declared.front.Front.TheVariants.{Open, OutOfRange, Whole}
 use Rattle.pam_wire.specs.Read.{front_of, step_of}
 
--- A frame that is whole is read, and then what follows it. A length that no frame has is read with
--- everything after it, and so is the beginning of a frame when the input has ended.
+-- A complete frame is read, and then what follows it. A length that no frame has is read with everything after it, and
+-- so is the beginning of a frame when the input has ended.
 abbrev pub looked_by : Front → List ℕ → Bool → (ℕ → List (List ℕ)) → List (List ℕ)
 looked_by Open bytes ended behind = if ended then bytes ∷ [] else []
 looked_by OutOfRange bytes ended behind = bytes ∷ []
@@ -20,7 +20,7 @@ looked_most (suc most) n (b ∷ bs) ended =
     else looked_by (front_of (b ∷ bs)) (b ∷ bs) ended
     (λ size. looked_most most (n + 1) (drop size (b ∷ bs)) ended)
 
--- a frame has a byte at least, so there are at most as many as bytes
+-- a frame has at least one byte, so there are at most as many frames as bytes
 unfoldable pub looked : ℕ → List ℕ → Bool → List (List ℕ)
 looked n bytes ended = looked_most (length bytes) n bytes ended
 

@@ -14,7 +14,7 @@ abbrev pub called : {State : Type 0} → CallStep State → State → Option Ste
 called answers s None = Err BadFrame
 called answers s (Some step) = Ok (answers s step)
 
--- a frame that has n frames before it; frame 65,537 is refused
+-- a frame after n others; frame 65,537 is refused
 unfoldable pub step_at : {State : Type 0} → CallStep State → ℕ → State → List ℕ
     → Result (State × List ℕ) FrameFault
 step_at answers n s frame =

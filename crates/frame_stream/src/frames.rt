@@ -1,6 +1,7 @@
 ghost use Rattle.std.specs.Prelude.{List, ℕ};
 ghost use Rattle.pam_base.specs.declared.call.Step.{Step};
 
+use crate::fault::FrameFault;
 use crate::front::front_of_frames;
 use item_stream::{Front, Stepping};
 use pam_wire::laws;
@@ -28,11 +29,10 @@ pub struct FramesOf<R: CallStepping> {
 }
 
 impl<R: CallStepping> Stepping for FramesOf<R> {
-    ghost use Rattle.frame_stream.specs.declared.fault.FrameFault.{FrameFault};
+    type Kind = FrameFault;
+
     ghost use Rattle.frame_stream.specs.Looked.{looked, refuses};
     ghost use Rattle.frame_stream.specs.Run.{step_at};
-
-    ghost Kind = { FrameFault };
 
     ghost Setting = { R.Setting };
 

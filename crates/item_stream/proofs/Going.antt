@@ -1,4 +1,4 @@
--- Turns one after the other.
+-- Consecutive turns.
 use Rattle.std.proofs.Common.{◌≡◌, ℕ, ◌+◌, ◌≤◌, ◌⊎◌, inl, inr, Bool, true, false, List, [], ◌++◌, length, Option, Some, None, Result, Ok, Err, refl, sym, ap, ◌∙◌, append_assoc, length-append, arith}
 use Rattle.std.proofs.lemmas.List.{append-nil}
 use Rattle.std.specs.Prelude.{OnOk}
@@ -70,7 +70,7 @@ module _ {State Kind : Type 0} (looked : Looks) (step : ItemStep State Kind) (Fa
     calls_ok = tt;
   }
 
-  -- ---- bytes were met and served, and after them come others
+  -- ---- some bytes were read and their items served, then others
 
   module _ (n m : ℕ) (c d : State) (met held text got : List ℕ) (a : GoesOn looked step n m c d met held text) where
     further : (more : List ℕ) (ended : Bool) → looked n ((met ++ got) ++ more) ended ≡ a.served ++ looked m ((held ++ got) ++ more) ended
@@ -126,7 +126,7 @@ module _ {State Kind : Type 0} (looked : Looks) (step : ItemStep State Kind) (Fa
   tells_both n m k c d e met held got rest left text more_text (Ok (Some ending)) a b = ends_by n m c d met held text got a ending k e left more_text b
   tells_both n m k c d e met held got rest left text more_text (Err stop) a b = stops_by n m c d met held text got a stop k e left more_text b
 
-  -- the last read of two stretches is that of the second, where it read
+  -- the last read of two consecutive parts is that of the second part, if it read anything
   last_both : (n m : ℕ) (c d : State) (got held more text : List ℕ) → GoesOn looked step n m c d got held text
       → (got ≡ []) ⊎ LastRead looked step n c [] got → (more ≡ []) ⊎ LastRead looked step m d held more
       → (got ++ more ≡ []) ⊎ LastRead looked step n c [] (got ++ more)

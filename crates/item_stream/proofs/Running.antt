@@ -1,14 +1,14 @@
--- What items come to, one after the other.
+-- The result of several items, one after the other.
 use Rattle.std.proofs.Common.{◌≡◌, ℕ, ◌+◌, List, [], ◌∷◌, ◌++◌, Option, Some, None, Result, Ok, Err, refl, sym, ap, ◌∙◌, append-nil, append_assoc}
 use Rattle.item_stream.specs.Run.{ItemStep, Run, come_to, with_text, after, run_items}
 
 module _ {State Kind : Type 0} (step : ItemStep State Kind) where
-  -- one item that is served
+  -- one item that is applied
   pub items-one : (n : ℕ) (c d : State) (item text : List ℕ) → step n c item ≡ Ok (d, text) → run_items step n c (item ∷ []) ≡ come_to text d (n + 1) None
   unfolding run_items
   items-one n c d item text s = rw s (rw (append-nil text) refl)
 
-  -- ---- items that are served, and others after them
+  -- ---- items that are applied, and others after them
 
   pub comes : (r : Run State Kind) (d : State) (m : ℕ) (o : Option Kind) → r.last ≡ d → r.items ≡ m → r.refused ≡ o → r ≡ come_to r.text d m o
   comes r d m o last items refused = rw (← last, ← items, ← refused) refl

@@ -1,4 +1,4 @@
--- Looking for an item: the bytes taken so far.
+-- The search for an item: the bytes read so far.
 use Rattle.std.proofs.Common.{◌≡◌, ℕ, ◌+◌, ◌≤◌, ◌<◌, ◌⊎◌, inl, inr, Bool, true, false, cond, eqb, List, [], ◌∷◌, ◌++◌, length, Result, Ok, refl, sym, ap, ◌∙◌, arith}
 use Rattle.std.proofs.lemmas.Bool.{eqb-true, eqb-false}
 use Rattle.std.proofs.lemmas.List.{append-nil, nil_from_length}
@@ -9,7 +9,7 @@ use Rattle.item_stream.specs.Cutting.{Cuts}
 use Rattle.item_stream.specs.declared.reader.Found.{Found}
 use Rattle.item_stream.specs.declared.reader.Found.TheVariants.{Rest, End}
 
--- some bytes were taken, each call at least one, and none at the end
+-- some bytes were read, at least one by each call, and none at the end of the source
 pub record IsFinding (looked : Looks) (n : ℕ) (before held : List ℕ) (old new : SourceState) : Type 0 where
   pub got : List ℕ
   pub held_is : held ≡ before ++ got
@@ -18,7 +18,7 @@ pub record IsFinding (looked : Looks) (n : ℕ) (before held : List ℕ) (old ne
   pub ends : new.reads_at_end ≤ old.reads_at_end
   pub last : (got ≡ []) ⊎ LastGot looked n before got
 
--- the source has ended while nothing was looked at
+-- the source has ended and there was no item to process
 module _ (looked : Looks) (refuses : Refuses) (cuts : Cuts looked) (n : ℕ) (before held now : List ℕ) (old x y : SourceState) (f : IsFinding looked n before held old x) (waits : looked n held false ≡ []) (fill : Fills (Ok 0) held now x y) where
   none : fill.got ≡ []
   none = nil_from_length fill.got (omega (arith, fill.count))

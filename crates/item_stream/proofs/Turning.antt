@@ -1,4 +1,4 @@
--- One item: what was found and served is one turn.
+-- One item: finding it and applying it is one turn.
 use Rattle.std.proofs.Common.{◌≡◌, ℕ, ◌+◌, ◌≤◌, ◌<◌, ◌⊎◌, inl, inr, Bool, true, false, List, [], ◌∷◌, ◌++◌, length, take, drop, Option, Some, None, Result, Ok, Err, refl, sym, ap, subst, ◌∙◌, arith}
 use Rattle.std.proofs.lemmas.List.{append-nil}
 use Rattle.std.specs.Prelude.{OnOk}
@@ -15,7 +15,7 @@ use Rattle.item_stream.specs.Turns.{StopsAt, ServesTold, EndsBy, Tells, LastRead
 use Rattle.item_stream.proofs.Running.{items-one}
 
 module _ {State Kind : Type 0} (looked : Looks) (refuses : Refuses) (step : ItemStep State Kind) (Fails : State → List ℕ → State → Type 0) where
-  -- nothing is looked at
+  -- there is nothing to process
   run-none : (n : ℕ) (c : State) (bytes : List ℕ) (ended : Bool) → looked n bytes ended ≡ [] → run_of looked step n c bytes ended ≡ come_to [] c n None
   unfolding run_of run_items
   run-none n c bytes ended e = ap (run_items step n c) e
@@ -71,7 +71,7 @@ module _ {State Kind : Type 0} (looked : Looks) (refuses : Refuses) (step : Item
         calls_ok = omega arith;
       }
 
-  -- ---- an item was found and served
+  -- ---- an item was found and applied
 
   accepted_of : (stop : Stop) (n : ℕ) (item : List ℕ) (c d : State) (written : List ℕ) → StopsAt step Fails stop n (Some item) c d written
       → (x : State × List ℕ) × (step n c item ≡ Ok x)
@@ -162,7 +162,7 @@ module _ {State Kind : Type 0} (looked : Looks) (refuses : Refuses) (step : Item
       calls_ok = calls_after o q.calls (p.calls + length s.text) s.calls_ok;
     }
 
-  -- ---- the last item was found and served
+  -- ---- the last item was found and applied
 
   module _ (keeps : Keeps looked refuses step) (n : ℕ) (before held : List ℕ) (c d : State) (x y : SourceState) (p q : SinkState) (found : IsFound looked (Ok Rest) n held) (f : Finds looked refuses (Ok Rest) n before held x y) where
     how : IsLast looked refuses n held y.left

@@ -12,7 +12,7 @@ use Rattle.item_stream.specs.Whole.{at_last, Reports, Runs}
 use Rattle.item_stream.specs.Cutting.{Cuts, Keeps}
 
 module _ {State Kind : Type 0} (looked : Looks) (step : ItemStep State Kind) (Fails : State → List ℕ → State → Type 0) (refuses : Refuses) (cuts : Cuts looked) (keeps : Keeps looked refuses step) where
-  -- what is refused among the bytes taken is so in the whole input
+  -- what is refused among the bytes read is refused in the whole input
   refused_all : (ended : Bool) (kind : Kind) (m : ℕ) (c d : State) (input taken left text : List ℕ) → input ≡ taken ++ left → (ended ≡ true → left ≡ [])
       → run_of looked step 0 c taken ended ≡ come_to text d m (Some kind) → run_of looked step 0 c input true ≡ come_to text d m (Some kind)
   refused_all true kind m c d input taken left text i end run =

@@ -1,15 +1,15 @@
--- What has to hold of the items that are looked at (this project's own).
+-- The conditions on how items are cut from bytes (this project's own).
 use Rattle.std.specs.Prelude.{◌≡◌, ℕ, ◌<◌, Bool, true, false, List, [], ◌∷◌, ◌++◌, length, Some, Result, Ok}
 use Rattle.item_stream.specs.Run.{Looks, Refuses, ItemStep, Run, run_of}
 
--- Nothing is looked at of no bytes, and what is waited with is the last item where the input ends.
+-- No bytes hold no item, and bytes that wait for more are the last item if the input ends there.
 pub record Cuts (looked : Looks) : Type 0 where
   pub none : (n : ℕ) (ended : Bool) → looked n [] ended ≡ []
   pub rest : (n : ℕ) (held : List ℕ) → looked n held false ≡ [] → 0 < length held
       → looked n held true ≡ held ∷ []
 
--- What is refused in every state is so; and what is refused among some bytes is refused, whatever stands after them,
--- and with the same text before it.
+-- An item that is refused in every state is refused; and what is refused among some bytes is refused whatever bytes
+-- follow, with the same text before it.
 pub record Keeps {State Kind : Type 0} (looked : Looks) (refuses : Refuses)
     (step : ItemStep State Kind) : Type 0 where
   pub refused : (n : ℕ) (item : List ℕ) → refuses n item → (s : State) (x : State × List ℕ)

@@ -1,10 +1,10 @@
--- What stands at the front of some bytes (this project's own).
+-- The first item of some bytes (this project's own).
 use Rattle.std.specs.Prelude.{◌≡◌, ℕ, ◌+◌, ◌≤◌, ◌<◌, Bool, false, List, [], ◌∷◌, ◌++◌, length, take, drop}
 use Rattle.item_stream.specs.declared.stepping.Front.{Front}
 use Rattle.item_stream.specs.declared.stepping.Front.TheVariants.{Wait, Item, Last}
 use Rattle.item_stream.specs.Run.{Looks, Refuses}
 
--- an item of n bytes stands in front, whatever follows, and the others after it are looked at from there
+-- an item of n bytes comes first, whatever follows, and the other items are cut from the bytes after it
 pub record IsItem (looked : Looks) (n item_size size : ℕ) (held : List ℕ) : Type 0 where
   pub within : item_size ≤ size
   pub whole : size ≤ length held

@@ -1,4 +1,4 @@
--- How what was found, served and done in turns makes a run, whatever an item does.
+-- How finding items and applying them, turn by turn, makes up a run, whatever an item does.
 use Rattle.std.specs.Prelude.{◌≡◌, ℕ, List, [], take, Option, Some, None, Result, Ok, Err}
 use Rattle.pam_base.specs.declared.fault.Failed.{Failed}
 use Rattle.pam_outside.specs.Streams.{SourceState, SinkState, WritesWhole}
@@ -12,21 +12,21 @@ use Rattle.item_stream.specs.Taking.{Finds, IsFound}
 use Rattle.item_stream.specs.Turns.{IsBegun, ServesTold, Turns, after_item, after_rest, items_after, held_after}
 use Rattle.item_stream.specs.Whole.{at_last, Runs}
 
--- how an item was served whose text was to be written
+-- how an item was served that has text to write
 abbrev pub written_by : {Kind : Type 0} → Result (Unit {0}) Failed → Result (Option Kind) Stop
 written_by (Ok done) = Ok None
 written_by (Err failed) = Err WriteFault
 
 module _ {State Kind : Type 0} (step : ItemStep State Kind)
     (Fails : State → List ℕ → State → Type 0) where
-  -- ---- one item is served
+  -- ---- one item
 
-  -- it writes nothing
+  -- it has no text to write
   abbrev pub SilentIsServed : Type 0
   SilentIsServed = (n : ℕ) (item : List ℕ) (c d : State) (p : SinkState) →
       step n c item ≡ Ok (d, []) → ServesTold step Fails (Ok None) n item c d p p
 
-  -- its text was written, whole or up to a write that failed
+  -- its text was written, in full or up to a failed write
   abbrev pub WrittenIsServed : Type 0
   WrittenIsServed = (result : Result (Unit {0}) Failed) (n : ℕ) (item text : List ℕ) (c d : State)
       (p q : SinkState) →
@@ -38,12 +38,12 @@ module _ {State Kind : Type 0} (step : ItemStep State Kind)
   RefusedIsServed = (kind : Kind) (n : ℕ) (item : List ℕ) (c : State) (p : SinkState) →
       step n c item ≡ Err kind → ServesTold step Fails (Ok (Some kind)) n item c c p p
 
-  -- there was no memory to begin it
+  -- out of memory before it was begun
   abbrev pub UnbegunIsServed : Type 0
   UnbegunIsServed = (n : ℕ) (item : List ℕ) (c : State) (p : SinkState)
       → ServesTold step Fails (Err NoMemory) n item c c p p
 
-  -- there was none after that
+  -- out of memory after that
   abbrev pub BegunIsServed : Type 0
   BegunIsServed = (n : ℕ) (item : List ℕ) (c d : State) (p : SinkState) →
       IsBegun step Fails n item c d → ServesTold step Fails (Err NoMemory) n item c d p p
@@ -56,14 +56,14 @@ module _ {State Kind : Type 0} (looked : Looks) (step : ItemStep State Kind)
   NoTurnYet = (c : State) (x : SourceState) (p : SinkState)
       → Turns looked step Fails (Ok None) 0 0 c c [] [] x x p p
 
-  -- there was no memory
+  -- out of memory
   abbrev pub StopsAtOnce : Type 0
   StopsAtOnce = (c : State) (x : SourceState) (p : SinkState)
       → Turns looked step Fails (Err NoMemory) 0 0 c c [] [] x x p p
 
   -- ---- turns
 
-  -- turns, and others after them
+  -- turns, followed by others
   abbrev pub TurnsGoOn : Type 0
   TurnsGoOn = (result : Result (Option (Ending Kind)) Stop) (n m k : ℕ) (c d e : State)
       (held rest : List ℕ) (x y z : SourceState) (p q s : SinkState) →
@@ -71,7 +71,7 @@ module _ {State Kind : Type 0} (looked : Looks) (step : ItemStep State Kind)
       → Turns looked step Fails result m k d e held rest y z q s →
       Turns looked step Fails result n k c e [] rest x z p s
 
-  -- turns from the first byte on, up to the last
+  -- turns from the first byte to the last
   abbrev pub TurnsAreRun : Type 0
   TurnsAreRun = (result : Result (Ending Kind) Stop) (m : ℕ) (c d : State) (held : List ℕ)
       (x y : SourceState) (p q : SinkState) →
@@ -80,7 +80,7 @@ module _ {State Kind : Type 0} (looked : Looks) (step : ItemStep State Kind)
 
 module _ {State Kind : Type 0} (looked : Looks) (refuses : Refuses) (step : ItemStep State Kind)
     (Fails : State → List ℕ → State → Type 0) where
-  -- ---- what was found is a turn
+  -- ---- each result of a search is a turn
 
   -- the source failed
   abbrev pub FaultIsTurn : Type 0
@@ -89,13 +89,13 @@ module _ {State Kind : Type 0} (looked : Looks) (refuses : Refuses) (step : Item
       IsFound looked (Err e) n held → Finds looked refuses (Err e) n before held x y →
       Turns looked step Fails (Ok (Some ReadFault)) n n c c before held x y p p
 
-  -- the source has ended, and nothing is held
+  -- the source has ended, and nothing is left
   abbrev pub EndIsTurn : Type 0
   EndIsTurn = (n : ℕ) (before held : List ℕ) (c : State) (x y : SourceState) (p : SinkState) →
       IsFound looked (Ok End) n held → Finds looked refuses (Ok End) n before held x y →
       Turns looked step Fails (Ok (Some Done)) n n c c before held x y p p
 
-  -- an item with its end was found, and served
+  -- an item with its terminator was found and applied
   abbrev pub ItemIsTurn : Type 0
   ItemIsTurn = (n item_size size : ℕ) (before held : List ℕ) (c d : State) (x y : SourceState)
       (p q : SinkState) (result : Result (Option Kind) Stop) →
@@ -105,7 +105,7 @@ module _ {State Kind : Type 0} (looked : Looks) (refuses : Refuses) (step : Item
       Turns looked step Fails (after_item result) n (items_after result n) c d before
       (held_after result size held) x y p q
 
-  -- the last item was found, and served
+  -- the last item was found and applied
   abbrev pub RestIsTurn : Type 0
   RestIsTurn = (n : ℕ) (before held : List ℕ) (c d : State) (x y : SourceState) (p q : SinkState)
       (result : Result (Option Kind) Stop) →

@@ -1,21 +1,20 @@
 -- A run: the steps of items, one after the other, whatever an item is and does (this project's own).
 use Rattle.std.specs.Prelude.{ℕ, ◌+◌, Bool, List, [], ◌∷◌, ◌++◌, Option, Some, None, Result, Ok, Err}
 
--- which items are looked at of some bytes that stand after n items; and whether the input ends after them
+-- the items cut from some bytes that follow n items; the flag says whether the input ends after them
 abbrev pub Looks : Type 0
 Looks = ℕ → List ℕ → Bool → List (List ℕ)
 
--- which items that stand after n are refused in every state
+-- the items after n others that are refused in every state
 abbrev pub Refuses : Type 1
 Refuses = ℕ → List ℕ → Type 0
 
--- what an item that stands after n does to a state: the state after it and the text that is written for it, or
--- why it is refused
+-- the effect on a state of an item after n others: the next state and the text to write, or why it is refused
 abbrev pub ItemStep : Type 0 → Type 0 → Type 0
 ItemStep State Kind = ℕ → State → List ℕ → Result (State × List ℕ) Kind
 
--- what items come to: the text of those before the first refused one, the state after them, how many items stand
--- before what follows, and why an item was refused
+-- the result of several items: the text of those before the first refused one, the state after them, the number of
+-- items before what follows, and why an item was refused
 pub record Run (State Kind : Type 0) : Type 0 where
   pub text : List ℕ
   pub last : State
@@ -38,19 +37,19 @@ with_text text r = record {
   refused = r.refused;
 }
 
--- an item's outcome, and what follows it
+-- an item's outcome, combined with that of the following items
 abbrev pub after : {State Kind : Type 0} → ℕ → State → Result (State × List ℕ) Kind
     → (State → Run State Kind) → Run State Kind
 after n s (Ok x) next = with_text x.1 (next x.0)
 after n s (Err kind) next = come_to [] s n (Some kind)
 
--- the fold of the steps over items that have n items before them
+-- the fold of the steps over items that follow n others
 unfoldable pub run_items : {State Kind : Type 0} → ItemStep State Kind → ℕ → State → List (List ℕ)
     → Run State Kind
 run_items step n s [] = come_to [] s n None
 run_items step n s (l ∷ ls) = after n s (step n s l) (λ t. run_items step (n + 1) t ls)
 
--- what bytes come to that stand after n items; `ended` says that the input ends after them
+-- the result of bytes that follow n items; `ended` says that the input ends after them
 unfoldable pub run_of : {State Kind : Type 0} → Looks → ItemStep State Kind → ℕ → State → List ℕ
     → Bool → Run State Kind
 run_of looked step n s bytes ended = run_items step n s (looked n bytes ended)

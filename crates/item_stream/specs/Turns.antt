@@ -1,4 +1,4 @@
--- Line after item: what was taken from the source and written to the sink, whatever an item does.
+-- Item by item: what was read from the source and written to the sink, whatever an item does.
 use Rattle.std.specs.Prelude.{◌≡◌, ℕ, ◌+◌, ◌≤◌, ◌<◌, ◌⊎◌, Bool, true, false, List, [], ◌∷◌, ◌++◌, length, drop, Option, Some, None, Result, Ok, Err, OnOk}
 use Rattle.pam_outside.specs.Streams.{SourceState, SinkState}
 use Rattle.item_stream.specs.declared.ending.Ending.{Ending}
@@ -9,7 +9,7 @@ use Rattle.item_stream.specs.Run.{Looks, ItemStep, come_to, run_items, run_of}
 
 -- ---- one item
 
--- a write failed: the item was applied, and a front of its text is written
+-- a write failed: the item was applied, and a prefix of its text is written
 pub record IsCutShort {State Kind : Type 0} (step : ItemStep State Kind) (n : ℕ) (item : List ℕ)
     (c d : State) (written : List ℕ) : Type 0 where
   pub text : List ℕ
@@ -17,7 +17,7 @@ pub record IsCutShort {State Kind : Type 0} (step : ItemStep State Kind) (n : �
   pub more : List ℕ
   pub parts : text ≡ written ++ more
 
--- memory was wanting: the item isn't one that is refused, and it was applied, or its call found no memory
+-- out of memory: the item isn't a refused one; either it was applied, or its call ran out of memory
 pub record IsBegun {State Kind : Type 0} (step : ItemStep State Kind)
     (Fails : State → List ℕ → State → Type 0) (n : ℕ) (item : List ℕ) (c d : State) : Type 0 where
   pub after : State
@@ -35,8 +35,8 @@ StopsAt step Fails NoMemory n None c d written = (d ≡ c) × (written ≡ [])
 StopsAt step Fails NoMemory n (Some item) c d written = IsBegun step Fails n item c d
     × (written ≡ [])
 
--- One item is served: it is applied and its text is written, or it is refused and nothing happened, or the run stops
--- in it, or before it was begun.
+-- One item is served: it is applied and its text is written, or it is refused and nothing happens, or the run stops in
+-- it or before it.
 abbrev pub Serves : {State Kind : Type 0} → ItemStep State Kind → (State → List ℕ → State → Type 0)
     → Result (Option Kind) Stop → ℕ → List ℕ → State
     → State → List ℕ → Type 0
@@ -46,7 +46,7 @@ Serves step Fails (Ok (Some kind)) n item c d written = (step n c item ≡ Err k
 Serves step Fails (Err stop) n item c d written = StopsAt step Fails stop n (Some item) c d written
     ⊎ StopsAt step Fails stop n None c d written
 
--- what a told sink shows of it
+-- what a modelled sink holds after it
 pub record ServesTold {State Kind : Type 0} (step : ItemStep State Kind)
     (Fails : State → List ℕ → State → Type 0) (result : Result (Option Kind) Stop) (n : ℕ)
     (item : List ℕ) (c d : State) (old new : SinkState) : Type 0 where
@@ -58,7 +58,7 @@ pub record ServesTold {State Kind : Type 0} (step : ItemStep State Kind)
 
 -- ---- many items
 
--- Lines among the bytes met were served. After them, and whatever follows, the run goes on with what is held.
+-- The complete items among the bytes read were served. Whatever follows, the run continues with the bytes held.
 pub record GoesOn {State Kind : Type 0} (looked : Looks) (step : ItemStep State Kind) (n m : ℕ)
     (c d : State) (met held text : List ℕ) : Type 0 where
   pub served : List (List ℕ)
@@ -72,13 +72,13 @@ refusal_of Done = None
 refusal_of ReadFault = None
 refusal_of (Refused kind) = Some kind
 
--- whether the input ends after the bytes met
+-- whether the input ends after the bytes read
 abbrev pub IsEndedBy : {Kind : Type 0} → Ending Kind → Bool → Type 0
 IsEndedBy Done ended = ended ≡ true
 IsEndedBy ReadFault ended = ended ≡ false
 IsEndedBy (Refused kind) ended = Unit {0}
 
--- the run over the bytes met has come to its end
+-- the run over the bytes read has ended
 pub record EndsBy {State Kind : Type 0} (looked : Looks) (step : ItemStep State Kind)
     (ending : Ending Kind) (n m : ℕ) (c d : State) (met left text : List ℕ) : Type 0 where
   pub ended : Bool
@@ -90,8 +90,8 @@ abbrev pub begun_items : Option (List ℕ) → List (List ℕ)
 begun_items None = []
 begun_items (Some item) = item ∷ []
 
--- The run has stopped: items at the front, both of those among the bytes met and of all, were served whole, so that m
--- stand before what follows, and at most one item more was begun.
+-- The run has stopped: the first items, of the bytes read and of the whole input alike, were served completely, so m
+-- items precede what follows, and at most one more item was begun.
 pub record StopsBy {State Kind : Type 0} (looked : Looks) (step : ItemStep State Kind)
     (Fails : State → List ℕ → State → Type 0) (stop : Stop) (n m : ℕ) (c d : State)
     (met left text : List ℕ) : Type 0 where
@@ -111,7 +111,7 @@ pub record StopsBy {State Kind : Type 0} (looked : Looks) (step : ItemStep State
   pub parts : text ≡ whole ++ part
   pub stopped : StopsAt step Fails stop m begun middle d part
 
--- what was written for the bytes that a state met
+-- what was written for the bytes read so far
 abbrev pub Tells : {State Kind : Type 0} → Looks → ItemStep State Kind
     → (State → List ℕ → State → Type 0) → Result (Option (Ending Kind)) Stop → ℕ
     → ℕ → State → State → List ℕ → List ℕ → List ℕ → List ℕ → Type 0
@@ -122,8 +122,7 @@ Tells looked step Fails (Ok (Some ending)) n m c d met held left text =
 Tells looked step Fails (Err stop) n m c d met held left text =
     StopsBy looked step Fails stop n m c d met left text
 
--- the last read, by what was got after other bytes: it took at most a buffer, and nothing that was there before it
--- was refused
+-- the last read, by its result, after other bytes: it read at most a buffer, and nothing before it was refused
 pub record LastRead {State Kind : Type 0} (looked : Looks) (step : ItemStep State Kind) (n : ℕ)
     (c : State) (before got : List ℕ) : Type 0 where
   pub early : List ℕ
@@ -132,8 +131,8 @@ pub record LastRead {State Kind : Type 0} (looked : Looks) (step : ItemStep Stat
   pub room : length late ≤ 512
   pub accepted : (run_of looked step n c (before ++ early) false).refused ≡ None
 
--- What was taken and written, by one turn or by many: n items stand before them and m after them, the state is c
--- before and d after them.
+-- What was read and written in one turn or several: n items precede them and m items follow n before the next; the
+-- state is c before and d after them.
 pub record Turns {State Kind : Type 0} (looked : Looks) (step : ItemStep State Kind)
     (Fails : State → List ℕ → State → Type 0) (result : Result (Option (Ending Kind)) Stop)
     (n m : ℕ) (c d : State) (before held : List ℕ) (x y : SourceState) (p q : SinkState) : Type
@@ -153,14 +152,14 @@ pub record Turns {State Kind : Type 0} (looked : Looks) (step : ItemStep State K
 
 -- ---- the result of a turn
 
--- after an item that was found with its end the run goes on
+-- after an item with its terminator the run continues
 abbrev pub after_item : {Kind : Type 0} → Result (Option Kind) Stop
     → Result (Option (Ending Kind)) Stop
 after_item (Ok None) = Ok None
 after_item (Ok (Some kind)) = Ok (Some (Refused kind))
 after_item (Err stop) = Err stop
 
--- the last item, without one, is the end
+-- the last item, without a terminator, ends the run
 abbrev pub after_rest : {Kind : Type 0} → Result (Option Kind) Stop
     → Result (Option (Ending Kind)) Stop
 after_rest (Ok None) = Ok (Some Done)
@@ -172,12 +171,12 @@ abbrev pub items_after : {Kind : Type 0} → Result (Option Kind) Stop → ℕ �
 items_after (Ok None) n = n + 1
 items_after result n = n
 
--- what is held after an item that takes n bytes: what ends it is dropped with it
+-- the bytes held after an item of n bytes: its terminator is dropped with it
 abbrev pub held_after : {Kind : Type 0} → Result (Option Kind) Stop → ℕ → List ℕ → List ℕ
 held_after (Ok None) size held = drop size held
 held_after result size held = held
 
--- whether reading, or writing, failed
+-- whether a read, or a write, failed
 abbrev pub has_read_fault : {Kind : Type 0} → Result (Option (Ending Kind)) Stop → Bool
 has_read_fault (Ok (Some ReadFault)) = true
 has_read_fault result = false

@@ -12,9 +12,9 @@ abbrev pub at_last : {Kind : Type 0} → Result (Ending Kind) Stop
 at_last (Ok ending) = Ok (Some ending)
 at_last (Err stop) = Err stop
 
--- What a run tells of the whole input, by how it comes to its end: that it was read out, and what it comes to; what the
--- bytes taken come to before the source failed; the refused item, which is that of the bytes taken and that of the
--- whole input; or where it stopped.
+-- What a run says of the whole input, by how it ends: the input was read completely, and its result; the result of the
+-- bytes read before the source failed; the refused item, the same in the bytes read and in the whole input; or where
+-- the run stopped.
 abbrev pub Reports : {State Kind : Type 0} → Looks → ItemStep State Kind
     → (State → List ℕ → State → Type 0) → Result (Ending Kind) Stop → ℕ → State
     → State → List ℕ → List ℕ → List ℕ → List ℕ → Type 0
@@ -29,7 +29,7 @@ Reports looked step Fails (Ok (Refused kind)) m c d input taken left text =
 Reports looked step Fails (Err stop) m c d input taken left text =
     StopsBy looked step Fails stop 0 m c d taken left text
 
--- a run from the first byte on: the state is c before and d after it, and m items were applied
+-- a run from the first byte: the state is c before and d after it, and m items were applied
 pub record Runs {State Kind : Type 0} (looked : Looks) (step : ItemStep State Kind)
     (Fails : State → List ℕ → State → Type 0) (result : Result (Ending Kind) Stop) (m : ℕ)
     (c d : State) (x y : SourceState) (p q : SinkState) : Type 0 where

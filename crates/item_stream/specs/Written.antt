@@ -1,4 +1,4 @@
--- What was written to a sink, whatever it was (this project's own).
+-- What was written to any sink (this project's own).
 use Rattle.std.specs.Prelude.{◌≡◌, ◌+◌, ◌≤◌, List, ℕ, ◌++◌, length}
 use Rattle.pam_outside.specs.Streams.{SinkState}
 

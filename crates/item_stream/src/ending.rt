@@ -1,17 +1,17 @@
 use pam_base::{Failed, NoMemory};
 
-/// How the items of a stream came to an end.
+/// How a stream of items ended.
 #[derive(Clone, Copy, Debug, PartialEq, Eq)]
 pub enum Ending<K> {
     /// The source has ended, and every item was applied.
     Done,
-    /// The source failed, and every item before that was applied.
+    /// The source failed; every item before that was applied.
     ReadFault,
-    /// An item was refused, and every item before it was applied.
+    /// An item was refused; every item before it was applied.
     Refused(K),
 }
 
-/// Why a run stopped before it came to an end. Nothing more is written.
+/// Why a run stopped before the stream ended. Nothing more is written.
 #[derive(Clone, Copy, Debug, PartialEq, Eq)]
 pub enum Stop {
     NoMemory,
@@ -30,7 +30,7 @@ impl From<NoMemory> for Stop {
     }
 }
 
-/// A sink that fails stops a run. So `?` is for calls that write.
+/// A failed write stops a run, so `?` is for calls that write.
 impl From<Failed> for Stop {
     ghost use Rattle.std.specs.Prelude.{◌≡◌};
     ghost use Rattle.item_stream.specs.declared.ending.Stop.{Stop};

@@ -2,9 +2,9 @@ ghost use Rattle.item_stream.specs.Laws.{NoTurnYet, StopsAtOnce, SilentIsServed,
 
 use crate::stepping::Stepping;
 
-// None of these does anything: its contract is a law about the definitions, for those who call it in a proof.
+// The laws of this crate, for the proofs of its callers.
 
-/// Before the first byte no turn was made yet; and a run may find no memory then.
+/// Before the first byte there was no turn yet; the run may also run out of memory there.
 pub fn first_turn<R: Stepping>()
     ensures none_yet { (setting : R.Setting) → NoTurnYet R.looked (R.step setting)
         (R.fails setting) }
@@ -12,8 +12,8 @@ pub fn first_turn<R: Stepping>()
         (R.fails setting) }
 {}
 
-/// What serves one item: it writes nothing, its text is written, whole or up to a write that failed, it is refused, or
-/// there is no memory, to begin it or after that.
+/// Serving one item: it has no text to write; its text is written, in full or up to a failed write; it is refused; or
+/// memory runs out, before it is begun or later.
 pub fn item_is_served<R: Stepping>()
     ensures silent { (setting : R.Setting) → SilentIsServed (R.step setting) (R.fails setting) }
     ensures written { (setting : R.Setting) → WrittenIsServed (R.step setting) (R.fails setting) }
@@ -22,7 +22,7 @@ pub fn item_is_served<R: Stepping>()
     ensures begun { (setting : R.Setting) → BegunIsServed (R.step setting) (R.fails setting) }
 {}
 
-/// Where a source failed or has ended, and nothing was found, that is the last turn.
+/// If a source failed or has ended, and no item was found, that is the last turn.
 pub fn nothing_found_is_a_turn<R: Stepping>()
     ensures fault { (setting : R.Setting) → FaultIsTurn R.looked R.refuses (R.step setting)
         (R.fails setting) }
@@ -32,7 +32,7 @@ pub fn nothing_found_is_a_turn<R: Stepping>()
     R::cuts();
 }
 
-/// An item that was found and served is a turn; without its end it is the last one.
+/// An item that was found and served is a turn; without its terminator it is the last one.
 pub fn found_item_is_a_turn<R: Stepping>()
     ensures item { (setting : R.Setting) → ItemIsTurn R.looked R.refuses (R.step setting)
         (R.fails setting) }
@@ -42,12 +42,12 @@ pub fn found_item_is_a_turn<R: Stepping>()
     R::keeps();
 }
 
-/// Turns, and others after them, are turns.
+/// Turns followed by turns are turns.
 pub fn turns_go_on<R: Stepping>()
     ensures { (setting : R.Setting) → TurnsGoOn R.looked (R.step setting) (R.fails setting) }
 {}
 
-/// Turns from the first byte on, up to the last, are a run over the whole stream.
+/// Turns from the first byte to the last are a run over the whole stream.
 pub fn turns_are_a_run<R: Stepping>()
     ensures { (setting : R.Setting) → TurnsAreRun R.looked (R.step setting) (R.fails setting) }
 {

@@ -1,5 +1,5 @@
-//! A stream of bytes from which items are cut one by one, and what a run over them comes to, whatever an item is and
-//! does. It knows nothing of items, frames and transactions.
+//! Cuts a stream of bytes into items one by one, and states the result of a run over them, whatever an item is and
+//! does. It knows nothing of script lines, frames and transactions.
 #![tactic(auto)]
 
 mod ending;

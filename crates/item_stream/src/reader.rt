@@ -10,16 +10,16 @@ use std::marker::Model;
 
 const CHUNK: usize = 512;
 
-/// Room for 581 bytes that are waited with, and for what one read adds to it.
+/// Room for the 581 bytes that an incomplete item may have, and for what one read adds.
 const ROOM: usize = 1093;
 
-/// The bytes that were taken from a source and not handed on. They may hold a password, so those that
-/// were handed on are overwritten before more is read, and all of them when the reader goes.
+/// The bytes that were read from a source and not consumed yet. They may hold a password, so consumed bytes are
+/// overwritten before more is read, and all bytes when the reader is dropped.
 pub struct Reader {
     held: Vec<u8>,
-    // The number of bytes at its beginning that were handed on. They stay there until more is read.
+    // The number of leading bytes that were consumed. They stay there until more is read.
     handed: usize,
-    // What a read is made into. It is overwritten once its bytes are held.
+    // The buffer of a read. It is overwritten once its bytes are held.
     piece: [u8; CHUNK],
 }
 
@@ -44,19 +44,19 @@ impl Model for Reader {
     ghost invariant = { λ r. (1093 ≤ vec_capacity r.held) × (r.handed ≤ length r.held.items) };
 }
 
-/// What stands at the front of what is held.
+/// The first item of the bytes held.
 #[derive(Clone, Copy)]
 pub enum Found {
-    /// An item: how many bytes it has, and how many stand before what follows it.
+    /// An item: the number of its bytes, and the number of bytes before the next one.
     Item { length: usize, size: usize },
-    /// The last item that is looked at: all that is held.
+    /// The last item: all bytes held.
     Rest,
-    /// Nothing, and the source has ended.
+    /// No item, and the source has ended.
     End,
 }
 
 impl Reader {
-    /// All the memory that it needs is taken here.
+    /// Allocates all the memory that the reader needs.
     pub fn new(alloc: Global) -> Result<Reader, NoMemory>
         ensures { IfOk result (λ r. r ≡ []) }
     {
@@ -73,7 +73,7 @@ impl Reader {
         &self.held[self.handed..]
     }
 
-    /// Hands the first n bytes on.
+    /// Consumes the first n bytes.
     pub fn skip(&mut self, n: usize)
         requires { n ≤ length self.old }
         ensures { self.new ≡ drop n self.old }
@@ -81,7 +81,7 @@ impl Reader {
         self.handed += n;
     }
 
-    /// Takes bytes until an item is whole, or what is held is refused, whatever follows.
+    /// Reads bytes until an item is complete, or until the bytes held are refused whatever follows.
     pub fn find<R: Stepping, S: Source>(
         &mut self,
         source: &mut S,
@@ -108,7 +108,7 @@ impl Reader {
         }
     }
 
-    // What is found where the source has ended.
+    // What is found if the source has ended.
     fn last(&self) -> Found
         ensures { result ≡ (if length self.now == 0 then Found.End else Found.Rest) }
     {
@@ -119,7 +119,7 @@ impl Reader {
         }
     }
 
-    // Takes bytes from the source.
+    // Reads bytes from the source.
     fn fill<S: Source>(&mut self, source: &mut S) -> Result<usize, Failed>
         requires { length self.old ≤ 581 }
         ensures more { IfOk result (λ n. Adds n self.old self.new) }
@@ -139,7 +139,7 @@ impl Reader {
     }
 }
 
-// Takes the first n bytes away. Nothing of them is left in the memory behind the others, either.
+// Removes the first n bytes. No copy of them is left in the memory after the others, either.
 fn wipe_first(held: &mut Vec<u8>, n: usize)
     requires { n ≤ length held.old.items }
     ensures items { held.new.items ≡ drop n held.old.items }

@@ -2,56 +2,55 @@ ghost use Rattle.std.specs.Prelude.{List, ℕ, Bool, Result};
 ghost use Rattle.item_stream.specs.Cutting.{Cuts, Keeps};
 ghost use Rattle.item_stream.specs.Front.{IsFront};
 
-/// What stands at the front of the bytes that are held.
+/// What the bytes held begin with.
 #[derive(Clone, Copy, Debug, PartialEq, Eq)]
 pub enum Front {
-    /// Nothing that is looked at before more bytes come, or the input ends.
+    /// No item yet: more bytes have to come, or the input has to end.
     Wait,
     /// An item.
     Item {
-        /// How many bytes it has.
+        /// The number of its bytes.
         length: usize,
-        /// How many bytes stand before what follows it: its own, and those that end it.
+        /// The number of bytes before the next item: its own, and its terminator.
         size: usize,
     },
-    /// All that is held is looked at, and refused, whatever follows.
+    /// All bytes held are one item, which is refused whatever follows.
     Last,
 }
 
-/// How items are cut from a stream of bytes and what they do, for those who state what a run over them comes to. The
-/// laws here hold for every such meaning.
+/// How items are cut from a stream of bytes and what they do, for those who state the result of a run over them. The
+/// laws here hold for every implementation.
 pub trait Stepping {
     /// Why an item is refused.
-    ghost Kind: { Type 0 };
+    type Kind: Copy;
 
-    /// What stays the same in a run.
+    /// What stays the same during a run.
     ghost Setting: { Type 0 };
 
     /// What an item changes.
     ghost State: { Type 0 };
 
-    /// The items that are looked at of bytes that stand after n items; whether the input ends after them.
+    /// The items cut from bytes that follow n items; the flag says whether the input ends after them.
     ghost looked: { ℕ → List ℕ → Bool → List (List ℕ) };
 
-    /// The state after an item that stands after n, and the text that is written for it; or why it is refused.
-    ghost step: { Setting → ℕ → State → List ℕ → Result (State × List ℕ) Kind };
+    /// The state after an item that follows n others, and the text to write for it; or why it is refused.
+    ghost step: { Setting → ℕ → State → List ℕ → Result (State × List ℕ) Self.Kind };
 
-    /// The items after n that are refused in every state.
+    /// The items after n others that are refused in every state.
     ghost refuses: { ℕ → List ℕ → Type 0 };
 
-    /// The states that an item may leave whose call found no memory.
+    /// The states that an item may leave if its call runs out of memory.
     ghost fails: { Setting → State → List ℕ → State → Type 0 };
 
-    /// What stands at the front of bytes after n items. It waits for at most 581 bytes.
+    /// What bytes begin with after n items. It waits for at most 581 bytes.
     fn front(before: u32, held: &[u8]) -> Front
         ensures { IsFront looked refuses result before held.now };
 
-    /// Does nothing. Its contract says that what is waited with is an item where the input ends.
+    /// A law: bytes that wait for more are an item if the input ends there.
     fn cuts()
         ensures { Cuts looked };
 
-    /// Does nothing. Its contract says that what is looked at, and what is refused, depends on the bytes alone, and not
-    /// on when they came.
+    /// A law: which items are cut, and which are refused, depends on the bytes alone, not on how reads divided them.
     fn keeps()
         ensures { (setting : Setting) → Keeps looked refuses (step setting) };
 }

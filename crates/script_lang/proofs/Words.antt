@@ -55,7 +55,7 @@ behind_first line n at =
     let whole : take (length line - (n + 1)) (drop (n + 1) line) ≡ drop (n + 1) line = take_all (length line - (n + 1)) (drop (n + 1) line) (omega (arith, length-drop (n + 1) line)) in
     rw (whole, words_of-first line n at) refl
 
--- nothing stands after the only word
+-- nothing follows the only word
 pub behind_alone : (line : List ℕ) → IsFirstPlace None 32 line → length (words_of line) ≤ 1
 behind_alone line none = rw (words_of-alone line none) (omega arith)
 

@@ -87,7 +87,7 @@ command_of_func funcs.OpenSession = commands.OpenSession
 command_of_func funcs.CloseSession = commands.CloseSession
 command_of_func funcs.ChAuthTok = commands.ChAuthTok
 
--- the words by which reports name a call, and a function of the modules
+-- the line of a rule with this number is run: the first module that its path names serves the call
 abbrev pub word_of_call : AppCall → List ℕ
 word_of_call call = (row_of (command_of_call call)).word
 

@@ -3,6 +3,7 @@ ghost use Rattle.pam_base.specs.declared.fault.ScriptKind.{ScriptKind};
 
 use crate::front::front_of_lines;
 use item_stream::{Front, Stepping};
+use pam_base::ScriptKind;
 use std::marker::PhantomData;
 
 /// What the lines of a script do, for those who state the result of a run over them. It has only
@@ -27,11 +28,10 @@ pub struct Lines<R: LineStepping> {
 }
 
 impl<R: LineStepping> Stepping for Lines<R> {
-    ghost use Rattle.pam_base.specs.declared.fault.ScriptKind.{ScriptKind};
+    type Kind = ScriptKind;
+
     ghost use Rattle.script_stream.specs.Looked.{IsOver, looked};
     ghost use Rattle.script_stream.specs.Run.{step_at};
-
-    ghost Kind = { ScriptKind };
 
     ghost Setting = { R.Setting };
 
