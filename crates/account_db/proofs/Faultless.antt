@@ -1,4 +1,4 @@
--- Lines of which none is at fault, and their entries.
+-- Lines without a fault, and their entries.
 use Rattle.std.proofs.Common.{◌≡◌, ℕ, ◌+◌, ◌≤◌, Bool, true, false, cond, nat_lt, List, [], ◌∷◌, length, Option, Some, None, Ok, position, refl, ap, arith}
 use Rattle.std.specs.List.{cons_option, filter_map, position_or_len}
 use Rattle.std.proofs.lemmas.Bool.{ltb-false}
@@ -8,7 +8,7 @@ use Rattle.account_db.specs.Entries.{entry_in, is_faulty, unless_faulty}
 use Rattle.account_db.proofs.Lacking.{lines_from}
 
 module _ {E : Type 0} (form : List ℕ → Option E) where
-  -- none of the lines is at fault
+  -- no line is at fault
   abbrev pub Fine : List (List ℕ) → Type 0
   Fine [] = Unit {0}
   Fine (l ∷ ls) = (is_faulty form l ≡ false) × Fine ls
@@ -44,7 +44,7 @@ module _ {E : Type 0} (form : List ℕ → Option E) where
       (fine_by ls far, cc)
   none_by (Some n) ls es e h = absurd cc
 
-  -- where the lines are read, none is at fault
+  -- if the lines are read, none is at fault
   pub read_back : (ls : List (List ℕ)) (es : List E) → unless_faulty form (position (is_faulty form) ls) ls ≡ Ok es → Fine ls × (entries ls ≡ es)
   read_back ls es h = none_by (position (is_faulty form) ls) ls es refl h
 

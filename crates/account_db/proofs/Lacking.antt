@@ -1,4 +1,4 @@
--- Parts of a text that lack a byte, and its lines.
+-- Parts of a text without a given byte, and its lines.
 use Rattle.std.proofs.Common.{◌≡◌, ℕ, zero, suc, Bool, true, false, cond, eqb, List, [], ◌∷◌, drop, slice_index_or, refl, ap, ◌∙◌}
 use Rattle.std.specs.List.{join_with_byte, onto_first, slice_split}
 use Rattle.std.proofs.lemmas.List.Folds.{list_any-append}
@@ -15,7 +15,7 @@ onto_lack : (byte b : ℕ) (ps : List (List ℕ)) → eqb b byte ≡ false → L
 onto_lack byte b [] e h = (rw e refl, tt)
 onto_lack byte b (p ∷ ps) e h = (rw e h.0, h.1)
 
--- by whether the next byte separates
+-- by whether the next byte is a separator
 split_lack : (byte b : ℕ) (x : Bool) (ps : List (List ℕ)) → (x ≡ false → eqb b byte ≡ false) → Lack byte ps → Lack byte (cond x ([] ∷ ps) (onto_first b ps))
 split_lack byte b true ps e h = (refl, h)
 split_lack byte b false ps e h = onto_lack byte b ps (e refl) h
@@ -47,7 +47,7 @@ drop_lack byte zero ls h = h
 drop_lack byte (suc n) [] h = tt
 drop_lack byte (suc n) (l ∷ ls) h = drop_lack byte n ls h.1
 
--- parts that are joined are cut there again
+-- joined parts are split again at the same places
 pub split_join : (separator : ℕ) (l : List ℕ) (ls : List (List ℕ)) → Lack separator (l ∷ ls) → parts_of separator (join_with_byte separator (l ∷ ls)) ≡ l ∷ ls
 split_join separator l [] h = parts_of-last separator l h.0
 split_join separator l (m ∷ ms) h =
@@ -55,7 +55,7 @@ split_join separator l (m ∷ ms) h =
 
 -- ---- lines
 
--- the lines of joined parts: an empty one at the end is none
+-- the lines of joined parts: an empty part at the end is no line
 abbrev pub lines_from : List (List ℕ) → List (List ℕ)
 lines_from [] = []
 lines_from (l ∷ []) = last_line l

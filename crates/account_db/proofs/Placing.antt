@@ -1,4 +1,4 @@
--- A new hash leaves every other byte.
+-- A new hash leaves every other byte as it was.
 use Rattle.std.proofs.Common.{◌≡◌, ◌⊎◌, inl, inr, ℕ, Bool, true, false, cond, List, [], ◌∷◌, ◌++◌, refl, sym, ap, ◌∙◌, append_assoc, subst}
 use Rattle.std.proofs.lemmas.List.{append-nil}
 use Rattle.std.specs.List.{join_with_byte}
@@ -7,7 +7,7 @@ use Rattle.pam_base.specs.Parts.{parts_of}
 use Rattle.account_db.specs.Entries.{is_line_of}
 use Rattle.account_db.specs.Replace.{Placed, changed_line, changed_lines, with_hash}
 
--- what follows a line: nothing, or a newline and the lines that follow
+-- what follows a line: nothing, or a newline and the next lines
 abbrev tail_of : List (List ℕ) → List ℕ
 tail_of [] = []
 tail_of (l ∷ ls) = 10 ∷ join_with_byte 10 (l ∷ ls)
@@ -23,7 +23,7 @@ module _ (user hash : List ℕ) (day : ℕ) where
   abbrev changed : List (List ℕ) → List (List ℕ)
   changed lines = changed_lines user hash day lines
 
-  -- what a change of the lines is to their text
+  -- what a change of the lines means for their text
   abbrev Is : List ℕ → List ℕ → Type 0
   Is old new = (new ≡ old) ⊎ Placed user hash day old new
 

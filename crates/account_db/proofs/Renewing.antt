@@ -1,4 +1,4 @@
--- A file with a new hash is read as the same entries, of which the first of the user has it.
+-- A file with a new hash is read as the same entries, except that the first entry of the user has this hash.
 use Rattle.std.proofs.Common.{◌≡◌, ◌≢◌, ℕ, ◌^◌, ◌<◌, Bool, true, false, cond, eqb, List, [], ◌∷◌, ◌++◌, drop, slice_index_or, Option, Some, None, Ok, decimal, position, refl, sym, ap, ◌∙◌, subst}
 use Rattle.std.specs.Char.{is_ascii_digit}
 use Rattle.std.specs.List.{join_with_byte, onto_first, slice_split}
@@ -19,7 +19,7 @@ use Rattle.account_db.proofs.Nine_fields.{decimal_lacks, are_its_days, is_its_nu
 
 -- ---- the user's line
 
--- what begins with the first field of a line isn't passed over, if the line isn't
+-- what begins with the first field of a line isn't skipped, if the line isn't
 by_separator : (x : Bool) (b : ℕ) (ps : List (List ℕ)) (more : List ℕ) → is_passed_over (b ∷ []) ≡ false → is_passed_over (slice_index_or (cond x ([] ∷ ps) (onto_first b ps)) 0 [] ++ 58 ∷ more) ≡ false
 by_separator true b ps more h = refl
 by_separator false b [] more h = h
@@ -52,7 +52,7 @@ module _ (user hash : List ℕ) (day : ℕ) (colon : has_byte 58 hash ≡ false)
   unfolding changed_line
   still_counts line h = not_passed line (join_with_byte 58 (hash ∷ decimal day ∷ drop 3 (fields_of line))) h
 
--- ---- all lines, over the form of an entry
+-- ---- all lines, in terms of the form of an entry
 
 module _ (form : List ℕ → Option Shadow) (user hash : List ℕ) (day : ℕ)
     (named : (line : List ℕ) (s : Shadow) → form line ≡ Some s → s.name ≡ field 0 line)

@@ -1,5 +1,5 @@
--- Worked rows: the entries of a text or its first line at fault, each limit from both sides, and a
--- new hash for one of two users.
+-- Test cases: the entries of a text or its first line at fault, each limit from both sides, and a new hash for one of
+-- two users.
 use Rattle.std.proofs.Common.{◌≡◌, ℕ, List, [], ◌∷◌, Option, Some, None, Result, Ok, Err, codes, refl}
 use Rattle.std.specs.Fmt.{digits}
 use Rattle.pam_base.specs.Lines.{cut, lines_of}
@@ -21,7 +21,7 @@ at n = Err (record { line = n })
 
 -- ---- passwd: seven fields, the name not empty, the ids 1 to 10 digits of value at most 4294967295
 
--- an entry with a name, two ids and a shell, and nothing else
+-- an entry with a name, two ids and a shell, and no other field
 abbrev user : List ℕ → ℕ → ℕ → List ℕ → Passwd
 user name uid gid shell = record {
   name = name;
@@ -61,7 +61,7 @@ empty_name : passwds_of (codes "::0:0:::") ≡ at 1
 unfolding entries_of parts_of lines_of cut
 empty_name = refl
 
--- a carriage return belongs to the shell
+-- a carriage return is part of the shell
 shell_with_return : passwds_of (codes "a::0:0:::s\r\n")
     ≡ Ok (user (codes "a") 0 0 (codes "s\r") ∷ [])
 unfolding entries_of parts_of lines_of cut
@@ -104,7 +104,7 @@ uid_with_sign : passwds_of (codes "a::-1:0:::") ≡ at 1
 unfolding entries_of parts_of lines_of cut
 uid_with_sign = refl
 
--- ---- which line: empty lines and those that begin with #, + or - are passed over, and count
+-- ---- which lines: empty lines and those that begin with #, + or - are skipped, but counted
 
 no_lines : passwds_of (codes "") ≡ Ok []
 unfolding entries_of parts_of lines_of cut
@@ -114,7 +114,7 @@ all_passed_over : passwds_of (codes "\n# a\n+::\n-b\n") ≡ Ok []
 unfolding entries_of parts_of lines_of cut
 all_passed_over = refl
 
--- a space is no comment
+-- a line that begins with a space is no comment
 space_at_fault : passwds_of (codes "\n \n") ≡ at 2
 unfolding entries_of parts_of lines_of cut
 space_at_fault = refl
@@ -123,7 +123,7 @@ third_line_at_fault : passwds_of (codes "# a\nb::0:0:::\nc\nd\n") ≡ at 3
 unfolding entries_of parts_of lines_of cut
 third_line_at_fault = refl
 
--- the last line is one with its newline and without it
+-- the last line is the same with its newline and without it
 last_line_at_fault : passwds_of (codes "a::0:0:::\nb\n") ≡ at 2
 unfolding entries_of parts_of lines_of cut
 last_line_at_fault = refl

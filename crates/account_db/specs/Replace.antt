@@ -9,19 +9,19 @@ use Rattle.account_db.specs.Parts.{field, fields_of}
 use Rattle.account_db.specs.Entries.{is_line_of}
 use Rattle.account_db.specs.Shadow.{shadows_of}
 
--- a line with this hash and this day of the last change: its second and its third field
+-- a line with this hash and this day of the last change, its second and third field
 unfoldable pub changed_line : List ℕ → ℕ → List ℕ → List ℕ
 changed_line hash day line =
     join_with_byte 58 (field 0 line ∷ hash ∷ decimal day ∷ drop 3 (fields_of line))
 
--- the first line of the user is changed, and the others stay
+-- the first line of the user is changed, and the other lines stay
 abbrev pub changed_lines : List ℕ → List ℕ → ℕ → List (List ℕ) → List (List ℕ)
 changed_lines user hash day [] = []
 changed_lines user hash day (line ∷ lines) =
     if is_line_of user line then changed_line hash day line ∷ lines
     else line ∷ changed_lines user hash day lines
 
--- the text with that line changed: what stands between its newlines
+-- the text with that line changed, between the same newlines
 unfoldable pub with_hash : List ℕ → List ℕ → ℕ → List ℕ → List ℕ
 with_hash user hash day text = join_with_byte 10 (changed_lines user hash day (parts_of 10 text))
 
@@ -38,14 +38,14 @@ hash_replaced user hash day text =
 abbrev pub renewed : List ℕ → ℕ → Shadow → Shadow
 renewed hash day entry = record entry { hash = hash; last_change = Some day }
 
--- the first entry of the user is changed, and the others stay
+-- the first entry of the user is changed, and the other entries stay
 abbrev pub changed_entries : List ℕ → List ℕ → ℕ → List Shadow → List Shadow
 changed_entries user hash day [] = []
 changed_entries user hash day (entry ∷ entries) =
     if bytes_eq entry.name user then renewed hash day entry ∷ entries
     else entry ∷ changed_entries user hash day entries
 
--- A line of the user was changed, and what stands before and after it stayed.
+-- A line of the user was changed, and everything before and after it stayed.
 pub record Placed (user hash : List ℕ) (day : ℕ) (old new : List ℕ) : Type 0 where
   pub front : List ℕ
   pub line : List ℕ

@@ -1,5 +1,6 @@
--- The shadow file (shadow(5)): name, hash, the days of the last change, of the least and the greatest age of a password, of
--- the warning before it and of the grace after it, the day on which the account ends, and a reserved field.
+-- The shadow file (shadow(5)): name, hash, the day of the last change, the minimum and the maximum age of a password,
+-- the days of warning before it expires and of grace after that, the day on which the account expires, and a reserved
+-- field.
 use Rattle.std.specs.Prelude.{◌≡◌, ℕ, Bool, true, false, ◌==◌, ◌&&◌, nat_le, if◌then◌else◌, List, length, Option, Some, None, Result}
 use Rattle.std.specs.Char.{is_ascii_digit}
 use Rattle.std.specs.List.{find, list_all}
@@ -10,7 +11,7 @@ use Rattle.account_db.specs.declared.shadow.Shadow.{Shadow}
 use Rattle.account_db.specs.Parts.{field, fields_of}
 use Rattle.account_db.specs.Entries.{entries_of}
 
--- a number of days has at most nine digits; an empty field has none
+-- a number of days has at most nine digits; an empty field has no number
 abbrev pub is_days : List ℕ → Bool
 is_days word = nat_le (length word) 9 && list_all is_ascii_digit word
 
@@ -51,6 +52,6 @@ shadow_named line entry e = by_size (length (fields_of line) == 9 && are_days li
 abbrev pub shadows_of : List ℕ → Result (List Shadow) DbFault
 shadows_of text = entries_of shadow_in text
 
--- a user's entry: the first of that name
+-- a user's entry: the first with that name
 abbrev pub shadow_of : List ℕ → List Shadow → Option Shadow
 shadow_of user entries = find (λ (s : Shadow). bytes_eq s.name user) entries

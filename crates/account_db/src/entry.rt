@@ -7,19 +7,19 @@ use crate::parts::name_in;
 use pam_base::{Lines, NoMemory, Sequence};
 use std::alloc::Global;
 
-/// An entry of an account file, which stands in a line of its own.
+/// An entry of an account file, on a line of its own.
 pub(crate) trait Entry: Drop {
     /// The entry of a line that has the form of one.
     ghost form: { List ℕ → Option Self };
 
-    /// The name that an entry is looked up by.
+    /// The name by which an entry is looked up.
     ghost name: { Self → List ℕ };
 
     /// Whether a line has the form.
     fn has_form(line: &[u8]) -> bool
         ensures { result ≡ is_some (form line.now) };
 
-    /// The entry of a line; None where it hasn't the form.
+    /// The entry of a line; None if it doesn't have the form.
     fn read(alloc: Global, line: &[u8]) -> Result<Option<Self>, NoMemory>
         ensures { IfOk result (λ entry. entry ≡ form line.now) };
 
@@ -28,7 +28,7 @@ pub(crate) trait Entry: Drop {
         name entry ≡ field 0 line };
 }
 
-/// Whether each line of a text that counts has the form, else the first that hasn't.
+/// Whether each line of a text that isn't skipped has the form; else the first that doesn't.
 pub(crate) fn check_lines<E: Entry>(text: &[u8]) -> Result<(), DbFault>
     requires { length text.now ≤ 1048576 }
     ensures { Checks E.form result text.now }
@@ -66,7 +66,7 @@ pub(crate) fn entries_in<E: Entry>(alloc: Global, text: &[u8]) -> Result<Sequenc
     Ok(entries)
 }
 
-/// The first entry of a text with this name. Of the lines with another name none is read.
+/// The first entry of a text with this name. Lines with another name aren't read any further.
 pub(crate) fn entry_named<E: Entry>(
     alloc: Global,
     name: &[u8],
@@ -94,14 +94,14 @@ fn entry_if_named<E: Entry>(alloc: Global, name: &[u8], line: &[u8]) -> Result<O
     }
 }
 
-/// Whether a line counts, and its first field is this name.
+/// Whether a line isn't skipped, and its first field is this name.
 pub(crate) fn is_line_of(name: &[u8], line: &[u8]) -> bool
     ensures { result ≡ is_line_of name.now line.now }
 {
     !is_passed_over(line) && name_in(line) == name
 }
 
-/// Whether a line counts for nothing.
+/// Whether a line is skipped.
 pub(crate) fn is_passed_over(line: &[u8]) -> bool
     ensures { result ≡ is_passed_over line.now }
 {

@@ -4,15 +4,15 @@ ghost use Rattle.account_db.specs.Replace.{Placed, changed_entries, renewed, wit
 ghost use Rattle.account_db.specs.Shadow.{shadow_of, shadows_of};
 ghost use Rattle.pam_base.specs.Bytes.{has_byte};
 
-/// Does nothing: its contract is that a new hash leaves every other byte of the file.
+/// A law: a new hash leaves every other byte of the file as it was.
 pub fn hash_is_put_in_place()
     ensures { (user hash : List ℕ) (day : ℕ) (text : List ℕ) →
         (with_hash user hash day text ≡ text) ⊎ Placed user hash day text
         (with_hash user hash day text) }
 {}
 
-/// Does nothing: its contract is that a file with a new hash is read as the entries that it had, of which the first of
-/// the user has this hash and this day (`shadow(5)`). A hash holds no colon and no newline, and a day nine digits.
+/// A law: a file with a new hash is read as the same entries, except that the first entry of the user has this hash and
+/// this day (`shadow(5)`). A hash contains no colon and no newline, and a day has at most nine digits.
 pub fn new_hash_is_read()
     ensures read { (user hash : List ℕ) (day : ℕ) (text : List ℕ) (entries : List Shadow) →
         has_byte 58 hash ≡ false → has_byte 10 hash ≡ false → day < 10 ^ 9 →

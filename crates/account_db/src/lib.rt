@@ -1,5 +1,5 @@
-//! The account files of a system: the entries of `passwd(5)`, `group(5)` and `shadow(5)`, the
-//! shells of `shells(5)`, and a new hash in a shadow file.
+//! The account files of a system: the entries of `passwd(5)`, `group(5)` and `shadow(5)`, the shells of `shells(5)`,
+//! and a new hash in a shadow file. Begin at `passwd.rt`.
 #![tactic(auto)]
 
 mod entry;

@@ -9,7 +9,7 @@ use crate::passwd::Passwd;
 use pam_base::{NoMemory, Text, Texts};
 use std::alloc::Global;
 
-/// The group of a name (`getgrnam(3)`): the first entry of that name.
+/// The group of a name (`getgrnam(3)`): the first entry with that name.
 pub fn group_of<'a>(name: &[u8], groups: &'a Groups) -> Option<&'a Group>
     ensures { option_copied result ≡ group_of name.now groups.now }
 {
@@ -41,7 +41,7 @@ fn has_text(text: &[u8], texts: &Texts) -> bool
     texts.items().iter().any(|t| t.bytes() == text)
 }
 
-/// Whether a user is in the group of a name; nobody is in one that isn't there.
+/// Whether a user is in the group of a name; a group that doesn't exist has no members.
 pub fn is_in_group(name: &[u8], user: &[u8], entry: Option<&Passwd>, groups: &Groups) -> bool
     ensures { result ≡ is_in_group name.now user.now (option_copied entry.entry) groups.now }
 {

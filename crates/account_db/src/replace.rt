@@ -10,10 +10,9 @@ use crate::shadow::Shadow;
 use pam_base::{NoMemory, Parts, Refuse, Text, Texts};
 use std::alloc::Global;
 
-/// A shadow file (`shadow(5)`) in which the first line of the user has this hash, and this day as
-/// that of its last change. Every other byte stays; where the user has no line, all do. Or the
-/// first line that hasn't the form of an entry, as `shadows` tells it, also without memory. The
-/// text has at most 1,048,576 bytes.
+/// A shadow file (`shadow(5)`) in which the first line of the user has this hash, and this day as that of its last
+/// change. Every other byte stays; if the user has no line, all bytes do. Or the first line that doesn't have the form
+/// of an entry, as `shadows` returns it, even if memory runs out. The text has at most 1,048,576 bytes.
 pub fn replace_hash(
     alloc: Global,
     text: &[u8],
@@ -81,7 +80,7 @@ fn put_parts(alloc: Global, parts: &mut Parts, texts: &mut Texts) -> Result<(), 
     Ok(())
 }
 
-// The texts one after another, with a byte between each two.
+// The texts one after another, with a byte between each two of them.
 fn joined(alloc: Global, byte: u8, texts: &Texts) -> Result<Text, NoMemory>
     ensures { IfOk result (λ text. text ≡ join_with_byte byte texts.now) }
 {

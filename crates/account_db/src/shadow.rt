@@ -9,7 +9,7 @@ use pam_base::{NoMemory, Text, are_digits, number_in};
 use std::alloc::Global;
 use std::marker::Model;
 
-/// An entry of `shadow(5)`. The numbers are days; of an empty field there is none.
+/// An entry of `shadow(5)`. The numbers are days; an empty field has none.
 #[derive(Debug, Drop)]
 pub struct Shadow {
     pub name: Text,
@@ -23,7 +23,7 @@ pub struct Shadow {
     pub reserved: Text,
 }
 
-/// The entries of the file, in order. They are kept as its text, and an entry is read where it is looked up.
+/// The entries of the file, in order. They are stored as its text, and an entry is read when it is looked up.
 #[derive(Debug, Drop)]
 pub struct ShadowFile {
     text: Text,
@@ -88,8 +88,8 @@ fn is_days(word: &[u8]) -> bool
     word.len() <= 9 && are_digits(word)
 }
 
-/// The entries of a shadow file (`shadow(5)`) with this text, or the first line that hasn't the form of one, as
-/// `passwds` does. It takes no memory.
+/// The entries of a shadow file (`shadow(5)`) with this text, or the first line that doesn't have the form of one, as
+/// `passwds` does. Allocates nothing.
 pub fn shadows(text: Text) -> Result<ShadowFile, DbFault>
     requires { length text ≤ 1048576 }
     ensures { result ≡ shadows_of text }
@@ -100,7 +100,7 @@ pub fn shadows(text: Text) -> Result<ShadowFile, DbFault>
     }
 }
 
-/// A user's entry: the first of that name.
+/// A user's entry: the first with that name.
 pub fn shadow_of(
     alloc: Global,
     user: &[u8],

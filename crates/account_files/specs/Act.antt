@@ -171,7 +171,7 @@ stage_of known s = record {
   sight = sight_of s;
 }
 
--- a module plays what it does, from a stage at which nothing is known
+-- a module does what its definition says, from a state of which nothing is known
 abbrev pub plays_by : (PlainCall → Act) → Plays
 plays_by act call room held sight = act call (record {
   room = room;

@@ -181,7 +181,7 @@ plain_facts run rest e =
     let first = both (not (at_line_end run)) (not (begins_with 91 run)) third.0 in
     record { some = not_true (at_line_end run) first.0; no_bracket = not_true (begins_with 91 run) first.1; on = third.1; ends = not_true (goes_on rest) last.1 }
 
--- a piece that stands at the beginning of a text is the first of its pieces
+-- a piece at the beginning of a text is the first of its pieces
 pub piece_again : (p : Piece) (rest : List ℕ) → stands p rest ≡ true → pieces_of (piece_bytes p ++ rest) ≡ p ∷ pieces_of rest
 piece_again newline rest e = from_first 10 rest rest newline (unfold first_piece in refl) refl
 piece_again (white b) rest e = from_first b rest rest (white b) (white_again b rest e) refl
@@ -205,7 +205,7 @@ piece_again (comment text) rest e =
     let k : suc (length text) - 1 ≡ length text = omega arith in
     from_first 35 (text ++ rest) rest (comment text) (comment_again text rest (not_true (has_byte 10 text) parts.0) parts.1) (rw k (drop_front text rest))
 
--- pieces that stand at the beginning of a text are the first of its pieces
+-- pieces at the beginning of a text are the first of its pieces
 pub pieces_again : (ps : List Piece) (rest : List ℕ) → all_stand ps rest ≡ true → pieces_of (spelling ps ++ rest) ≡ ps ++ pieces_of rest
 pieces_again [] rest e = refl
 pieces_again (p ∷ ps) rest e =

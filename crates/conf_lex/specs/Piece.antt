@@ -90,7 +90,7 @@ abbrev pub is_open : Piece → Bool
 is_open (open_bracket us) = true
 is_open _ = false
 
--- ---- where a piece may stand: what must follow it in the text
+-- ---- where a piece may be: what must follow it in the text
 
 -- whether a text begins with the byte (own)
 abbrev pub begins_with : ℕ → List ℕ → Bool

@@ -10,7 +10,7 @@ use Rattle.conv_port.specs.declared.offer.Offer.TheVariants.{Answer, Later}
 use Rattle.conv_port.specs.Message.{HasPrompt, prompt_count}
 use Rattle.conv_port.specs.Conv.{ConvState, answer_to, has_replies, ready_replies, replies_from, starts_with_mark}
 
--- the answer by its tests
+-- the result by the tests made
 answered : Bool → Bool → List Reply → Result (List Reply) ConvFault
 answered enough off replies = if enough then Ok replies else if off then Err Again else Err Gone
 
@@ -29,7 +29,7 @@ ended false false replies = (λ e. (refl, refl), λ both. refl)
 too_few : (p n : ℕ) → (leb p n ≡ false) ↔ (n < p)
 too_few p n = (λ e. grind arith, λ lt. grind arith)
 
--- a mark in front leaves no reply before it
+-- a mark at the beginning leaves no reply before it
 none_ready : (offers : List Offer) → starts_with_mark offers ≡ true → length (ready_replies offers) ≡ 0
 none_ready [] e = absurd cc
 none_ready (Answer text ∷ offers) e = absurd cc

@@ -1,4 +1,4 @@
--- The messages of an exchange are shown, and their replies are read, one after another.
+-- The messages of an exchange are shown and their replies read, one after another.
 use Rattle.std.proofs.Common.{◌≡◌, ℕ, Bool, true, false, ◌&&◌, nat_lt, Option, Some, None, List, [], ◌∷◌, ◌++◌, length, refl, sym, subst, ◌∙◌, append_assoc}
 use Rattle.std.specs.Prelude.{⊤}
 use Rattle.std.specs.Io.KnownBytes.{Appends}
@@ -10,7 +10,7 @@ use Rattle.pam_base.specs.Style.{is_prompt}
 use Rattle.conv_port.specs.Message.{AreReplies, IsReply}
 use Rattle.conv_port.specs.Terminal.{IsTyped, Types, all_shown, behind_line, behind_replies, has_lines, shown, typed_line, typed_replies}
 
--- what was typed gives the replies so far, and then those to the rest of the messages
+-- what was typed gives the replies so far, and then those to the other messages
 pub record IsTypedSoFar (messages rest : List Message) (done : List Reply) (bytes left : List ℕ) : Type 0 where
   pub replies : done ++ typed_replies rest left ≡ typed_replies messages bytes
   pub left_is : behind_replies rest left ≡ behind_replies messages bytes

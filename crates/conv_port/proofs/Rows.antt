@@ -1,4 +1,4 @@
--- Exchanges computed on their definition, before any code stands on it.
+-- Exchanges computed on their definition.
 use Rattle.std.proofs.Common.{◌≡◌, ℕ, true, false, List, [], ◌∷◌, Ok, Err, codes, ◌++◌, replicate, refl}
 use Rattle.pam_base.specs.declared.style.Style.TheVariants.{EchoOff, EchoOn, TextInfo}
 use Rattle.conv_port.specs.declared.conv.ConvFault.TheVariants.{Gone, Again}
@@ -39,14 +39,14 @@ replies_in_order = refl
 mark_stays_behind : state_after (ready (Answer (codes "joe") ∷ Answer (codes "x") ∷ Later ∷ [])) two_prompts ≡ behind two_prompts (ready (Later ∷ []))
 mark_stays_behind = refl
 
--- a mark after too few replies ends the exchange, and nothing is taken
+-- a mark after too few replies ends the exchange, and no reply is taken
 too_few : answer_to (ready (Answer (codes "joe") ∷ Later ∷ Answer (codes "x") ∷ [])) two_prompts ≡ Err Gone
 too_few = refl
 
 none_taken : state_after (ready (Answer (codes "joe") ∷ Later ∷ Answer (codes "x") ∷ [])) two_prompts ≡ behind two_prompts (ready (Answer (codes "joe") ∷ Later ∷ Answer (codes "x") ∷ []))
 none_taken = refl
 
--- a mark in front puts it off, and is taken
+-- a mark at the beginning makes it incomplete, and is taken
 put_off : answer_to (ready (Later ∷ Answer (codes "joe") ∷ [])) two_prompts ≡ Err Again
 put_off = refl
 
@@ -60,14 +60,14 @@ no_prompt = refl
 mark_untouched : state_after (ready (Later ∷ [])) a_text ≡ behind a_text (ready (Later ∷ []))
 mark_untouched = refl
 
--- one that waits puts off where a reply is missing, and keeps what it holds
+-- one that waits returns Again if a reply is missing, and keeps its replies
 waits : answer_to (waiting (Answer (codes "joe") ∷ [])) two_prompts ≡ Err Again
 waits = refl
 
 keeps : state_after (waiting (Answer (codes "joe") ∷ [])) two_prompts ≡ behind two_prompts (waiting (Answer (codes "joe") ∷ []))
 keeps = refl
 
--- six bytes are a mark, and only to one that doesn't wait
+-- six bytes are a mark, and only for a conversation that doesn't wait
 a_mark : offer_taken false (codes "\\later") ≡ Later
 a_mark = refl
 
@@ -79,7 +79,7 @@ never_a_mark = refl
 
 -- ---- a terminal
 
--- a line, and what follows its newline
+-- a line, and the bytes after its newline
 a_line : typed_line (codes "joe\nx\n") ≡ codes "joe"
 a_line = refl
 
@@ -121,6 +121,6 @@ left = refl
 seen : all_shown two_prompts ≡ codes "hi\nlogin: Password: "
 seen = refl
 
--- the second prompt finds nothing
+-- there is nothing left for the second prompt
 no_reply : has_lines two_prompts (codes "joe\n") ≡ false
 no_reply = refl

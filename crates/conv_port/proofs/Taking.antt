@@ -1,4 +1,4 @@
--- Each prompt of an exchange takes the reply in front.
+-- Each prompt of an exchange takes the first reply.
 use Rattle.std.proofs.Common.{◌≡◌, ℕ, suc, ◌+◌, ◌<◌, ◌≤◌, Bool, true, false, List, [], ◌∷◌, ◌++◌, length, drop, refl, sym, ap, ◌∙◌, append_assoc, get_or, drop-cons, length-drop, arith}
 use Rattle.std.proofs.lemmas.List.{nil_from_length}
 use Rattle.conv_port.specs.declared.message.Message.{Message}
@@ -10,7 +10,7 @@ use Rattle.conv_port.specs.Message.{prompt_count}
 use Rattle.conv_port.specs.Conv.{ready_replies, replies_from}
 use Rattle.conv_port.specs.Queue.{TakesReply}
 
--- some messages have their replies, and what the rest will take is there
+-- some messages have their replies, and those for the others are there
 pub record IsTaking (messages rest : List Message) (before now : List Offer) (done : List Reply) : Type 0 where
   pub replies : done ++ replies_from (ready_replies now) rest ≡ replies_from (ready_replies before) messages
   pub offers : drop (prompt_count rest) now ≡ drop (prompt_count messages) before

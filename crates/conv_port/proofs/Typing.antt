@@ -23,7 +23,7 @@ before-cons b xs e = rw e (let one : 1 + position_or_len is_newline xs ≡ suc (
 after-cons : (b : ℕ) (xs : List ℕ) → is_newline b ≡ false → after_first is_newline (b ∷ xs) ≡ after_first is_newline xs
 after-cons b xs e = rw e (let one : 1 + position_or_len is_newline xs + 1 ≡ suc (position_or_len is_newline xs + 1) = omega arith in ap (λ n. drop n (b ∷ xs)) one)
 
--- a text is the line at the front of some bytes, and others are after it
+-- a text is the first line of some bytes, and others follow it
 record IsCut (n : ℕ) (bytes text left : List ℕ) : Type 0 where
   line_is : line n bytes ≡ text
   behind_is : behind n bytes ≡ left
@@ -58,7 +58,7 @@ at_end (suc n) (b ∷ text) plain le =
     let both = neither (eqb b 10) (has_byte 10 text) plain in
     one_more n b text text [] both.0 (at_end n text both.1 (omega (arith, le)))
 
--- ---- where it is known what was typed
+-- ---- if it is known what was typed
 
 line_is : (text bytes left : List ℕ) → 0 < length bytes → IsCut 512 bytes text left → IsLine text bytes left
 line_is text bytes left lt c = record { some = lt; text_is = sym c.line_is; left_is = sym c.behind_is }

@@ -1,5 +1,5 @@
--- What a conversation that tells holds, and what it answers by that (this project's own: pam_conv(3) leaves open
--- where replies come from; PAM_CONV_AGAIN is the answer of one that has none yet).
+-- What a modelled conversation holds, and what it returns because of that (this project's own: pam_conv(3) leaves open
+-- where replies come from; PAM_CONV_AGAIN is the code of one that has none yet).
 use Rattle.std.specs.Prelude.{◌≡◌, ℕ, Bool, true, false, ◌||◌, nat_le, if◌then◌else◌, List, [], ◌∷◌, ◌++◌, length, drop, codes, Result, Ok, Err, OnOk, OnErr}
 use Rattle.std.specs.Str.{bytes_eq}
 use Rattle.conv_port.specs.declared.conv.ConvFault.{ConvFault}
@@ -11,15 +11,15 @@ use Rattle.conv_port.specs.declared.offer.Offer.TheVariants.{Answer, Later}
 use Rattle.pam_base.specs.Style.{is_prompt}
 use Rattle.conv_port.specs.Message.{prompt_count}
 
--- What was offered and isn't taken yet, in order, and whether the conversation waits where too little was. One
--- that waits holds no marks. And all that it was handed: each exchange with its messages, in order, also those that it
--- put off or didn't answer.
+-- The offers that aren't taken yet, in order, and whether the conversation waits if there are too few. One that waits
+-- holds no marks. And all that was passed to it: each exchange with its messages, in order, including those without
+-- replies.
 pub record ConvState : Type 0 where
   pub offers : List Offer
   pub waits : Bool
   pub handed : List (List Message)
 
--- the replies that stand before the first mark
+-- the replies before the first mark
 abbrev pub ready_replies : List Offer → List (List ℕ)
 ready_replies [] = []
 ready_replies (Answer text ∷ offers) = text ∷ ready_replies offers
@@ -30,7 +30,7 @@ starts_with_mark [] = false
 starts_with_mark (Answer text ∷ offers) = false
 starts_with_mark (Later ∷ offers) = true
 
--- without the mark in front, if there is one
+-- without the first mark, if there is one
 abbrev pub without_mark : List Offer → List Offer
 without_mark [] = []
 without_mark (Answer text ∷ offers) = Answer text ∷ offers
@@ -51,15 +51,15 @@ replies_from texts (m ∷ ms) = if is_prompt m.style
 abbrev pub has_replies : ConvState → List Message → Bool
 has_replies s messages = nat_le (prompt_count messages) (length (ready_replies s.offers))
 
--- The answer to an exchange, where there is memory. Where a reply is missing, one that waits and one with a mark
--- in front put the exchange off, and any other is at its end.
+-- The result of an exchange, unless memory runs out. If a reply is missing, a conversation that waits and one with a
+-- mark at the beginning return Again, and any other is at its end.
 abbrev pub answer_to : ConvState → List Message → Result (List Reply) ConvFault
 answer_to s messages =
     if has_replies s messages then Ok (replies_from (ready_replies s.offers) messages)
     else if s.waits || starts_with_mark s.offers then Err Again else Err Gone
 
--- What it holds after it. A mark puts off one exchange. Where a reply is missing, none is taken. It was handed these
--- messages.
+-- What it holds after it. A mark makes one exchange return Again. If a reply is missing, none is taken. These messages
+-- were passed to it.
 abbrev pub state_after : ConvState → List Message → ConvState
 state_after s messages =
     if has_replies s messages then record s {
@@ -69,7 +69,7 @@ state_after s messages =
     else if s.waits then record s { handed = s.handed ++ messages ∷ [] }
     else record s { offers = without_mark s.offers; handed = s.handed ++ messages ∷ [] }
 
--- an exchange: exactly that answer, or there was no memory, and then nothing changed
+-- an exchange: exactly that result; or memory ran out, and then nothing changed
 abbrev pub Talks : Result (List Reply) ConvFault → List Message → ConvState → ConvState → Type 0
 Talks (Ok replies) messages old new = (answer_to old messages ≡ Ok replies)
     × (new ≡ state_after old messages)
@@ -83,11 +83,11 @@ Talks (Err NoMemory) messages old new = new ≡ old
 abbrev pub offer_of : List ℕ → Offer
 offer_of text = if bytes_eq text (codes "\\later") then Later else Answer text
 
--- the same, to one that may wait: it takes any text as a reply
+-- the same for a conversation that may wait: any text is a reply
 abbrev pub offer_taken : Bool → List ℕ → Offer
 offer_taken waits text = if waits then Answer text else offer_of text
 
--- an offer goes after the others, or there was no memory, and then nothing changed
+-- an offer is added after the others; or memory ran out, and then nothing changed
 pub record TakesOffer {E : Type 0} (result : Result (Unit {0}) E) (text : List ℕ)
     (old new : ConvState) : Type 0 where
   pub ok : OnOk result (new ≡ record old { offers = old.offers ++ offer_taken old.waits text ∷ [] })

@@ -7,7 +7,7 @@ use Rattle.conv_port.specs.declared.offer.Offer.{Offer}
 use Rattle.conv_port.specs.declared.offer.Offer.TheVariants.{Answer, Later}
 use Rattle.pam_base.specs.Style.{is_prompt}
 
--- what was offered and isn't taken yet, its two counts, and the exchanges that it was handed, in order
+-- the offers that aren't taken yet, its two counts, and the exchanges that were passed to it, in order
 pub record QueueState : Type 0 where
   pub offers : List Offer
   pub faults : ℕ
@@ -22,7 +22,7 @@ IsShort Later = Unit {0}
 abbrev pub AreShort : List Offer → Type 0
 AreShort offers = AllByRecursion IsShort offers
 
--- one message of an exchange: a prompt takes the reply in front, and any other message has the empty one
+-- one message of an exchange: a prompt takes the first reply, and any other message has the empty one
 pub record TakesReply (m : Message) (r : Reply) (before after : List Offer) : Type 0 where
   pub prompt : is_prompt m.style ≡ true → before ≡ Answer r.text ∷ after
   pub other : is_prompt m.style ≡ false → (r.text ≡ []) × (after ≡ before)

@@ -5,7 +5,7 @@ use Rattle.conv_port.specs.declared.message.Message.{Message}
 use Rattle.conv_port.specs.declared.message.Reply.{Reply}
 use Rattle.pam_base.specs.Style.{is_prompt}
 
--- where it reads, where it writes, and its faults so far
+-- its reader, its writer, and its failures so far
 pub record Terminal (R W : Type 0) : Type 0 where
   pub reader : R
   pub writer : W
@@ -14,11 +14,11 @@ pub record Terminal (R W : Type 0) : Type 0 where
 abbrev pub is_newline : ℕ → Bool
 is_newline b = b == 10
 
--- the reply at the front of what was typed: what stands before the newline, and no more than 512 bytes
+-- the first reply in what was typed: the bytes before the newline, at most 512
 abbrev pub typed_line : List ℕ → List ℕ
 typed_line bytes = before_first is_newline (take 512 bytes)
 
--- what is left behind it: its newline goes too, where that is among the first 512 bytes
+-- what is left after it: its newline is dropped too, if it is among the first 512 bytes
 abbrev pub behind_line : List ℕ → List ℕ
 behind_line bytes = after_first is_newline (take 512 bytes) ++ drop 512 bytes
 
@@ -29,7 +29,7 @@ typed_replies (m ∷ ms) bytes = if is_prompt m.style
     then record { text = typed_line bytes } ∷ typed_replies ms (behind_line bytes)
     else record { text = [] } ∷ typed_replies ms bytes
 
--- what is left behind them
+-- what is left after them
 abbrev pub behind_replies : List Message → List ℕ → List ℕ
 behind_replies [] bytes = bytes
 behind_replies (m ∷ ms) bytes = if is_prompt m.style then behind_replies ms (behind_line bytes)
@@ -48,14 +48,14 @@ shown m = if is_prompt m.style then m.text else m.text ++ 10 ∷ []
 abbrev pub all_shown : List Message → List ℕ
 all_shown messages = flat_map shown messages
 
--- the replies to an exchange are those at the front of what was typed, and what follows them is left
+-- the replies to an exchange are the first ones in what was typed, and what follows them is left
 pub record IsTyped (messages : List Message) (replies : List Reply) (bytes left : List ℕ) : Type
     0 where
   pub replies_are : replies ≡ typed_replies messages bytes
   pub left_is : left ≡ behind_replies messages bytes
   pub enough : has_lines messages bytes ≡ true
 
--- the same, where it is known what was typed
+-- the same, if it is known what was typed
 abbrev pub Types : List Message → List Reply → Option (List ℕ) → Option (List ℕ) → Type 0
 Types messages replies None new = ⊤
 Types messages replies (Some bytes) None = ⊥

@@ -13,7 +13,7 @@ pub enum ConvFault {
     NoMemory,
     /// The user can't be reached, or gives no more replies.
     Gone,
-    /// There is no reply yet: the exchange is to be tried again later (`PAM_CONV_AGAIN`).
+    /// There is no reply yet: the exchange has to be repeated later (`PAM_CONV_AGAIN`).
     Again,
 }
 
@@ -29,26 +29,26 @@ impl From<NoMemory> for ConvFault {
     }
 }
 
-/// What an application gives for the questions of modules (`struct pam_conv` in `pam_conv(3)`).
+/// How an application answers the questions of modules (`struct pam_conv` in `pam_conv(3)`).
 pub trait Conv: Drop {
-    /// Whether it tells what it holds. It does so for ever or never.
+    /// Whether contracts know its content: it is modelled. This never changes.
     ghost conv_tells: { Self → Bool };
 
-    /// What was offered to it and isn't taken yet, whether it waits where too little was, and what
-    /// it was handed, where it tells.
+    /// If it is modelled: the offers that aren't taken yet, whether it waits if there are too few,
+    /// and what was passed to it.
     ghost conv_holds: { Self → ConvState };
 
-    /// How often it answered Gone. The count never falls, and stands still at 2^64 - 1.
+    /// How often it returned Gone. The count never falls, and stops at 2^64 - 1.
     ghost conv_faults: { Self → ℕ };
 
-    /// How often it answered Again. The count never falls, and stands still at 2^64 - 1.
+    /// How often it returned Again. The count never falls, and stops at 2^64 - 1.
     ghost conv_deferrals: { Self → ℕ };
 
-    /// One exchange, of 1 to 32 messages of at most 512 bytes each. It gives one reply for each message, of at
-    /// most 512 bytes, and the empty one for a message that is no prompt. Gone comes only where the count of
-    /// faults rose, Again only where a message is a prompt and the count of deferrals rose, and neither count
-    /// rises otherwise. One that tells answers exactly by what it holds, and adds the messages to what it was handed,
-    /// whatever it answers, unless there is no memory; then it holds what it held.
+    /// One exchange, of 1 to 32 messages of at most 512 bytes each. It gives one reply for each message, of at most 512
+    /// bytes, and the empty one for a message that is no prompt. Gone is returned only if the count of faults rose,
+    /// Again only if a message is a prompt and the count of deferrals rose, and neither count rises otherwise. The
+    /// result of a modelled conversation depends only on its content, and the messages are added to what was passed to
+    /// it, whatever it returns, unless memory runs out; then its content stays.
     fn talk(&mut self, alloc: Global, messages: &Messages) -> Result<Replies, ConvFault>
         requires { IsExchange messages.now }
         ensures replies { IfOk result (λ replies. AreReplies messages.now replies) }
@@ -67,9 +67,9 @@ pub trait Conv: Drop {
         ensures no_deferral { result ≢ Err ConvFault.Again →
             conv_deferrals self.new ≡ conv_deferrals self.old };
 
-    /// Offers a reply of at most 512 bytes, for a prompt to come. One that tells and doesn't wait takes the six
-    /// bytes `\later` as a mark, which puts off the exchange that finds it in front; one that tells adds what was
-    /// offered at the end, and without memory holds what it held. Neither count changes.
+    /// Offers a reply of at most 512 bytes for a later prompt. A modelled conversation that doesn't wait takes the six
+    /// bytes `\later` as a mark, which makes one exchange return Again; a modelled one adds the offer at the end, and
+    /// if memory runs out its content stays. Neither count changes.
     fn offer(&mut self, alloc: Global, text: &[u8]) -> Result<(), NoMemory>
         requires { length text.now ≤ MAX_TEXT }
         ensures tells { conv_tells self.new ≡ conv_tells self.old }
@@ -79,7 +79,7 @@ pub trait Conv: Drop {
         ensures deferrals { conv_deferrals self.new ≡ conv_deferrals self.old };
 }
 
-/// `Conv::talk` of a conversation that is lent.
+/// `Conv::talk` of a borrowed conversation.
 pub fn talk_with(
     conv: &mut dyn Conv,
     alloc: Global,
@@ -104,7 +104,7 @@ pub fn talk_with(
     conv.talk(alloc, messages)
 }
 
-/// `Conv::offer` of a conversation that is lent.
+/// `Conv::offer` of a borrowed conversation.
 pub fn offer_to(conv: &mut dyn Conv, alloc: Global, text: &[u8]) -> Result<(), NoMemory>
     requires { length text.now ≤ MAX_TEXT }
     ensures tells { conv_tells conv.new ≡ conv_tells conv.old }

@@ -4,10 +4,10 @@ ghost use Rattle.conv_port.specs.Conv.{ConvState, answer_to, ready_replies, star
 ghost use Rattle.conv_port.specs.declared.conv.ConvFault.TheVariants.{Again, Gone};
 ghost use Rattle.conv_port.specs.declared.message.Message.{Message};
 
-/// Does nothing. Its contract says when an exchange gets no replies, in words that the definition doesn't use: a
-/// conversation that doesn't wait puts off an exchange with a prompt that finds a mark in front, and is gone where
-/// there is none and fewer replies than prompts stand before the next; one that waits puts off where replies are
-/// too few, and is never gone.
+/// A law: when an exchange gets no replies, in terms that the definition doesn't use. A conversation that doesn't wait
+/// returns Again for an exchange with a prompt if a mark is first, and is gone if none is first and there are fewer
+/// replies than prompts before the next one; one that waits returns Again if there are too few replies, and is never
+/// gone.
 pub fn exchange_without_replies()
     ensures again { (s : ConvState) (messages : List Message) → s.waits ≡ false →
         (answer_to s messages ≡ Err Again) ↔ (HasPrompt messages × (starts_with_mark s.offers

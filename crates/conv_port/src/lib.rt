@@ -1,6 +1,5 @@
-//! Conversations (`pam_conv(3)`): how a module asks the user and tells them something, through what the
-//! application has given. One over replies that are held ready, one that waits for
-//! them, and one over a terminal.
+//! Conversations (`pam_conv(3)`): how a module asks the user and shows messages, through what the application has
+//! supplied. One has its replies ready, one waits for them, and one uses a terminal. Begin at `conv.rt`.
 #![tactic(auto)]
 
 mod conv;

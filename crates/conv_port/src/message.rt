@@ -4,7 +4,7 @@ ghost use Rattle.conv_port.specs.Message.{prompt_count};
 
 use pam_base::{Sequence, Style, Text};
 
-/// What a module says or asks (`struct pam_message` in `pam_conv(3)`).
+/// What a module shows or asks (`struct pam_message` in `pam_conv(3)`).
 #[derive(Debug, Drop)]
 pub struct Message {
     pub style: Style,

@@ -9,11 +9,11 @@ use std::alloc::Global;
 pub enum Offer {
     /// The reply to a prompt.
     Answer(Text),
-    /// A mark: the exchange that finds it in front is to be put off.
+    /// A mark: an exchange with a prompt that finds it first returns Again.
     Later,
 }
 
-/// The six bytes that offer a mark.
+/// The six bytes that mean a mark.
 const LATER: &[u8] = b"\\later";
 
 impl Offer {

@@ -14,13 +14,13 @@ use std::collections::VecDeque;
 use std::marker::Model;
 use std::snapshot::Snapshot;
 
-/// A conversation over replies that were offered to it, in order. It tells what it holds, and doesn't wait.
+/// A conversation with replies that were offered to it, in order. It is modelled, and doesn't wait.
 #[derive(Drop)]
 pub struct QueueConv {
     offers: VecDeque<Offer>,
     faults: u64,
     deferrals: u64,
-    // What it was handed, for its contracts alone: an element has no bytes, and so has the block of the list.
+    // What was passed to it, for its contracts alone: an element has no bytes, and neither has the memory of the list.
     handed: Vec<Snapshot<Messages>>,
 }
 
@@ -41,7 +41,7 @@ impl Model for QueueConv {
 }
 
 impl QueueConv {
-    /// A conversation that holds nothing. It takes no memory before the first offer.
+    /// A conversation that holds nothing. It allocates nothing before the first offer.
     pub fn new(alloc: Global) -> Self
         ensures { result ≡ record { offers = []; faults = 0; deferrals = 0; handed = [] } }
     {
@@ -90,7 +90,7 @@ impl Conv for QueueConv {
     }
 }
 
-// Whether that many replies stand before the first mark, or in all. It looks at no more of them, however many wait.
+// Whether there are that many replies before the first mark, or in all. It looks at no more of them, however many wait.
 pub(crate) fn are_ready(wanted: usize, offers: &VecDeque<Offer>) -> bool
     ensures { result ≡ nat_le wanted (length (ready_replies offers.now.items)) }
 {
@@ -104,7 +104,7 @@ pub(crate) fn are_ready(wanted: usize, offers: &VecDeque<Offer>) -> bool
     true
 }
 
-// Takes a mark that stands in front, and says whether there was one.
+// Removes a mark if it comes first, and returns whether there was one.
 fn take_mark(offers: &mut VecDeque<Offer>) -> bool
     ensures found { result ≡ starts_with_mark offers.old.items }
     ensures taken { offers.new.items ≡ without_mark offers.old.items }
@@ -117,7 +117,7 @@ fn take_mark(offers: &mut VecDeque<Offer>) -> bool
     }
 }
 
-// Gives each prompt the next reply. All memory is taken before the first reply is.
+// Gives each prompt the next reply. Everything is allocated before the first reply is taken.
 pub(crate) fn take_replies(
     alloc: Global,
     messages: &[Message],
@@ -137,7 +137,7 @@ pub(crate) fn take_replies(
     Ok(replies)
 }
 
-// The reply to one message: a prompt takes the one that stands in front.
+// The reply to one message: a prompt takes the first reply.
 fn take_reply(alloc: Global, message: &Message, offers: &mut VecDeque<Offer>) -> Reply
     requires { IsTrue (is_prompt message.now.style) → 0 < length (ready_replies offers.old.items) }
     ensures { TakesReply message.now result offers.old.items offers.new.items }

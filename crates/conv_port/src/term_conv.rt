@@ -13,8 +13,8 @@ use std::alloc::Global;
 use std::io::{Read, Write};
 use std::marker::Model;
 
-/// A conversation over a terminal (`misc_conv(3)`): it shows texts on a writer, as standard error, and reads
-/// replies from a reader, as standard input. It tells nothing, and leaves the terminal's echo as it is.
+/// A conversation on a terminal (`misc_conv(3)`): it shows texts on a writer, such as standard error, and reads replies
+/// from a reader, such as standard input. It isn't modelled, and leaves the terminal's echo as it is.
 #[derive(Drop)]
 pub struct TermConv<R: Read + Drop, W: Write + Drop> {
     reader: R,
@@ -46,18 +46,18 @@ impl<R: Read + Drop, W: Write + Drop> TermConv<R, W> {
 impl<R: Read + Drop, W: Write + Drop> Conv for TermConv<R, W> {
     ghost conv_tells = { λ t. false };
 
-    // never told
+    // never modelled
     ghost conv_holds = { λ t. record { offers = []; waits = false; handed = [] } };
 
     ghost conv_faults = { λ t. t.faults };
 
     ghost conv_deferrals = { λ t. 0 };
 
-    /// Shows each text, after one that is no prompt a newline, and reads the reply to each prompt before the next
-    /// text: what stands before the next newline; after 512 bytes without one these bytes, and what follows them
-    /// is left for the next prompt; at the end of input what was read. It reads byte by byte, and no further.
-    /// An error of the reader or the writer, or the end of input before any byte of a reply, is Gone, which leaves
-    /// what was shown and read so far, and so does want of memory. It never answers Again.
+    /// Shows each text, followed by a newline if it is no prompt, and reads the reply to each prompt before the next
+    /// text: the bytes before the next newline; after 512 bytes without one these bytes, and what follows them is left
+    /// for the next prompt; at the end of input what was read. It reads byte by byte, and no further. An error of the
+    /// reader or the writer, or the end of input before any byte of a reply, is Gone; what was shown and read so far
+    /// stays so, as it does if memory runs out. It never returns Again.
     fn talk(&mut self, alloc: Global, messages: &Messages) -> Result<Replies, ConvFault>
         requires { IsExchange messages.now }
         ensures replies { IfOk result (λ replies. AreReplies messages.now replies) }
@@ -98,7 +98,7 @@ impl<R: Read + Drop, W: Write + Drop> Conv for TermConv<R, W> {
         result
     }
 
-    /// Does nothing: a terminal's replies are typed.
+    /// Nothing is stored: a terminal's replies are typed.
     fn offer(&mut self, _alloc: Global, _text: &[u8]) -> Result<(), NoMemory>
         requires { length _text.now ≤ MAX_TEXT }
         ensures tells { ⟦<TermConv<R, W> as Conv>⟧.conv_tells self.new

@@ -10,13 +10,13 @@ use std::collections::VecDeque;
 use std::marker::Model;
 use std::snapshot::Snapshot;
 
-/// A conversation with a front end that is elsewhere. It tells what it holds, and waits: an exchange with more prompts
-/// than there are replies is put off, and takes none. It is never gone.
+/// A conversation with a front end elsewhere. It is modelled, and waits: an exchange with more prompts than there are
+/// replies returns Again, and takes none. It is never gone.
 #[derive(Drop)]
 pub struct WireConv {
     offers: VecDeque<Offer>,
     deferrals: u64,
-    // What it was handed, for its contracts alone: an element has no bytes, and so has the block of the list.
+    // What was passed to it, for its contracts alone: an element has no bytes, and neither has the memory of the list.
     handed: Vec<Snapshot<Messages>>,
 }
 
@@ -37,7 +37,7 @@ impl Model for WireConv {
 }
 
 impl WireConv {
-    /// A conversation that holds nothing. It takes no memory before the first offer.
+    /// A conversation that holds nothing. It allocates nothing before the first offer.
     pub fn new(alloc: Global) -> Self
         ensures { result ≡ record { offers = []; faults = 0; deferrals = 0; handed = [] } }
     {

@@ -1,4 +1,4 @@
--- Data are taken one after another, and each gets its receipt.
+-- Data are taken one after another, and each gets its cleanup record.
 use Rattle.std.proofs.Common.{◌≡◌, ℕ, ◌+◌, ◌≤◌, Bool, true, false, cond, if◌then◌else◌, eqb, List, [], ◌∷◌, ◌++◌, length, reverse, refl, sym, ap, subst, ◌∙◌, append_assoc, arith}
 use Rattle.std.specs.List.{AllByRecursion}
 use Rattle.std.proofs.lemmas.List.{map-append, reverse-append, append-nil}
@@ -70,7 +70,7 @@ none_left : (b : Bool) (n : ℕ) → cond b 1 0 + n ≡ 0 → n ≡ 0
 none_left true n e = absurd (omega (arith, e))
 none_left false n e = omega (arith, e)
 
--- a datum that stands elsewhere has another id
+-- data elsewhere in the list have another id
 still_await : (modules : ℕ) (ledger : PlainLedger) (f : Filed) (ds : List PlainDatum) → times f.receipt.id ds ≡ 0
     → AllByRecursion (AwaitsCleanup modules ledger) ds
     → AllByRecursion (AwaitsCleanup modules (record { births = ledger.births; filed = ledger.filed ++ f ∷ [] })) ds
@@ -93,7 +93,7 @@ less : (b : Bool) (n : ℕ) → cond b 1 0 + n ≤ 1 → n ≤ 1
 less true n le = omega (arith, le)
 less false n le = omega (arith, le)
 
--- the first datum gets its receipt, and the others still await theirs
+-- the first data get their cleanup record, and the others still wait for theirs
 pub others_await : (modules : ℕ) (ledger next : PlainLedger) (all rest : List PlainDatum) (d : PlainDatum) (receipt : Receipt)
     → AwaitCleanup modules ledger all → all ≡ d ∷ rest
     → receipt.id ≡ d.id → next ≡ record { births = ledger.births; filed = ledger.filed ++ record { receipt = receipt; mark = length ledger.births } ∷ [] }

@@ -1,4 +1,4 @@
--- Data by their names: what the map's calls do to the list of the data.
+-- Data by name: what the calls of the map do to the list of the data.
 use Rattle.std.proofs.Common.{◌≡◌, ℕ, Bool, true, false, Vec, List, [], ◌∷◌, ◌++◌, map, Option, Some, None, refl, sym, ap, subst, ◌∙◌}
 use Rattle.std.specs.Global.{Global}
 use Rattle.std.specs.List.{AllByRecursion, IsDistinct}
@@ -19,15 +19,15 @@ Entry = Vec ℕ Global × PlainDatum
 abbrev IsOwn : Entry → Type 0
 IsOwn e = e.0.items ≡ e.1.name
 
--- whether two keys of the map are one name
+-- whether two keys of the map are the same name
 abbrev pub is_same : Vec ℕ Global → Vec ℕ Global → Bool
 is_same one other = bytes_eq one.items other.items
 
--- the test of the map and the one of the list
+-- the test of the map and that of the list
 tests : (e : Entry) (name : List ℕ) → IsOwn e → bytes_eq name e.0.items ≡ bytes_eq e.1.name name
 tests e name own = ap (λ (n : List ℕ). bytes_eq name n) own ∙ nat_list_eq_equiv.symm name e.1.name
 
--- no name is twice among the data
+-- no name occurs twice among the data
 none_of : (name : List ℕ) (entries : List Entry) → AllByRecursion IsOwn entries
     → AllByRecursion (λ (k : Vec ℕ Global). bytes_eq name k.items ≡ false) (keys_of entries)
     → AllByRecursion (λ (n : List ℕ). bytes_eq name n ≡ false) (map (λ (d : PlainDatum). d.name) (data_of entries))
@@ -39,7 +39,7 @@ unfolding IsDistinct
 apart [] own differ = differ
 apart (e ∷ es) own differ = (rw own.0 at (none_of e.0.items es own.1 differ.0), apart es own.1 differ.1)
 
--- ---- a datum is set
+-- ---- data are set
 
 abbrev set_among : List Entry → Vec ℕ Global → PlainDatum → List Entry
 set_among entries key d = insert_entry is_same entries key d
@@ -66,7 +66,7 @@ set_is (e ∷ es) key d own named = by (bytes_eq e.1.name d.name) refl (set_is e
     by true is rest = rw (here true is, is) refl
     by false is rest = rw (here false is, is) (ap (λ (ds : List PlainDatum). e.1 ∷ ds) rest)
 
--- ---- a datum is looked up
+-- ---- data are looked up
 
 abbrev one_or_none : Option PlainDatum → List PlainDatum
 one_or_none None = []
@@ -86,7 +86,7 @@ pub looked_up : (name : List ℕ) (entries : List Entry) (o : Option PlainDatum)
     → o ≡ lookup (λ (k : Vec ℕ Global). bytes_eq name k.items) entries → data_named (data_of entries) name ≡ one_or_none o
 looked_up name entries o named is = found name entries named.own ∙ ap one_or_none (sym is)
 
--- ---- the list after a datum is set
+-- ---- the list after data were set
 
 pub named_after : (before entries after : List Entry) (key : Vec ℕ Global) (d : PlainDatum) (name : List ℕ) → AreNamed before → entries ≡ before
     → key.items ≡ name → d.name ≡ name → after ≡ set_among entries key d → IsDistinct is_same (keys_of after) → AreNamed after
@@ -108,7 +108,7 @@ held_after h before entries after key d name gs gone o named same is_key is_datu
 pub none_more : (gs : List PlainDatum) → gs ≡ gs ++ one_or_none None
 none_more gs = sym (append-nil gs)
 
--- ---- the last datum is taken
+-- ---- the last data are taken
 
 own_front : (front back : List Entry) → AllByRecursion IsOwn (front ++ back) → AllByRecursion IsOwn front
 own_front [] back own = tt

@@ -1,4 +1,4 @@
--- What is due, computed on runs, before any code stands on it.
+-- Which cleanups are due, computed on runs.
 use Rattle.std.proofs.Common.{◌≡◌, ℕ, List, [], ◌∷◌, codes, refl}
 use Rattle.data_cleanup.specs.Cleanup.{Notes}
 use Rattle.data_cleanup.specs.DataList.{birth_of}
@@ -17,13 +17,13 @@ one_name : (note : Notes)
     ≡ done note 0 0x20000000 (codes "x") ∷ done note 1 0x20000000 (codes "yy") ∷ done note 2 0x40000007 (codes "zzz") ∷ []
 one_name note = refl
 
--- two names, of which the first is set again: the end cleans up the last name first
+-- two names; the first is set again; the end cleans up the last name first
 two_names : (note : Notes)
     → due note (sets 0 1 (codes "a") (codes "1") ∷ sets 1 1 (codes "b") (codes "22") ∷ sets 2 1 (codes "a") (codes "333") ∷ ends 1 0 ∷ [])
     ≡ done note 0 0x20000000 (codes "1") ∷ done note 1 0 (codes "22") ∷ done note 2 0 (codes "333") ∷ []
 two_names note = refl
 
--- two transactions; the first ends and its number is used again, so that nothing is replaced; the second has no end
+-- two transactions; the first ends and its number is used again, so nothing is replaced; the second doesn't end
 two_transactions : (note : Notes)
     → due note (sets 0 1 (codes "a") (codes "1") ∷ sets 1 2 (codes "a") (codes "2") ∷ ends 1 0 ∷ sets 2 1 (codes "a") (codes "3") ∷ ends 1 4 ∷ [])
     ≡ done note 0 0 (codes "1") ∷ done note 2 4 (codes "3") ∷ []

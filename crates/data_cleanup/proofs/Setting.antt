@@ -1,4 +1,4 @@
--- Data are set, and those that they replace are receipts_for.
+-- Data are set, and those that they replace get their cleanup records.
 use Rattle.std.proofs.Common.{◌≡◌, ℕ, ◌+◌, ◌<◌, ◌≤◌, Bool, true, false, cond, if◌then◌else◌, eqb, List, [], ◌∷◌, ◌++◌, length, map, refl, sym, ap, subst, ◌∙◌, append_assoc, arith, length-append}
 use Rattle.std.specs.List.{AllByRecursion, list_any}
 use Rattle.std.specs.Str.{bytes_eq}
@@ -20,7 +20,7 @@ pub all-map : {A : Type 0} (P Q : A → Type 0) (xs : List A) → ((x : A) → P
 all-map P Q [] f a = tt
 all-map P Q (x ∷ xs) f a = (f x a.0, all-map P Q xs f a.1)
 
--- how often an id stands in the list and among what a birth replacements
+-- how often an id occurs in the list and among the replaced data
 times_cases : (b : Bool) (id : ℕ) (d new : PlainDatum) (ds out in_place : List PlainDatum)
     → times id out + times id in_place ≡ times id ds + times id (new ∷ [])
     → times id (if b then d ∷ [] else out) + times id (if b then new ∷ ds else d ∷ in_place) ≡ times id (d ∷ ds) + times id (new ∷ [])
@@ -112,7 +112,7 @@ false_unless false h = refl
 fresh : (births : List Birth) (filed : List Filed) → IsSound births filed → (k : ℕ) → length births ≤ k → list_any (eqb k) (filed_ids filed) ≡ false
 fresh births filed sound k le = false_unless _ (λ t. omega (arith, le, ids_below (length births) k filed sound.born sound.marks t))
 
--- what a ledger's soundness says of the births that were added
+-- what the soundness of a cleanup log says of the sets that were added
 added_numbered : (before after : PlainLedger) (added : List Birth) → after.births ≡ before.births ++ added → AreNumbered 0 after.births
     → AreNumbered (length before.births) added
 added_numbered before after added e all = subst (λ k. AreNumbered k added) (let z : 0 + length before.births ≡ length before.births = omega arith in z) (numbered_back 0 before.births added (subst (AreNumbered 0) e all))
@@ -176,7 +176,7 @@ held_handle : (h : PlainDataList) (bs : List Birth) → (hold_all h bs).handle �
 held_handle h [] = refl
 held_handle h (b ∷ bs) = held_handle (hold h b) bs
 
--- Data that were set, with the cleanup of those that they replaced, grow.
+-- Data that were set, with the cleanup of those that they replaced, are growth.
 pub sets_grow : (note : Notes) (modules owner : ℕ) (old : PlainDataList) (before : PlainLedger) (mid : PlainDataList) (after : PlainLedger)
     → AreNumbered 0 after.births → owner < modules → old.gone ≡ [] → Sets owner old before mid after
     → Grows note modules old before (swept_list mid) (swept_ledger note mid after)
@@ -198,7 +198,7 @@ sets_grow note modules owner old before mid after numbered within none s =
 pub sets_none : (owner : ℕ) (l : PlainDataList) (ledger : PlainLedger) → Sets owner l ledger l ledger
 sets_none owner l ledger = record { added = []; births = sym (append-nil ledger.births); each = tt; list = refl; filed = refl }
 
--- One birth was.
+-- One set.
 pub sets_one : (owner : ℕ) (old new : PlainDataList) (before after : PlainLedger) (name payload : List ℕ)
     → new ≡ hold old (birth_of (length before.births) old.handle owner name payload)
     → after ≡ record { births = before.births ++ birth_of (length before.births) old.handle owner name payload ∷ []; filed = before.filed }
@@ -215,7 +215,7 @@ hold_all-append : (h : PlainDataList) (xs ys : List Birth) → hold_all h (xs ++
 hold_all-append h [] ys = refl
 hold_all-append h (x ∷ xs) ys = hold_all-append (hold h x) xs ys
 
--- What was set, and then more.
+-- Some sets, and then more.
 pub sets_transitive : (owner : ℕ) (x y z : PlainDataList) (a b c : PlainLedger) → Sets owner x a y b → Sets owner y b z c → Sets owner x a z c
 sets_transitive owner x y z a b c s t =
     let handle : y.handle ≡ x.handle = ap (λ (l : PlainDataList). l.handle) s.list ∙ held_handle x s.added in

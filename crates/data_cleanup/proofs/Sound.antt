@@ -1,4 +1,4 @@
--- The invariant of a ledger, kept by each of its changes.
+-- The invariant of a cleanup log, kept by each of its changes.
 use Rattle.std.proofs.Common.{◌≡◌, ℕ, ◌+◌, ◌<◌, ◌≤◌, Bool, true, false, ◌||◌, ◌⊎◌, inl, inr, eqb, List, [], ◌∷◌, ◌++◌, length, refl, sym, subst, arith}
 use Rattle.std.specs.List.{list_any, IsDistinct, AllByRecursion}
 use Rattle.std.specs.Cmp.{nat_eq_equiv}
@@ -18,7 +18,7 @@ marks_more : (m n : ℕ) (fs : List Filed) → m ≤ n → AllByRecursion (λ (f
 marks_more m n [] le all = tt
 marks_more m n (f ∷ fs) le all = (omega (arith, all.0), marks_more m n fs le all.1)
 
--- one more birth
+-- one more set
 pub sound_bear : (births more : List Birth) (filed : List Filed) → length births ≤ length more → IsSound births filed → IsSound more filed
 sound_bear births more filed le s = record { once = s.once; born = s.born; marks = marks_more _ _ filed le s.marks }
 
@@ -33,7 +33,7 @@ numbered_from n (x ∷ xs) b all is = (all.0, numbered_from (n + 1) xs b all.1 (
 pub numbered_bear : (births more : List Birth) (b : Birth) → more ≡ births ++ b ∷ [] → b.id ≡ length births → AreNumbered 0 births → AreNumbered 0 more
 numbered_bear births more b e is all = subst (AreNumbered 0) (sym e) (numbered_from 0 births b all (omega (arith, is)))
 
--- one more receipt
+-- one more cleanup record
 pub sound_file : (births : List Birth) (filed : List Filed) (f : Filed) → IsOutstanding (record { births = births; filed = filed }) f.receipt.id
     → f.mark ≡ length births → IsSound births filed → IsSound births (filed ++ f ∷ [])
 sound_file births filed f outstanding mark s = record {
@@ -69,7 +69,7 @@ below_with n id q fs lt born marks e = elim (or_split (eqb q id) (list_any (eqb 
   | inr there ↦ ids_below n q fs born marks there
 ]
 
--- A birth without a receipt leaves room.
+-- If a set has no cleanup record, there is room for one.
 pub room_left : (births : List Birth) (filed : List Filed) (id : ℕ) → IsOutstanding (record { births = births; filed = filed }) id
     → IsSound births filed → length filed < length births
 room_left births filed id outstanding s =
@@ -77,7 +77,7 @@ room_left births filed id outstanding s =
     let within = length-le_from_distinct_below (id ∷ filed_ids filed) (length births) distinct (λ q e. below_with (length births) id q filed outstanding.born s.born s.marks e) in
     simp length-map at within
 
--- There are no more receipts than births.
+-- There are no more cleanup records than sets.
 pub filed_within : (births : List Birth) (filed : List Filed) → IsSound births filed → length filed ≤ length births
 filed_within births filed s =
     let within = length-le_from_distinct_below (filed_ids filed) (length births) s.once (λ q e. ids_below (length births) q filed s.born s.marks e) in

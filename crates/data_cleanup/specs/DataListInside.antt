@@ -1,4 +1,4 @@
--- What every list of data keeps.
+-- The invariant of a list of data.
 use Rattle.std.specs.Prelude.{◌≡◌, ℕ, List, Vec, map}
 use Rattle.std.specs.Global.{Global}
 use Rattle.std.specs.List.{AllByRecursion}
@@ -9,7 +9,7 @@ use Rattle.data_cleanup.specs.DataList.{AreApart}
 abbrev pub data_of : List (Vec ℕ Global × PlainDatum) → List PlainDatum
 data_of entries = map (λ (e : Vec ℕ Global × PlainDatum). e.1) entries
 
--- Each datum stands under its own name, and no two under the same.
+-- Data are stored under their own name, and no two under the same.
 pub record AreNamed (entries : List (Vec ℕ Global × PlainDatum)) : Type 0 where
   pub own : AllByRecursion (λ (e : Vec ℕ Global × PlainDatum). e.0.items ≡ e.1.name) entries
   pub apart : AreApart (data_of entries)

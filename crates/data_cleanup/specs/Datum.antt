@@ -1,7 +1,7 @@
--- A datum as contracts see it (this project's own).
+-- Module data as contracts see them (this project's own).
 use Rattle.std.specs.Prelude.{ℕ, List}
 
--- its birth's id, the number of the module that set it, its name and its payload
+-- the id of their set, the number of the module that set them, their name and their text
 pub record PlainDatum : Type 0 where
   pub id : ℕ
   pub owner : ℕ

@@ -13,7 +13,7 @@ use std::marker::Model;
 /// their cleanup. It can't be dropped while it may hold data: `dismiss` gives it up.
 pub struct DataList {
     handle: u32,
-    // Hashed by name: looking one up takes no longer where there are many.
+    // Hashed by name: looking one up takes no longer if there are many.
     live: IndexMap<Vec<u8>, Datum>,
     gone: VecDeque<Datum>,
 }
@@ -34,8 +34,8 @@ impl Model for DataList {
 }
 
 impl DataList {
-    /// The empty list of the transaction with this number. It does not allocate before the first
-    /// data is set.
+    /// The empty list of the transaction with this number. Allocates nothing before the first data
+    /// are set.
     pub fn new(alloc: Global, handle: u32) -> DataList
         ensures { result ≡ record { handle = handle; live = []; gone = [] } }
     {
@@ -46,10 +46,10 @@ impl DataList {
         }
     }
 
-    /// Sets data under a name, and records that in the ledger, with this list's transaction and
-    /// this owner (`pam_set_data(3)`). A name that is set keeps its position, and its old data goes
-    /// to the end of those that were replaced; a new name goes last. If an allocation fails, list
-    /// and ledger are unchanged.
+    /// Sets data under a name, and logs that, with this list's transaction and this owner
+    /// (`pam_set_data(3)`). A name that is set keeps its position, and its old data goes to the end
+    /// of those that were replaced; a new name comes last. If an allocation fails, the list and the
+    /// log are unchanged.
     pub fn set(
         &mut self,
         alloc: Global,
@@ -93,8 +93,7 @@ impl DataList {
         }
     }
 
-    /// Takes the oldest of the replaced data; None if and only if there is none. It does not
-    /// allocate.
+    /// Takes the oldest of the replaced data; None if and only if there is none. Allocates nothing.
     pub fn take_gone(&mut self) -> Option<Datum>
         ensures { MatchOption result ((self.old.gone ≡ []) × (self.new ≡ self.old))
             (λ d. (self.old.gone ≡ d ∷ self.new.gone) × (self.new
@@ -103,8 +102,8 @@ impl DataList {
         self.gone.pop_front()
     }
 
-    /// Takes the data whose name was set last; None if and only if no name is set. It does not
-    /// allocate.
+    /// Takes the data whose name was set last; None if and only if no name is set. Allocates
+    /// nothing.
     pub fn take_newest(&mut self) -> Option<Datum>
         ensures { MatchOption result ((self.old.live ≡ []) × (self.new ≡ self.old))
             (λ d. (self.old.live ≡ self.new.live ++ d ∷ []) × (self.new
@@ -114,7 +113,7 @@ impl DataList {
         Some(datum)
     }
 
-    /// Gives up a list without data. It does not allocate.
+    /// Drops a list without data. Allocates nothing.
     pub fn dismiss(self)
         requires live { self.live ≡ [] }
         requires gone { self.gone ≡ [] }

@@ -4,8 +4,8 @@ use crate::receipt::Receipt;
 use pam_base::{Sequence, Text};
 use std::marker::Model;
 
-/// What a module keeps in a transaction under a name (module data, `pam_set_data(3)`). It can't be
-/// dropped or copied: only `spend` uses it up.
+/// What a module keeps in a transaction under a name (module data, `pam_set_data(3)`). It can't be dropped or copied:
+/// only `spend` consumes it.
 pub struct Datum {
     id: u64,
     owner: u32,
@@ -21,7 +21,7 @@ impl Model for Datum {
     ghost view = { λ d. record { id = d.id; owner = d.owner; name = d.name; payload = d.payload } };
 }
 
-/// The record in the ledger that module data was set.
+/// The record in the cleanup log that module data was set.
 #[derive(Debug, Drop)]
 pub struct Birth {
     /// How many data were set before, in all transactions.
@@ -38,7 +38,7 @@ pub struct Birth {
 pub type Births = Sequence<Birth>;
 
 impl Datum {
-    /// It does not allocate.
+    /// Allocates nothing.
     pub(crate) fn new(id: u64, owner: u32, name: Text, payload: Text) -> Datum
         ensures { result ≡ record { id = id; owner = owner; name = name; payload = payload } }
     {
@@ -63,8 +63,8 @@ impl Datum {
         self.payload.bytes()
     }
 
-    /// Gives up the data, and with it its text: the receipt has its id, and the given status and
-    /// note. It does not allocate.
+    /// Consumes the data with its text: the cleanup record has its id, and the given status and
+    /// result. Allocates nothing.
     pub fn spend(self, status: u32, note: u32) -> Receipt
         ensures { result ≡ record { id = self.id; status = status; note = note } }
     {

@@ -9,11 +9,9 @@ ghost use Rattle.data_cleanup.specs.declared.receipt.Receipt.{Receipt};
 
 use crate::ledger::Ledger;
 
-// Each of these is a law about the definitions: its contract states it, for those who call it in a
-// proof.
+// The laws of this crate, for the proofs of its callers.
 
-/// What every ledger satisfies: its records and receipts fit, and its records are numbered in
-/// order.
+/// Every cleanup log is sound: its sets and cleanup records fit together, and its sets are numbered in order.
 pub fn ledger_is_sound(ledger: &Ledger)
     ensures sound { IsSound ledger.now.births ledger.now.filed }
     ensures numbered { AreNumbered 0 ledger.now.births }
@@ -21,7 +19,7 @@ pub fn ledger_is_sound(ledger: &Ledger)
     ledger.sound();
 }
 
-/// What grows and grows again has grown.
+/// Growth is transitive.
 pub fn growth_is_transitive()
     ensures { (note : Notes) (modules : ℕ) (x y z : PlainDataList) (a b c : PlainLedger) →
         Grows note modules x a y b → Grows note modules y b z c → Grows note modules x a z c }
@@ -33,7 +31,7 @@ pub fn nothing_grows()
         list.gone ≡ [] → Grows note modules list ledger list ledger }
 {}
 
-/// What a module sets, and then sets more, it has set.
+/// Sets followed by more sets are sets.
 pub fn setting_is_transitive()
     ensures { (owner : ℕ) (x y z : PlainDataList) (a b c : PlainLedger) →
         Sets owner x a y b → Sets owner y b z c → Sets owner x a z c }
@@ -57,7 +55,7 @@ pub fn one_birth_sets()
         Sets owner old before new after }
 {}
 
-/// Data that were set, and then the sweep of those that they replaced, grow.
+/// Data that were set, followed by the sweep of those that they replaced, are growth.
 pub fn swept_setting_grows()
     ensures { (note : Notes) (modules owner : ℕ) (old : PlainDataList) (before : PlainLedger)
         (new : PlainDataList) (after : PlainLedger) →
@@ -66,7 +64,7 @@ pub fn swept_setting_grows()
         Grows note modules old before (swept_list new) (swept_ledger note new after) }
 {}
 
-/// Data that were set await their cleanup, and so do those that they replaced.
+/// Data that were set wait for their cleanup, and so do those that they replaced.
 pub fn set_data_await_cleanup()
     ensures { (modules owner : ℕ) (old : PlainDataList) (before : PlainLedger) (new : PlainDataList)
         (after : PlainLedger) →
@@ -81,7 +79,7 @@ pub fn cleanup_begins()
         IsCleaningUp note status ledger all ledger all }
 {}
 
-/// The next datum gets its receipt.
+/// The next data get their cleanup record.
 pub fn cleanup_goes_on()
     ensures { (note : Notes) (status : ℕ) (before : PlainLedger) (all : List PlainDatum)
         (now next : PlainLedger)
@@ -106,7 +104,7 @@ pub fn cleanup_ends()
         now ≡ ledger_after note status all before }
 {}
 
-/// The next of some data that await their cleanup awaits it, and once it has its receipt the others still do.
+/// The first of some data that wait for their cleanup waits for it, and once it has its record the others still do.
 pub fn next_awaits_cleanup()
     ensures next { (modules : ℕ) (ledger : PlainLedger) (all rest : List PlainDatum)
         (d : PlainDatum) →
@@ -121,7 +119,7 @@ pub fn next_awaits_cleanup()
         AwaitCleanup modules next rest }
 {}
 
-/// Whether data await their cleanup doesn't depend on their order, and the last is the first of the others.
+/// Whether data wait for their cleanup doesn't depend on their order; in the other order the last comes first.
 pub fn reversed_await_cleanup()
     ensures reversed { (modules : ℕ) (ledger : PlainLedger) (all : List PlainDatum) →
         AwaitCleanup modules ledger all → AwaitCleanup modules ledger (reverse all) }

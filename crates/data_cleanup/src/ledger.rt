@@ -8,12 +8,12 @@ use pam_base::{NoMemory, Sequence, Text};
 use std::alloc::Global;
 use std::marker::Model;
 
-/// Every module data that was ever set, in all transactions, and the receipt of each that was
-/// cleaned up. It keeps names and payloads as a record.
+/// The log of all module data that were ever set, in all transactions, and the cleanup record of each that was cleaned
+/// up. It keeps their names and texts.
 #[derive(Debug, Drop)]
 pub struct Ledger {
     births: Births,
-    // There is room for the receipt of each birth.
+    // There is room for the cleanup record of each set.
     filed: Vec<Filed>,
 }
 
@@ -29,7 +29,7 @@ impl Model for Ledger {
 }
 
 impl Ledger {
-    /// An empty ledger. It does not allocate before the first data is set.
+    /// An empty log. Allocates nothing before the first data are set.
     pub fn new(alloc: Global) -> Ledger
         ensures { result ≡ record { births = []; filed = [] } }
     {
@@ -46,14 +46,14 @@ impl Ledger {
         &self.births
     }
 
-    /// All receipts with their positions in the ledger, the oldest first.
+    /// All cleanup records with their positions in the log, the oldest first.
     pub fn filed(&self) -> &[Filed]
         ensures { result.now ≡ self.now.filed }
     {
         &self.filed
     }
 
-    // A law: the field that it reads brings the model's invariant.
+    // A law: reading this field brings in the invariant of the model.
     pub(crate) fn sound(&self)
         ensures sound { IsSound self.now.births self.now.filed }
         ensures numbered { AreNumbered 0 self.now.births }
@@ -61,8 +61,8 @@ impl Ledger {
         let _births = &self.births;
     }
 
-    /// Adds the record of new data, whose id is the number of records so far, and keeps room for
-    /// its receipt. If an allocation fails, the ledger is unchanged.
+    /// Adds the record of new data, whose id is the number of records so far, and reserves room for
+    /// its cleanup record. If an allocation fails, the log is unchanged.
     pub(crate) fn add_birth(
         &mut self,
         alloc: Global,
@@ -99,9 +99,9 @@ impl Ledger {
         Ok(Datum::new(id as u64, owner, own_name, own_payload))
     }
 
-    /// Files a receipt, with the present number of records as its position. Room for it was kept
-    /// when its data was set, so this does not allocate and can't fail. The data was set, and has
-    /// no receipt yet.
+    /// Logs a cleanup, with the present number of sets as its position. The room was reserved when
+    /// the data was set, so this allocates nothing and can't fail. The data was set, and has no
+    /// cleanup record yet.
     pub fn file(&mut self, receipt: Receipt)
         requires { IsOutstanding self.old receipt.id }
         ensures { self.new ≡ record self.old {

@@ -1,6 +1,6 @@
-//! The data that modules keep in a transaction (`pam_set_data(3)`, `pam_get_data(3)`), and the
-//! ledger that shows that each is cleaned up once. Module data can't be dropped: its module's
-//! cleanup spends it and gives a receipt, which is filed. Begin at `data_list.rt`.
+//! The data that modules keep in a transaction (`pam_set_data(3)`, `pam_get_data(3)`), and the cleanup log, which shows
+//! that each is cleaned up once. Module data can't be dropped: its module's cleanup consumes it and gives a cleanup
+//! record, which is logged. Begin at `data_list.rt`.
 #![tactic(auto)]
 
 mod data_list;

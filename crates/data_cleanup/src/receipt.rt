@@ -1,5 +1,5 @@
-/// The record of a cleanup: the id of the data, the status that was passed to its cleanup function
-/// (the third argument of `cleanup` in `pam_set_data(3)`), and its owner's note on it.
+/// A cleanup record: the id of the data, the status that was passed to its cleanup function (the third argument of
+/// `cleanup` in `pam_set_data(3)`), and the number that the cleanup returned.
 #[derive(Clone, Copy, Debug, PartialEq, Eq)]
 pub struct Receipt {
     pub id: u64,
@@ -7,8 +7,7 @@ pub struct Receipt {
     pub note: u32,
 }
 
-/// A receipt in the ledger, with its position: how many records of data there were when it was
-/// filed.
+/// A cleanup record in the log, with its position: how many sets there were when it was logged.
 #[derive(Clone, Copy, Debug, PartialEq, Eq)]
 pub struct Filed {
     pub receipt: Receipt,

@@ -1,4 +1,4 @@
--- A chain's line of an index is that of the stack which stands there.
+-- A chain's line with an index is that of the stack at that index.
 use Rattle.std.proofs.Common.{◌≡◌, ℕ, zero, suc, ◌+◌, ◌<◌, ◌≤◌, Some, None, if◌then◌else◌, true, false, nat_le, List, [], ◌∷◌, length, get_or, drop, refl, sym, ◌∙◌, ap, subst, zero-add, add-zero, add-one, arith}
 use Rattle.std.proofs.lemmas.Bool.Decides.{nat_tests}
 use Rattle.control_words.specs.Stack.{Stack, none, line, sub, count, lines_in}

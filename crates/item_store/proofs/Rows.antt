@@ -1,4 +1,4 @@
--- The definitions computed on worked rows.
+-- The definitions computed on test cases.
 use Rattle.std.proofs.Common.{◌≡◌, [], ◌∷◌, filter, Some, None, codes, refl}
 use Rattle.pam_base.specs.declared.item.ItemName.TheVariants.{Service, User, Tty, Conv, AuthTok, OldAuthTok, FailDelay}
 use Rattle.pam_base.specs.Item.{all_items}

@@ -1,5 +1,5 @@
--- The items of a transaction, pam_set_item(3): a text or nothing for each, but for the conversation and the
--- delay function, which are no texts.
+-- The items of a transaction, pam_set_item(3): a text or nothing for each, except the conversation and the delay
+-- function, which are no texts.
 use Rattle.std.specs.Prelude.{ℕ, List, Option, None}
 use Rattle.pam_base.specs.declared.item.ItemName.{ItemName}
 use Rattle.pam_base.specs.declared.item.ItemName.TheVariants.{Service, User, Tty, Rhost, Conv, AuthTok, OldAuthTok, Ruser, UserPrompt, FailDelay, XDisplay, XAuthData, AuthTokType}
@@ -34,7 +34,7 @@ no_texts = record {
   auth_tok_type = None;
 }
 
--- the text of an item, or nothing where it isn't set
+-- the text of an item, or nothing if it isn't set
 abbrev pub text_of : ItemTexts → ItemName → Option (List ℕ)
 text_of items Service = items.service
 text_of items User = items.user

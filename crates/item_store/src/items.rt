@@ -9,8 +9,8 @@ use pam_base::{BadItem, ItemName, NoMemory, Refuse, Text};
 use std::alloc::Global;
 use std::marker::Model;
 
-/// The items of one transaction, `pam_set_item(3)`: a text or nothing for each, but for the conversation
-/// and the delay function, which have calls of their own. XAUTHDATA is a text here.
+/// The items of one transaction, `pam_set_item(3)`: a text or nothing for each, except the conversation and the delay
+/// function, which have their own calls. XAUTHDATA is a text here.
 #[derive(Drop)]
 pub struct Items {
     alloc: Global,
@@ -48,7 +48,7 @@ impl Model for Items {
 }
 
 impl Items {
-    /// No item is set. It takes no memory; the texts that are set later are copied with this allocator.
+    /// No item is set. Allocates nothing; the texts that are set later are copied with this allocator.
     pub fn new(alloc: Global) -> Self
         ensures { result ≡ no_texts }
     {
@@ -68,7 +68,7 @@ impl Items {
         }
     }
 
-    /// Sets SERVICE, which neither an application nor a module can set. Without memory all stays as it was.
+    /// Sets SERVICE, which neither an application nor a module can set. If memory runs out, nothing changes.
     pub fn set_service(&mut self, service: &[u8]) -> Result<(), NoMemory>
         ensures ok { OnOk result (self.new ≡ with_text self.old ItemName.Service
             (Some service.now)) }
@@ -79,9 +79,9 @@ impl Items {
         Ok(())
     }
 
-    /// `pam_set_item(3)` of an application: a copy of the value, or with None the item is unset, which takes
-    /// no memory. BadItem exactly for SERVICE, CONV, AUTHTOK, OLDAUTHTOK and FAIL_DELAY. After a refusal and
-    /// without memory all is as it was.
+    /// `pam_set_item(3)` of an application: stores a copy of the value; None unsets the item, which allocates nothing.
+    /// BadItem exactly for SERVICE, CONV, AUTHTOK, OLDAUTHTOK and FAIL_DELAY. If the call is refused or runs out of
+    /// memory, nothing changes.
     pub fn set_app(&mut self, item: ItemName, value: Option<&[u8]>) -> Result<(), Refuse<BadItem>>
         ensures ok { OnOk result (self.new ≡ with_text self.old item (option_copied value.entry)) }
         ensures err { OnErr result (self.new ≡ self.old) }
@@ -92,8 +92,8 @@ impl Items {
         self.set(Access::ApplicationSets, item, value)
     }
 
-    /// `pam_get_item(3)` of an application; None where the item isn't set. BadItem exactly for CONV, AUTHTOK,
-    /// OLDAUTHTOK and FAIL_DELAY.
+    /// `pam_get_item(3)` of an application; None if the item isn't set. BadItem exactly for CONV, AUTHTOK, OLDAUTHTOK
+    /// and FAIL_DELAY.
     pub fn get_app(&self, item: ItemName) -> Result<Option<&[u8]>, BadItem>
         ensures ok { IfOk result (λ text. option_copied text ≡ text_of self.now item) }
         ensures bad_item { IsErr result ↔ IsTrue (is_refused Access.ApplicationGets item) }
@@ -120,7 +120,7 @@ impl Items {
         self.get(Access::ModuleGets, item)
     }
 
-    /// Unsets AUTHTOK and OLDAUTHTOK, and nothing else. It takes no memory.
+    /// Unsets AUTHTOK and OLDAUTHTOK, and nothing else. Allocates nothing.
     pub fn clear_tokens(&mut self)
         ensures { self.new ≡ without_tokens self.old }
     {

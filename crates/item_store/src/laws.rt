@@ -3,7 +3,7 @@ ghost use Rattle.std.specs.Prelude.{◌≡◌, ◌≢◌, ℕ, List, Option, Non
 ghost use Rattle.pam_base.specs.declared.item.ItemName.{ItemName};
 ghost use Rattle.item_store.specs.Items.{ItemTexts, text_of, with_text, without_tokens};
 
-/// A set item reads as it was set, and every other item as before.
+/// An item that was set has its new value, and every other item its old one.
 pub fn items_stand_alone()
     ensures set { (items : ItemTexts) (item : ItemName) (text : Option (List ℕ)) →
         item ≢ ItemName.Conv → item ≢ ItemName.FailDelay →

@@ -67,7 +67,7 @@ ignored-code = refl
 ignored-visits : (keep ignored (Success ∷ [])).state.visits ≡ visit 1 Success ∷ []
 ignored-visits = refl
 
--- the first failure stands, whatever comes later
+-- the first failure counts, whatever comes later
 abbrev failed : Stack
 failed = line (by required) (line (by sufficient) (line (by required) none))
 

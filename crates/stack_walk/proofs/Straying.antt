@@ -21,8 +21,8 @@ abbrev pub Strays : Walked (PassState Telling) → Type 0
 Strays w = (w.stopped ≡ true) × (w.state.state.astray ≡ true)
 
 module _ (State : Type 0) where
-  -- What a walk runs, and what a later one is by the codes of these lines: the same if it ended, and one that strays if
-  -- it was paused.
+  -- The lines that a walk runs, and a later one that uses the codes of these lines: the same if it ended, and one that
+  -- strays if it was paused.
   record Resumes (w : Walked (PassState State)) (before : List Visit) (again : List Code → Walked (PassState Telling)) : Type 0 where
     news : List Visit
     adds : w.state.visits ≡ before ++ news
