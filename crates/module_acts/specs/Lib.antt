@@ -4,3 +4,4 @@ pub use Rattle.account_files.specs.pam_room
 pub mod Comes
 pub mod Steps
 pub mod Talks
+pub mod Uncheck

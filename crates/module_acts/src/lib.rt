@@ -9,6 +9,7 @@ mod changing;
 mod ending;
 pub mod laws;
 mod speech;
+mod uncheck;
 
 pub use account_files;
 pub use account_files::{data_cleanup, pam_room};
@@ -16,3 +17,4 @@ pub use asking::{exchange, require_token, require_user};
 pub use changing::{answer_and_keep, request_delay, set_token};
 pub use ending::ended;
 pub use speech::{show, user_of};
+pub use uncheck::code_unchecked;
