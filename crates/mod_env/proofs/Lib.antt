@@ -1,5 +1,6 @@
 mod Putting
 mod Collecting
 mod Respelling
+mod Spelled
 mod Settling
 mod Rows

@@ -41,7 +41,7 @@ module _ {A : Type 0} (p : A → Bool) where
       let long = length-append xs (y ∷ ys) in
       grind (arith, nat_tests)
 
-  none_before : (xs : List A) → list_any p xs ≡ false → position_or_len p xs ≡ length xs
+  pub none_before : (xs : List A) → list_any p xs ≡ false → position_or_len p xs ≡ length xs
   none_before [] none = refl
   none_before (x ∷ xs) none =
       let parts = or_false (p x) (list_any p xs) none in
@@ -56,11 +56,11 @@ and_true : (b : Bool) → (b && true) ≡ b
 and_true true = refl
 and_true false = refl
 
-opened : (ms : List Mark) → begins_with (123 ∷ []) ms ≡ opens ms
+pub opened : (ms : List Mark) → begins_with (123 ∷ []) ms ≡ opens ms
 opened [] = refl
 opened (m ∷ ms) = and_true (is_byte 123 m)
 
-quoted : (ms : List Mark) → begins_with (34 ∷ []) ms ≡ quotes ms
+pub quoted : (ms : List Mark) → begins_with (34 ∷ []) ms ≡ quotes ms
 quoted [] = refl
 quoted (m ∷ ms) = and_true (is_byte 34 m)
 
@@ -108,7 +108,7 @@ value_is_read value text s = value_within (length text) value text (omega arith)
 
 -- ---- settings
 
-both : (a b : Bool) → (a && b) ≡ true → (a ≡ true) × (b ≡ true)
+pub both : (a b : Bool) → (a && b) ≡ true → (a ≡ true) × (b ≡ true)
 both true b e = (refl, e)
 both false b e = absurd cc
 
@@ -120,7 +120,7 @@ all_white : (text : List Mark) → list_all is_white_mark text ≡ true → behi
 all_white [] blank = refl
 all_white (m ∷ ms) blank = let parts = both (is_white_mark m) (list_all is_white_mark ms) blank in rw parts.0 (all_white ms parts.1)
 
-some_marks : (m : Mark) (ms : List Mark) → (length (m ∷ ms) == 0) ≡ false
+pub some_marks : (m : Mark) (ms : List Mark) → (length (m ∷ ms) == 0) ≡ false
 some_marks m ms = grind (arith, nat_tests)
 
 at_word : (key : Key) (text : List Mark) → conf.next_setting (word_of key ++ text) ≡ conf.at_value key text

@@ -15,11 +15,13 @@ ghost use Rattle.mod_env.specs.Env.{sees_env};
 ghost use Rattle.mod_env.specs.Puts.{Puts};
 ghost use Rattle.mod_env.specs.Spelling.{SpellsConf};
 
-/// A text of `pam_env.conf(5)` has one reading: whatever variables the lines of a text spell, they
-/// are the ones that are read, so that no text spells two lists.
+/// A text of `pam_env.conf(5)` has one reading: the variables that are read are those that its lines
+/// spell, and if they spell none, the text is malformed. No text spells two lists.
 pub fn a_text_has_one_reading()
     ensures read { (entries : List Entry) (text : List ℕ) → SpellsConf entries text →
         conf_of text ≡ Some entries }
+    ensures spelled { (entries : List Entry) (text : List ℕ) → conf_of text ≡ Some entries →
+        SpellsConf entries text }
     ensures one { (entries others : List Entry) (text : List ℕ) → SpellsConf entries text →
         SpellsConf others text → entries ≡ others }
 {}

@@ -202,7 +202,7 @@ remember_four : remember_of (codes "remember=0002" ∷ []) ≡ 10
 unfolding remember_of
 remember_four = refl
 
--- ---- pam_pwhistory: joe, whose hash stands in passwd, has a new password from an earlier line; root calls
+-- ---- pam_pwhistory: joe, whose hash is in passwd, has a new password from an earlier line; root calls
 
 abbrev history : File
 history = file (codes "/etc/security/pamsess_history") (codes "joe:A:B\nann")

@@ -4,9 +4,7 @@ use Rattle.std.specs.List.{list_any}
 use Rattle.std.specs.Str.{bytes_eq}
 use Rattle.pam_base.specs.Lines.{lines_of}
 use Rattle.pam_base.specs.declared.code.Code.{Code}
-use Rattle.pam_base.specs.declared.code.Code.TheVariants.{Success, ServiceErr, AuthErr, UserUnknown, ModuleUnknown}
-use Rattle.pam_base.specs.declared.call.Func.{Func}
-use Rattle.pam_base.specs.declared.call.Func.TheVariants.{Authenticate, SetCred, AcctMgmt, OpenSession, CloseSession, ChAuthTok}
+use Rattle.pam_base.specs.declared.code.Code.TheVariants.{Success, ServiceErr, AuthErr, UserUnknown}
 use Rattle.pam_room.specs.Call.{PlainCall, value_in}
 use Rattle.pam_room.specs.Module.{Plays}
 use Rattle.account_db.specs.Shells.{without_end}
@@ -14,6 +12,7 @@ use Rattle.account_files.specs.declared.content.Content.{Content}
 use Rattle.account_files.specs.declared.content.Content.TheVariants.{Absent, Unreadable, Holds}
 use Rattle.account_files.specs.Accounts.{Account, account_limit, found, missing, unreadable}
 use Rattle.account_files.specs.Act.{Act, answers, asks_user, finds_account, plays_by, reads_file, sees_items, unless_answered}
+use Rattle.mod_unix.specs.module_acts.specs.Uncheck.{code_unchecked}
 
 -- a terminal's name, without a leading /dev/
 abbrev pub terminal_name : List ℕ → List ℕ
@@ -56,17 +55,9 @@ by_account (found entry) = by_root (entry.uid == 0)
 abbrev pub checks_terminal : Act
 checks_terminal = asks_user (λ user. finds_account user by_account)
 
--- it has authenticate, acct_mgmt and setcred; the last is SUCCESS at once
-abbrev pub at_once : Func → Option Code
-at_once Authenticate = None
-at_once AcctMgmt = None
-at_once SetCred = Some Success
-at_once OpenSession = Some ModuleUnknown
-at_once CloseSession = Some ModuleUnknown
-at_once ChAuthTok = Some ModuleUnknown
-
+-- setcred is SUCCESS at once
 abbrev pub securetty_act : PlainCall → Act
-securetty_act call = unless_answered (at_once call.func) checks_terminal
+securetty_act call = unless_answered (code_unchecked call.func Success) checks_terminal
 
 abbrev pub securetty_plays : Plays
 securetty_plays = plays_by securetty_act

@@ -2,9 +2,7 @@
 use Rattle.std.specs.Prelude.{ℕ, Bool, true, false, ◌==◌, ◌&&◌, not, if◌then◌else◌, List, Option, Some, None, codes}
 use Rattle.std.specs.List.{find}
 use Rattle.pam_base.specs.declared.code.Code.{Code}
-use Rattle.pam_base.specs.declared.code.Code.TheVariants.{Success, ServiceErr, PermDenied, UserUnknown, Ignore, ModuleUnknown}
-use Rattle.pam_base.specs.declared.call.Func.{Func}
-use Rattle.pam_base.specs.declared.call.Func.TheVariants.{Authenticate, SetCred, AcctMgmt, OpenSession, CloseSession, ChAuthTok}
+use Rattle.pam_base.specs.declared.code.Code.TheVariants.{Success, ServiceErr, PermDenied, UserUnknown, Ignore}
 use Rattle.pam_room.specs.Call.{PlainCall, value_among}
 use Rattle.pam_room.specs.Module.{Plays}
 use Rattle.account_db.specs.declared.passwd.Passwd.{Passwd}
@@ -14,6 +12,7 @@ use Rattle.account_db.specs.Passwd.{entry_of, entry_of_uid}
 use Rattle.account_files.specs.Act.{Act, answers, asks_user, plays_by, reads_groups, reads_passwds, unless_answered}
 use Rattle.mod_unix.specs.module_acts.specs.Steps.{sees_caller}
 use Rattle.account_files.specs.Arguments.{has_argument}
+use Rattle.mod_unix.specs.module_acts.specs.Uncheck.{code_unchecked}
 
 -- ---- who is tested
 
@@ -91,17 +90,9 @@ checks_wheel args caller = asks_user (λ user. reads_passwds (λ passwds.
     unless_answered (code_by_passwds args caller user passwds)
     (reads_groups (λ groups. answers (code_by_groups args caller passwds groups)))))
 
--- it has authenticate, acct_mgmt and setcred; the last is SUCCESS at once
-abbrev pub at_once : Func → Option Code
-at_once Authenticate = None
-at_once AcctMgmt = None
-at_once SetCred = Some Success
-at_once OpenSession = Some ModuleUnknown
-at_once CloseSession = Some ModuleUnknown
-at_once ChAuthTok = Some ModuleUnknown
-
+-- setcred is SUCCESS at once
 abbrev pub wheel_act : PlainCall → Act
-wheel_act call = unless_answered (at_once call.func) (sees_caller (checks_wheel call.args))
+wheel_act call = unless_answered (code_unchecked call.func Success) (sees_caller (checks_wheel call.args))
 
 abbrev pub wheel_plays : Plays
 wheel_plays = plays_by wheel_act

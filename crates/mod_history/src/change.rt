@@ -1,4 +1,4 @@
-ghost use Rattle.std.specs.Prelude.{◌≡◌, ◌≤◌, ◌<◌, IsTrue, IfOk, IfSome, length};
+ghost use Rattle.std.specs.Prelude.{◌≡◌, ◌≤◌, ◌<◌, IsTrue, IfOk, OnErr, IfSome, length};
 ghost use Rattle.pam_outside.specs.Time.{ClockState};
 ghost use Rattle.pam_room.specs.Plain.{plain_call, plain_process};
 ghost use Rattle.account_files.specs.Act.{Came};
@@ -8,7 +8,7 @@ ghost use Rattle.mod_history.specs.Pwhistory.{by_history, by_look, checks_token,
 
 use crate::file::{HISTORY_LIMIT, HISTORY_NAME, history_in, store_text};
 use crate::history::{History, hashes_of};
-use crate::refusal::{is_refused, refuse_token};
+use crate::refusal::{is_refused, refuse_token, unset_token};
 use crate::renewal::renewed_text;
 use account_files::{hold_named, read_named};
 use conv_port::Conv;
@@ -30,6 +30,8 @@ pub(crate) fn check_token(
 ) -> Result<Code, Refuse<ConvErr>>
     ensures conv_tells { conv_tells conv.new ≡ conv_tells conv.old }
     ensures vault_tells { vault_tells vault.new ≡ vault_tells vault.old }
+    ensures err { IsTrue (vault_tells vault.old) →
+        OnErr result ((vault_holds vault.new).files ≡ (vault_holds vault.old).files) }
     ensures told { IsTrue (conv_tells conv.old) → IsTrue (vault_tells vault.old) →
         (clock : ClockState) →
         Comes result (checks_token (plain_call call.now))
@@ -68,6 +70,8 @@ fn by_look(
 ) -> Result<Code, Refuse<ConvErr>>
     ensures conv_tells { conv_tells conv.new ≡ conv_tells conv.old }
     ensures vault_tells { vault_tells vault.new ≡ vault_tells vault.old }
+    ensures err { IsTrue (vault_tells vault.old) →
+        OnErr result ((vault_holds vault.new).files ≡ (vault_holds vault.old).files) }
     ensures told { IsTrue (conv_tells conv.old) → IsTrue (vault_tells vault.old) →
         (clock : ClockState) →
         Comes result (by_look (plain_call call.now) user.now look.now)
@@ -117,6 +121,8 @@ fn renew(
 ) -> Result<Code, Refuse<ConvErr>>
     ensures conv_tells { conv_tells conv.new ≡ conv_tells conv.old }
     ensures vault_tells { vault_tells vault.new ≡ vault_tells vault.old }
+    ensures err { IsTrue (vault_tells vault.old) →
+        OnErr result ((vault_holds vault.new).files ≡ (vault_holds vault.old).files) }
     ensures told { IsTrue (conv_tells conv.old) → IsTrue (vault_tells vault.old) →
         (clock : ClockState) →
         Comes result (renews (plain_call call.now) user.now hash.now)
@@ -158,6 +164,8 @@ fn remember(
     requires { IfSome token (λ t. length t ≤ 512) }
     ensures conv_tells { conv_tells conv.new ≡ conv_tells conv.old }
     ensures vault_tells { vault_tells vault.new ≡ vault_tells vault.old }
+    ensures err { IsTrue (vault_tells vault.old) →
+        OnErr result ((vault_holds vault.new).files ≡ (vault_holds vault.old).files) }
     ensures told { IsTrue (conv_tells conv.old) → IsTrue (vault_tells vault.old) →
         (clock : ClockState) →
         IfOk result (λ code. Came code (remembers (plain_call call.now) user.now hash.now token)
@@ -177,7 +185,11 @@ fn remember(
     }
     let held = match hold_named(alloc, vault, process, b"/etc/.pwd.lock", LockKind::Record)? {
         Some(held) => held,
-        None => return Ok(Code::AuthtokErr),
+        None => {
+            // Otherwise a later module would set a token that wasn't looked up.
+            unset_token(transaction);
+            return Ok(Code::AuthtokErr);
+        }
     };
     let content = read_named(alloc, vault, process, HISTORY_NAME, HISTORY_LIMIT)?;
     let history = history_in(alloc, content)?;
@@ -216,6 +228,8 @@ fn by_history(
     requires remembers { 0 < remember_of call.now.args.now }
     ensures conv_tells { conv_tells conv.new ≡ conv_tells conv.old }
     ensures vault_tells { vault_tells vault.new ≡ vault_tells vault.old }
+    ensures err { IsTrue (vault_tells vault.old) →
+        OnErr result ((vault_holds vault.new).files ≡ (vault_holds vault.old).files) }
     ensures told { IsTrue (conv_tells conv.old) → IsTrue (vault_tells vault.old) →
         (clock : ClockState) →
         IfOk result (λ code. Came code (by_history (plain_call call.now)

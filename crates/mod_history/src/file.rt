@@ -1,4 +1,4 @@
-ghost use Rattle.std.specs.Prelude.{◌≡◌, IsTrue, IfOk};
+ghost use Rattle.std.specs.Prelude.{◌≡◌, IsTrue, IfOk, OnErr};
 ghost use Rattle.account_files.specs.Act.{StepsTo};
 ghost use Rattle.mod_unix.specs.Change.{by_done};
 ghost use Rattle.mod_history.specs.Pwhistory.{history_in, stores_text};
@@ -39,6 +39,8 @@ pub(crate) fn store_text(
     text: &[u8],
 ) -> Result<Code, NoMemory>
     ensures tells { vault_tells vault.new ≡ vault_tells vault.old }
+    ensures err { IsTrue (vault_tells vault.old) →
+        OnErr result ((vault_holds vault.new).files ≡ (vault_holds vault.old).files) }
     ensures told { IsTrue (vault_tells vault.old) →
         IfOk result (λ code. StepsTo (stores_text text.now) code process.now
         (vault_holds vault.old) (vault_holds vault.new)) }

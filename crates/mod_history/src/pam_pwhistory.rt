@@ -1,5 +1,5 @@
 ghost use Rattle.std.specs.Prelude.{◌≡◌, IfOk, codes};
-ghost use Rattle.pam_room.specs.Module.{leaves_anything, length_note};
+ghost use Rattle.pam_room.specs.Module.{keeps_files, length_note};
 ghost use Rattle.pam_room.specs.Plain.{plain_call};
 ghost use Rattle.pam_room.specs.State.{Scene};
 ghost use Rattle.mod_unix.specs.module_acts.specs.Comes.{Comes, Goes};
@@ -33,7 +33,7 @@ impl Module for Pwhistory {
 
     ghost note = { λ _. length_note };
 
-    ghost breaks = { λ _. leaves_anything };
+    ghost breaks = { λ _. keeps_files };
 
     fn name(&self) -> &[u8] {
         b"pam_pwhistory"
@@ -51,6 +51,7 @@ impl Module for Pwhistory {
     ) -> Result<Code, NoMemory> {
         account_files::laws::act_steps();
         laws::talking();
+        pam_room::laws::files_stay();
         match at_once(call) {
             Some(code) => Ok(code),
             None => {

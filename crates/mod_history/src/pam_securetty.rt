@@ -7,13 +7,14 @@ ghost use Rattle.account_files.specs.Accounts.{Known, nothing_known};
 ghost use Rattle.account_files.specs.Act.{Acts, standing};
 ghost use Rattle.mod_unix.specs.module_acts.specs.Comes.{Finishes};
 ghost use Rattle.mod_unix.specs.module_acts.specs.Talks.{Talks};
-ghost use Rattle.mod_history.specs.Securetty.{at_once, by_list, checks_root, checks_terminal, is_secure, is_terminal, securetty_plays, terminal_name};
+ghost use Rattle.mod_unix.specs.module_acts.specs.Uncheck.{code_unchecked};
+ghost use Rattle.mod_history.specs.Securetty.{by_list, checks_root, checks_terminal, is_secure, is_terminal, securetty_plays, terminal_name};
 
 use account_db::without_end;
 use account_files::{Account, Accounts, Content, laws, read_named};
 use conv_port::Conv;
 use data_cleanup::{Datum, Receipt};
-use mod_unix::module_acts::{ended, require_user, user_of};
+use mod_unix::module_acts::{code_unchecked, ended, require_user, user_of};
 use pam_base::{Code, ConvErr, Func, ItemName, Lines, NoMemory, Refuse};
 use pam_outside::{Clock, Vault};
 use pam_room::{Call, Module, Process, Transaction, get_item, spend_by_length, value_in};
@@ -60,7 +61,7 @@ impl Module for Securetty {
         laws::act_steps();
         mod_unix::module_acts::laws::talking();
         pam_room::laws::files_stay();
-        match at_once(call.func) {
+        match code_unchecked(call.func, Code::Success) {
             Some(code) => Ok(code),
             None => {
                 let answer = check_terminal(alloc, transaction, process, conv, vault);
@@ -71,16 +72,6 @@ impl Module for Securetty {
 
     fn tidy(&self, datum: Datum, status: u32) -> Receipt {
         spend_by_length(datum, status)
-    }
-}
-
-fn at_once(func: Func) -> Option<Code>
-    ensures { result ≡ at_once func }
-{
-    match func {
-        Func::Authenticate | Func::AcctMgmt => None,
-        Func::SetCred => Some(Code::Success),
-        Func::OpenSession | Func::CloseSession | Func::ChAuthTok => Some(Code::ModuleUnknown),
     }
 }
 
@@ -119,7 +110,7 @@ fn check_terminal(
     Ok(code)
 }
 
-// Looks root's terminal up in the list.
+// after the item there is 0 and nothing, or 1 and the text
 fn check_root(
     alloc: Global,
     transaction: &Transaction,

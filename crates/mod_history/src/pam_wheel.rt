@@ -6,13 +6,14 @@ ghost use Rattle.account_files.specs.Accounts.{nothing_known};
 ghost use Rattle.account_files.specs.Act.{Acts, standing};
 ghost use Rattle.mod_unix.specs.module_acts.specs.Comes.{Finishes};
 ghost use Rattle.mod_unix.specs.module_acts.specs.Talks.{Talks};
-ghost use Rattle.mod_history.specs.Wheel.{at_once, by_group, by_membership, checks_wheel, code_by_groups, code_by_passwds, group_of_gid, is_passed_over, trusted, wheel_group, wheel_plays};
+ghost use Rattle.mod_unix.specs.module_acts.specs.Uncheck.{code_unchecked};
+ghost use Rattle.mod_history.specs.Wheel.{by_group, by_membership, checks_wheel, code_by_groups, code_by_passwds, group_of_gid, is_passed_over, trusted, wheel_group, wheel_plays};
 
 use account_db::{Group, Groups, Passwd, PasswdFile, entry_of, entry_of_uid, group_of, is_member};
 use account_files::{Accounts, has_argument, laws};
 use conv_port::Conv;
 use data_cleanup::{Datum, Receipt};
-use mod_unix::module_acts::{ended, require_user, user_of};
+use mod_unix::module_acts::{code_unchecked, ended, require_user, user_of};
 use pam_base::{Code, ConvErr, Func, NoMemory, Refuse, Texts};
 use pam_outside::{Clock, Vault};
 use pam_room::{Call, Module, Process, Transaction, spend_by_length};
@@ -57,7 +58,7 @@ impl Module for Wheel {
         mod_unix::module_acts::laws::talking();
         mod_unix::module_acts::laws::acting();
         pam_room::laws::files_stay();
-        match at_once(call.func) {
+        match code_unchecked(call.func, Code::Success) {
             Some(code) => Ok(code),
             None => {
                 let answer = check_wheel(alloc, call, transaction, process, conv, vault);
@@ -68,16 +69,6 @@ impl Module for Wheel {
 
     fn tidy(&self, datum: Datum, status: u32) -> Receipt {
         spend_by_length(datum, status)
-    }
-}
-
-fn at_once(func: Func) -> Option<Code>
-    ensures { result ≡ at_once func }
-{
-    match func {
-        Func::Authenticate | Func::AcctMgmt => None,
-        Func::SetCred => Some(Code::Success),
-        Func::OpenSession | Func::CloseSession | Func::ChAuthTok => Some(Code::ModuleUnknown),
     }
 }
 

@@ -102,8 +102,8 @@ pub(crate) fn refuse_token(
     Ok(())
 }
 
-// Unsets AUTHTOK (`pam_set_item(3)`).
-fn unset_token(transaction: &mut Transaction)
+/// Unsets AUTHTOK (`pam_set_item(3)`).
+pub(crate) fn unset_token(transaction: &mut Transaction)
     ensures told { (conv : ConvState) (vault : VaultState) (clock : ClockState)
         (process : PlainProcess) →
         Leads (unsets_item ItemName.AuthTok) (lent transaction.old conv vault clock process)

@@ -115,7 +115,7 @@ module _ (path : List ℕ) (call : PlainCall) where
       → DoesOne stage.sight (sets_text name text code stage)
   setting stage name text code d does = set_by (is_rooted name && nat_le (length text) tally_limit) stage name text code d (λ e. does (both (is_rooted name) (nat_le (length text) tally_limit) e))
 
-  -- ---- with the failures that stand
+  -- ---- with the failures that count
 
   abbrev pub task_is : Task → Type 0
   task_is task = task_of call.func (task_among call.args) ≡ Ok task

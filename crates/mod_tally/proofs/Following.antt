@@ -7,13 +7,13 @@ use Rattle.mod_tally.specs.Tally.{IsFailure, counting, counts, failures_of, late
 use Rattle.mod_tally.specs.Recorded.{Deed, left, recorded, cleared, Does, Follow, IsAmong, IsWith, Served, deeds_of, is_cleared, is_written, left_by, played, recorded_by, standing_in, stands_by}
 use Rattle.mod_tally.proofs.Counting.{counting-counting}
 
--- ---- deeds on what stands
+-- ---- operations on the failures that count
 
 abbrev pub after_all : List Deed → List Failure → List Failure
 after_all [] fs = fs
 after_all (d ∷ ds) fs = after_all ds (left_by d fs)
 
--- what stands counts as what was recorded
+-- the failures that count are those that were recorded
 abbrev pub Alike : ℕ → List Failure → List Failure → Type 0
 Alike i fs rs = (more : List Failure) → counting i (fs ++ more) ≡ counting i (rs ++ more)
 
@@ -84,7 +84,7 @@ module _ (path : List ℕ) (i : ℕ) (read : IsRead) where
   calls_count ss before after fs follow all fit stood =
       followed ss before after fs follow all fit stood ∙ ap (λ (x : List Failure). Some x) (stands i (deeds_of ss) fs all)
 
--- ---- a failure that stands on
+-- ---- a failure that still counts
 
 among_front : (f g : Failure) (fs : List Failure) → IsAmong f fs → IsAmong f (fs ++ g ∷ [])
 among_front f g [] a = absurd a

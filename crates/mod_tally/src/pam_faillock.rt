@@ -1,6 +1,6 @@
-ghost use Rattle.std.specs.Prelude.{◌≡◌, ◌≢◌, ◌==◌, ◌&&◌, not, false, None, IsTrue, IfOk, codes, unwrap_or, []};
+ghost use Rattle.std.specs.Prelude.{◌≡◌, ◌≢◌, ◌==◌, ◌&&◌, not, false, None, IsTrue, IfOk, OnErr, codes, unwrap_or, []};
 ghost use Rattle.conv_port.specs.Conv.{ConvState};
-ghost use Rattle.module_acts.specs.pam_room.specs.Module.{leaves_anything, length_note};
+ghost use Rattle.module_acts.specs.pam_room.specs.Module.{keeps_files, length_note};
 ghost use Rattle.module_acts.specs.account_files.specs.Accounts.{Known, nothing_known};
 ghost use Rattle.module_acts.specs.account_files.specs.Act.{Acts, standing};
 ghost use Rattle.module_acts.specs.Comes.{Finishes};
@@ -38,7 +38,7 @@ impl Module for Faillock {
 
     ghost note = { λ _. length_note };
 
-    ghost breaks = { λ _. leaves_anything };
+    ghost breaks = { λ _. keeps_files };
 
     fn name(&self) -> &[u8] {
         b"pam_faillock"
@@ -56,6 +56,7 @@ impl Module for Faillock {
     ) -> Result<Code, NoMemory> {
         laws::act_steps();
         module_acts::laws::talking();
+        module_acts::pam_room::laws::files_stay();
         match task_of(call.func, task_among(call.args)) {
             Ok(task) => {
                 let settings = settings_of(call);
@@ -107,6 +108,8 @@ fn check_tally(
 ) -> Result<Code, Refuse<ConvErr>>
     ensures conv_tells { conv_tells conv.new ≡ conv_tells conv.old }
     ensures vault_tells { vault_tells vault.new ≡ vault_tells vault.old }
+    ensures err { IsTrue (vault_tells vault.old) →
+        OnErr result ((vault_holds vault.new).files ≡ (vault_holds vault.old).files) }
     ensures told { IsTrue (conv_tells conv.old) → IsTrue (vault_tells vault.old) →
         IsTrue (clock_tells clock.now) →
         Finishes result (checks_tally task (plain_settings settings.now))
@@ -134,6 +137,8 @@ fn check_user(
 ) -> Result<Code, NoMemory>
     requires { transaction.now.items.user ≢ None }
     ensures tells { vault_tells vault.new ≡ vault_tells vault.old }
+    ensures err { IsTrue (vault_tells vault.old) →
+        OnErr result ((vault_holds vault.new).files ≡ (vault_holds vault.old).files) }
     ensures told { IsTrue (vault_tells vault.old) → IsTrue (clock_tells clock.now) →
         (conv : ConvState) →
         IfOk result (λ code.
@@ -202,6 +207,8 @@ fn by_spared(
     clock: &dyn Clock,
 ) -> Result<Code, NoMemory>
     ensures tells { vault_tells vault.new ≡ vault_tells vault.old }
+    ensures err { IsTrue (vault_tells vault.old) →
+        OnErr result ((vault_holds vault.new).files ≡ (vault_holds vault.old).files) }
     ensures told { IsTrue (vault_tells vault.old) → IsTrue (clock_tells clock.now) →
         (conv : ConvState) (known : Known) →
         IfOk result (λ code. Acts (by_spared spared task (plain_settings settings.now) user.now)
@@ -245,6 +252,8 @@ fn by_file(
     clock: &dyn Clock,
 ) -> Result<Code, NoMemory>
     ensures tells { vault_tells vault.new ≡ vault_tells vault.old }
+    ensures err { IsTrue (vault_tells vault.old) →
+        OnErr result ((vault_holds vault.new).files ≡ (vault_holds vault.old).files) }
     ensures told { IsTrue (vault_tells vault.old) → IsTrue (clock_tells clock.now) →
         (conv : ConvState) (known : Known) →
         IfOk result (λ code. Acts (by_spared false task (plain_settings settings.now) user.now)

@@ -1,4 +1,4 @@
-ghost use Rattle.std.specs.Prelude.{◌≡◌, ◌==◌, ◌&&◌, ◌||◌, codes, nat_le, length, if◌then◌else◌, IsTrue, IfOk, IsSome};
+ghost use Rattle.std.specs.Prelude.{◌≡◌, ◌==◌, ◌&&◌, ◌||◌, codes, nat_le, length, if◌then◌else◌, IsTrue, IfOk, OnErr, IsSome};
 ghost use Rattle.std.specs.List.{list_any};
 ghost use Rattle.std.specs.Str.{bytes_eq};
 ghost use Rattle.pam_outside.specs.Time.{ClockState};
@@ -84,6 +84,8 @@ pub(crate) fn read_tally(
     name: &[u8],
 ) -> Result<Option<Failures>, NoMemory>
     ensures tells { vault_tells vault.new ≡ vault_tells vault.old }
+    ensures files { IsTrue (vault_tells vault.old) →
+        (vault_holds vault.new).files ≡ (vault_holds vault.old).files }
     ensures told { IsTrue (vault_tells vault.old) →
         IfOk result (λ found. StepsTo (reads_tally name.now) found process.now
         (vault_holds vault.old) (vault_holds vault.new)) }
@@ -118,6 +120,8 @@ pub(crate) fn set_text(
     code: Code,
 ) -> Result<Code, NoMemory>
     ensures tells { vault_tells vault.new ≡ vault_tells vault.old }
+    ensures err { IsTrue (vault_tells vault.old) →
+        OnErr result ((vault_holds vault.new).files ≡ (vault_holds vault.old).files) }
     ensures told { IsTrue (vault_tells vault.old) →
         (room : PlainRoom) (clock : ClockState) (known : Known) →
         IfOk result (λ answer. Acts (sets_text name.now text.now code) known

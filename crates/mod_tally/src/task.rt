@@ -1,4 +1,4 @@
-ghost use Rattle.std.specs.Prelude.{◌≡◌, IsTrue, IfOk, ◌∷◌, [], ◌++◌};
+ghost use Rattle.std.specs.Prelude.{◌≡◌, IsTrue, IfOk, OnErr, ◌∷◌, [], ◌++◌};
 ghost use Rattle.conv_port.specs.Conv.{ConvState};
 ghost use Rattle.pam_outside.specs.Time.{ClockState};
 ghost use Rattle.module_acts.specs.pam_room.specs.Plain.{plain_process};
@@ -33,6 +33,8 @@ pub(crate) fn by_task(
     clock: &dyn Clock,
 ) -> Result<Code, NoMemory>
     ensures tells { vault_tells vault.new ≡ vault_tells vault.old }
+    ensures err { IsTrue (vault_tells vault.old) →
+        OnErr result ((vault_holds vault.new).files ≡ (vault_holds vault.old).files) }
     ensures told { IsTrue (vault_tells vault.old) → IsTrue (clock_tells clock.now) →
         (conv : ConvState) (known : Known) →
         IfOk result (λ code. Acts (by_task task (plain_settings settings.now) name.now failures)
@@ -97,6 +99,8 @@ fn clear(
     vault: &mut dyn Vault,
 ) -> Result<Code, NoMemory>
     ensures tells { vault_tells vault.new ≡ vault_tells vault.old }
+    ensures err { IsTrue (vault_tells vault.old) →
+        OnErr result ((vault_holds vault.new).files ≡ (vault_holds vault.old).files) }
     ensures told { IsTrue (vault_tells vault.old) →
         (room : PlainRoom) (clock : ClockState) (known : Known) →
         IfOk result (λ code. Acts (clears name.now failures.now) known
@@ -126,6 +130,8 @@ fn record_failure(
     vault: &mut dyn Vault,
 ) -> Result<Code, NoMemory>
     ensures tells { vault_tells vault.new ≡ vault_tells vault.old }
+    ensures err { IsTrue (vault_tells vault.old) →
+        OnErr result ((vault_holds vault.new).files ≡ (vault_holds vault.old).files) }
     ensures told { IsTrue (vault_tells vault.old) →
         (room : PlainRoom) (clock : ClockState) (known : Known) →
         IfOk result (λ code.

@@ -1,4 +1,4 @@
-ghost use Rattle.std.specs.Prelude.{◌≡◌, ◌≤◌, ℕ, IsTrue, IfOk, IfSome, length};
+ghost use Rattle.std.specs.Prelude.{◌≡◌, ◌≤◌, ℕ, IsTrue, IfOk, OnErr, IfSome, length};
 ghost use Rattle.std.specs.Option.{option_copied};
 ghost use Rattle.pam_outside.specs.Files.{VaultState};
 ghost use Rattle.pam_outside.specs.Time.{ClockState, time_of};
@@ -38,6 +38,8 @@ pub(crate) fn change_token(
 ) -> Result<Code, Refuse<ConvErr>>
     ensures conv_tells { conv_tells conv.new ≡ conv_tells conv.old }
     ensures vault_tells { vault_tells vault.new ≡ vault_tells vault.old }
+    ensures err { IsTrue (vault_tells vault.old) →
+        OnErr result ((vault_holds vault.new).files ≡ (vault_holds vault.old).files) }
     ensures clock_tells { clock_tells clock.new ≡ clock_tells clock.old }
     ensures clock_stays { IsTrue (clock_tells clock.old) →
         time_of (clock_holds clock.new) ≡ time_of (clock_holds clock.old) }
@@ -83,6 +85,8 @@ fn change_by(
 ) -> Result<Code, Refuse<ConvErr>>
     ensures conv_tells { conv_tells conv.new ≡ conv_tells conv.old }
     ensures vault_tells { vault_tells vault.new ≡ vault_tells vault.old }
+    ensures err { IsTrue (vault_tells vault.old) →
+        OnErr result ((vault_holds vault.new).files ≡ (vault_holds vault.old).files) }
     ensures clock_tells { clock_tells clock.new ≡ clock_tells clock.old }
     ensures clock_stays { IsTrue (clock_tells clock.old) →
         time_of (clock_holds clock.new) ≡ time_of (clock_holds clock.old) }
@@ -130,6 +134,8 @@ fn change_entry(
 ) -> Result<Code, Refuse<ConvErr>>
     ensures conv_tells { conv_tells conv.new ≡ conv_tells conv.old }
     ensures vault_tells { vault_tells vault.new ≡ vault_tells vault.old }
+    ensures err { IsTrue (vault_tells vault.old) →
+        OnErr result ((vault_holds vault.new).files ≡ (vault_holds vault.old).files) }
     ensures clock_tells { clock_tells clock.new ≡ clock_tells clock.old }
     ensures clock_stays { IsTrue (clock_tells clock.old) →
         time_of (clock_holds clock.new) ≡ time_of (clock_holds clock.old) }

@@ -44,6 +44,8 @@ pub fn look_up(
     user: &[u8],
 ) -> Result<Look, NoMemory>
     ensures tells { vault_tells vault.new ≡ vault_tells vault.old }
+    ensures files { IsTrue (vault_tells vault.old) →
+        (vault_holds vault.new).files ≡ (vault_holds vault.old).files }
     ensures told { IsTrue (vault_tells vault.old) →
         IfOk result (λ look. StepsTo (looks user.now) look process.now (vault_holds vault.old)
         (vault_holds vault.new)) }

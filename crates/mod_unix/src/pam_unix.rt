@@ -3,7 +3,7 @@ ghost use Rattle.conv_port.specs.Conv.{ConvState};
 ghost use Rattle.data_cleanup.specs.Sets.{Sets};
 ghost use Rattle.pam_outside.specs.Files.{VaultState};
 ghost use Rattle.pam_outside.specs.Time.{ClockState};
-ghost use Rattle.pam_room.specs.Module.{leaves_anything, length_note, named_data};
+ghost use Rattle.pam_room.specs.Module.{keeps_files, length_note, named_data};
 ghost use Rattle.pam_room.specs.Plain.{plain_process};
 ghost use Rattle.pam_room.specs.State.{Scene};
 ghost use Rattle.account_files.specs.Act.{Act};
@@ -45,7 +45,7 @@ impl Module for Unix {
 
     ghost note = { λ _. length_note };
 
-    ghost breaks = { λ _. leaves_anything };
+    ghost breaks = { λ _. keeps_files };
 
     fn name(&self) -> &[u8] {
         b"pam_unix"
@@ -64,6 +64,7 @@ impl Module for Unix {
         account_files::laws::act_steps();
         laws::acting();
         laws::talking();
+        pam_room::laws::files_stay();
         match call.func {
             Func::Authenticate => {
                 let answer = authenticate(alloc, call, transaction, process, conv, vault);

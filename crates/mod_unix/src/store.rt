@@ -1,4 +1,4 @@
-ghost use Rattle.std.specs.Prelude.{◌≡◌, ◌≤◌, IsTrue, IfOk, IfSome, length};
+ghost use Rattle.std.specs.Prelude.{◌≡◌, ◌≤◌, IsTrue, IfOk, OnErr, IfSome, length};
 ghost use Rattle.pam_outside.specs.Time.{time_of};
 ghost use Rattle.pam_room.specs.Plain.{plain_call, plain_process};
 ghost use Rattle.pam_room.specs.State.{PlainRoom, scene_of};
@@ -31,6 +31,8 @@ pub(crate) fn store_token(
 ) -> Result<Code, NoMemory>
     requires { IfSome token (λ t. length t ≤ 512) }
     ensures vault_tells { vault_tells vault.new ≡ vault_tells vault.old }
+    ensures err { IsTrue (vault_tells vault.old) →
+        OnErr result ((vault_holds vault.new).files ≡ (vault_holds vault.old).files) }
     ensures clock_tells { clock_tells clock.new ≡ clock_tells clock.old }
     ensures clock_stays { IsTrue (clock_tells clock.old) →
         time_of (clock_holds clock.new) ≡ time_of (clock_holds clock.old) }
@@ -62,6 +64,8 @@ fn change_shadow(
     vault: &mut dyn Vault,
 ) -> Result<Code, NoMemory>
     ensures tells { vault_tells vault.new ≡ vault_tells vault.old }
+    ensures err { IsTrue (vault_tells vault.old) →
+        OnErr result ((vault_holds vault.new).files ≡ (vault_holds vault.old).files) }
     ensures told { IsTrue (vault_tells vault.old) →
         IfOk result (λ code. StepsTo (changes_shadow user.now hash.now today) code process.now
         (vault_holds vault.old) (vault_holds vault.new)) }
@@ -85,6 +89,8 @@ fn change_held(
     vault: &mut dyn Vault,
 ) -> Result<Code, NoMemory>
     ensures tells { vault_tells vault.new ≡ vault_tells vault.old }
+    ensures err { IsTrue (vault_tells vault.old) →
+        OnErr result ((vault_holds vault.new).files ≡ (vault_holds vault.old).files) }
     ensures told { IsTrue (vault_tells vault.old) →
         IfOk result (λ code. StepsTo (changes_shadow user.now hash.now today) code process.now
         (vault_holds vault.old) (vault_holds vault.new)) }
