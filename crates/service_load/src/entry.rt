@@ -14,7 +14,7 @@ use std::alloc::Global;
 
 /// What a rule adds to a stack.
 #[derive(Debug, Drop)]
-pub(crate) enum Content {
+pub enum Content {
     /// A line of its own.
     Line(Rule),
     /// The nodes of the file with this name.
@@ -25,12 +25,12 @@ pub(crate) enum Content {
 
 /// A rule as it is read.
 #[derive(Debug, Drop)]
-pub(crate) struct Entry {
+pub struct Entry {
     /// The number of its first physical line, from 1.
-    pub(crate) line: u32,
+    pub line: u32,
     /// Its type; None if it is for all four, as `@include` is.
-    pub(crate) rule_type: Option<RuleType>,
-    pub(crate) content: Content,
+    pub rule_type: Option<RuleType>,
+    pub content: Content,
 }
 
 /// What the rules of a file say, in order.

@@ -14,6 +14,11 @@ use pam_base::{NoMemory, Refuse, Sequence, Text};
 use std::alloc::Global;
 use std::marker::Model;
 
+/// The maximum number of texts that are kept from one load to the next.
+const MAX_TEXTS: usize = 64;
+/// The maximum number of bytes of all of them.
+const MAX_BYTES: usize = 65536;
+
 /// A text of a file that a load has read, and what its rules say.
 #[derive(Drop)]
 struct KeptFile {
@@ -25,14 +30,14 @@ struct KeptFile {
     ghost said: { entries_held (is_none service) (held_text service (Some text)) ≡ Ok entries },
 }
 
-/// The texts that a load has read, so that a text that is read again isn't parsed again. Contracts
-/// don't see it.
+/// The texts that loads have read and what their rules say, so that a text that is read again isn't
+/// parsed again. It never stands in for a file: each opening reads the file. Contracts don't see it.
 #[derive(Drop)]
-pub(crate) struct Kept {
+pub struct KeptTexts {
     files: Sequence<KeptFile>,
 }
 
-impl Model for Kept {
+impl Model for KeptTexts {
     ghost Value = { Unit {0} };
 
     ghost view = { λ k. tt };
@@ -59,11 +64,32 @@ impl KeptFile {
     }
 }
 
-impl Kept {
-    pub(crate) fn new(alloc: Global) -> Kept {
-        Kept {
+impl KeptTexts {
+    /// No text. It takes no memory before the first load.
+    pub fn new(alloc: Global) -> KeptTexts {
+        KeptTexts {
             files: Sequence::new(alloc),
         }
+    }
+
+    /// What is kept for the next load: all texts, or none if they are too many or too long.
+    pub(crate) fn trimmed(self, alloc: Global) -> KeptTexts {
+        if self.files.len() > MAX_TEXTS || self.is_too_long() {
+            KeptTexts::new(alloc)
+        } else {
+            self
+        }
+    }
+
+    fn is_too_long(&self) -> bool {
+        let mut room = MAX_BYTES;
+        for kept in self.files.items() {
+            match room.checked_sub(kept.text.len()) {
+                Some(left) => room = left,
+                None => return true,
+            }
+        }
+        false
     }
 
     /// What the rules of a file with this text say for a type, if none has a fault; None if the
@@ -130,7 +156,11 @@ fn copy_of(alloc: Global, text: &Option<Text>) -> Result<Option<Text>, NoMemory>
 fn served(alloc: Global, rule_type: RuleType, entries: &[Entry]) -> Result<Entries, NoMemory>
     ensures { IfOk result (λ copy. copy ≡ served rule_type entries.now) }
 {
-    let mut copy = Entries::new(alloc);
+    let count = entries
+        .iter()
+        .filter(|entry| entry.serves(rule_type))
+        .count();
+    let mut copy = Entries::from_vec(Vec::with_capacity(alloc, count)?);
     for entry in entries {
         if entry.serves(rule_type) {
             copy.push(entry.copied(alloc)?)?;

@@ -19,7 +19,11 @@ mod trees;
 mod type_field;
 
 pub use control_words;
+pub use entry::{Content, Entry};
+pub use kept::KeptTexts;
 pub use load_fault::LoadFault;
-pub use loading::load;
+pub use loading::{load, load_with};
+pub use rule_file::RuleFile;
 pub use rule_type::{ALL_TYPES, RuleType};
 pub use trees::Trees;
+pub use type_field::TypeField;

@@ -14,7 +14,7 @@ ghost use Rattle.service_load.specs.Loading.{AddsLine, Brings, CountsFaults, Gro
 
 use crate::entry::{Content, Entries, Entry};
 use crate::inclusion::Inclusion;
-use crate::kept::Kept;
+use crate::kept::KeptTexts;
 use crate::load_fault::{LoadFault, refused};
 use crate::opener::{Opener, opener_of_other, refused_opening};
 use crate::position::Position;
@@ -42,8 +42,8 @@ pub(crate) struct Loader {
     pub(crate) openings: u32,
     /// How many lines the present stack has.
     pub(crate) lines: u32,
-    /// What was read.
-    pub(crate) kept: Kept,
+    /// What was read, by this load or earlier ones.
+    pub(crate) kept: KeptTexts,
 }
 
 impl Loader {

@@ -3,7 +3,7 @@ ghost use Rattle.pam_outside.specs.Files.{counted, is_failing};
 ghost use Rattle.service_load.specs.Load.{AreBounded, Loads, LoadsFrom};
 ghost use Rattle.service_load.specs.Loading.{CountsFaults, OnlyCalls};
 
-use crate::kept::Kept;
+use crate::kept::KeptTexts;
 use crate::load_fault::LoadFault;
 use crate::loader::Loader;
 use crate::names::FOLDER;
@@ -12,6 +12,7 @@ use crate::trees::Trees;
 use pam_base::{Refuse, Text};
 use pam_outside::{ReplaceFault, Vault, is_folder, path_of};
 use std::alloc::Global;
+use std::mem;
 
 /// Returns the stacks of a service (`pam.conf(5)`, `pam.d(5)`; libpam: `_pam_init_handlers`), below
 /// a root whose trailing slashes don't count.
@@ -48,10 +49,31 @@ pub fn load(
     ensures bounded { IfOk result (λ trees. AreBounded trees) }
     ensures faults { CountsFaults result (vault_faults vault.old) (vault_faults vault.new) }
 {
+    let mut kept = KeptTexts::new(alloc);
+    load_with(alloc, vault, root, service, &mut kept)
+}
+
+/// As `load`, but what an earlier load kept isn't parsed again, and what this one reads is kept for
+/// the next: at most 64 texts of 65,536 bytes in all, else none.
+pub fn load_with(
+    alloc: Global,
+    vault: &mut dyn Vault,
+    root: &[u8],
+    service: &[u8],
+    kept: &mut KeptTexts,
+) -> Result<Trees, Refuse<LoadFault>>
+    ensures tells { vault_tells vault.new ≡ vault_tells vault.old }
+    ensures told { IsTrue (vault_tells vault.old) →
+        Loads result (vault_holds vault.old) (vault_holds vault.new) root.now service.now }
+    ensures stays { IsTrue (vault_tells vault.old) →
+        OnlyCalls (vault_holds vault.old) (vault_holds vault.new) }
+    ensures bounded { IfOk result (λ trees. AreBounded trees) }
+    ensures faults { CountsFaults result (vault_faults vault.old) (vault_faults vault.new) }
+{
     let folder = path_of(alloc, root, FOLDER)?;
     let unread = Text::from_bytes(alloc, FOLDER)?;
     match is_folder(vault, alloc, folder.bytes()) {
-        Ok(found) => load_from(alloc, vault, root, found, service),
+        Ok(found) => load_from(alloc, vault, root, found, service, kept),
         Err(ReplaceFault::NoMemory) => Err(Refuse::NoMemory),
         Err(ReplaceFault::Failed) => Err(Refuse::Named(LoadFault::unread(unread))),
     }
@@ -64,6 +86,7 @@ fn load_from(
     root: &[u8],
     is_folder: bool,
     service: &[u8],
+    kept: &mut KeptTexts,
 ) -> Result<Trees, Refuse<LoadFault>>
     ensures tells { vault_tells vault.new ≡ vault_tells vault.old }
     ensures told { IsTrue (vault_tells vault.old) →
@@ -79,7 +102,9 @@ fn load_from(
     let mut loader = Loader {
         openings: 0,
         lines: 0,
-        kept: Kept::new(alloc),
+        kept: mem::replace(kept, KeptTexts::new(alloc)),
     };
-    loader.trees(alloc, vault, root, &own, &other)
+    let trees = loader.trees(alloc, vault, root, &own, &other);
+    *kept = loader.kept.trimmed(alloc);
+    trees
 }

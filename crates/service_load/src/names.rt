@@ -16,7 +16,9 @@ pub(crate) const PAM_CONF: &[u8; 13] = b"/etc/pam.conf";
 pub(crate) fn joined(alloc: Global, front: &[u8], back: &[u8]) -> Result<Text, NoMemory>
     ensures { IfOk result (λ text. text ≡ front.now ++ back.now) }
 {
-    let mut text = Vec::from_slice(alloc, front)?;
+    let length = front.len().saturating_add(back.len());
+    let mut text = Vec::with_capacity(alloc, length)?;
+    text.extend_from_slice(front)?;
     text.extend_from_slice(back)?;
     Ok(Text::from_vec(text))
 }

@@ -7,12 +7,12 @@ use std::alloc::Global;
 
 /// A file of rules.
 #[derive(Debug, Drop)]
-pub(crate) struct RuleFile {
+pub struct RuleFile {
     /// Its name, without the root.
-    pub(crate) name: Text,
+    pub name: Text,
     /// If it has the form of `pam.conf(5)`, whose rules begin with their service, the service asked
     /// for.
-    pub(crate) service: Option<Text>,
+    pub service: Option<Text>,
 }
 
 impl RuleFile {

@@ -6,10 +6,10 @@ use control_words::conf_lex::Token;
 
 /// The type field of a rule (`pam.conf(5)`).
 #[derive(Clone, Copy, Debug, PartialEq, Eq)]
-pub(crate) struct TypeField {
+pub struct TypeField {
     /// Whether no note is made of a missing module (a `-` before the type).
-    pub(crate) silent: bool,
-    pub(crate) rule_type: RuleType,
+    pub silent: bool,
+    pub rule_type: RuleType,
 }
 
 impl TypeField {

@@ -38,7 +38,7 @@ pub found_later : (root name : List ℕ) (file : File) (files : List File) → (
     → file_at (path_in root name) (map (placed_file root) (file ∷ files)) ≡ file_at (path_in root name) (map (placed_file root) files)
 found_later root name file files other = rw (not_equal (path_in root file.name) (path_in root name) (paths_apart root file.name name other)) refl
 
--- numbers tell the files of substacks apart
+-- files of substacks have different numbers
 pub numbers_apart : (service : List ℕ) (m n : ℕ) → m < 256 → n < 256 → (m ≡ n → ⊥) → numbered service m ≡ numbered service n → ⊥
 unfolding numbered
 numbers_apart service m n few few' other same =
@@ -89,7 +89,7 @@ AllThere texts (file ∷ files) = (texts (in_the_folder file.name) ≡ Some file
 abbrev pub texts_in : List ℕ → List File → List ℕ → Option (List ℕ)
 texts_in root files name = file_at (path_of root name) (map (placed_file root) files)
 
--- what stands before the files from this number on has none of their names
+-- what comes before the files from this number on has none of their names
 abbrev Passed : List ℕ → List ℕ → ℕ → List File → Type 0
 Passed root service number front =
     (m : ℕ) (more : List File) → number ≤ m → m < 256 → file_at (path_in root (numbered service m)) (map (placed_file root) (front ++ more)) ≡ file_at (path_in root (numbered service m)) (map (placed_file root) more)

@@ -135,7 +135,7 @@ body_pieces-closed fields =
     (or_from (is_open (piece_of fields.first)) (list_any is_open (behind_pieces fields.more)) (piece_of-closed fields.first) (behind_pieces-closed fields.more))
     (space_piece-closed (ends_in 92 (line_text fields)))
 
--- ---- pieces that stand
+-- ---- pieces that are whole
 
 stand-append : (ps qs : List Piece) (rest : List ℕ) → all_stand ps (spelling qs ++ rest) ≡ true → all_stand qs rest ≡ true → all_stand (ps ++ qs) rest ≡ true
 stand-append [] qs rest one other = other

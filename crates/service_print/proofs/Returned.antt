@@ -37,7 +37,7 @@ no_count none is = refl
 no_count (line rule rest) is = absurd (omega arith)
 no_count (sub inner rest) is = absurd (omega arith)
 
--- ---- a service whose file and substacks stand
+-- ---- a service with its file and the files of its substacks
 
 -- `other` isn't there, or is the service itself
 abbrev pub OtherIs : (List ℕ → Option (List ℕ)) → List ℕ → Type 0

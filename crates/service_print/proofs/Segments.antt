@@ -58,7 +58,7 @@ short_file only texts file fs ts ms are meant text short there =
     let lines : list_all is_short_text (lines_of (lines_text fs)) ≡ true = ap (λ (t : List ℕ). list_all is_short_text (lines_of t)) (sym same) ∙ parts.1 in
     is_file only texts (in_the_folder file.name) fs ts ms are meant (lines_short fs (lines_sound fs ts ms are) lines) (subst (λ (t : List ℕ). length t ≤ 65536) text (leb-true (length file.text) 65536 parts.0)) (there ∙ ap Some text)
 
--- ---- the files of the substacks stand
+-- ---- the files of the substacks
 
 pub stack_files_stand : OneReading → (texts : List ℕ → Option (List ℕ)) (type : RuleType) (service : List ℕ) (number : ℕ) (stack : Stack)
     → IsServiceName service → AllWritable stack → number + subs_in stack ≤ 256

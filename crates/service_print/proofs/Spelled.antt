@@ -32,7 +32,7 @@ last_is-append a b (c ∷ d ∷ front) back = last_is-append a b (d ∷ front) b
 
 -- ---- bytes
 
--- a byte of a token without brackets, wherever it stands in it
+-- a byte of a token without brackets, at any position in it
 abbrev pub is_plain : ℕ → Bool
 is_plain b = not (is_white b || eqb b 35 || eqb b 10)
 
@@ -205,7 +205,7 @@ plain_stands (b ∷ bs) rest is ends last =
     (and_from (not (eqb b 10) && not (eqb b 91)) (all_go_on (b ∷ bs) rest) first (run_stands (b ∷ bs) rest parts.1 last))
     (not_from_false (goes_on rest) ends)
 
--- a token stands before what ends it and joins no backslash of its own
+-- a token comes before its terminator and joins no backslash of its own
 piece_stands : (bracketed : Bool) (text rest : List ℕ) → cond bracketed (is_inner_text text) (is_plain_text text) ≡ true → goes_on rest ≡ false
     → (last_is 92 (cond bracketed (in_brackets text) text) ≡ true → join_after_backslash rest ≡ None) → stands (cond bracketed (bracket (units_of text)) (plain text)) rest ≡ true
 piece_stands true text rest is ends last =
@@ -279,7 +279,7 @@ last_behind a front token tokens sound =
     let is : fields_text token tokens ≡ some.first ∷ (some.more ++ flat_map behind_space (map written tokens)) = ap (λ (t : List ℕ). t ++ flat_map behind_space (map written tokens)) some.is in
     ap (λ (t : List ℕ). last_is a (front ++ 32 ∷ t)) is ∙ last_is-append a 32 front (some.first ∷ (some.more ++ flat_map behind_space (map written tokens))) ∙ ap (last_is a) (sym is)
 
--- the pieces of a line stand before its end
+-- the pieces of a line come before its end
 pub fields_stand : (token : Token) (tokens : List Token) (rest : List ℕ) → is_sound token ≡ true → list_all is_sound tokens ≡ true → goes_on rest ≡ false
     → (last_is 92 (fields_text token tokens) ≡ true → join_after_backslash rest ≡ None) → all_stand (field_pieces token tokens) rest ≡ true
 fields_stand token [] rest sound all ends last =

@@ -20,7 +20,7 @@ use Rattle.service_print.proofs.Meant.{Meaning}
 use Rattle.service_print.proofs.Understood.{in_the_folder}
 use Rattle.service_print.proofs.Stacked.{meanings_from, meanings_nodes, meanings_items, IsFile, file_nodes, file_met}
 
--- the files of the substacks of a stack stand in their places
+-- the files of the substacks of a stack are at their positions
 abbrev pub Stand : (List ℕ → Option (List ℕ)) → RuleType → List ℕ → ℕ → Stack → Type 0
 Stand texts type service number none = Unit {0}
 Stand texts type service number (line rule rest) = Stand texts type service number rest

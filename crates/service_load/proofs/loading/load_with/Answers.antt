@@ -1,6 +1,6 @@
 use Rattle.std.proofs.Common.{◌∙◌}
 use Rattle.service_load.proofs.Treeing.{loads_all}
-use Rattle.service_load.proofs.loading.load.Goals as goal
+use Rattle.service_load.proofs.loading.load_with.Goals as goal
 
 pub returns-in-Ok-clause-told : goal.returns-in-Ok-clause-told
 returns-in-Ok-clause-told g c = λ tells.
