@@ -11,4 +11,5 @@ pub mod Pathing
 pub mod Lining
 pub mod Sounding
 pub mod Telling
+pub mod Tracing
 pub mod Reaching

@@ -1,5 +1,5 @@
 -- How far a pass has got, whatever codes come after it; and where it stops if it runs out of memory.
-use Rattle.std.proofs.Common.{◌≡◌, ℕ, ◌+◌, ◌-◌, ◌<◌, ◌⊎◌, inl, inr, Bool, ◌&&◌, IsTrue, List, [], ◌∷◌, ◌++◌, length, append_assoc, append-nil, Option, Some, None, IfSome, refl, sym, ◌∙◌, ap, subst, arith}
+use Rattle.std.proofs.Common.{◌≡◌, ℕ, ◌+◌, ◌-◌, ◌<◌, ◌⊎◌, inl, inr, Bool, false, ◌&&◌, IsTrue, List, [], ◌∷◌, ◌++◌, length, append_assoc, append-nil, Option, Some, None, IfSome, refl, sym, ◌∙◌, ap, subst, arith}
 use Rattle.pam_base.specs.declared.code.Code.{Code}
 use Rattle.pam_base.specs.declared.code.Code.TheVariants as codes
 use Rattle.pam_base.specs.declared.call.Func.{Func}
@@ -11,22 +11,33 @@ use Rattle.pam_room.specs.State.{PlainRoom, PlainWorld, State, state_of}
 use Rattle.stack_walk.specs.declared.pass_kind.PassKind.{PassKind}
 use Rattle.stack_walk.specs.Opinion.{opening}
 use Rattle.stack_walk.specs.Pass.{AnswersAs, Visit, answers_of, decides, pass_after, pass_state, serving, visit}
+use Rattle.stack_walk.specs.Retell.{replaying, telling}
 use Rattle.stack_walk.specs.Route.{KeptAnswers}
 use Rattle.dispatch_core.specs.declared.walker.Walker.{Walker}
 use Rattle.dispatch_core.specs.AnyWorld.{GoesSoundly}
 use Rattle.dispatch_core.specs.EntryStates.{entry_at}
-use Rattle.dispatch_core.specs.Failing.{BreaksAt, GoesBy, IsAsked, IsAtWork, IsBroken, PlayOn, StopsAt, Takes, unasked, visited_at, visits_in}
+use Rattle.dispatch_core.specs.Failing.{BreaksAt, GoesBy, IsAsked, IsAtWork, PlayOn, StopsAt, Takes, unasked, visited_at, visits_in}
 use Rattle.dispatch_core.specs.Index.{GoesOn, Stands, walk_on}
 use Rattle.dispatch_core.specs.Lines.{answers_by}
+use Rattle.dispatch_core.specs.Trail.{seen_of}
 use Rattle.dispatch_core.proofs.Taking.{put_off, taken}
+use Rattle.dispatch_core.proofs.Tracing.{served_told}
 use Rattle.dispatch_core.proofs.Turning.{begun}
 
 -- a walker that acts on an answer follows it
 pub goes_by : (kind : PassKind) (kept : KeptAnswers) (stack : Stack) (code : Code) (old new : Walker) → old.at < lines_in stack
     → ((l : FlatLine) → Stands stack old.at l → GoesOn kind l code (decides kind kept (old.at + 1) code) old new) → GoesBy kind kept stack code old new
-goes_by kind kept stack code old new within goes = λ rest visits.
-    taken kind (serving kind kept unasked) stack old (pass_state (code ∷ rest) visits None) rest visits None (Some code) code (decides kind kept (old.at + 1) code) new within
-    (record { answer_is = refl; deciding_is = refl; stopped_is = refl; state_is = refl }) refl goes
+goes_by kind kept stack code old new within goes = record {
+  given = λ rest visits.
+      taken kind (serving kind kept unasked) stack old (pass_state (code ∷ rest) visits None) rest visits None (Some code) code (decides kind kept (old.at + 1) code) new within
+      (record { answer_is = refl; deciding_is = refl; stopped_is = refl; state_is = refl }) refl goes;
+  again = λ rest visits left.
+      taken kind (serving kind kept replaying) stack old (pass_state (code ∷ rest) visits (telling left)) rest visits (telling left) (Some code) code (decides kind kept (old.at + 1) code) new within
+      (record { answer_is = refl; deciding_is = refl; stopped_is = refl; state_is = refl }) refl goes;
+  told = λ on visits left.
+      taken kind (serving kind kept replaying) stack old (pass_state [] visits (telling (seen_of (visited_at stack old.at code) ∷ left))) [] visits (telling left) (Some code) code (decides kind kept (old.at + 1) code) new within
+      (served_told kind kept stack old.at code visits left on) refl goes;
+}
 
 visits_more : (vs ws : List Visited) → visits_in (vs ++ ws) ≡ visits_in vs ++ visits_in ws
 visits_more [] ws = refl
@@ -71,11 +82,11 @@ module _ (players : List Player) (func : Func) (flags : ℕ) (stack : Stack) whe
       played = λ told. refl;
     }
 
-    takes_told : (still : Bool) (i : ℕ) (code : Code) (past left : List Code) (now later : State) → (IsTrue tells → IsTrue still) → Takes players func flags stack still i code past left now later
-        → Takes players func flags stack tells i code past left now later
+    takes_told : (still : Bool) (i : ℕ) (code : Code) (past left : List Code) (now later : State) → (IsTrue tells → IsTrue still) → Takes players func flags stack still i (Some code) past left now later
+        → Takes players func flags stack tells i (Some code) past left now later
     takes_told still i code past left now later tell (inl p) = inl p
     takes_told still i code past left now later tell (inr asked) =
-        inr (record { none_before = asked.none_before; none_left = asked.none_left; trail = asked.trail; told = λ told. asked.told (tell told) })
+        inr (record { none_before = asked.none_before; none_left = asked.none_left; trail = asked.trail; goes_on = asked.goes_on; told = λ told. asked.told (tell told) })
 
     module _ (walker new : Walker) (past left : List Code) (code : Code) (now later : State) (far : Far walker past now) (goes : GoesBy kind kept stack code walker new) where
       by_past : past ≡ code ∷ left → later ≡ now → far.more ≡ [] → Far new left later
@@ -91,11 +102,11 @@ module _ (players : List Player) (func : Func) (flags : ℕ) (stack : Stack) whe
             (subst (λ (cs : List Code). walk_on kind (serving kind kept unasked) stack walker (pass_state (cs ++ rest) (far.early ++ visits_in far.more) None) ≡ pass_after kind kept unasked stack (given ++ (answers_of (visits_in far.more) ++ rest)) None) is (far.leads rest)) in
             ap (λ (vs : List Visit). walk_on kind (serving kind kept unasked) stack new (pass_state (left ++ rest) vs None))
             (append-nil (far.early ++ visit (walker.at + 1) code ∷ []) ∙ ap (λ (vs : List Visit). vs ++ visit (walker.at + 1) code ∷ []) (sym (append-nil far.early)))
-            ∙ sym (goes (left ++ rest) (far.early ++ [])) ∙ base;
+            ∙ sym (goes.given (left ++ rest) (far.early ++ [])) ∙ base;
         played = λ told. same ∙ subst (λ (m : List Visited). PlayOn players func flags stack m start now) first (far.played told);
       }
 
-      by_asking : IsAsked players func flags stack tells walker.at code past left now later → Far new left later
+      by_asking : IsAsked players func flags stack tells walker.at code false past left now later → Far new left later
       by_asking asked =
           let w : Visited = visited_at stack walker.at code in
           let v : Visit = visit (walker.at + 1) code in
@@ -110,13 +121,13 @@ module _ (players : List Player) (func : Func) (flags : ℕ) (stack : Stack) whe
                 let base = subst (λ (cs : List Code). walk_on kind (serving kind kept unasked) stack walker (pass_state (cs ++ code ∷ rest) (far.early ++ visits_in far.more) None) ≡ pass_after kind kept unasked stack (given ++ (answers_of (visits_in far.more) ++ code ∷ rest)) None) asked.none_before (far.leads (code ∷ rest)) in
                 ap (λ (cs : List Code). walk_on kind (serving kind kept unasked) stack new (pass_state (cs ++ rest) (far.early ++ visits_in (far.more ++ w ∷ [])) None)) asked.none_left
                 ∙ ap (λ (vs : List Visit). walk_on kind (serving kind kept unasked) stack new (pass_state rest vs None)) (ap (λ (vs : List Visit). far.early ++ vs) seen ∙ sym (append_assoc far.early (visits_in far.more) (v ∷ [])))
-                ∙ sym (goes rest (far.early ++ visits_in far.more)) ∙ base
+                ∙ sym (goes.given rest (far.early ++ visits_in far.more)) ∙ base
                 ∙ ap (λ (cs : List Code). pass_after kind kept unasked stack (given ++ cs) None)
                 (sym (append_assoc (answers_of (visits_in far.more)) (code ∷ []) rest) ∙ ap (λ (cs : List Code). cs ++ rest) (sym (ap answers_of seen ∙ answers_more (visits_in far.more) (v ∷ []))));
             played = λ told. plays_more far.more walker.at code start now later (far.played told) (asked.told told);
           }
 
-      pub far_more : Takes players func flags stack tells walker.at code past left now later → Far new left later
+      pub far_more : Takes players func flags stack tells walker.at (Some code) past left now later → Far new left later
       far_more (inl p) =
           elim far.once [
             | inl none ↦ let e : code ∷ left ≡ [] = sym p.0 ∙ none in absurd cc
@@ -147,13 +158,13 @@ module _ (players : List Player) (func : Func) (flags : ℕ) (stack : Stack) whe
 
     -- the same of a chain whose stack stayed, by the turn's result
     pub far_later : (nodes : Stack) (walker new : Walker) (past left : List Code) (code : Code) (now later : State) (answer : Option Code) → nodes ≡ stack → (still : Bool) → (IsTrue tells → IsTrue still)
-        → Far walker past now → IfSome answer (λ (k : Code). GoesBy kind kept nodes k walker new) → IfSome answer (λ (k : Code). Takes players func flags nodes still walker.at k past left now later) → answer ≡ Some code
+        → Far walker past now → IfSome answer (λ (k : Code). GoesBy kind kept nodes k walker new) → Takes players func flags nodes still walker.at answer past left now later → answer ≡ Some code
         → Far new left later
     far_later nodes walker new past left code now later answer same still tell far goes takes is =
         far_more walker new past left code now later far
         (subst (λ (t : Stack). GoesBy kind kept t code walker new) same (subst (λ (o : Option Code). IfSome o (λ (k : Code). GoesBy kind kept nodes k walker new)) is goes))
         (takes_told still walker.at code past left now later tell
-        (subst (λ (t : Stack). Takes players func flags t still walker.at code past left now later) same (subst (λ (o : Option Code). IfSome o (λ (k : Code). Takes players func flags nodes still walker.at k past left now later)) is takes)))
+        (subst (λ (t : Stack). Takes players func flags t still walker.at (Some code) past left now later) same (subst (λ (o : Option Code). Takes players func flags nodes still walker.at o past left now later) is takes)))
 
     pub stops_later : (nodes : Stack) (walker : Walker) (past : List Code) (now end : State) (modules : ℕ) → nodes ≡ stack → (still : Bool) → (IsTrue tells → IsTrue still) → Far walker past now → past ≡ [] → walker.at < lines_in nodes
         → IsAtWork players (rule_at nodes walker.at) now.room.transaction end.room.transaction → length players ≡ modules

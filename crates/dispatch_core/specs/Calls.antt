@@ -14,7 +14,7 @@ use Rattle.stack_walk.specs.Route.{KeptAnswers}
 use Rattle.stack_walk.specs.Pass.{PassState, Visit, Answering, kept_in, pass_after}
 use Rattle.service_load.specs.Stacks.{Stacks}
 use Rattle.dispatch_core.specs.Passes.{paused_after}
-use Rattle.dispatch_core.specs.Pending.{Pending, pending_behind, past_in, first_in}
+use Rattle.dispatch_core.specs.Pending.{Pending, pending_after, past_in, first_in}
 
 -- the cached code of a line; None if nothing is held
 abbrev pub answers_held : Option KeptAnswers → KeptAnswers
@@ -69,13 +69,13 @@ passed_by kind kept w = record {
 -- and the call, if it is incomplete; `first` is what the first pass of chauthtok cached, if this is its second
 abbrev pub held_behind : {State : Type 0} → Func → Option KeptAnswers → Passed State → Held → Held
 held_behind Authenticate first p h =
-    held p.kept h.opened (pending_behind Authenticate first p.paused)
-held_behind SetCred first p h = held p.kept h.opened (pending_behind SetCred first p.paused)
+    held p.kept h.opened (pending_after Authenticate first p.paused)
+held_behind SetCred first p h = held p.kept h.opened (pending_after SetCred first p.paused)
 held_behind OpenSession first p h =
-    held h.authenticated p.kept (pending_behind OpenSession first p.paused)
+    held h.authenticated p.kept (pending_after OpenSession first p.paused)
 held_behind CloseSession first p h =
-    held h.authenticated p.kept (pending_behind CloseSession first p.paused)
-held_behind func first p h = held h.authenticated h.opened (pending_behind func first p.paused)
+    held h.authenticated p.kept (pending_after CloseSession first p.paused)
+held_behind func first p h = held h.authenticated h.opened (pending_after func first p.paused)
 
 -- the result of a call
 pub record Went (State : Type 0) : Type 0 where

@@ -1,5 +1,5 @@
 -- A pass that ran out of memory: how far it had got, and what was done by then (this project's own).
-use Rattle.std.specs.Prelude.{◌≡◌, ◌⊎◌, ℕ, ◌+◌, ◌-◌, Bool, IsTrue, List, [], ◌∷◌, ◌++◌, length, Option, Some, None}
+use Rattle.std.specs.Prelude.{◌≡◌, ◌⊎◌, ℕ, ◌+◌, ◌-◌, Bool, true, false, IsTrue, List, [], ◌∷◌, ◌++◌, length, Option, Some, None}
 use Rattle.pam_base.specs.declared.code.Code.{Code}
 use Rattle.pam_base.specs.declared.code.Code.TheVariants as codes
 use Rattle.pam_base.specs.declared.call.Func.{Func}
@@ -14,11 +14,13 @@ use Rattle.stack_walk.specs.declared.opinion.Opinion.{Opinion}
 use Rattle.stack_walk.specs.declared.pass_kind.PassKind.{PassKind}
 use Rattle.stack_walk.specs.Route.{KeptAnswers}
 use Rattle.stack_walk.specs.Walk.{halted}
-use Rattle.stack_walk.specs.Pass.{Answering, AnswersAs, Visit, answers_of, pass_after, pass_state, serving, visit}
+use Rattle.stack_walk.specs.Pass.{Answering, AnswersAs, Visit, answers_of, is_incomplete, pass_after, pass_state, serving, visit}
+use Rattle.stack_walk.specs.Retell.{Seen, replaying, telling}
 use Rattle.dispatch_core.specs.AnyWorld.{GoesSoundly}
 use Rattle.dispatch_core.specs.declared.walker.Walker.{Walker}
 use Rattle.dispatch_core.specs.Index.{walk_on}
 use Rattle.dispatch_core.specs.Lines.{answers_by, call_of, names_of}
+use Rattle.dispatch_core.specs.Trail.{seen_of}
 
 -- a line that isn't run: it leaves the pass incomplete there, and its rule number is recorded
 abbrev pub unasked : Answering (Option ℕ)
@@ -42,12 +44,24 @@ abbrev pub IsAtWork : List Player → Rule → PlainTransaction → PlainTransac
 IsAtWork players rule old new = (module_of (names_of players) rule ≡ Some new.serving)
     × (new.trail ≡ old.trail)
 
--- Where a walker goes with a code that was given, whatever codes come after it.
-abbrev pub GoesBy : PassKind → KeptAnswers → Stack → Code → Walker → Walker → Type 0
-GoesBy kind kept stack code old new = (rest : List Code) (visits : List Visit)
-    → walk_on kind (serving kind kept unasked) stack old (pass_state (code ∷ rest) visits None)
-    ≡ walk_on kind (serving kind kept unasked) stack new
-    (pass_state rest (visits ++ visit (old.at + 1) code ∷ []) None)
+-- Where a walker goes with the code of its line, whatever comes after it: in a pass that is given the code, and in one
+-- that replays a trace, whose next code or next line it is.
+pub record GoesBy (kind : PassKind) (kept : KeptAnswers) (stack : Stack) (code : Code)
+    (old new : Walker) : Type 0 where
+  pub given : (rest : List Code) (visits : List Visit)
+      → walk_on kind (serving kind kept unasked) stack old (pass_state (code ∷ rest) visits None)
+      ≡ walk_on kind (serving kind kept unasked) stack new
+      (pass_state rest (visits ++ visit (old.at + 1) code ∷ []) None)
+  pub again : (rest : List Code) (visits : List Visit) (left : List Seen)
+      → walk_on kind (serving kind kept replaying) stack old
+      (pass_state (code ∷ rest) visits (telling left))
+      ≡ walk_on kind (serving kind kept replaying) stack new
+      (pass_state rest (visits ++ visit (old.at + 1) code ∷ []) (telling left))
+  pub told : is_incomplete code ≡ false → (visits : List Visit) (left : List Seen)
+      → walk_on kind (serving kind kept replaying) stack old
+      (pass_state [] visits (telling (seen_of (visited_at stack old.at code) ∷ left)))
+      ≡ walk_on kind (serving kind kept replaying) stack new
+      (pass_state [] (visits ++ visit (old.at + 1) code ∷ []) (telling left))
 
 module _ (players : List Player) (func : Func) (flags : ℕ) (stack : Stack) where
   -- lines were run one after another, each of which returned what its module's definition says
@@ -58,20 +72,23 @@ module _ (players : List Player) (func : Func) (flags : ℕ) (stack : Stack) whe
       × AnswersAs (answers_by players func flags (rule_at stack (v.place - 1)) v.place s) v.answer u
       × PlayOn vs u t
 
-  -- the line of an index was run, after all codes of earlier calls
-  pub record IsAsked (tells : Bool) (i : ℕ) (code : Code) (past left : List Code) (s t : State) :
-      Type 0 where
+  -- the line of an index was run, after all codes of earlier calls, and left the pass incomplete or not
+  pub record IsAsked (tells : Bool) (i : ℕ) (code : Code) (incomplete : Bool)
+      (past left : List Code) (s t : State) : Type 0 where
     pub none_before : past ≡ []
     pub none_left : left ≡ []
     pub trail : t.room.transaction.trail
         ≡ s.room.transaction.trail ++ visited_at stack i code ∷ []
+    pub goes_on : is_incomplete code ≡ incomplete
     pub told : IsTrue tells →
         AnswersAs (answers_by players func flags (rule_at stack i) (i + 1) s) code t
 
-  -- a line's code is the next of those of earlier calls, and nothing was done; or it was run
-  abbrev pub Takes : Bool → ℕ → Code → List Code → List Code → State → State → Type 0
-  Takes tells i code past left s t = ((past ≡ code ∷ left) × (t ≡ s))
-      ⊎ IsAsked tells i code past left s t
+  -- a line's code is the next of those of earlier calls, and nothing was done; or it was run; without a code it was
+  -- run and left the pass incomplete
+  abbrev pub Takes : Bool → ℕ → Option Code → List Code → List Code → State → State → Type 0
+  Takes tells i None past left s t = IsAsked tells i codes.Incomplete true past left s t
+  Takes tells i (Some code) past left s t = ((past ≡ code ∷ left) × (t ≡ s))
+      ⊎ IsAsked tells i code false past left s t
 
   -- the line of an index was run and ran out of memory: what is seen then of the room, and the files, are what its
   -- module may leave

@@ -41,6 +41,6 @@ is_other_pending None func = false
 is_other_pending (Some p) func = not (same_func p.func func)
 
 -- what is pending after a pass: the call, if the pass is incomplete
-abbrev pub pending_behind : Func → Option KeptAnswers → Option (List Code) → Option Pending
-pending_behind func first None = None
-pending_behind func first (Some past) = Some (record { func = func; past = past; first = first })
+abbrev pub pending_after : Func → Option KeptAnswers → Option (List Code) → Option Pending
+pending_after func first None = None
+pending_after func first (Some past) = Some (record { func = func; past = past; first = first })

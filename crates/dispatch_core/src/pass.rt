@@ -12,6 +12,7 @@ ghost use Rattle.dispatch_core.specs.Given.{past_of};
 ghost use Rattle.dispatch_core.specs.Lines.{answers_by};
 ghost use Rattle.dispatch_core.specs.Paths.{HasPaths};
 ghost use Rattle.dispatch_core.specs.Passes.{LeavesAs, PassesAs, WalksAs, by_place, kept_behind, kept_failed};
+ghost use Rattle.dispatch_core.specs.Trail.{ByTrail};
 
 use crate::laws;
 use crate::paused::Paused;
@@ -60,6 +61,10 @@ fn walk(
         (state_of (⟦<Room as RoomTold>⟧.plain room.old) (⟦<World as WorldTold>⟧.plain world.old)))
         end keeps.new supplies.new.given
         (state_of (⟦<Room as RoomTold>⟧.plain room.new) (⟦<World as WorldTold>⟧.plain world.new))) }
+    ensures by_trail { IfOk result (λ end. ByTrail request.kind (by_place follows.now)
+        chain.old.nodes supplies.old.given.past (plain_transaction room.old.transaction).trail
+        (plain_transaction room.new.transaction).trail (λ w told.
+        WalksAs w end keeps.new supplies.new.given told)) }
     ensures held { OnOk result (is_some keeps.new ≡ is_some keeps.old) }
     ensures none { IfOk result (λ end. IsNone end → supplies.new.given.past ≡ []) }
     ensures nodes { chain.new.nodes ≡ chain.old.nodes }
@@ -133,6 +138,10 @@ fn walk_all(
         (state_of (⟦<Room as RoomTold>⟧.plain room.old) (⟦<World as WorldTold>⟧.plain world.old)))
         code keeps.new paused.new
         (state_of (⟦<Room as RoomTold>⟧.plain room.new) (⟦<World as WorldTold>⟧.plain world.new))) }
+    ensures by_trail { IfOk result (λ code. ByTrail request.kind (by_place follows.now)
+        chain.old.nodes (past_of paused.old) (plain_transaction room.old.transaction).trail
+        (plain_transaction room.new.transaction).trail (λ w told.
+        PassesAs request.kind w code keeps.new paused.new told)) }
     ensures paused { OnErr result (paused.new ≡ None) }
     ensures put_off { IfOk result (λ code. IsTrue (is_some paused.new) → code ≡ Code.Incomplete) }
     ensures nodes { chain.new.nodes ≡ chain.old.nodes }
@@ -230,6 +239,10 @@ pub fn dispatch(
         (state_of (⟦<Room as RoomTold>⟧.plain room.old) (⟦<World as WorldTold>⟧.plain world.old)))
         kept.old code kept.new paused.new
         (state_of (⟦<Room as RoomTold>⟧.plain room.new) (⟦<World as WorldTold>⟧.plain world.new))) }
+    ensures by_trail { IfOk result (λ code. ByTrail request.kind (by_place kept.old)
+        chain.old.nodes (past_of paused.old) (plain_transaction room.old.transaction).trail
+        (plain_transaction room.new.transaction).trail (λ w told.
+        LeavesAs request.kind w kept.old code kept.new paused.new told)) }
     ensures kept { OnErr result (kept.new ≡ kept_failed request.kind kept.old) }
     ensures paused { OnErr result (paused.new ≡ None) }
     ensures put_off { IfOk result (λ code. IsTrue (is_some paused.new) → code ≡ Code.Incomplete) }

@@ -93,14 +93,14 @@ pub fn next_answer(
     ensures taken { IfOk result (λ answer. supplies.new.given.taken
         ≡ taken_with supplies.old.given.taken answer) }
     ensures none { IfOk result (λ answer. IsNone answer → supplies.new.given.past ≡ []) }
-    ensures took { IfOk result (λ answer. IfSome answer (λ code. Takes
+    ensures took { IfOk result (λ answer. Takes
         (map (player_of label plays note breaks) mods.now) request.func request.flags
         chain.now.nodes
-        (⟦<Room as RoomTold>⟧.tells room.old && ⟦<World as WorldTold>⟧.tells world.old) i code
+        (⟦<Room as RoomTold>⟧.tells room.old && ⟦<World as WorldTold>⟧.tells world.old) i answer
         supplies.old.given.past supplies.new.given.past
         (state_of (⟦<Room as RoomTold>⟧.plain room.old) (⟦<World as WorldTold>⟧.plain world.old))
         (state_of (⟦<Room as RoomTold>⟧.plain room.new)
-        (⟦<World as WorldTold>⟧.plain world.new)))) }
+        (⟦<World as WorldTold>⟧.plain world.new))) }
     ensures at_work { OnErr result ((supplies.old.given.past ≡ [])
         × IsAtWork (map (player_of label plays note breaks) mods.now) (rule_at chain.now.nodes i)
         (plain_transaction room.old.transaction) (plain_transaction room.new.transaction)) }
@@ -194,14 +194,14 @@ pub fn walk_line(
     ensures taken { IfOk result (λ answer. supplies.new.given.taken
         ≡ taken_with supplies.old.given.taken answer) }
     ensures none { IfOk result (λ answer. IsNone answer → supplies.new.given.past ≡ []) }
-    ensures took { IfOk result (λ answer. IfSome answer (λ code. Takes
+    ensures took { IfOk result (λ answer. Takes
         (map (player_of label plays note breaks) mods.now) request.func request.flags
         chain.old.nodes
         (⟦<Room as RoomTold>⟧.tells room.old && ⟦<World as WorldTold>⟧.tells world.old)
-        walker.old.at code supplies.old.given.past supplies.new.given.past
+        walker.old.at answer supplies.old.given.past supplies.new.given.past
         (state_of (⟦<Room as RoomTold>⟧.plain room.old) (⟦<World as WorldTold>⟧.plain world.old))
         (state_of (⟦<Room as RoomTold>⟧.plain room.new)
-        (⟦<World as WorldTold>⟧.plain world.new)))) }
+        (⟦<World as WorldTold>⟧.plain world.new))) }
     ensures goes { IfOk result (λ answer. IfSome answer (λ code.
         GoesBy request.kind (by_place follows.now) chain.old.nodes code walker.old
         walker.new)) }

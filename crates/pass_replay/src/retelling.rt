@@ -1,6 +1,6 @@
 ghost use Rattle.std.specs.Prelude.{◌≡◌, ◌≤◌, ◌-◌, IfOk, None, Some, [], false, drop, length};
 ghost use Rattle.dispatch_core.specs.Calls.{change, check, following, goes, one_pass, passes, update, went};
-ghost use Rattle.dispatch_core.specs.Pending.{first_in, past_in, pending_behind};
+ghost use Rattle.dispatch_core.specs.Pending.{first_in, past_in, pending_after};
 ghost use Rattle.dispatch_core.specs.service_load.specs.Load.{AreBounded};
 ghost use Rattle.stack_walk.specs.Retell.{telling};
 ghost use Rattle.pass_replay.specs.Held.{held_of, pending_of};
@@ -60,7 +60,7 @@ fn call(
         ≡ goes as_told (stacks_in trees.now) func (held_of held) (telling (visits_in told.now))) }
 {
     let mut held = held;
-    let (past, first) = taken_up(alloc, held.pending.take());
+    let (past, first) = resumed_from(alloc, held.pending.take());
     match func {
         Func::Authenticate => auth_call(alloc, trees, func, PassKind::Keep, &past, held, told),
         Func::SetCred => {
@@ -78,7 +78,7 @@ fn call(
 }
 
 // The codes of the pending call, and those of the first pass of chauthtok.
-fn taken_up(alloc: Global, pending: Option<Pending>) -> (Sequence<Code>, Option<Answers>)
+fn resumed_from(alloc: Global, pending: Option<Pending>) -> (Sequence<Code>, Option<Answers>)
     ensures past { result.0 ≡ past_in (pending_of pending) }
     ensures first { kept_answers result.1 ≡ first_in (pending_of pending) }
 {
@@ -99,12 +99,12 @@ fn following(kept: &Option<Answers>) -> PassKind
 }
 
 // What is pending after a pass: its call, if it is incomplete.
-fn pending_behind(
+fn pending_after(
     func: Func,
     first: Option<Answers>,
     paused: Option<Sequence<Code>>,
 ) -> Option<Pending>
-    ensures { pending_of result ≡ pending_behind func (kept_answers first) paused }
+    ensures { pending_of result ≡ pending_after func (kept_answers first) paused }
 {
     match paused {
         Some(past) => Some(Pending { func, past, first }),
@@ -131,7 +131,7 @@ fn auth_call(
         (record {
           authenticated = p.kept;
           opened = kept_answers held.opened;
-          pending = pending_behind func None p.paused;
+          pending = pending_after func None p.paused;
         }) p.state) }
 {
     let Held {
@@ -150,7 +150,7 @@ fn auth_call(
         0,
         false,
     )?;
-    let pending = pending_behind(func, None, passed.paused);
+    let pending = pending_after(func, None, passed.paused);
     Ok(Retold {
         code: passed.code,
         held: Held {
@@ -182,7 +182,7 @@ fn session_call(
         (record {
           authenticated = kept_answers held.authenticated;
           opened = p.kept;
-          pending = pending_behind func None p.paused;
+          pending = pending_after func None p.paused;
         }) p.state) }
 {
     let Held {
@@ -192,7 +192,7 @@ fn session_call(
     } = held;
     let nodes = &trees.session;
     let passed = pass(alloc, nodes, kind, opened, past.items(), told, 0, false)?;
-    let pending = pending_behind(func, None, passed.paused);
+    let pending = pending_after(func, None, passed.paused);
     Ok(Retold {
         code: passed.code,
         held: Held {
@@ -228,7 +228,7 @@ fn account_call(
         0,
         false,
     )?;
-    let pending = pending_behind(Func::AcctMgmt, None, passed.paused);
+    let pending = pending_after(Func::AcctMgmt, None, passed.paused);
     Ok(Retold {
         code: passed.code,
         held: Held { pending, ..held },
@@ -300,7 +300,7 @@ fn check(
         } = passed;
         return update(alloc, trees, kept, &[], held, told, next, astray);
     }
-    let pending = pending_behind(Func::ChAuthTok, None, passed.paused);
+    let pending = pending_after(Func::ChAuthTok, None, passed.paused);
     Ok(Retold {
         code: passed.code,
         held: Held { pending, ..held },
@@ -336,7 +336,7 @@ fn update(
         next,
         astray,
     )?;
-    let pending = pending_behind(Func::ChAuthTok, passed.kept, passed.paused);
+    let pending = pending_after(Func::ChAuthTok, passed.kept, passed.paused);
     Ok(Retold {
         code: passed.code,
         held: Held { pending, ..held },

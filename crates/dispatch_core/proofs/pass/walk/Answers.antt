@@ -17,6 +17,7 @@ use Rattle.dispatch_core.proofs.Ending.{walks_off, walks_to, turn_more}
 use Rattle.dispatch_core.proofs.Sounding.{sound_none}
 use Rattle.dispatch_core.proofs.Reaching.{far_first, far_later, stops_later}
 use Rattle.dispatch_core.proofs.Telling.{both_tell}
+use Rattle.dispatch_core.proofs.Tracing.{traced_ended, traced_first, traced_later, traced_put_off}
 use Rattle.dispatch_core.proofs.pass.walk.Goals as goal
 
 pub loop-walker-init : goal.loop-walker-init
@@ -26,6 +27,7 @@ loop-walker-init g c =
       record {
         goes = λ told. begun c.args.request.kind (serving c.args.request.kind (by_place c.args.follows.now) answers) c.args.chain.now.nodes c.new-walker.result _ c.new-walker.ensures.at c.new-walker.ensures.opinion c.new-walker.ensures.entries;
         far = far_first _ _ _ _ _ _ _ _ _ c.new-walker.result c.new-walker.ensures.at c.new-walker.ensures.opinion c.new-walker.ensures.entries;
+        traced = traced_first _ _ _ _ _ c.new-walker.result c.new-walker.ensures.at c.new-walker.ensures.opinion c.new-walker.ensures.entries;
         progress = nothing_yet c.args.keeps.now c.args.supplies.now.given.taken (lines_in c.args.chain.now.nodes) c.new-walker.result.at c.requires.cells c.requires.taken;
         few = omega (arith, ap length c.requires.taken);
         answers_fit = omega (arith, c.requires.answers);
@@ -60,6 +62,16 @@ returns-in_default-clause-told g c = λ told.
     (λ stack o. turned c.args.request.kind serve stack o c.loop-walker.walker.opinion c.walk_line.new.walker (pass_state c.walk_line.new.supplies.given.past (visits_with visits (c.loop-walker.walker.at + 1) o) later))
     sofar.nodes (c.in_ok-_answer.ensures.told now visits) c.in_default.is (sofar.goes told))
 
+pub returns-in_default-clause-by_trail : goal.returns-in_default-clause-by_trail
+returns-in_default-clause-by_trail g c =
+    let sofar = c.loop-walker.invariant.1 in
+    let visits : List Visit = c.loop-walker.invariant.0 in
+    let kept : c.walk_line.new.keeps ≡ c.loop-walker.keeps = c.in_ok-_answer.ensures.keeps ∙ ap (kept_with c.loop-walker.keeps c.loop-walker.walker.at) c.in_default.is in
+    traced_put_off _ _ _ _ _ _ _ _ _ c.loop-walker.walker c.loop-walker.supplies.given.past c.walk_line.new.supplies.given.past visits _ _ sofar.traced c.walk_line.new.keeps c.walk_line.new.supplies.given
+    (c.in_ok-_answer.ensures.taken ∙ ap (taken_with c.loop-walker.supplies.given.taken) c.in_default.is ∙ sofar.progress.taken_is)
+    (subst (λ (k : Answers). is_some k ≡ true → Keeps k visits) (sym kept) sofar.progress.kept_is)
+    _ c.in_ok-_answer.field-0 sofar.nodes c.in_ok-_answer.ensures.took c.in_default.is (omega (arith, c.loop-walker-test.true, c.len.ensures.counted))
+
 pub returns-in_default-clause-sound : goal.returns-in_default-clause-sound
 returns-in_default-clause-sound g c = c.soundness_is_transitive.ensures _ _ _ _ _ _ _ _ c.loop-walker.invariant.1.sound c.walk_line.ensures.sound
 
@@ -88,6 +100,7 @@ loop-walker-preserved g c =
             (λ stack o. turned c.args.request.kind serve stack o c.loop-walker.walker.opinion c.walk_line.new.walker (pass_state c.walk_line.new.supplies.given.past (visits_with visits (at + 1) o) later))
             sofar.nodes (c.in_ok-_answer.ensures.told now visits) c.in-Some.is (sofar.goes told);
         far = far_later _ _ _ _ _ _ _ _ _ _ c.loop-walker.walker c.walk_line.new.walker c.loop-walker.supplies.given.past c.walk_line.new.supplies.given.past answer _ later c.in_ok-_answer.field-0 sofar.nodes _ (both_tell _ _ _ _ sofar.room_tells sofar.world_tells) sofar.far c.in_ok-_answer.ensures.goes c.in_ok-_answer.ensures.took c.in-Some.is;
+        traced = traced_later _ _ _ _ _ _ _ _ _ c.loop-walker.walker c.loop-walker.supplies.given.past c.walk_line.new.supplies.given.past visits _ later sofar.traced _ c.walk_line.new.walker answer c.in_ok-_answer.field-0 sofar.nodes c.in_ok-_answer.ensures.goes c.in_ok-_answer.ensures.took c.in-Some.is;
         progress = one_more c.loop-walker.keeps c.walk_line.new.keeps c.loop-walker.supplies.given.taken c.walk_line.new.supplies.given.taken at c.walk_line.new.walker.at visits answer sofar.progress
             (λ there. omega (arith, sofar.cells there, within, ap lines_in sofar.nodes)) held kept taken ahead;
         few = omega (arith, ap length taken, length-append c.loop-walker.supplies.given.taken (answer ∷ []), sofar.few, ahead);
@@ -122,3 +135,9 @@ returns-in_err-_answer-clause-stopped g c =
     let answered : c.from_residual.result ≡ Err c.in_err-_answer.field-0.0 = search rules in
     rw answered (stops_later _ _ _ _ _ _ _ _ _ _ c.loop-walker.walker c.loop-walker.supplies.given.past _ _ _ sofar.nodes _ (both_tell _ _ _ _ sofar.room_tells sofar.world_tells) sofar.far c.in_err-_answer.ensures.at_work.0 (omega (arith, c.loop-walker-test.true, c.len.ensures.counted)) c.in_err-_answer.ensures.at_work.1
     (length-map c.args.mods.now (player_of (λ b. (goal.Module-dyn g (b.vtable, b.value)).label b.value) (λ b. (goal.Module-dyn g (b.vtable, b.value)).plays b.value) (λ b. (goal.Module-dyn g (b.vtable, b.value)).note b.value) (λ b. (goal.Module-dyn g (b.vtable, b.value)).breaks b.value))) c.walk_line.ensures.sound (ap (λ b. (goal.Nap-dyn g (b.vtable, b.value)).nap_holds b.value) c.walk_line.ensures.nap) c.in_err-_answer.ensures.broken)
+
+pub returns-clause-by_trail : goal.returns-clause-by_trail
+returns-clause-by_trail g c =
+    let sofar = c.loop-walker.invariant.1 in
+    traced_ended _ _ _ _ _ c.loop-walker.walker c.loop-walker.supplies.given.past c.loop-walker.invariant.0 _ c.loop-walker.keeps c.loop-walker.supplies.given _ sofar.traced sofar.progress.taken_is sofar.progress.kept_is
+    (omega (arith, c.len.ensures.counted, c.loop-walker-test.false, ap lines_in sofar.nodes)) c.verdict.ensures

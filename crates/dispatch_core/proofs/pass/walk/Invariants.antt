@@ -13,6 +13,7 @@ use Rattle.dispatch_core.specs.Passes.{by_place}
 use Rattle.dispatch_core.specs.Paths.{HasPaths}
 use Rattle.dispatch_core.proofs.Progress.{Progress}
 use Rattle.dispatch_core.proofs.Reaching.{Far}
+use Rattle.dispatch_core.proofs.Tracing.{Traced}
 use Rattle.dispatch_core.proofs.pass.walk.Given as goal
 
 -- the walk from here on goes where the whole walk goes
@@ -33,6 +34,7 @@ invariant-loop-walker g l =
           → walk_on l.request.kind (serving l.request.kind (by_place l.follows) answers) l.fn.chain.nodes l.walker (pass_state l.supplies.given.past visits now)
           ≡ pass_after l.request.kind (by_place l.follows) answers l.fn.chain.nodes l.fn.supplies.given.past start;
       far : Far players l.request.func l.request.flags l.fn.chain.nodes l.request.kind (by_place l.follows) l.fn.supplies.given.past (room_start && world_start) start l.walker l.supplies.given.past now;
+      traced : Traced l.request.kind (by_place l.follows) l.fn.chain.nodes l.fn.supplies.given.past (plain_transaction l.fn.room.transaction).trail l.walker l.supplies.given.past visits (plain_transaction l.room.transaction).trail;
       progress : Progress l.keeps l.supplies.given.taken l.walker.at visits;
       few : length l.supplies.given.taken ≤ l.walker.at;
       answers_fit : lines_in l.fn.chain.nodes ≤ length l.supplies.given.taken + length l.supplies.given.past + l.supplies.given.room;

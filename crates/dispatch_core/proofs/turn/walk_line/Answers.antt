@@ -38,3 +38,6 @@ returns-clause-goes g c = goes_by c.args.request.kind (by_place c.args.follows.n
 
 pub returns-clause-took : goal.returns-clause-took
 returns-clause-took g c = rw c.in-Some.is at c.in_ok-answer.ensures.took
+
+pub returns-in_default-clause-took : goal.returns-in_default-clause-took
+returns-in_default-clause-took g c = rw c.in_default.is at c.in_ok-answer.ensures.took
