@@ -1,4 +1,4 @@
--- The modules that are missing in a stack, line by line.
+-- The modules missing in a stack, line by line.
 use Rattle.std.proofs.Common.{get_or, ◌≡◌, ℕ, zero, suc, ◌+◌, ◌<◌, ◌||◌, List, [], ◌∷◌, ◌++◌, Bool, true, false, Option, Some, None, is_some, if◌then◌else◌, length, drop, drop_of_length-le, ◌≤◌, refl, sym, ◌∙◌, ap, append_assoc, add-one, arith}
 use Rattle.std.proofs.lemmas.List.{append-nil, drop_more, length-append}
 use Rattle.dispatch_core.specs.control_words.specs.declared.nodes.Rule.{Rule}
@@ -11,7 +11,7 @@ use Rattle.dispatch_core.specs.service_load.specs.RuleType.{all_types}
 use Rattle.dispatch_core.specs.service_load.specs.Stacks.{stacks_of}
 use Rattle.pam_handle.specs.Items.{missing_from, missing_in, missing_of}
 
--- what is missing of some lines
+-- the modules missing of some lines
 abbrev pub missing_lines : List (List ℕ) → List FlatLine → List (List ℕ)
 missing_lines names [] = []
 missing_lines names (l ∷ ls) = missing_of names l.rule ++ missing_lines names ls
@@ -36,7 +36,7 @@ flat_length level opens (sub inner rest) =
     ∙ ap (λ (n : ℕ). n + length (flat_lines level (pending (lines_in inner) opens) rest)) (flat_length (level + 1) (opens + 1) inner)
     ∙ ap (λ (n : ℕ). lines_in inner + n) (flat_length level (pending (lines_in inner) opens) rest)
 
--- the line of an index, and what follows it
+-- the line at an index, and the lines after it
 lines_from : (names : List (List ℕ)) (i : ℕ) (ls : List FlatLine) → i < length ls
     → (missing_lines names (drop i ls) ≡ missing_of names (of_first no_rule (λ (l : FlatLine). l.rule) (drop i ls)) ++ missing_lines names (drop (suc i) ls))
     × (of_first None (λ (l : FlatLine). module_of names l.rule) (drop i ls) ≡ module_of names (of_first no_rule (λ (l : FlatLine). l.rule) (drop i ls)))
@@ -73,7 +73,7 @@ none_there : (number : Option ℕ) → is_some number ≡ false → number ≡ N
 none_there None e = refl
 none_there (Some n) e = absurd (false_true (sym e))
 
--- a line adds its module where it isn't silent and the module isn't there
+-- a line adds its module if the line isn't silent and the module isn't there
 pub adds_name : (names : List (List ℕ)) (rule : Rule) (silent : Bool) (number : Option ℕ) (name : List ℕ) → silent ≡ rule.silent → silent ≡ false
     → number ≡ module_of names rule → is_some number ≡ false
     → name ≡ name_of_module rule.path → name ∷ [] ≡ missing_of names rule
@@ -82,7 +82,7 @@ adds_name names rule silent number name s f m n e =
     ∙ sym (ap (λ (b : Bool). if b || is_some (module_of names rule) then [] else name_of_module rule.path ∷ []) (sym s ∙ f)
     ∙ ap (λ (o : Option ℕ). if is_some o then [] else name_of_module rule.path ∷ []) (sym m ∙ none_there number n))
 
--- what is missing in the stacks of some types
+-- the modules missing in the stacks of some types
 abbrev pub missing_under : List (List ℕ) → (RuleType → Stack) → List RuleType → List (List ℕ)
 missing_under names stack [] = []
 missing_under names stack (type ∷ types) = missing_in names (stack type) ++ missing_under names stack types

@@ -1,4 +1,4 @@
--- The stacks of a service, laid flat type by type.
+-- The stacks of a service, flattened type by type.
 use Rattle.std.proofs.Common.{◌≡◌, ℕ, ◌+◌, ◌<◌, ◌≤◌, length, drop, get_or, ap, ◌∙◌}
 use Rattle.dispatch_core.specs.control_words.specs.Stack.{Stack, stack_of}
 use Rattle.dispatch_core.specs.service_load.specs.declared.rule_type.RuleType.{RuleType}

@@ -4,6 +4,7 @@ mod Resting
 mod Authenticating
 mod Changing
 mod Stopping
+mod Tracing
 mod Lacking
 mod Laying
 mod Rows

@@ -1,5 +1,5 @@
--- A pass over a chain, with cells for what it keeps, is a pass over a stack, with a function of places.
-use Rattle.std.proofs.Common.{◌≡◌, ℕ, zero, suc, List, [], ◌∷◌, Option, Some, None, Result, Ok, Err, IfOk, OnErr, ◌⊎◌, Bool, true, false, map, refl, sym, ◌∙◌, ap, subst}
+-- A pass over a chain with an array of cached codes is a pass over a stack with a function from rule numbers to codes.
+use Rattle.std.proofs.Common.{◌≡◌, ℕ, zero, suc, List, [], ◌∷◌, ◌++◌, Option, Some, None, Result, Ok, Err, IfOk, OnErr, ◌⊎◌, Bool, true, false, map, refl, sym, ◌∙◌, ap, subst}
 use Rattle.std.proofs.Math.Path.{fun_ext}
 use Rattle.pam_base.specs.declared.code.Code.{Code}
 use Rattle.pam_base.specs.declared.call.Func.{Func}
@@ -16,14 +16,17 @@ use Rattle.dispatch_core.specs.Lines.{answers_by, names_of}
 use Rattle.dispatch_core.specs.Passes.{by_place, paused_after, KeepsAfter, KeepsAll, LeavesAs}
 use Rattle.dispatch_core.specs.pam_room.specs.State.{State}
 use Rattle.dispatch_core.specs.pam_room.specs.Module.{Breaks, Player, Plays, Note, player_of}
-use Rattle.dispatch_core.specs.Calls.{answers_held, kept_behind}
+use Rattle.dispatch_core.specs.Calls.{answers_held, kept_behind, passed_by}
+use Rattle.dispatch_core.specs.Trail.{ByTrail, seen_in}
+use Rattle.dispatch_core.specs.pam_room.specs.declared.visits.Visit.{Visit as Visited}
+use Rattle.dispatch_core.specs.stack_walk.specs.Retell.{replaying, telling}
 use Rattle.pam_handle.specs.Pass.{PassesTo, kept_answers, passed}
 
 none_by_place : (place : ℕ) → by_place None place ≡ None
 none_by_place zero = refl
 none_by_place (suc i) = refl
 
--- the answers of cells, where none are held too
+-- the cached codes in an array, also if there are none
 held_by_place : (cells : Answers) → by_place cells ≡ answers_held (kept_answers cells)
 held_by_place None = fun_ext (λ place. none_by_place place)
 held_by_place (Some cells) = refl
@@ -57,7 +60,23 @@ passes_to players func flags kind old new stack past s code paused state l = rec
   state_is = l.state_is ∙ ap (λ (w : Walked (PassState State)). w.state.state) (same_pass players func flags kind old stack past s);
 }
 
--- the names of modules, as players
+leaves_to : {T : Type 0} (kind : PassKind) (old new : Answers) (w : Walked (PassState T)) (code : Code) (paused : Option (List Code)) (t : T) → LeavesAs kind w old code new paused t
+    → PassesTo (passed_by kind (kept_answers old) w) code (kept_answers new) paused t
+leaves_to kind old new w code paused t l = record { code_is = l.code_is; kept_is = kept_after kind _ old new l.kept_is; paused_is = l.paused_is; state_is = l.state_is }
+
+-- the same of a pass by the lines that it added to the trace
+pub pass_by_trail : (result : Result Code NoMemory) (kind : PassKind) (old new : Answers) (stack : Stack) (past : List Code) (before after : List Visited) (paused : Option (List Code))
+    → IfOk result (λ code. ByTrail kind (by_place old) stack past before after (λ w told. LeavesAs kind w old code new paused told))
+    → IfOk result (λ code. ByTrail kind (answers_held (kept_answers old)) stack past before after (λ w told. PassesTo (passed_by kind (kept_answers old) w) code (kept_answers new) paused told))
+pass_by_trail (Err none) kind old new stack past before after paused b = tt
+pass_by_trail (Ok code) kind old new stack past before after paused b = record {
+  more = b.more;
+  trail = b.trail;
+  goes = λ rest. leaves_to kind old new _ code paused (telling rest)
+      (subst (λ (kept : KeptAnswers). LeavesAs kind (pass_after kind kept replaying stack past (telling (seen_in b.more ++ rest))) old code new paused (telling rest)) (held_by_place old) (b.goes rest));
+}
+
+-- the names of the modules and their meanings
 pub names_of_players : {M : Type 0} (label : M → List ℕ) (plays : M → Plays) (note : M → Note) (breaks : M → Breaks) (mods : List M)
     → names_of (map (player_of label plays note breaks) mods) ≡ map label mods
 names_of_players label plays note breaks [] = refl
@@ -72,7 +91,7 @@ pass_told (Ok code) found players func flags kind old new stack past s paused st
     (subst (λ (ps : List Player). LeavesAs kind (pass_after kind (by_place old) (answers_by ps func flags) stack past s) old code new paused state) e l)
 pass_told (Err none) found players func flags kind old new stack past s paused state e l = tt
 
--- where a pass stopped
+-- the line at which a pass stopped
 pub pass_stopped : (result : Result Code NoMemory) (found players : List Player) (func : Func) (flags : ℕ) (kind : PassKind) (old : Answers) (stack : Stack) (past : List Code) (tells : Bool) (s t : State) (U : Type 0) → found ≡ players
     → OnErr result (U ⊎ StopsAt found func flags stack kind (by_place old) past tells s t) → OnErr result (U ⊎ StopsAt players func flags stack kind (answers_held (kept_answers old)) past tells s t)
 pass_stopped (Ok code) found players func flags kind old stack past tells s t U e stops = tt

@@ -1,4 +1,4 @@
--- What was waited and told of it, by the delay that was asked for.
+-- The wait and its record, by the requested delay.
 use Rattle.std.proofs.Common.{◌≡◌, ℕ, Bool, Option, Some, sym, ◌∙◌, ap}
 use Rattle.dispatch_core.specs.fail_delay.specs.Wait.{wait_of}
 use Rattle.pam_base.specs.declared.code.Code.{Code}

@@ -1,4 +1,4 @@
--- Worked rows, computed on the definitions, over small modules of their own.
+-- Test cases computed on the definitions, with small modules made for them.
 use Rattle.std.proofs.Common.{◌≡◌, ℕ, ◌+◌, ◌*◌, ◌%◌, Bool, true, false, List, [], ◌∷◌, map, Some, None, is_ok, length, min, codes, if◌then◌else◌, refl}
 use Rattle.dispatch_core.specs.env_list.specs.Environment.{after_put, is_refused, value_of}
 use Rattle.dispatch_core.specs.conv_port.specs.declared.offer.Offer.{Offer}
@@ -36,7 +36,7 @@ use Rattle.pam_handle.specs.StackCalls.{authenticate, chauthtok, close_session, 
 
 -- ---- modules
 
--- one that answers by the function and by whether it is the first pass of a change of token
+-- one whose code depends on the function and on whether it is the first pass of a change of token
 abbrev answers : (Func → Bool → Code) → Plays
 answers f call room held sight = answered (f call.func (has_flag call.flags prelim_check)) room sight
 
@@ -80,18 +80,18 @@ world word = world_of (record { files = []; calls = 0; fails = [] }) (record { m
 abbrev three_seconds : Code → ℕ → ℕ
 three_seconds code asked = min asked 3000000
 
--- what the lines that were visited answered
+-- the codes of the lines that were run
 abbrev answers_of : Called → List Code
 answers_of c = map (λ (v : Visit). v.answer) c.handle.room.transaction.trail
 
 abbrev places_of : Called → List ℕ
 places_of c = map (λ (v : Visit). v.place) c.handle.room.transaction.trail
 
--- with all told that there was
+-- after taking everything that was to report
 abbrev told : Called → PlainHandle
 told c = all_told c.handle
 
--- ---- setcred goes by what authenticate kept
+-- ---- setcred uses the codes that authenticate cached
 
 abbrev cred_err : Func → Bool → Code
 cred_err SetCred first = returns.CredErr
@@ -121,7 +121,7 @@ first_credentials-code = refl
 first_credentials-places : places_of (setcred two 2 (told first_authenticated) (world 0)) ≡ 1 ∷ []
 first_credentials-places = refl
 
--- without an authentication nothing is kept, and the flags 0 are PAM_ESTABLISH_CRED
+-- without an authentication nothing is cached, and the flags 0 are PAM_ESTABLISH_CRED
 abbrev unavailable : Func → Bool → Code
 unavailable func first = returns.CredUnavail
 
@@ -150,7 +150,7 @@ jumped_credentials-code = refl
 jumped_credentials-places : places_of (setcred two 2 (told jumped) (world 0)) ≡ 1 ∷ 3 ∷ []
 jumped_credentials-places = refl
 
--- a present IGNORE counts for nothing, also where the kept answer ends the list
+-- a present IGNORE doesn't count, even if the cached code ends the list
 abbrev ignores : Func → Bool → Code
 ignores SetCred first = returns.Ignore
 ignores func first = returns.Success
@@ -299,21 +299,21 @@ delayed-wait = refl
 delayed-rest : delayed.world.nap.sum ≡ 3000000
 delayed-rest = refl
 
--- the request is forgotten, and the function is asked all the same
+-- the request is dropped, and the function is asked all the same
 delayed_again-wait : (denied (told delayed) 1).handle.waited ≡ Some (wait 0 0)
 delayed_again-wait = refl
 
 delayed_again-rest : (denied (told delayed) 1).world.nap.waits ≡ 0
 delayed_again-rest = refl
 
--- where it is off, the asked delay is waited after a failure
+-- if it is off, the requested delay is waited after a failure
 undelayed-wait : (denied (with_request 3000000 denying) 0).handle.waited ≡ Some (wait 3000000 3000000)
 undelayed-wait = refl
 
 unasked-wait : (denied denying 0).handle.waited ≡ None
 unasked-wait = refl
 
--- ---- calls that are put off
+-- ---- calls that are incomplete
 
 abbrev asking : List Player
 asking = player (codes "a") (sets_and_asks (datum (codes "a") (codes "x") ∷ [])) ∷ []
@@ -340,7 +340,7 @@ aborted-code = refl
 aborted-handle : (setcred asking 2 put_off.handle put_off.world).handle ≡ put_off.handle
 aborted-handle = refl
 
--- it goes on, and ends
+-- it is resumed, and ends
 abbrev gone_on : Called
 gone_on = authenticate asking three_seconds 0 put_off.handle put_off.world
 
@@ -350,7 +350,7 @@ gone_on-code = refl
 gone_on-pending : pending_func gone_on.handle.pending ≡ None
 gone_on-pending = refl
 
--- a module that answers INCOMPLETE itself puts its call off each time
+-- a module that returns INCOMPLETE itself leaves its call incomplete each time
 abbrev incomplete : Func → Bool → Code
 incomplete func first = returns.Incomplete
 
@@ -366,7 +366,7 @@ never_done-code = refl
 never_done_again-code : (authenticate never three_seconds 0 never_done.handle (world 0)).code ≡ returns.Incomplete
 never_done_again-code = refl
 
--- ---- what is missing
+-- ---- missing modules
 
 missing-names : missing_from (codes "a" ∷ []) (stacks (line (by (codes "/lib/a.so") required) (line (by (codes "b.so") required) none)) (line (record (by (codes "b") required) { silent = true }) none) (line (by (codes "b") optional) none))
     ≡ codes "b" ∷ codes "b" ∷ []

@@ -1,4 +1,4 @@
--- Where a call stopped that found no memory, by where its pass did.
+-- The line at which a call ran out of memory, by the line at which its pass did.
 use Rattle.std.proofs.Common.{◌≡◌, ◌⊎◌, inl, inr, ℕ, Bool, true, false, ◌&&◌, IsTrue, List, [], length, Option, Some, None, is_some, Result, Ok, Err, OnErr, refl, sym, ◌∙◌, ap, subst}
 use Rattle.pam_base.specs.declared.code.Code.{Code}
 use Rattle.pam_base.specs.declared.code.Code.TheVariants.{Success}
@@ -23,7 +23,7 @@ use Rattle.pam_handle.specs.StackCalls.{flags_seen, held_in}
 use Rattle.pam_handle.specs.Stopping.{PassedNothing, StopsChanging, StopsInChange, StopsInCheck, StopsInUpdate, StopsOnce, first_kept, first_kind, first_stack, room_begun, room_failed}
 use Rattle.pam_handle.proofs.Changing.{room_behind}
 
--- a fact without memory, by another
+-- a fact about running out of memory, from another one
 pub on_err_from : {P Q : Type 0} (result : Result Code NoMemory) → (P → Q) → OnErr result P → OnErr result Q
 on_err_from (Ok code) f p = tt
 on_err_from (Err none) f p = f p

@@ -1,5 +1,5 @@
--- What stands of a transaction after its calls in any world, also after want of memory (this project's own).
-use Rattle.std.specs.Prelude.{◌≡◌, ℕ, ◌≤◌, Bool, false, Option, None, Some, IfSome}
+-- What holds of a transaction after its calls, with real objects and out of memory too (this project's own).
+use Rattle.std.specs.Prelude.{◌≡◌, ℕ, ◌≤◌, Bool, false, Option, None, Some, IfSome, IsTrue}
 use Rattle.pam_base.specs.declared.code.Code.{Code}
 use Rattle.pam_base.specs.declared.code.Code.TheVariants as codes
 use Rattle.pam_base.specs.declared.call.Func.{Func}
@@ -7,16 +7,17 @@ use Rattle.pam_base.specs.declared.call.Func.TheVariants.{Authenticate, SetCred,
 use Rattle.data_cleanup.specs.Cleanup.{Notes}
 use Rattle.item_store.specs.Items.{ItemTexts}
 use Rattle.dispatch_core.specs.fail_delay.specs.Wait.{wait_of}
+use Rattle.dispatch_core.specs.pam_outside.specs.Time.{NapState}
 use Rattle.dispatch_core.specs.AnyWorld.{GoesSoundly}
 use Rattle.dispatch_core.specs.pam_room.specs.State.{PlainProcess}
 use Rattle.dispatch_core.specs.stack_walk.specs.Route.{KeptAnswers}
 use Rattle.pam_handle.specs.declared.wait.Wait.{Wait}
 use Rattle.dispatch_core.specs.Pending.{Pending}
 use Rattle.pam_handle.specs.Handle.{PlainHandle}
-use Rattle.pam_handle.specs.Call.{waited_by}
+use Rattle.pam_handle.specs.Call.{nap_after, waited_by}
 
--- what a stack call leaves: the stacks, the names and the delay function; what was told is only added to, and data
--- and ledger grow
+-- what a stack call keeps: the stacks, the names and the delay function; what is to report only grows, and so do the
+-- data and the cleanup log
 pub record RunsSoundly (note : Notes) (modules : ℕ) (old new : PlainHandle)
     (before after : PlainProcess) : Type 0 where
   pub stacks : new.stacks ≡ old.stacks
@@ -25,21 +26,21 @@ pub record RunsSoundly (note : Notes) (modules : ℕ) (old new : PlainHandle)
   pub goes : GoesSoundly note modules (record old.room.transaction { delay = 0 })
       new.room.transaction before after
 
--- ---- what a call leaves that isn't its own
+-- ---- what a call keeps that isn't its own
 
--- the answers of the last authentication are those of authenticate and setcred
+-- the cached codes of the last authentication belong to authenticate and setcred
 abbrev pub LeavesAuthenticated : Func → Option KeptAnswers → Option KeptAnswers → Type 0
 LeavesAuthenticated Authenticate old new = Unit {0}
 LeavesAuthenticated SetCred old new = Unit {0}
 LeavesAuthenticated func old new = new ≡ old
 
--- those of the last opening of a session are those of open_session and close_session
+-- the cached codes of the last opened session belong to open_session and close_session
 abbrev pub LeavesOpened : Func → Option KeptAnswers → Option KeptAnswers → Type 0
 LeavesOpened OpenSession old new = Unit {0}
 LeavesOpened CloseSession old new = Unit {0}
 LeavesOpened func old new = new ≡ old
 
--- authenticate alone waits
+-- only authenticate waits
 abbrev pub LeavesWait : Func → PlainHandle → PlainHandle → Type 0
 LeavesWait Authenticate old new = Unit {0}
 LeavesWait func old new = new.waited ≡ old.waited
@@ -60,9 +61,8 @@ ClearsTokens Authenticate items = AreUnset items
 ClearsTokens ChAuthTok items = AreUnset items
 ClearsTokens func items = Unit {0}
 
--- A call that has ended leaves nothing pending, and no request for a delay. After INCOMPLETE alone it may be pending
--- itself;
--- then no request for a delay is forgotten, and nothing was waited.
+-- A call that has ended leaves nothing pending, and no requested delay. Only after INCOMPLETE may it be pending itself;
+-- then the requested delay is kept, and nothing was waited.
 abbrev pub LeavesPending : Func → Code → PlainHandle → PlainHandle → Option Pending → Type 0
 LeavesPending func code old new None = (new.room.transaction.delay ≡ 0)
     × ClearsTokens func new.room.transaction.items
@@ -70,27 +70,33 @@ LeavesPending func code old new (Some p) =
     (p.func ≡ func) × (code ≡ codes.Incomplete)
     × (old.room.transaction.delay ≤ new.room.transaction.delay) × (new.waited ≡ old.waited)
 
--- Of what was waited after the code of an authentication, only which delay it asked for and what the application's
--- delay function made of it isn't known; where that is off, the delay that was asked for was waited.
-pub record WaitsFor (code : Code) (delay_on : Bool) (old new : Option Wait) : Type 0 where
+-- Of the wait after an authentication only two things aren't known: which delay was requested, and what the
+-- application's delay function made of it; if that is off, the requested delay was waited. What is reported of the wait
+-- is what was slept, once, if the sleep alone is modelled (`tells`, `before`, `after`).
+pub record WaitsFor (code : Code) (delay_on : Bool) (old new : Option Wait) (tells : Bool)
+    (before after : NapState) : Type 0 where
   pub asked : ℕ
   pub wait : Option ℕ
   pub asked_bound : asked ≤ 90000000
   pub wait_bound : IfSome wait (λ n. n ≤ 90000000)
   pub off : (number : Code → ℕ → ℕ) → delay_on ≡ false → wait ≡ wait_of false number code asked
   pub told : new ≡ waited_by code asked wait old
+  pub slept : IsTrue tells → after ≡ nap_after wait before
 
-abbrev pub Waits : Code → PlainHandle → PlainHandle → Type 0
-Waits code old new = WaitsFor code old.delay_on old.waited new.waited
+abbrev pub Waits : Code → PlainHandle → PlainHandle → Bool → NapState → NapState → Type 0
+Waits code old new tells before after =
+    WaitsFor code old.delay_on old.waited new.waited tells before after
 
--- after a call that has ended with a code, or that hasn't
-abbrev pub WaitsOnlyAtEnd : Option Code → Bool → Option Wait → Option Wait → Type 0
-WaitsOnlyAtEnd None delay_on old new = new ≡ old
-WaitsOnlyAtEnd (Some code) delay_on old new = WaitsFor code delay_on old new
+-- after a call that has ended with a code, or that hasn't ended
+abbrev pub WaitsOnlyAtEnd : Option Code → Bool → Option Wait → Option Wait → Bool → NapState
+    → NapState → Type 0
+WaitsOnlyAtEnd None delay_on old new tells before after = new ≡ old
+WaitsOnlyAtEnd (Some code) delay_on old new tells before after =
+    WaitsFor code delay_on old new tells before after
 
--- ---- want of memory
+-- ---- out of memory
 
--- what a call keeps without memory: nothing of its own where it keeps answers, and what was kept elsewhere
+-- the cached codes that a call leaves if it runs out of memory: none of its own if it caches codes; the others stay
 abbrev pub authenticated_failed : Func → Option KeptAnswers → Option KeptAnswers
 authenticated_failed Authenticate kept = None
 authenticated_failed func kept = kept
@@ -99,7 +105,7 @@ abbrev pub opened_failed : Func → Option KeptAnswers → Option KeptAnswers
 opened_failed OpenSession kept = None
 opened_failed func kept = kept
 
--- after want of memory in a stack call
+-- after a stack call that ran out of memory
 pub record FailsAs (func : Func) (old new : PlainHandle) : Type 0 where
   pub pending : new.pending ≡ None
   pub request : new.room.transaction.delay ≡ 0

@@ -1,5 +1,5 @@
--- What a call of the application comes to, and what of a transaction's calls is common to several (pam_fail_delay(3);
--- that a call may be put off, and what others answer meanwhile, is this project's own).
+-- The result of an application's call, and what several calls of a transaction have in common (pam_fail_delay(3); that
+-- a call may be incomplete, and what other calls return meanwhile, is this project's own).
 use Rattle.std.specs.Prelude.{◌≡◌, ℕ, Bool, Option, Some, None, List, Result, if◌then◌else◌, ◌==◌}
 use Rattle.std.specs.Result.{result_ok}
 use Rattle.pam_base.specs.declared.code.Code.{Code}
@@ -8,13 +8,13 @@ use Rattle.pam_base.specs.declared.fault.NoMemory.{NoMemory}
 use Rattle.item_store.specs.Items.{ItemTexts, without_tokens}
 use Rattle.dispatch_core.specs.fail_delay.specs.Delay.{asked_delay}
 use Rattle.dispatch_core.specs.fail_delay.specs.Wait.{wait_of}
-use Rattle.dispatch_core.specs.pam_outside.specs.Time.{drawn, rested}
+use Rattle.dispatch_core.specs.pam_outside.specs.Time.{NapState, drawn, rested}
 use Rattle.dispatch_core.specs.pam_room.specs.State.{PlainRoom, PlainWorld}
 use Rattle.pam_handle.specs.declared.wait.Wait.{Wait}
 use Rattle.dispatch_core.specs.Pending.{Pending, same_func}
 use Rattle.pam_handle.specs.Handle.{PlainHandle, in_room}
 
--- the code that a call answers, and the transaction and the world after it
+-- the code that a call returns, and the transaction and the world after it
 pub record Called : Type 0 where
   pub code : Code
   pub handle : PlainHandle
@@ -37,7 +37,7 @@ abbrev pub without_its_tokens : PlainRoom → PlainRoom
 without_its_tokens r =
     record r { transaction = record r.transaction { items = without_tokens r.transaction.items } }
 
--- with no request for a delay
+-- with no requested delay
 abbrev pub without_request : PlainRoom → PlainRoom
 without_request r = record r { transaction = record r.transaction { delay = 0 } }
 
@@ -47,21 +47,21 @@ tokens_cleared h = in_room (without_its_tokens h.room) h
 abbrev pub request_forgotten : PlainHandle → PlainHandle
 request_forgotten h = in_room (without_request h.room) h
 
--- ---- calls that were put off
+-- ---- incomplete calls
 
--- The call of a function: where another is pending it is aborted and nothing changes; where it is pending itself it
--- goes on after what it was given; else it begins.
+-- The call of a function: if another call is pending, it is aborted and nothing changes; if this call is pending, it is
+-- resumed with the codes it has; else it begins.
 abbrev pub begun_or_going_on : Option Pending → Func → Called → Called → (Pending → Called) → Called
 begun_or_going_on None func aborted begins goes_on = begins
 begun_or_going_on (Some p) func aborted begins goes_on = if same_func p.func func then goes_on p
     else aborted
 
--- the items when a call that clears the tokens takes them up: it clears them where it begins
+-- the items when a call that clears the tokens begins or is resumed: it clears them if it begins
 abbrev pub items_begun : Option Pending → ItemTexts → ItemTexts
 items_begun None items = without_tokens items
 items_begun (Some p) items = items
 
--- the request for a delay is forgotten when a pass has ended, and stays where it was put off
+-- the requested delay is dropped when a pass has ended, and kept if the pass is incomplete
 abbrev pub request_behind : Option (List Code) → PlainRoom → PlainRoom
 request_behind None r = without_request r
 request_behind (Some past) r = r
@@ -71,39 +71,44 @@ abbrev pub items_behind : Option (List Code) → ItemTexts → ItemTexts
 items_behind None items = without_tokens items
 items_behind (Some past) items = items
 
--- the code with which a call has ended: none where it was put off, and none without memory
-abbrev pub code_at_end : Option (List Code) → Result Code NoMemory → Option Code
-code_at_end None result = result_ok result
-code_at_end (Some past) result = None
+-- the code with which a call has ended: none if it is incomplete or ran out of memory
+abbrev pub final_code : Option (List Code) → Result Code NoMemory → Option Code
+final_code None result = result_ok result
+final_code (Some past) result = None
 
 -- ---- the wait after an authentication
 
--- a wait, where there is one, takes the place of what was to be told of an earlier one
+-- a wait, if there is one, replaces the record of an earlier one
 abbrev pub waited_by : Code → ℕ → Option ℕ → Option Wait → Option Wait
 waited_by code asked None before = before
 waited_by code asked (Some n) before = Some (record { code = code; asked = asked; wait = n })
 
--- a random word is drawn only if a delay was requested
+-- a random word is read only if a delay was requested
 abbrev pub drawn_by : ℕ → PlainWorld → PlainWorld
 drawn_by longest w = if longest == 0 then w else record w { clock = drawn w.clock }
 
--- a wait of more than 0 is rested
+-- a wait of more than 0 is slept
 abbrev pub rested_by : Option ℕ → PlainWorld → PlainWorld
 rested_by None w = w
 rested_by (Some n) w = if n == 0 then w else record w { nap = rested w.nap n }
+
+-- the sleep after a wait, or without one: a wait of more than 0 is slept once, and in one piece
+abbrev pub nap_after : Option ℕ → NapState → NapState
+nap_after None nap = nap
+nap_after (Some n) nap = if n == 0 then nap else rested nap n
 
 abbrev pub waits : Code → ℕ → Option ℕ → PlainHandle → PlainWorld → Called
 waits code asked wait h w =
     called code (record h { waited = waited_by code asked wait h.waited }) (rested_by wait w)
 
--- `number` is what the application's delay function gives
+-- `number` is what the application's delay function returns
 abbrev pub waits_after : (Code → ℕ → ℕ) → Code → PlainHandle → PlainWorld → Called
 waits_after number code h w =
     let asked = asked_delay h.room.transaction.delay w.clock.word in
     waits code asked (wait_of h.delay_on number code asked) h
     (drawn_by h.room.transaction.delay w)
 
--- what was to be told of a wait and what the world is after a call that has ended with a code, or that hasn't
+-- the record of a wait and the world after a call that has ended with a code, or that hasn't ended
 abbrev pub WaitsBehind : (Code → ℕ → ℕ) → Option Code → ℕ → Bool → Option Wait → PlainWorld
     → Option Wait → PlainWorld → Type 0
 WaitsBehind number None longest on before w after last = (after ≡ before) × (last ≡ w)

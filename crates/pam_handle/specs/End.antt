@@ -1,4 +1,4 @@
--- The end of a transaction (pam_end(3)): its data are cleaned up by their owners, the last name first.
+-- The end of a transaction (pam_end(3)): the owners clean up its module data, the last name first.
 use Rattle.std.specs.Prelude.{ℕ, reverse}
 use Rattle.data_cleanup.specs.Cleanup.{Notes, ledger_after}
 use Rattle.dispatch_core.specs.pam_room.specs.State.{PlainWorld, PlainProcess}

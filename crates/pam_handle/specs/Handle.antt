@@ -6,9 +6,9 @@ use Rattle.dispatch_core.specs.stack_walk.specs.Route.{KeptAnswers}
 use Rattle.dispatch_core.specs.pam_room.specs.State.{PlainRoom}
 use Rattle.pam_handle.specs.declared.wait.Wait.{Wait}
 
--- The room, the stacks, the names of the modules that it was started with, the answers that the last authentication
--- and the last opening of a session kept, whether the application's delay function is on, the call that was put off,
--- if one was, and what was waited and not yet told.
+-- The room, the stacks, the names of the modules that it was started with, the codes that the last authentication and
+-- the last opened session cached, whether the application's delay function is on, the pending call, if any, and the
+-- last wait that isn't reported yet.
 pub record PlainHandle : Type 0 where
   pub room : PlainRoom
   pub stacks : Stacks
@@ -19,6 +19,6 @@ pub record PlainHandle : Type 0 where
   pub pending : Option Pending
   pub waited : Option Wait
 
--- in another room
+-- with another room
 abbrev pub in_room : PlainRoom → PlainHandle → PlainHandle
 in_room room h = record h { room = room }

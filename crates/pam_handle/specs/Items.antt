@@ -1,5 +1,5 @@
--- The calls that run no stack: items, environment, delays, conversations and what is missing (pam_set_item(3),
--- pam_putenv(3), pam_fail_delay(3); that missing modules are told is this project's own).
+-- The calls that run no stack: items, environment, delays, conversations and missing modules (pam_set_item(3),
+-- pam_putenv(3), pam_fail_delay(3); that missing modules are reported is this project's own).
 use Rattle.std.specs.Prelude.{ℕ, Bool, ◌||◌, if◌then◌else◌, None, is_some, List, [], ◌∷◌, ◌++◌, max}
 use Rattle.item_store.specs.Items.{ItemTexts}
 use Rattle.dispatch_core.specs.env_list.specs.Environment.{Variable}
@@ -22,7 +22,7 @@ with_items items h = with_transaction (record h.room.transaction { items = items
 abbrev pub with_environment : List Variable → PlainHandle → PlainHandle
 with_environment env h = with_transaction (record h.room.transaction { env = env }) h
 
--- a request for a delay, in microseconds
+-- a requested delay, in microseconds
 abbrev pub with_request : ℕ → PlainHandle → PlainHandle
 with_request micros h =
     with_transaction (record h.room.transaction
@@ -34,19 +34,19 @@ with_delay_function on h = record h { delay_on = on }
 abbrev pub with_conversation : ConvState → PlainHandle → PlainHandle
 with_conversation conv h = in_room (record h.room { conv = conv }) h
 
--- with nothing left to tell of what was said, visited and waited
+-- with no message, line or wait left to report
 abbrev pub all_told : PlainHandle → PlainHandle
 all_told h = record (with_transaction (record h.room.transaction { said = []; trail = [] }) h)
     { waited = None }
 
--- ---- what is missing
+-- ---- missing modules
 
--- a line whose module isn't there and that isn't silent about it
+-- a line whose module is missing and that isn't silent about it
 abbrev pub missing_of : List (List ℕ) → Rule → List (List ℕ)
 missing_of names rule = if rule.silent || is_some (module_of names rule) then []
     else name_of_module rule.path ∷ []
 
--- the names of the modules that the lines of a stack name and that aren't there, in written order
+-- the names of the missing modules that the lines of a stack name, in written order
 abbrev pub missing_in : List (List ℕ) → Stack → List (List ℕ)
 missing_in names none = []
 missing_in names (line rule rest) = missing_of names rule ++ missing_in names rest

@@ -18,4 +18,5 @@ pub mod AnyWorld
 pub mod Plain
 pub mod Ready
 pub mod Stopping
+pub mod Trail
 pub mod StackCalled

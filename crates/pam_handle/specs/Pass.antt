@@ -14,25 +14,24 @@ use Rattle.dispatch_core.specs.Calls.{answers_held, passed_by}
 use Rattle.dispatch_core.specs.pam_room.specs.State.{State}
 use Rattle.dispatch_core.specs.pam_room.specs.Module.{Player}
 
--- the answers that cells hold, by the places of lines, where any are held
+-- the cached codes in an array, by rule number, if there are any
 abbrev pub kept_answers : Answers → Option KeptAnswers
 kept_answers cells = if is_some cells then Some (by_place cells) else None
 
--- a pass's code, what is kept after it, the answers that it was given where it was put off, and the room and world
--- after it
+-- the code of a pass, what is cached after it, its codes so far if it is incomplete, and the room and world after it
 abbrev pub Passed : Type 0
 Passed = calls.Passed State
 
--- a pass of a kind over a stack, with what is kept, after answers given in its earlier calls
+-- a pass of a kind over a stack, with cached codes, and with the codes of its earlier calls
 abbrev pub passed : List Player → Func → ℕ → PassKind → Option KeptAnswers → Stack → List Code
     → State → Passed
 passed players func flags kind kept stack past s =
     passed_by kind kept (pass_after kind (answers_held kept) (answers_by players func flags) stack
     past s)
 
--- a code, what is kept and what is paused after a pass, and a state are those of a pass
-pub record PassesTo (p : Passed) (code : Code) (kept : Option KeptAnswers)
-    (paused : Option (List Code)) (state : State) : Type 0 where
+-- a code, the cached codes, the codes of a paused pass, and a state are those of a pass
+pub record PassesTo {T : Type 0} (p : calls.Passed T) (code : Code) (kept : Option KeptAnswers)
+    (paused : Option (List Code)) (state : T) : Type 0 where
   pub code_is : code ≡ p.code
   pub kept_is : kept ≡ p.kept
   pub paused_is : paused ≡ p.paused

@@ -16,7 +16,7 @@ use Rattle.dispatch_core.specs.Pending.{Pending}
 use Rattle.pam_handle.specs.Handle.{PlainHandle}
 use Rattle.pam_handle.specs.Pass.{kept_answers}
 
--- the stacks that four chains were made from
+-- the stacks from which four chains were made
 abbrev pub stacks_in : Chains → Stacks
 stacks_in c = record {
   auth = c.auth.nodes;
@@ -25,7 +25,7 @@ stacks_in c = record {
   session = c.session.nodes;
 }
 
--- the stack of a type that its chain was made from
+-- the stack of a type from which its chain was made
 abbrev pub nodes_in : Chains → RuleType → Stack
 nodes_in c Auth = c.auth.nodes
 nodes_in c Account = c.account.nodes
@@ -35,7 +35,7 @@ nodes_in c Session = c.session.nodes
 abbrev pub pending_of : PutOff → Pending
 pending_of p = record { func = p.func; past = past_of p.paused; first = kept_answers p.first }
 
--- what stands in a box, with the type that it is of
+-- what a box holds, with its type
 abbrev pub in_box : {X : Type 0} {V : X → Type 0} → DynBox X Global V → (x : X) × V x
 in_box b = (b.vtable, b.value)
 
@@ -44,7 +44,8 @@ module _ {X : Type 0} {V : X → Type 0} where
   abbrev pub room_in : Handle X V → Room X V
   room_in h = h.room
 
-  -- what it holds, by what its room does: all but what the conversation holds is right in any world
+  -- its content, from that of its room: all of it is right with a real conversation too, except what the conversation
+  -- holds
   abbrev pub plain_handle : (Room X V → PlainRoom) → Handle X V → PlainHandle
   plain_handle room h = record {
     room = room h.room;

@@ -6,7 +6,8 @@ use Rattle.dispatch_core.specs.pam_room.specs.State.{PlainProcess}
 use Rattle.dispatch_core.specs.pam_room.specs.Stays.{IsReady}
 use Rattle.pam_handle.specs.Handle.{PlainHandle}
 
--- a transaction may be called with these modules in this process: it was started with them, and its data are sound
+-- a transaction may be called with these modules in this process: it was started with them, and its module data are
+-- sound
 abbrev pub IsReadyFor : List Player → PlainHandle → PlainProcess → Type 0
 IsReadyFor players h process = (h.names ≡ names_of players)
     × IsReady (length players) h.room.transaction process

@@ -1,6 +1,6 @@
 -- The six calls that run a stack: pam_authenticate(3), pam_setcred(3), pam_acct_mgmt(3), pam_open_session(3),
--- pam_close_session(3), pam_chauthtok(3). Which answers the second of two calls follows is the Module Writers'
--- Guide's; that a call may be put off and goes on is this project's own.
+-- pam_close_session(3), pam_chauthtok(3). Which cached return codes the second of two calls uses is from the Module
+-- Writers' Guide; that a call may be incomplete and is resumed is this project's own.
 use Rattle.std.specs.Prelude.{ℕ, Bool, true, false, ◌||◌, ◌==◌, if◌then◌else◌, bit_or, Option, Some, None, List, []}
 use Rattle.pam_base.specs.declared.code.Code.{Code}
 use Rattle.pam_base.specs.declared.code.Code.TheVariants as codes
@@ -13,7 +13,7 @@ use Rattle.dispatch_core.specs.pam_room.specs.State.{PlainWorld, State, state_of
 use Rattle.pam_handle.specs.Handle.{PlainHandle}
 use Rattle.dispatch_core.specs.Lines.{answers_by}
 use Rattle.dispatch_core.specs.Calls.{Asking, Held, held, held_behind, first_pass, second_pass}
-use Rattle.dispatch_core.specs.Pending.{pending_behind}
+use Rattle.dispatch_core.specs.Pending.{pending_after}
 use Rattle.pam_handle.specs.Pass.{Passed}
 use Rattle.pam_handle.specs.Call.{Called, called, tokens_cleared, request_forgotten, begun_or_going_on, request_behind, waits_after}
 
@@ -21,7 +21,7 @@ use Rattle.pam_handle.specs.Call.{Called, called, tokens_cleared, request_forgot
 abbrev pub update_authtok : ℕ
 update_authtok = 0x2000
 
--- whether flags hold one of those of the two passes of a change of token, which are the library's own
+-- whether flags hold one of those of the two passes of a change of token, which only the library may set
 abbrev pub has_pass_flag : ℕ → Bool
 has_pass_flag flags = has_flag flags prelim_check || has_flag flags update_authtok
 
@@ -30,21 +30,22 @@ abbrev pub is_refused_for_flags : Func → ℕ → Bool
 is_refused_for_flags ChAuthTok flags = has_pass_flag flags
 is_refused_for_flags func flags = false
 
--- PAM_ESTABLISH_CRED, which the flags 0 stand for (pam_setcred(3))
+-- PAM_ESTABLISH_CRED, which the flags 0 mean (pam_setcred(3))
 abbrev pub establish_cred : ℕ
 establish_cred = 0x2
 
 abbrev pub credential_flags : ℕ → ℕ
 credential_flags flags = if flags == 0 then establish_cred else flags
 
--- the flags that modules see in a pass, by those of the call; in a change of token, by whether it is the second pass
+-- the flags that modules see in a pass, from those of the call; in a change of token it depends on whether it is the
+-- second pass
 abbrev pub flags_seen : Func → Bool → ℕ → ℕ
 flags_seen SetCred second flags = credential_flags flags
 flags_seen ChAuthTok false flags = bit_or flags prelim_check
 flags_seen ChAuthTok true flags = bit_or flags update_authtok
 flags_seen func second flags = flags
 
--- what a transaction holds between its calls
+-- the state of a transaction between its calls
 abbrev pub held_in : PlainHandle → Held
 held_in h = held h.authenticated h.opened h.pending
 
@@ -63,11 +64,11 @@ behind_pass func first p h =
 abbrev pub ended : Func → Passed → PlainHandle → Called
 ended func p h = called p.code (record h {
   room = request_behind p.paused p.state.room;
-  pending = pending_behind func None p.paused;
+  pending = pending_after func None p.paused;
 }) p.state.world
 
--- after the pass of an authentication: the tokens are cleared, the wait follows, and then the request is forgotten,
--- unless it was put off
+-- after the pass of an authentication: the tokens are cleared, the wait follows, and then the requested delay is
+-- dropped, unless the call is incomplete
 abbrev pub authenticated : (Code → ℕ → ℕ) → Option (List Code) → Code → PlainHandle → PlainWorld
     → Called
 authenticated number (Some past) code h w = called code h w
@@ -75,13 +76,14 @@ authenticated number None code h w =
     let waited = waits_after number code (tokens_cleared h) w in
     called code (request_forgotten waited.handle) waited.world
 
--- after the last pass of a change of token: the tokens are cleared and the request is forgotten, unless it was put off
+-- after the last pass of a change of token: the tokens are cleared and the requested delay is dropped, unless the call
+-- is incomplete
 abbrev pub changed : Option (List Code) → Code → PlainHandle → PlainWorld → Called
 changed (Some past) code h w = called code h w
 changed None code h w = called code (request_forgotten (tokens_cleared h)) w
 
 module _ (players : List Player) where
-  -- lines answer as modules play
+  -- lines return what the meanings of their modules say
   abbrev pub asking_by : ℕ → Asking State
   asking_by flags func second = answers_by players func (flags_seen func second flags)
 
@@ -106,7 +108,7 @@ module _ (players : List Player) where
       (authentication number flags [] (tokens_cleared h) w)
       (λ p. authentication number flags p.past h w)
 
-  -- ---- pam_setcred(3): it goes by what the last authentication kept
+  -- ---- pam_setcred(3): it uses the codes that the last authentication cached
 
   abbrev pub credentials : ℕ → List Code → PlainHandle → PlainWorld → Called
   credentials flags past h w =
@@ -117,7 +119,7 @@ module _ (players : List Player) where
   setcred flags h w = begun_or_going_on h.pending SetCred (called codes.Abort h w)
       (credentials flags [] h w) (λ p. credentials flags p.past h w)
 
-  -- ---- pam_acct_mgmt(3): its answers aren't kept
+  -- ---- pam_acct_mgmt(3): its codes aren't cached
 
   abbrev pub account : ℕ → List Code → PlainHandle → PlainWorld → Called
   account flags past h w = ended AcctMgmt (passes_first AcctMgmt flags past h w) h
@@ -127,7 +129,7 @@ module _ (players : List Player) where
       begun_or_going_on h.pending AcctMgmt (called codes.Abort h w) (account flags [] h w) (λ p.
       account flags p.past h w)
 
-  -- ---- pam_open_session(3), and pam_close_session(3), which goes by what the last opening kept
+  -- ---- pam_open_session(3), and pam_close_session(3), which uses the codes that the last opened session cached
 
   abbrev pub opening : ℕ → List Code → PlainHandle → PlainWorld → Called
   opening flags past h w =
@@ -149,7 +151,7 @@ module _ (players : List Player) where
       begun_or_going_on h.pending CloseSession (called codes.Abort h w) (closing flags [] h w) (λ p.
       closing flags p.past h w)
 
-  -- ---- pam_chauthtok(3): two passes, the second only where the first gave SUCCESS, and by the answers of the first
+  -- ---- pam_chauthtok(3): two passes, the second only if the first gave SUCCESS, with the cached codes of the first
 
   abbrev pub update : ℕ → Option KeptAnswers → List Code → PlainHandle → PlainWorld → Called
   update flags first past h w =

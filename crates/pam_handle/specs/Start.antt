@@ -17,7 +17,7 @@ use Rattle.pam_handle.specs.Plain.{stacks_in}
 use Rattle.dispatch_core.specs.service_load.specs.Stacks.{Stacks, stacks_of}
 use Rattle.pam_handle.specs.Handle.{PlainHandle}
 
--- only SERVICE and, where it is known, USER are set
+-- only SERVICE and, if known, USER are set
 abbrev pub first_texts : List ℕ → Option (List ℕ) → ItemTexts
 first_texts service user = record no_texts {
   service = Some (str_to_ascii_lowercase service);
@@ -42,7 +42,7 @@ abbrev pub new_handle : ℕ → List ℕ → Option (List ℕ) → ConvState →
 new_handle number service user conv names stacks =
     handle_with number (first_texts service user) conv names stacks
 
--- a start: a transaction, or the first fault of its configuration; of the world only the vault's number of calls
+-- a start: a transaction, or the first fault of its configuration; of the world only the number of file accesses
 -- changes
 pub record Started : Type 0 where
   pub answer : Result PlainHandle LoadFault
@@ -67,23 +67,23 @@ started number service user conv names w =
     started_by (new_handle number service user conv names) (loaded w.vault w.process.root service)
     (stacks_under w.vault w.process.root service) w
 
--- ---- what a start gives
+-- ---- the result of a start
 
 -- the transaction that it opens, and the world after it
 pub record Opens (s : Started) (handle : PlainHandle) (world : PlainWorld) : Type 0 where
   pub handle_is : s.answer ≡ Ok handle
   pub world_is : world ≡ s.world
 
--- why it refuses, and the world after it; want of memory is free
+-- why it is refused, and the world after it; nothing is said of a start that runs out of memory
 abbrev pub Refuses : Started → Refuse LoadFault → PlainWorld → Type 0
 Refuses s (Named fault) world = (s.answer ≡ Err fault) × (world ≡ s.world)
 Refuses s NoMemory world = Unit {0}
 
--- in any world: the vault's count of faults rises where a file couldn't be read, and with no other fault
+-- with real objects too: the count of failed file accesses rises if a file couldn't be read, and with no other fault
 abbrev pub RefusalCounts : Refuse LoadFault → ℕ → ℕ → Type 0
 RefusalCounts why before after = CountsFaults {A = Unit {0}} (Err why) before after
 
--- the stacks of a service that has no fault, with the calls of the vault, or why it has none
+-- the stacks of a service without a fault, with the number of file accesses, or its first fault
 abbrev pub Prepares : {A : Type 0} → Result (A × Chains) (Refuse LoadFault) → PlainWorld
     → VaultState → List ℕ → Type 0
 Prepares (Ok parts) w new service = (counts : Counts)

@@ -1,4 +1,4 @@
--- Where a stack call stopped that found no memory (this project's own).
+-- Where a stack call ran out of memory (this project's own).
 use Rattle.std.specs.Prelude.{◌≡◌, ◌⊎◌, ℕ, Bool, true, false, IsTrue, List, [], length, Option, Some, None}
 use Rattle.pam_base.specs.declared.code.Code.{Code}
 use Rattle.pam_base.specs.declared.code.Code.TheVariants as codes
@@ -20,7 +20,7 @@ use Rattle.pam_handle.specs.Call.{items_begun, without_its_tokens, without_reque
 use Rattle.pam_handle.specs.Pass.{PassesTo, passed}
 use Rattle.pam_handle.specs.StackCalls.{flags_seen, held_in}
 
--- ---- the first pass of a call: its kind, the answers that are kept for it, its stack, and the room that it begins in
+-- ---- the first pass of a call: its kind, its cached codes, its stack, and the room in which it begins
 
 abbrev pub first_kind : Func → Held → PassKind
 first_kind SetCred h = following h.authenticated
@@ -42,7 +42,7 @@ first_stack OpenSession stacks = stacks.session
 first_stack CloseSession stacks = stacks.session
 first_stack ChAuthTok stacks = stacks.password
 
--- a call that clears the tokens clears them where it begins
+-- a call that clears the tokens clears them if it begins
 abbrev pub with_items_begun : PlainHandle → PlainRoom
 with_items_begun h = record h.room {
   transaction = record h.room.transaction
@@ -54,7 +54,7 @@ room_begun Authenticate h = with_items_begun h
 room_begun ChAuthTok h = with_items_begun h
 room_begun func h = h.room
 
--- without memory the request for a delay is forgotten, and a call that clears the tokens clears them
+-- if memory runs out, the requested delay is dropped, and a call that clears the tokens clears them
 abbrev pub room_failed : Func → PlainRoom → PlainRoom
 room_failed Authenticate r = without_request (without_its_tokens r)
 room_failed ChAuthTok r = without_request (without_its_tokens r)
@@ -66,8 +66,8 @@ pub record PassedNothing {World : Type 0} (start end : PlainRoom) (before after 
   pub room : end ≡ start
   pub world : after ≡ before
 
--- A call that is one pass found no memory. Of the room in which the pass stopped nothing is changed but what the call
--- clears; and in the pass nothing happened, or it stopped at a line.
+-- A call of one pass ran out of memory. The call only cleared the tokens and the requested delay in the room in which
+-- the pass stopped; and in the pass nothing happened, or it stopped at a line.
 pub record StopsOnce {World : Type 0} (players : List Player) (func : Func) (flags : ℕ)
     (tells : Bool) (old new : PlainHandle) (w v : PlainWorld) (before after : World) : Type 0 where
   pub room : PlainRoom
@@ -80,13 +80,13 @@ pub record StopsOnce {World : Type 0} (players : List Player) (func : Func) (fla
 -- ---- a change of token
 
 module _ {World : Type 0} (players : List Player) (flags : ℕ) (stack : Stack) (tells : Bool) where
-  -- in its second pass, by the answers of the first
+  -- in its second pass, with the codes of the first
   abbrev pub StopsInUpdate : Option KeptAnswers → List Code → State → State → World → World → Type 0
   StopsInUpdate first past start end before after = PassedNothing start.room end.room before after
       ⊎ StopsAt players ChAuthTok (flags_seen ChAuthTok true flags) stack kinds.Follow
       (answers_held first) past tells start end
 
-  -- in its second pass, after a first one that gave SUCCESS
+  -- in its second pass, after a first one with SUCCESS
   pub record StopsLater (past : List Code) (start end : State) (after : World) : Type 0 where
     pub between : State
     pub behind : World
@@ -104,13 +104,13 @@ module _ {World : Type 0} (players : List Player) (flags : ℕ) (stack : Stack) 
       ⊎ (StopsAt players ChAuthTok (flags_seen ChAuthTok false flags) stack kinds.Keep
       (answers_held None) past tells start end ⊎ StopsLater past start end after)
 
-  -- by what the first pass kept, where the call goes on in its second
+  -- with the codes that the first pass cached, if the call is resumed in its second pass
   abbrev pub StopsInChange : Option KeptAnswers → List Code → State → State → World → World → Type 0
   StopsInChange None past start end before after = StopsInCheck past start end before after
   StopsInChange (Some first) past start end before after =
       StopsInUpdate (Some first) past start end before after
 
--- The same of the call: of the room in which it stopped nothing is changed but what the call clears.
+-- The same of the whole call: it only cleared the tokens and the requested delay in the room in which it stopped.
 pub record StopsChanging {World : Type 0} (players : List Player) (flags : ℕ) (tells : Bool)
     (old new : PlainHandle) (w v : PlainWorld) (before after : World) : Type 0 where
   pub room : PlainRoom

@@ -6,7 +6,7 @@ ghost use Rattle.pam_handle.specs.StackCalled.{StackCalled};
 use crate::gear::{Gear, GearTold};
 use crate::handle::Handle;
 use crate::pass::pass;
-use crate::pending::taken_up;
+use crate::pending::resumed_from;
 use data_cleanup::laws;
 use dispatch_core::PassRequest;
 use dispatch_core::fail_delay::{DelayFn, DelayTold};
@@ -17,10 +17,10 @@ use pam_base::{Code, Func, NoMemory};
 use std::alloc::Global;
 
 impl Handle {
-    /// Asks whether the account is valid (`pam_acct_mgmt(3)`): a pass over the account stack, whose
-    /// answers aren't kept.
+    /// Asks whether the account is valid (`pam_acct_mgmt(3)`): one pass over the account stack. Its
+    /// return codes aren't cached.
     ///
-    /// Without memory what was kept stays.
+    /// If memory runs out, cached return codes stay.
     pub fn acct_mgmt(
         &mut self,
         alloc: Global,
@@ -42,7 +42,7 @@ impl Handle {
         if self.is_other_pending(Func::AcctMgmt) {
             return Ok(Code::Abort);
         }
-        let (mut paused, _) = taken_up(self.pending.take());
+        let (mut paused, _) = resumed_from(self.pending.take());
         let mut kept = Kept::none();
         let result = pass(
             alloc,

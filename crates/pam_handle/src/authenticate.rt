@@ -1,15 +1,15 @@
 ghost use Rattle.std.specs.Prelude.{◌≡◌, ◌<◌, ◌^◌, false, None, IfOk, OnErr};
 ghost use Rattle.pam_handle.specs.AnyWorld.{Waits};
 ghost use Rattle.dispatch_core.specs.Pending.{is_other_pending};
-ghost use Rattle.pam_handle.specs.Plain.{plain_handle};
+ghost use Rattle.pam_handle.specs.Plain.{in_box, plain_handle};
 ghost use Rattle.pam_handle.specs.Ready.{IsReadyFor};
 ghost use Rattle.pam_handle.specs.StackCalled.{StackCalled};
 
-use crate::delaying::wait_behind;
+use crate::delaying::sleep_after;
 use crate::gear::{Gear, GearTold};
 use crate::handle::Handle;
 use crate::pass::pass;
-use crate::pending::{clear_unless_pending, clear_unless_put_off, code_at_end, taken_up};
+use crate::pending::{clear_if_ended, clear_unless_pending, final_code, resumed_from};
 use data_cleanup::laws;
 use dispatch_core::PassRequest;
 use dispatch_core::fail_delay::{DelayFn, DelayTold};
@@ -20,13 +20,13 @@ use pam_base::{Code, Func, NoMemory};
 use std::alloc::Global;
 
 impl Handle {
-    /// Authenticates the user (`pam_authenticate(3)`): a pass over the auth stack, whose answers
-    /// are kept for `setcred`. The tokens are cleared before it and after it, and then the wait
-    /// follows (`pam_fail_delay(3)`): the delay function is always asked where it is on; where it
-    /// is off, the longest request, lengthened or shortened by a random word, is waited after every
-    /// code but SUCCESS.
+    /// Authenticates the user (`pam_authenticate(3)`): one pass over the auth stack. Its return
+    /// codes are cached for `setcred`. The tokens are cleared before and after it. Then the call
+    /// waits (`pam_fail_delay(3)`): if the application has set a delay function, as long as that
+    /// says, even after SUCCESS; otherwise, after any code except SUCCESS, for the longest
+    /// requested delay, varied at random.
     ///
-    /// Without memory no answers of an authentication are kept, the tokens are cleared, and nothing was waited.
+    /// If memory runs out, no codes of an authentication are cached, the tokens are cleared, and nothing was waited.
     pub fn authenticate(
         &mut self,
         alloc: Global,
@@ -46,7 +46,9 @@ impl Handle {
             Func.Authenticate ≡ false →
             IfOk result (λ code. (plain_handle ⟦<Room as RoomTold>⟧.plain self.new).pending ≡ None →
             Waits code (plain_handle ⟦<Room as RoomTold>⟧.plain self.old)
-            (plain_handle ⟦<Room as RoomTold>⟧.plain self.new)) }
+            (plain_handle ⟦<Room as RoomTold>⟧.plain self.new)
+            (nap_tells (in_box world.old.nap)) (nap_holds (in_box world.old.nap))
+            (nap_holds (in_box world.new.nap))) }
         ensures no_nap { OnErr result (world.new.nap ≡ world.old.nap) }
     {
         laws::nothing_grows();
@@ -54,7 +56,7 @@ impl Handle {
             return Ok(Code::Abort);
         }
         clear_unless_pending(&mut self.room.transaction.items, &self.pending);
-        let (mut paused, _) = taken_up(self.pending.take());
+        let (mut paused, _) = resumed_from(self.pending.take());
         let result = pass(
             alloc,
             gear,
@@ -70,9 +72,9 @@ impl Handle {
             world,
         );
         let longest = self.room.transaction.delay.longest();
-        clear_unless_put_off(&mut self.room.transaction.items, &paused);
-        let code = code_at_end(&result, &paused);
-        wait_behind(gear, world, self.delay_on, longest, code, &mut self.waited);
+        clear_if_ended(&mut self.room.transaction.items, &paused);
+        let code = final_code(&result, &paused);
+        sleep_after(gear, world, self.delay_on, longest, code, &mut self.waited);
         self.settle(Func::Authenticate, paused, Kept::none());
         result
     }

@@ -5,7 +5,7 @@ use dispatch_core::service_load::RuleType;
 use pam_base::Texts;
 use std::alloc::Global;
 
-/// The stacks of a service, laid flat for one list of modules.
+/// The stacks of a service, flattened for one list of modules (libpam's handler chains).
 #[derive(Drop)]
 pub struct Chains {
     pub auth: Chain,
@@ -23,7 +23,7 @@ impl Chains {
     ghost use Rattle.dispatch_core.specs.service_load.specs.Stacks.{stacks_of, with_stack};
     ghost use Rattle.pam_handle.specs.Plain.{nodes_in, stacks_in};
 
-    /// Stacks without a line, for modules with these names.
+    /// Empty stacks, for modules with these names.
     pub(crate) fn new(alloc: Global, names: &Texts) -> Self
         requires { length names.now < 2 ^ 32 }
         ensures stacks { stacks_in result ≡ stacks_of (λ _. none) }
@@ -50,7 +50,7 @@ impl Chains {
         }
     }
 
-    /// Sets the stack of a type, laid flat for the same modules.
+    /// Sets the stack of a type, flattened for the same modules.
     pub(crate) fn put(&mut self, rule_type: RuleType, chain: Chain)
         requires { chain.names ≡ self.old.auth.names }
         ensures stacks { stacks_in self.new

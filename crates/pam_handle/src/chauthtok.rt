@@ -6,7 +6,7 @@ ghost use Rattle.dispatch_core.specs.pam_room.specs.Module.{notes_of};
 ghost use Rattle.dispatch_core.specs.pam_room.specs.Plain.{plain_process, plain_transaction};
 ghost use Rattle.dispatch_core.specs.pam_room.specs.State.{state_of};
 ghost use Rattle.dispatch_core.specs.pam_room.specs.Stays.{IsReady};
-ghost use Rattle.dispatch_core.specs.Pending.{pending_behind};
+ghost use Rattle.dispatch_core.specs.Pending.{pending_after};
 ghost use Rattle.pam_handle.specs.Handle.{PlainHandle};
 ghost use Rattle.pam_handle.specs.Pass.{kept_answers};
 ghost use Rattle.pam_handle.specs.Plain.{plain_handle};
@@ -14,12 +14,13 @@ ghost use Rattle.pam_handle.specs.Ready.{IsReadyFor};
 ghost use Rattle.pam_handle.specs.StackCalled.{StackCalled};
 ghost use Rattle.pam_handle.specs.StackCalls.{change_goes_on, changed, check, update};
 ghost use Rattle.pam_handle.specs.Stopping.{StopsInChange, StopsInCheck, StopsInUpdate};
+ghost use Rattle.pam_handle.specs.Trail.{ChangesByTrail, ChecksByTrail, UpdatesByTrail};
 
 use crate::flags::has_pass_flag;
 use crate::gear::{Gear, GearTold};
 use crate::handle::Handle;
 use crate::pass::pass;
-use crate::pending::{clear_unless_pending, clear_unless_put_off, taken_up};
+use crate::pending::{clear_if_ended, clear_unless_pending, resumed_from};
 use dispatch_core::fail_delay::{DelayFn, DelayTold};
 use dispatch_core::handler_chain::Chain;
 use dispatch_core::pam_room::{Room, RoomTold, World, WorldTold};
@@ -31,11 +32,12 @@ use std::alloc::Global;
 
 impl Handle {
     /// Changes the user's token (`pam_chauthtok(3)`): a pass over the password stack with
-    /// PAM_PRELIM_CHECK, and only where that gives SUCCESS one with PAM_UPDATE_AUTHTOK, which goes
-    /// by the answers of the first. The tokens are cleared before the first and after the last.
-    /// Flags that hold one of these two are answered SYSTEM_ERR, and nothing changes.
+    /// PAM_PRELIM_CHECK, and only if that gives SUCCESS one with PAM_UPDATE_AUTHTOK, which uses the
+    /// cached return codes of the first. The tokens are cleared before the first pass and after the
+    /// last. For flags that hold one of these two it returns SYSTEM_ERR and changes nothing.
     ///
-    /// Without memory what authentications and openings kept stays, and the tokens are cleared.
+    /// If memory runs out, the cached codes of authentications and sessions stay, and the tokens
+    /// are cleared.
     pub fn chauthtok(
         &mut self,
         alloc: Global,
@@ -61,7 +63,7 @@ impl Handle {
             return Ok(Code::Abort);
         }
         clear_unless_pending(&mut self.room.transaction.items, &self.pending);
-        let (mut paused, mut first) = taken_up(self.pending.take());
+        let (mut paused, mut first) = resumed_from(self.pending.take());
         let result = change(
             alloc,
             gear,
@@ -72,13 +74,13 @@ impl Handle {
             &mut self.room,
             world,
         );
-        clear_unless_put_off(&mut self.room.transaction.items, &paused);
+        clear_if_ended(&mut self.room.transaction.items, &paused);
         self.settle(Func::ChAuthTok, paused, first);
         result
     }
 }
 
-// The passes of a change of token that are left: both, or the second one, where the answers of the first are held.
+// The passes of a change of token that are left: both, or only the second if the codes of the first are there.
 fn change(
     alloc: Global,
     gear: &Gear,
@@ -106,9 +108,13 @@ fn change(
         (record h {
           room =
               ⟦<Room as RoomTold>⟧.plain room.new;
-          pending = pending_behind Func.ChAuthTok
+          pending = pending_after Func.ChAuthTok
               (kept_answers first.new) paused.new;
         }) (⟦<World as WorldTold>⟧.plain world.new)) }
+    ensures by_trail { IfOk result (λ code. ChangesByTrail chain.old.nodes
+        (kept_answers first.old) (past_of paused.old)
+        (plain_transaction room.old.transaction).trail
+        (plain_transaction room.new.transaction).trail code (kept_answers first.new) paused.new) }
     ensures stopped { OnErr result (StopsInChange (⟦<Gear as GearTold>⟧.players gear.now) flags
         chain.old.nodes
         (⟦<Room as RoomTold>⟧.tells room.old && ⟦<World as WorldTold>⟧.tells world.old)
@@ -134,8 +140,8 @@ fn change(
     }
 }
 
-// The first pass, in which modules look whether they can change the token, and only where it gives
-// SUCCESS the second one.
+// The first pass, in which modules check whether they can change the token, and only if it gives SUCCESS the second
+// one.
 fn check(
     alloc: Global,
     gear: &Gear,
@@ -164,9 +170,13 @@ fn check(
         (record h {
           room =
               ⟦<Room as RoomTold>⟧.plain room.new;
-          pending = pending_behind Func.ChAuthTok
+          pending = pending_after Func.ChAuthTok
               (kept_answers first.new) paused.new;
         }) (⟦<World as WorldTold>⟧.plain world.new)) }
+    ensures by_trail { IfOk result (λ code. ChecksByTrail chain.old.nodes
+        (past_of paused.old)
+        (plain_transaction room.old.transaction).trail
+        (plain_transaction room.new.transaction).trail code (kept_answers first.new) paused.new) }
     ensures stopped { OnErr result (StopsInCheck (⟦<Gear as GearTold>⟧.players gear.now) flags
         chain.old.nodes
         (⟦<Room as RoomTold>⟧.tells room.old && ⟦<World as WorldTold>⟧.tells world.old)
@@ -210,7 +220,7 @@ fn check(
     }
 }
 
-// The second pass, in which modules change the token. It goes by the answers of the first.
+// The second pass, in which modules change the token. It uses the cached codes of the first.
 fn update(
     alloc: Global,
     gear: &Gear,
@@ -238,9 +248,13 @@ fn update(
         (record h {
           room =
               ⟦<Room as RoomTold>⟧.plain room.new;
-          pending = pending_behind Func.ChAuthTok
+          pending = pending_after Func.ChAuthTok
               (kept_answers first.new) paused.new;
         }) (⟦<World as WorldTold>⟧.plain world.new)) }
+    ensures by_trail { IfOk result (λ code. UpdatesByTrail chain.old.nodes
+        (kept_answers first.old) (past_of paused.old)
+        (plain_transaction room.old.transaction).trail
+        (plain_transaction room.new.transaction).trail code (kept_answers first.new) paused.new) }
     ensures stopped { OnErr result (StopsInUpdate (⟦<Gear as GearTold>⟧.players gear.now) flags
         chain.old.nodes
         (⟦<Room as RoomTold>⟧.tells room.old && ⟦<World as WorldTold>⟧.tells world.old)

@@ -6,7 +6,7 @@ ghost use Rattle.pam_handle.specs.StackCalled.{StackCalled};
 use crate::gear::{Gear, GearTold};
 use crate::handle::Handle;
 use crate::pass::{following, pass};
-use crate::pending::taken_up;
+use crate::pending::resumed_from;
 use data_cleanup::laws;
 use dispatch_core::PassRequest;
 use dispatch_core::fail_delay::{DelayFn, DelayTold};
@@ -16,10 +16,10 @@ use pam_base::{Code, Func, NoMemory};
 use std::alloc::Global;
 
 impl Handle {
-    /// Closes a session (`pam_close_session(3)`): a pass over the session stack, which goes by the
-    /// answers that the last opening kept, where any are.
+    /// Closes a session (`pam_close_session(3)`): one pass over the session stack. It uses the
+    /// return codes that the last opened session cached, if there are any.
     ///
-    /// Without memory what was kept stays.
+    /// If memory runs out, cached return codes stay.
     pub fn close_session(
         &mut self,
         alloc: Global,
@@ -41,7 +41,7 @@ impl Handle {
         if self.is_other_pending(Func::CloseSession) {
             return Ok(Code::Abort);
         }
-        let (mut paused, _) = taken_up(self.pending.take());
+        let (mut paused, _) = resumed_from(self.pending.take());
         let kind = following(&self.opened);
         let result = pass(
             alloc,

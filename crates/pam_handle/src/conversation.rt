@@ -11,7 +11,7 @@ use std::alloc::Global;
 use std::mem;
 
 impl Handle {
-    /// Puts in a conversation (PAM_CONV of `pam_set_item(3)`), and gives back the old one.
+    /// Sets the conversation (PAM_CONV of `pam_set_item(3)`), and returns the old one.
     pub fn set_conv(&mut self, conv: Box<dyn Conv>) -> Box<dyn Conv>
         ensures old { result ≡ (room_in self.old).conv }
         ensures conv { (room_in self.new).conv ≡ conv }
@@ -22,8 +22,8 @@ impl Handle {
         mem::replace(&mut self.room.conv, conv)
     }
 
-    /// Offers the conversation a reply of at most 512 bytes for a prompt to come, as `Conv::offer`
-    /// does. Without memory a conversation that tells holds what it held.
+    /// Offers the conversation a reply of at most 512 bytes for a later prompt, as `Conv::offer`
+    /// does. If memory runs out, a modelled conversation holds what it held before.
     pub fn offer(&mut self, alloc: Global, text: &[u8]) -> Result<(), NoMemory>
         requires { length text.now ≤ MAX_TEXT }
         ensures tells { ⟦<Room as RoomTold>⟧.tells (room_in self.new)

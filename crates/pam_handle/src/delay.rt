@@ -6,8 +6,8 @@ use crate::handle::Handle;
 use dispatch_core::pam_room::{Room, RoomTold};
 
 impl Handle {
-    /// `pam_fail_delay(3)`: a request, in microseconds. The longest since the last stack call that
-    /// ended counts, and one above 60 seconds as 60 seconds.
+    /// `pam_fail_delay(3)`: requests a delay, in microseconds. The longest request since the last
+    /// stack call that ended counts; more than 60 seconds count as 60 seconds.
     pub fn fail_delay(&mut self, micros: u32)
         ensures tells { ⟦<Room as RoomTold>⟧.tells (room_in self.new)
             ≡ ⟦<Room as RoomTold>⟧.tells (room_in self.old) }
@@ -17,8 +17,8 @@ impl Handle {
         self.room.transaction.delay.request(micros);
     }
 
-    /// Turns the application's delay function on or off (PAM_FAIL_DELAY of `pam_fail_delay(3)`). It
-    /// is off at the start.
+    /// Switches the application's delay function on or off (PAM_FAIL_DELAY of `pam_fail_delay(3)`).
+    /// It is off at the start.
     pub fn set_delay(&mut self, on: bool)
         ensures tells { ⟦<Room as RoomTold>⟧.tells (room_in self.new)
             ≡ ⟦<Room as RoomTold>⟧.tells (room_in self.old) }

@@ -3,7 +3,8 @@ ghost use Rattle.dispatch_core.specs.fail_delay.specs.Delay.{asked_delay};
 ghost use Rattle.dispatch_core.specs.fail_delay.specs.Wait.{wait_of};
 ghost use Rattle.pam_base.specs.declared.code.Code.{Code};
 ghost use Rattle.pam_handle.specs.AnyWorld.{WaitsFor, WaitsOnlyAtEnd};
-ghost use Rattle.pam_handle.specs.Call.{WaitsBehind, drawn_by, rested_by, waited_by};
+ghost use Rattle.pam_handle.specs.Call.{WaitsBehind, drawn_by, nap_after, rested_by, waited_by};
+ghost use Rattle.pam_handle.specs.Plain.{in_box};
 
 use crate::gear::Gear;
 use crate::wait::Wait;
@@ -14,8 +15,8 @@ use dispatch_core::pam_outside::{random_word, rest};
 use dispatch_core::pam_room::{World, WorldTold};
 use pam_base::Code;
 
-// Waits after the code of an authentication (`pam_fail_delay(3)`), by the longest request in microseconds and by the
-// delay function, where it is on. A wait takes the place of what was to be told of an earlier one.
+// Waits after an authentication with this code (`pam_fail_delay(3)`), by the longest request in microseconds and by the
+// delay function, if it is on. A wait replaces the record of an earlier one.
 fn wait(
     gear: &Gear,
     world: &mut World,
@@ -35,7 +36,9 @@ fn wait(
         × (⟦<World as WorldTold>⟧.plain world.new
         ≡ rested_by (wait_of delay_on number code asked)
         (drawn_by longest (⟦<World as WorldTold>⟧.plain world.old)))) }
-    ensures sound { WaitsFor code delay_on waited.old waited.new }
+    ensures sound { WaitsFor code delay_on waited.old waited.new
+        (nap_tells (in_box world.old.nap)) (nap_holds (in_box world.old.nap))
+        (nap_holds (in_box world.new.nap)) }
     ensures process { world.new.process ≡ world.old.process }
 {
     let asked = asked_of(longest, world);
@@ -45,8 +48,8 @@ fn wait(
     }
 }
 
-/// Waits after an authentication that has ended with this code, and not after one that hasn't.
-pub(crate) fn wait_behind(
+/// Waits after an authentication that has ended with this code, and not after one that hasn't ended.
+pub(crate) fn sleep_after(
     gear: &Gear,
     world: &mut World,
     delay_on: bool,
@@ -63,7 +66,9 @@ pub(crate) fn wait_behind(
         WaitsBehind number code longest delay_on waited.old
         (⟦<World as WorldTold>⟧.plain world.old) waited.new
         (⟦<World as WorldTold>⟧.plain world.new) }
-    ensures sound { WaitsOnlyAtEnd code delay_on waited.old waited.new }
+    ensures sound { WaitsOnlyAtEnd code delay_on waited.old waited.new
+        (nap_tells (in_box world.old.nap)) (nap_holds (in_box world.old.nap))
+        (nap_holds (in_box world.new.nap)) }
     ensures stays { IfNone code (world.new ≡ world.old) }
     ensures process { world.new.process ≡ world.old.process }
 {
@@ -72,7 +77,7 @@ pub(crate) fn wait_behind(
     }
 }
 
-// The delay that is asked for; a word is drawn only where a delay was requested.
+// The requested delay; a random word is read only if a delay was requested.
 fn asked_of(longest: u32, world: &mut World) -> u32
     requires { longest ≤ LONGEST_REQUEST }
     ensures tells { ⟦<World as WorldTold>⟧.tells world.new
@@ -83,6 +88,7 @@ fn asked_of(longest: u32, world: &mut World) -> u32
         ⟦<World as WorldTold>⟧.plain world.new
         ≡ drawn_by longest (⟦<World as WorldTold>⟧.plain world.old) }
     ensures bound { result ≤ LONGEST_ASKED }
+    ensures nap { world.new.nap ≡ world.old.nap }
     ensures process { world.new.process ≡ world.old.process }
 {
     if longest == 0 {
@@ -91,7 +97,7 @@ fn asked_of(longest: u32, world: &mut World) -> u32
     asked(longest, random_word(&mut *world.clock))
 }
 
-// The wait; the delay function is asked wherever it is on.
+// The wait; the delay function is asked whenever it is on.
 fn wait_by(gear: &Gear, delay_on: bool, code: Code, asked: u32) -> Option<u32>
     requires { asked ≤ LONGEST_ASKED }
     ensures wait { (number : Code → ℕ → ℕ) →
@@ -114,6 +120,8 @@ fn rest_for(world: &mut World, wait: u32)
     ensures told { IsTrue (⟦<World as WorldTold>⟧.tells world.old) →
         ⟦<World as WorldTold>⟧.plain world.new
         ≡ rested_by (Some wait) (⟦<World as WorldTold>⟧.plain world.old) }
+    ensures slept { IsTrue (nap_tells (in_box world.old.nap)) → nap_holds (in_box world.new.nap)
+        ≡ nap_after (Some wait) (nap_holds (in_box world.old.nap)) }
     ensures process { world.new.process ≡ world.old.process }
 {
     if wait > 0 {

@@ -11,9 +11,9 @@ use dispatch_core::conv_port::Conv;
 use dispatch_core::pam_room::{Room, RoomTold, World, WorldTold, end_room};
 
 impl Handle {
-    /// Ends the transaction (`pam_end(3)`), be a call pending or not: each datum is cleaned up by
-    /// its owner with this status, as it is given, the last name first, and the receipt is filed.
-    /// The conversation is given back. It takes no memory.
+    /// Ends the transaction (`pam_end(3)`), even if a call is pending: the owners clean up its
+    /// module data with this status, as it is given, the last name first, and each cleanup is
+    /// logged. The conversation is returned. Allocates nothing.
     pub fn end(self, gear: &Gear, world: &mut World, status: u32) -> Box<dyn Conv>
         requires { IsReadyFor (⟦<Gear as GearTold>⟧.players gear.now)
             (plain_handle ⟦<Room as RoomTold>⟧.plain self)

@@ -12,8 +12,8 @@ use std::alloc::Global;
 
 impl Handle {
     /// `pam_putenv(3)`: `NAME=VALUE` sets a variable, `NAME=` sets it to the empty text, and `NAME`
-    /// alone deletes it. BadItem exactly where the name is empty or an unset one is deleted. A
-    /// deletion takes no memory. After a refusal and without memory all is as it was.
+    /// alone deletes it. BadItem exactly if the name is empty or an unset variable is deleted. A
+    /// deletion allocates nothing. If the call is refused or runs out of memory, nothing changes.
     pub fn putenv(&mut self, text: &[u8]) -> Result<(), Refuse<BadItem>>
         ensures tells { ⟦<Room as RoomTold>⟧.tells (room_in self.new)
             ≡ ⟦<Room as RoomTold>⟧.tells (room_in self.old) }
@@ -31,7 +31,7 @@ impl Handle {
         self.room.transaction.env.put(text)
     }
 
-    /// The value of a name; None where it isn't set (`pam_getenv(3)`).
+    /// The value of a name; None if it isn't set (`pam_getenv(3)`).
     pub fn getenv(&self, name: &[u8]) -> Option<&[u8]>
         ensures { option_copied result ≡ value_of name.now
             (plain_handle ⟦<Room as RoomTold>⟧.plain self.now).room.transaction.env }

@@ -10,7 +10,7 @@ pub fn has_pass_flag(flags: u32) -> bool
     flags & PRELIM_CHECK > 0 || flags & UPDATE_AUTHTOK > 0
 }
 
-/// The flags that modules see of a `pam_setcred(3)`: 0 stands for PAM_ESTABLISH_CRED.
+/// The flags of a `pam_setcred(3)` that modules see: 0 means PAM_ESTABLISH_CRED.
 pub(crate) fn credential_flags(flags: u32) -> u32
     ensures { result ≡ credential_flags flags }
 {

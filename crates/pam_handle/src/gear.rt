@@ -3,7 +3,7 @@ ghost use Rattle.std.specs.Prelude.{◌<◌, ◌^◌, length};
 use dispatch_core::fail_delay::DelayFn;
 use dispatch_core::pam_room::Module;
 
-/// What an application brings to all its transactions: the modules, which a line finds by their names, and its delay
+/// What an application supplies to all its transactions: the modules, which a line finds by name, and its delay
 /// function (PAM_FAIL_DELAY of `pam_fail_delay(3)`).
 #[derive(Drop)]
 pub struct Gear {
@@ -12,12 +12,12 @@ pub struct Gear {
     ghost few: { length mods.items < 2 ^ 32 },
 }
 
-/// Names the modules of a gear, for contracts.
+/// Names the modules, for contracts.
 pub trait GearTold {
     ghost use Rattle.std.specs.Prelude.{List};
     ghost use Rattle.dispatch_core.specs.pam_room.specs.Module.{Player};
 
-    /// Its modules, in order.
+    /// The meanings of its modules, in order.
     ghost players: { Self → List Player };
 }
 

@@ -4,25 +4,24 @@ use crate::wait::Wait;
 use dispatch_core::pam_room::Room;
 use frozen_chain::Kept;
 
-/// A transaction (`pam_start(3)`), from its start to its end. It holds module data, so it can't be dropped: `end` alone
-/// uses it up.
+/// A transaction (libpam's `pam_handle_t`), from `pam_start(3)` to `pam_end(3)`. It holds module data, so it can't be
+/// dropped: only `end` consumes it.
 ///
-/// Six calls run a stack: `authenticate`, `setcred`, `acct_mgmt`, `open_session`, `close_session`
-/// and `chauthtok`. Where a line puts such a call off it answers INCOMPLETE and is pending: called
-/// again it goes on at that line, with the flags of the new call, and what it does before a pass
-/// isn't done again. Where another call is pending it answers ABORT, and nothing changes. A call
-/// that has ended leaves nothing pending and no request for a delay. It takes memory unless it
-/// aborts; without memory too nothing is pending, no request is left, no datum waits for its
-/// cleanup, and what was told before stands in front.
+/// Six calls run a stack: `authenticate`, `setcred`, `acct_mgmt`, `open_session`, `close_session` and `chauthtok`. If a
+/// module returns INCOMPLETE, so does the call, and it is pending: the next time it resumes at that line, with the
+/// flags of the new call, and doesn't repeat what it does before a pass. While a call is pending, every other one
+/// returns ABORT and changes nothing. A call that has ended leaves nothing pending and no requested delay. Every call
+/// except an aborted one may allocate. If an allocation fails, nothing is pending, no delay is requested, all replaced
+/// module data have been cleaned up, and what is to report has only grown.
 pub struct Handle {
     pub(crate) room: Room,
     pub(crate) chains: Chains,
-    // The answers that the last authentication kept, and those of the last opening of a session.
+    // The return codes cached by the last authentication, and by the last opened session.
     pub(crate) authenticated: Kept,
     pub(crate) opened: Kept,
     // Whether the application's delay function is on.
     pub(crate) delay_on: bool,
     pub(crate) pending: Option<PutOff>,
-    // The last wait that wasn't told yet.
+    // The last wait, if it isn't reported yet.
     pub(crate) waited: Option<Wait>,
 }

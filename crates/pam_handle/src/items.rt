@@ -12,10 +12,10 @@ use dispatch_core::pam_room::{Room, RoomTold};
 use pam_base::{BadItem, ItemName, Refuse};
 
 impl Handle {
-    /// `pam_set_item(3)`: a copy of the value, or with None the item is unset, which takes no
-    /// memory. BadItem exactly for SERVICE, which the start alone sets, for the tokens, which are
-    /// the modules', and for CONV and FAIL_DELAY, which have calls of their own. After a refusal
-    /// and without memory all is as it was. A call that is pending stays so.
+    /// `pam_set_item(3)`: stores a copy of the value; None unsets the item, which allocates
+    /// nothing. BadItem exactly for SERVICE, which only the start sets, for the tokens, which
+    /// belong to the modules, and for CONV and FAIL_DELAY, which have their own calls. If the call
+    /// is refused or runs out of memory, nothing changes. A pending call stays pending.
     pub fn set_item(&mut self, item: ItemName, value: Option<&[u8]>) -> Result<(), Refuse<BadItem>>
         ensures tells { ⟦<Room as RoomTold>⟧.tells (room_in self.new)
             ≡ ⟦<Room as RoomTold>⟧.tells (room_in self.old) }
@@ -31,7 +31,7 @@ impl Handle {
         self.room.transaction.items.set_app(item, value)
     }
 
-    /// `pam_get_item(3)`; None where the item isn't set. BadItem exactly for the tokens, CONV and FAIL_DELAY.
+    /// `pam_get_item(3)`; None if the item isn't set. BadItem exactly for the tokens, CONV and FAIL_DELAY.
     pub fn get_item(&self, item: ItemName) -> Result<Option<&[u8]>, BadItem>
         ensures ok { IfOk result (λ text. option_copied text
             ≡ text_of

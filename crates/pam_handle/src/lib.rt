@@ -1,8 +1,9 @@
-//! One transaction of an application (the Application Developers' Guide): its start, the six calls
-//! that run a stack, its items, environment, delays and conversation, and its end. A stack call may
-//! be put off, and goes on when it is called again.
+//! One transaction of an application (the Application Developers' Guide): its start, the six calls that run a stack,
+//! its items, environment, delays and conversation, and its end. A stack call may return INCOMPLETE; it is resumed when
+//! it is called again.
 //!
-//! Begin at start.rt and authenticate.rt; pass.rt is one pass, pending.rt what stands round it where it is put off.
+//! Begin at start.rt and authenticate.rt; pass.rt is one pass, pending.rt what a call does before and after it if it is
+//! incomplete.
 #![tactic(auto)]
 
 mod acct_mgmt;
@@ -27,6 +28,7 @@ mod prepare;
 mod put_off;
 mod setcred;
 mod start;
+mod start_cache;
 mod take_told;
 mod wait;
 
@@ -35,5 +37,6 @@ pub use flags::has_pass_flag;
 pub use gear::{Gear, GearTold};
 pub use handle::Handle;
 pub use start::StartRefused;
+pub use start_cache::StartCache;
 pub use take_told::Told;
 pub use wait::Wait;

@@ -13,10 +13,10 @@ use pam_base::{NoMemory, Text, Texts};
 use std::alloc::Global;
 
 impl Handle {
-    /// The names of the modules that lines name and that the gear of the start didn't have, in the
+    /// The names of the modules that lines name and that weren't among those of the start, in the
     /// order of the stacks auth, account, password and session, and in each in written order. A
-    /// name stands as often as it is missing; a line that is silent about its module (a `-` before
-    /// its type, `pam.conf(5)`) adds none.
+    /// name is listed as often as it is missing; a line that is silent about its module (a `-`
+    /// before its type, `pam.conf(5)`) adds none.
     pub fn missing(&self, alloc: Global) -> Result<Texts, NoMemory>
         ensures { IfOk result (λ names. names
             ≡ missing_from (plain_handle ⟦<Room as RoomTold>⟧.plain self.now).names
@@ -30,7 +30,7 @@ impl Handle {
     }
 }
 
-// Adds the names of the modules that are missing in one stack.
+// Adds the names of the modules missing in one stack.
 fn add_missing(alloc: Global, chain: &Chain, names: &mut Texts) -> Result<(), NoMemory>
     ensures { OnOk result (names.new ≡ names.old ++ missing_in chain.now.names chain.now.nodes) }
 {

@@ -6,7 +6,7 @@ ghost use Rattle.pam_handle.specs.StackCalled.{StackCalled};
 use crate::gear::{Gear, GearTold};
 use crate::handle::Handle;
 use crate::pass::pass;
-use crate::pending::taken_up;
+use crate::pending::resumed_from;
 use data_cleanup::laws;
 use dispatch_core::PassRequest;
 use dispatch_core::fail_delay::{DelayFn, DelayTold};
@@ -17,10 +17,10 @@ use pam_base::{Code, Func, NoMemory};
 use std::alloc::Global;
 
 impl Handle {
-    /// Opens a session (`pam_open_session(3)`): a pass over the session stack, whose answers are
-    /// kept for `close_session`.
+    /// Opens a session (`pam_open_session(3)`): one pass over the session stack. Its return codes
+    /// are cached for `close_session`.
     ///
-    /// Without memory no answers of an opening are kept.
+    /// If memory runs out, no codes of an opened session are cached.
     pub fn open_session(
         &mut self,
         alloc: Global,
@@ -42,7 +42,7 @@ impl Handle {
         if self.is_other_pending(Func::OpenSession) {
             return Ok(Code::Abort);
         }
-        let (mut paused, _) = taken_up(self.pending.take());
+        let (mut paused, _) = resumed_from(self.pending.take());
         let result = pass(
             alloc,
             gear,

@@ -7,8 +7,9 @@ ghost use Rattle.dispatch_core.specs.pam_room.specs.Module.{notes_of};
 ghost use Rattle.dispatch_core.specs.pam_room.specs.Plain.{plain_process, plain_transaction};
 ghost use Rattle.dispatch_core.specs.pam_room.specs.State.{state_of};
 ghost use Rattle.dispatch_core.specs.pam_room.specs.Stays.{IsReady};
-ghost use Rattle.dispatch_core.specs.Calls.{answers_held, following};
+ghost use Rattle.dispatch_core.specs.Calls.{answers_held, following, passed_by};
 ghost use Rattle.dispatch_core.specs.Failing.{IsUntouched, StopsAt};
+ghost use Rattle.dispatch_core.specs.Trail.{ByTrail};
 ghost use Rattle.pam_handle.specs.Pass.{PassesTo, kept_answers, passed};
 
 use crate::gear::{Gear, GearTold};
@@ -20,8 +21,8 @@ use frozen_chain::Kept;
 use pam_base::{Code, NoMemory};
 use std::alloc::Global;
 
-/// One pass of a stack call over one of a transaction's stacks, with the answers that are kept for
-/// it, and where it was put off, after those that it was given.
+/// One pass of a stack call over one of a transaction's stacks, with its cached return codes, and if it is resumed,
+/// with the codes it has so far.
 pub(crate) fn pass(
     alloc: Global,
     gear: &Gear,
@@ -47,6 +48,12 @@ pub(crate) fn pass(
         (state_of (⟦<Room as RoomTold>⟧.plain room.old) (⟦<World as WorldTold>⟧.plain world.old)))
         code (kept_answers kept.new) paused.new
         (state_of (⟦<Room as RoomTold>⟧.plain room.new) (⟦<World as WorldTold>⟧.plain world.new))) }
+    ensures by_trail { IfOk result (λ code. ByTrail request.kind
+        (answers_held (kept_answers kept.old)) chain.old.nodes (past_of paused.old)
+        (plain_transaction room.old.transaction).trail
+        (plain_transaction room.new.transaction).trail (λ w told. PassesTo
+        (passed_by request.kind (kept_answers kept.old) w)
+        code (kept_answers kept.new) paused.new told)) }
     ensures kept { OnErr result (kept.new ≡ kept_failed request.kind kept.old) }
     ensures paused { OnErr result (paused.new ≡ None) }
     ensures put_off { IfOk result (λ code. IsTrue (is_some paused.new) → code ≡ Code.Incomplete) }
@@ -71,7 +78,7 @@ pub(crate) fn pass(
     dispatch(alloc, chain, &gear.mods, request, kept, paused, room, world)
 }
 
-/// A pass that goes by kept answers, where any are held.
+/// A pass that uses cached return codes, if there are any.
 pub(crate) fn following(kept: &Kept) -> PassKind
     ensures { result ≡ following (kept_answers kept.now) }
 {

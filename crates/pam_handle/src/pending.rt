@@ -1,8 +1,8 @@
 ghost use Rattle.std.specs.Prelude.{◌≡◌, false, None};
 ghost use Rattle.std.specs.Option.{option_map};
 ghost use Rattle.dispatch_core.specs.Given.{past_of};
-ghost use Rattle.dispatch_core.specs.Pending.{first_in, is_other_pending, past_in, pending_behind, pending_func, same_func};
-ghost use Rattle.pam_handle.specs.Call.{code_at_end, items_begun, items_behind, request_behind};
+ghost use Rattle.dispatch_core.specs.Pending.{first_in, is_other_pending, past_in, pending_after, pending_func, same_func};
+ghost use Rattle.pam_handle.specs.Call.{final_code, items_begun, items_behind, request_behind};
 ghost use Rattle.pam_handle.specs.Pass.{kept_answers};
 ghost use Rattle.pam_handle.specs.Plain.{pending_of, plain_handle, room_in};
 
@@ -15,8 +15,8 @@ use item_store::Items;
 use pam_base::{Code, Func, NoMemory};
 
 impl Handle {
-    /// The function of the stack call that is pending, if one is: one that was put off, and that goes on when it is
-    /// called again. Until then the others answer ABORT.
+    /// The function of the pending stack call, if there is one: it returned INCOMPLETE, and is resumed when it is
+    /// called again. Until then the others return ABORT.
     pub fn pending(&self) -> Option<Func>
         ensures { result ≡ pending_func (plain_handle ⟦<Room as RoomTold>⟧.plain self.now).pending }
     {
@@ -37,7 +37,7 @@ impl Handle {
         }
     }
 
-    // After a pass: the call is pending where it was put off, else the request for a delay is forgotten.
+    // After a pass: if it is incomplete, the call is pending; else the requested delay is dropped.
     pub(crate) fn settle(&mut self, func: Func, paused: Paused, first: Kept)
         requires { (plain_handle ⟦<Room as RoomTold>⟧.plain self.old).pending ≡ None }
         ensures tells { ⟦<Room as RoomTold>⟧.tells (room_in self.new)
@@ -45,7 +45,7 @@ impl Handle {
         ensures plain { plain_handle ⟦<Room as RoomTold>⟧.plain self.new
             ≡ record (plain_handle ⟦<Room as RoomTold>⟧.plain self.old) {
               room = request_behind paused (plain_handle ⟦<Room as RoomTold>⟧.plain self.old).room;
-              pending = pending_behind func (kept_answers first) paused;
+              pending = pending_after func (kept_answers first) paused;
             } }
     {
         if paused.is_none() {
@@ -60,10 +60,9 @@ impl Handle {
     }
 }
 
-/// What the call that is pending goes on with: the answers that it was given, and for the second
-/// pass of a change of token those that the first one kept. Nothing of both where nothing is
-/// pending.
-pub(crate) fn taken_up(pending: Option<PutOff>) -> (Paused, Kept)
+/// What a pending call is resumed with: its codes so far, and for the second pass of a change of token those that the
+/// first one cached. Both are empty if nothing is pending.
+pub(crate) fn resumed_from(pending: Option<PutOff>) -> (Paused, Kept)
     ensures past { past_of result.0 ≡ past_in (option_map pending_of pending) }
     ensures first { kept_answers result.1 ≡ first_in (option_map pending_of pending) }
 {
@@ -73,7 +72,7 @@ pub(crate) fn taken_up(pending: Option<PutOff>) -> (Paused, Kept)
     }
 }
 
-/// Clears the tokens before a call that begins, and not before one that goes on.
+/// Clears the tokens before a call that begins, and not before one that is resumed.
 pub(crate) fn clear_unless_pending(items: &mut Items, pending: &Option<PutOff>)
     ensures { items.new ≡ items_begun (option_map pending_of pending.now) items.old }
 {
@@ -82,8 +81,8 @@ pub(crate) fn clear_unless_pending(items: &mut Items, pending: &Option<PutOff>)
     }
 }
 
-/// Clears the tokens after a call that has ended, and not after one that was put off.
-pub(crate) fn clear_unless_put_off(items: &mut Items, paused: &Paused)
+/// Clears the tokens after a call that has ended, and not after an incomplete one.
+pub(crate) fn clear_if_ended(items: &mut Items, paused: &Paused)
     ensures { items.new ≡ items_behind paused.now items.old }
 {
     if paused.is_none() {
@@ -91,9 +90,9 @@ pub(crate) fn clear_unless_put_off(items: &mut Items, paused: &Paused)
     }
 }
 
-/// The code with which a call has ended; none where it was put off, and none without memory.
-pub(crate) fn code_at_end(answer: &Result<Code, NoMemory>, paused: &Paused) -> Option<Code>
-    ensures { result ≡ code_at_end paused.now answer.now }
+/// The code with which a call has ended; none if it is incomplete or ran out of memory.
+pub(crate) fn final_code(answer: &Result<Code, NoMemory>, paused: &Paused) -> Option<Code>
+    ensures { result ≡ final_code paused.now answer.now }
 {
     if paused.is_none() { answer.ok() } else { None }
 }

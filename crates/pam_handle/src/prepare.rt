@@ -1,4 +1,4 @@
-ghost use Rattle.std.specs.Prelude.{◌≡◌, ◌<◌, ◌^◌, Some, map, length, IfOk};
+ghost use Rattle.std.specs.Prelude.{◌≡◌, ◌<◌, ◌^◌, Some, map, length, IfOk, IsTrue, OnOk};
 ghost use Rattle.std.specs.Option.{option_copied};
 ghost use Rattle.dispatch_core.specs.Lines.{names_of};
 ghost use Rattle.dispatch_core.specs.service_load.specs.Load.{AreBounded};
@@ -15,7 +15,7 @@ use item_store::Items;
 use pam_base::{ItemName, NoMemory, Text, Texts, lowercase};
 use std::alloc::Global;
 
-/// The items of a transaction that is started: SERVICE, in lower case, and where it is known USER.
+/// The items of a transaction that is started: SERVICE, in lower case, and USER if it is known.
 pub(crate) fn first_items(
     alloc: Global,
     service: &[u8],
@@ -31,24 +31,48 @@ pub(crate) fn first_items(
     Ok(items)
 }
 
-/// The names of a gear's modules, in order.
-pub(crate) fn module_names(alloc: Global, gear: &Gear) -> Result<Texts, NoMemory>
+/// The names of the modules, in order.
+fn module_names(alloc: Global, gear: &Gear) -> Result<Texts, NoMemory>
     ensures { IfOk result (λ names. names ≡ names_of (⟦<Gear as GearTold>⟧.players gear.now)) }
 {
     names_in(alloc, &gear.mods)
 }
 
+/// Makes the names those of the modules, in order; if they are already, nothing is allocated.
+pub(crate) fn name_modules(alloc: Global, gear: &Gear, names: &mut Texts) -> Result<(), NoMemory>
+    ensures { OnOk result (names.new ≡ names_of (⟦<Gear as GearTold>⟧.players gear.now)) }
+{
+    if are_named(&gear.mods, names.items()) {
+        return Ok(());
+    }
+    *names = module_names(alloc, gear)?;
+    Ok(())
+}
+
+// Whether these are the modules' names, in order.
+fn are_named(mods: &[Box<dyn Module>], names: &[Text]) -> bool
+    ensures { IsTrue result → names.now ≡ map label mods.now }
+{
+    match (mods, names) {
+        ([], []) => true,
+        ([handler, mods @ ..], [name, names @ ..]) => {
+            name_of(handler) == name.bytes() && are_named(mods, names)
+        }
+        _ => false,
+    }
+}
+
 fn names_in(alloc: Global, mods: &[Box<dyn Module>]) -> Result<Texts, NoMemory>
     ensures { IfOk result (λ names. names ≡ map label mods.now) }
 {
-    let mut names = Texts::new(alloc);
+    let mut names = Texts::from_vec(Vec::with_capacity(alloc, mods.len())?);
     for handler in mods {
         names.push(Text::from_bytes(alloc, name_of(handler))?)?;
     }
     Ok(names)
 }
 
-/// The stacks of a service, laid flat for modules with these names.
+/// The stacks of a service, flattened for modules with these names.
 pub(crate) fn lay_flat(alloc: Global, trees: &Trees, names: &Texts) -> Result<Chains, NoMemory>
     requires bounded { AreBounded trees.now }
     requires few { length names.now < 2 ^ 32 }

@@ -2,8 +2,8 @@ use dispatch_core::Paused;
 use frozen_chain::Kept;
 use pam_base::Func;
 
-/// A stack call that was put off: its function, the pass to go on with, and the answers that the first pass of a change
-/// of token kept, where that is the second one.
+/// A pending stack call: its function, the pass to resume, and the codes that the first pass of a change of token
+/// cached, if that pass is the second one.
 #[derive(Drop)]
 pub struct PutOff {
     pub func: Func,

@@ -7,7 +7,7 @@ use crate::flags::credential_flags;
 use crate::gear::{Gear, GearTold};
 use crate::handle::Handle;
 use crate::pass::{following, pass};
-use crate::pending::taken_up;
+use crate::pending::resumed_from;
 use data_cleanup::laws;
 use dispatch_core::PassRequest;
 use dispatch_core::fail_delay::{DelayFn, DelayTold};
@@ -17,11 +17,11 @@ use pam_base::{Code, Func, NoMemory};
 use std::alloc::Global;
 
 impl Handle {
-    /// Sets, deletes or refreshes the user's credentials (`pam_setcred(3)`); the flags 0 stand for
-    /// PAM_ESTABLISH_CRED. A pass over the auth stack, which goes by the answers that the last
-    /// authentication kept, where any are.
+    /// Sets, deletes or refreshes the user's credentials (`pam_setcred(3)`); the flags 0 mean
+    /// PAM_ESTABLISH_CRED. One pass over the auth stack, which uses the return codes that the last
+    /// authentication cached, if there are any.
     ///
-    /// Without memory what was kept stays.
+    /// If memory runs out, cached return codes stay.
     pub fn setcred(
         &mut self,
         alloc: Global,
@@ -43,7 +43,7 @@ impl Handle {
         if self.is_other_pending(Func::SetCred) {
             return Ok(Code::Abort);
         }
-        let (mut paused, _) = taken_up(self.pending.take());
+        let (mut paused, _) = resumed_from(self.pending.take());
         let kind = following(&self.authenticated);
         let result = pass(
             alloc,

@@ -12,16 +12,17 @@ ghost use Rattle.pam_handle.specs.Start.{Opens, Prepares, RefusalCounts, Refuses
 use crate::chains::Chains;
 use crate::gear::{Gear, GearTold};
 use crate::handle::Handle;
-use crate::prepare::{first_items, lay_flat, module_names};
+use crate::prepare::{first_items, lay_flat, name_modules};
+use crate::start_cache::StartCache;
 use dispatch_core::conv_port::Conv;
 use dispatch_core::pam_room::{Room, RoomTold, Transaction, World, WorldTold};
-use dispatch_core::service_load::{LoadFault, Trees, load};
+use dispatch_core::service_load::{LoadFault, Trees, load_with};
 use frozen_chain::Kept;
 use item_store::Items;
-use pam_base::{NoMemory, Refuse};
+use pam_base::{NoMemory, Refuse, Texts};
 use std::alloc::Global;
 
-/// A start that was refused: the conversation, as it was handed in, and why.
+/// A refused start: the conversation as it was passed in, and why.
 #[derive(Drop)]
 pub struct StartRefused {
     pub conv: Box<dyn Conv>,
@@ -29,12 +30,12 @@ pub struct StartRefused {
 }
 
 impl Handle {
-    /// Starts a transaction (`pam_start(3)`) of this number: the stacks of the service are loaded,
-    /// and laid flat for the gear's modules. SERVICE, in lower case, and where it is known USER are
-    /// set and nothing else; the delay function is off.
+    /// Starts a transaction (`pam_start(3)`) with this number: the stacks of the service are
+    /// loaded, and flattened for the modules. SERVICE, in lower case, and USER, if known, are set,
+    /// and no other item; the delay function is off.
     ///
-    /// It is refused exactly as `load` is, or without memory, and then gives the conversation back.
-    /// Refused or not, of the world only what the vault counts changes.
+    /// It is refused exactly if `load` is, or if memory runs out; then it returns the conversation.
+    /// In either case, of the world only the number of file accesses changes.
     pub fn start(
         alloc: Global,
         gear: &Gear,
@@ -74,20 +75,67 @@ impl Handle {
             (vault_faults (in_box world.old.vault))
             (vault_faults (in_box world.new.vault))) }
     {
-        match prepare(alloc, gear, world, service, user) {
+        let mut cache = StartCache::new(alloc);
+        Handle::start_with(alloc, gear, world, number, service, user, conv, &mut cache)
+    }
+
+    /// As `start`, with what earlier starts kept. A text of a service file isn't parsed again if it
+    /// is the same byte for byte.
+    pub fn start_with(
+        alloc: Global,
+        gear: &Gear,
+        world: &mut World,
+        number: u32,
+        service: &[u8],
+        user: Option<&[u8]>,
+        conv: Box<dyn Conv>,
+        cache: &mut StartCache,
+    ) -> Result<Handle, StartRefused>
+        requires service { IsTrue (is_service_name service.now) }
+        ensures conv { IfOk result (λ handle. (room_in handle).conv ≡ conv) }
+        ensures given_back { IfErr result (λ refused. refused.conv ≡ conv) }
+        ensures tells { ⟦<World as WorldTold>⟧.tells world.new
+            ≡ ⟦<World as WorldTold>⟧.tells world.old }
+        ensures told { IsTrue (vault_tells (in_box world.old.vault)) →
+            (let s = started number service.now (option_copied user.entry) (conv_holds conv)
+            (names_of (⟦<Gear as GearTold>⟧.players gear.now))
+            (⟦<World as WorldTold>⟧.plain world.old) in
+            MatchResult result (λ handle. Opens s (plain_handle ⟦<Room as RoomTold>⟧.plain handle)
+            (⟦<World as WorldTold>⟧.plain world.new)) (λ refused. Refuses s refused.why
+            (⟦<World as WorldTold>⟧.plain world.new))) }
+        ensures calls { IsTrue (vault_tells (in_box world.old.vault)) →
+            OnlyCalls (⟦<World as WorldTold>⟧.plain world.old).vault
+            (⟦<World as WorldTold>⟧.plain world.new).vault }
+        ensures fresh { IfOk result (λ handle. plain_handle ⟦<Room as RoomTold>⟧.plain handle
+            ≡ new_handle number service.now (option_copied user.entry) (conv_holds conv)
+            (names_of (⟦<Gear as GearTold>⟧.players gear.now))
+            (plain_handle ⟦<Room as RoomTold>⟧.plain handle).stacks) }
+        ensures ready { IfOk result (λ handle. IsReadyFor (⟦<Gear as GearTold>⟧.players gear.now)
+            (plain_handle ⟦<Room as RoomTold>⟧.plain handle)
+            (⟦<World as WorldTold>⟧.plain world.new).process) }
+        ensures others { world.new ≡ record world.old { vault = world.new.vault } }
+        ensures vault_tells { vault_tells (in_box world.new.vault)
+            ≡ vault_tells (in_box world.old.vault) }
+        ensures faults { MatchResult result (λ _. vault_faults (in_box world.new.vault)
+            ≡ vault_faults (in_box world.old.vault)) (λ refused. RefusalCounts refused.why
+            (vault_faults (in_box world.old.vault))
+            (vault_faults (in_box world.new.vault))) }
+    {
+        match prepare(alloc, gear, world, service, user, cache) {
             Ok((items, chains)) => Ok(opened(alloc, number, items, chains, conv)),
             Err(why) => Err(StartRefused { conv, why }),
         }
     }
 }
 
-// All that can be refused of a start: the items and the stacks of the transaction.
+// The part of a start that may be refused: the items and the stacks of the transaction.
 fn prepare(
     alloc: Global,
     gear: &Gear,
     world: &mut World,
     service: &[u8],
     user: Option<&[u8]>,
+    cache: &mut StartCache,
 ) -> Result<(Items, Chains), Refuse<LoadFault>>
     requires { length (⟦<Gear as GearTold>⟧.players gear.now) < 2 ^ 32 }
     ensures tells { ⟦<World as WorldTold>⟧.tells world.new
@@ -108,19 +156,21 @@ fn prepare(
     ensures faults { CountsFaults result (vault_faults (in_box world.old.vault))
         (vault_faults (in_box world.new.vault)) }
 {
-    let trees = load(
+    let trees = load_with(
         alloc,
         &mut *world.vault,
         world.process.root.bytes(),
         service,
+        &mut cache.texts,
     )?;
-    Ok(laid_out(alloc, gear, &trees, service, user)?)
+    Ok(laid_out(alloc, gear, &mut cache.names, &trees, service, user)?)
 }
 
 // The items and the stacks of a transaction, once its service is loaded.
 fn laid_out(
     alloc: Global,
     gear: &Gear,
+    names: &mut Texts,
     trees: &Trees,
     service: &[u8],
     user: Option<&[u8]>,
@@ -132,13 +182,13 @@ fn laid_out(
     ensures names { IfOk result (λ parts. parts.1.auth.names
         ≡ names_of (⟦<Gear as GearTold>⟧.players gear.now)) }
 {
-    let names = module_names(alloc, gear)?;
-    let chains = lay_flat(alloc, trees, &names)?;
+    name_modules(alloc, gear, names)?;
+    let chains = lay_flat(alloc, trees, names)?;
     let items = first_items(alloc, service, user)?;
     Ok((items, chains))
 }
 
-// It takes no memory, since what it makes can't be dropped.
+// Allocates nothing, since its result can't be dropped.
 fn opened(alloc: Global, number: u32, items: Items, chains: Chains, conv: Box<dyn Conv>) -> Handle
     ensures conv { (room_in result).conv ≡ conv }
     ensures plain { plain_handle ⟦<Room as RoomTold>⟧.plain result

@@ -9,8 +9,8 @@ use dispatch_core::pam_room::{Room, RoomTold, Visits};
 use std::alloc::Global;
 use std::mem;
 
-/// What a transaction has to tell: the messages that were handed to the conversation, the lines
-/// that were visited, both in order, and the last wait.
+/// What a transaction has to report: the messages passed to the conversation, the lines that were run, both in order,
+/// and the last wait.
 #[derive(Debug, Drop)]
 pub struct Told {
     pub said: Messages,
@@ -19,7 +19,8 @@ pub struct Told {
 }
 
 impl Handle {
-    /// What was said, visited and waited since it was last called. It alone empties them. It takes no memory.
+    /// The messages, the lines run and the last wait since it was last called. Only this call empties them. Allocates
+    /// nothing.
     pub fn take_told(&mut self, alloc: Global) -> Told
         ensures tells { ⟦<Room as RoomTold>⟧.tells (room_in self.new)
             ≡ ⟦<Room as RoomTold>⟧.tells (room_in self.old) }

@@ -6,6 +6,7 @@ use Rattle.dispatch_core.specs.pam_room.specs.State.{PlainRoom, PlainWorld}
 use Rattle.pam_handle.specs.Pass.{kept_answers}
 use Rattle.pam_handle.proofs.Changing.{both_tell, checked, checked_alone, if_ok_from, success_over}
 use Rattle.pam_handle.proofs.Stopping.{both_same, check_stops, stops_later}
+use Rattle.pam_handle.proofs.Tracing.{checks_alone, checks_twice}
 use Rattle.pam_handle.proofs.chauthtok.check.Goals as goal
 
 pub returns-in-Success-clause-told : goal.returns-in-Success-clause-told
@@ -42,3 +43,12 @@ pub returns-in-Success-clause-stopped : goal.returns-in-Success-clause-stopped
 returns-in-Success-clause-stopped g c =
     stops_later _ c.args.flags _ _ c.update.result _ _ _ c.in_ok-code.code c.pass.new.paused _ _ _ _ _ _ _ c.pass.ensures.nodes (both_same _ _ _ _ c.pass.ensures.tells c.pass.ensures.world_tells) c.in-Success.is
     (success_over c.pass.new.paused c.in_ok-code.code c.in-Success.is c.in_ok-code.ensures.put_off) (λ told. rw c.none-kept.ensures at (c.in_ok-code.ensures.told told)) c.pass.ensures.sound c.update.ensures.stopped
+
+pub returns-in_default-clause-by_trail : goal.returns-in_default-clause-by_trail
+returns-in_default-clause-by_trail g c =
+    checks_alone c.args.chain.now.nodes (past_of c.args.paused.now) _ _ c.in_ok-code.code (kept_answers c.pass.new.kept) c.pass.new.paused c.args.first.now c.requires.first c.in_default.not-Success (rw c.none-kept.ensures at c.in_ok-code.ensures.by_trail)
+
+pub returns-in-Success-clause-by_trail : goal.returns-in-Success-clause-by_trail
+returns-in-Success-clause-by_trail g c =
+    checks_twice c.update.result c.args.chain.now.nodes c.pass.new.chain.nodes (past_of c.args.paused.now) _ _ _ c.in_ok-code.code (kept_answers c.pass.new.kept) (kept_answers c.update.new.first) c.pass.new.paused c.update.new.paused c.pass.ensures.nodes c.in-Success.is
+    (success_over c.pass.new.paused c.in_ok-code.code c.in-Success.is c.in_ok-code.ensures.put_off) (rw c.none-kept.ensures at c.in_ok-code.ensures.by_trail) c.update.ensures.by_trail

@@ -4,6 +4,7 @@ use Rattle.dispatch_core.specs.pam_room.specs.Plain.{plain_room, plain_world}
 use Rattle.dispatch_core.specs.pam_room.specs.State.{State, state_of}
 use Rattle.pam_handle.specs.Pass.{kept_answers}
 use Rattle.pam_handle.proofs.Stopping.{stops_in_update}
+use Rattle.pam_handle.proofs.Tracing.{updates}
 use Rattle.pam_handle.proofs.chauthtok.update.Goals as goal
 
 pub returns-clause-stopped : goal.returns-clause-stopped
@@ -14,3 +15,6 @@ returns-clause-stopped g c =
     && (((goal.Vault-dyn g (c.args.world.now.vault.vtable, c.args.world.now.vault.value)).vault_tells c.args.world.now.vault.value && (goal.Clock-dyn g (c.args.world.now.clock.vtable, c.args.world.now.clock.value)).clock_tells c.args.world.now.clock.value)
     && (goal.Nap-dyn g (c.args.world.now.nap.vtable, c.args.world.now.nap.value)).nap_tells c.args.world.now.nap.value) in
     stops_in_update _ c.args.flags c.args.chain.now.nodes tells c.pass.result (kept_answers c.args.first.now) (past_of c.args.paused.now) start end c.args.room.now.conv c.pass.new.room.conv c.args.world.now c.pass.new.world c.pass.ensures.stopped
+
+pub returns-clause-by_trail : goal.returns-clause-by_trail
+returns-clause-by_trail g c = updates c.pass.result c.args.chain.now.nodes (kept_answers c.args.first.now) (kept_answers c.pass.new.kept) (past_of c.args.paused.now) _ _ c.pass.new.paused c.pass.ensures.by_trail

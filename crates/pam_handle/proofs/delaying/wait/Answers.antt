@@ -17,6 +17,7 @@ returns-in-Some-clause-sound g c = record {
   wait_bound = c.in-Some.ensures.within;
   off = λ number off. sym c.in-Some.is ∙ c.wait_by.ensures.off number off;
   told = refl;
+  slept = rw c.asked_of-asked.ensures.nap at c.rest_for.ensures.slept;
 }
 
 pub returns-in_default-clause-sound : goal.returns-in_default-clause-sound
@@ -27,4 +28,5 @@ returns-in_default-clause-sound g c = record {
   wait_bound = tt;
   off = λ number off. sym c.in_default.is ∙ c.wait_by.ensures.off number off;
   told = refl;
+  slept = λ told. rw c.asked_of-asked.ensures.nap refl;
 }

@@ -1,7 +1,7 @@
 use Rattle.std.proofs.Common.{map, ◌∙◌, ap}
 use Rattle.dispatch_core.specs.pam_room.specs.Module.{player_of}
 use Rattle.dispatch_core.specs.Given.{past_of}
-use Rattle.pam_handle.proofs.Passing.{names_of_players, pass_stopped, pass_told}
+use Rattle.pam_handle.proofs.Passing.{names_of_players, pass_by_trail, pass_stopped, pass_told}
 use Rattle.pam_handle.proofs.pass.pass.Goals as goal
 
 pub dispatch-requires-clause-names : goal.dispatch-requires-clause-names
@@ -17,3 +17,7 @@ pub returns-clause-stopped : goal.returns-clause-stopped
 returns-clause-stopped g c =
     pass_stopped c.dispatch.result _ _ c.args.request.func c.args.request.flags c.args.request.kind c.args.kept.now c.args.chain.now.nodes (past_of c.args.paused.now) _ _ _ _
     (ap (map (player_of (λ b. (goal.Module-dyn g (b.vtable, b.value)).label b.value) (λ b. (goal.Module-dyn g (b.vtable, b.value)).plays b.value) (λ b. (goal.Module-dyn g (b.vtable, b.value)).note b.value) (λ b. (goal.Module-dyn g (b.vtable, b.value)).breaks b.value))) c.deref.ensures.value) c.dispatch.ensures.stopped
+
+pub returns-clause-by_trail : goal.returns-clause-by_trail
+returns-clause-by_trail g c =
+    pass_by_trail c.dispatch.result c.args.request.kind c.args.kept.now c.dispatch.new.kept c.args.chain.now.nodes (past_of c.args.paused.now) _ _ c.dispatch.new.paused c.dispatch.ensures.by_trail
