@@ -1,4 +1,4 @@
--- Two walks over one stack whose states are related go side by side, whatever the states are.
+-- Two walks over one stack whose states are related stay related, whatever the states are.
 use Rattle.std.proofs.Common.{◌≡◌, ℕ, zero, suc, ◌+◌, Bool, true, false, if◌then◌else◌, List, [], ◌∷◌, refl, subst}
 use Rattle.pam_base.specs.declared.code.Code.{Code}
 use Rattle.pam_handle.specs.control_words.specs.declared.control.Action.{Action}
@@ -15,7 +15,7 @@ use Rattle.pam_handle.specs.stack_walk.specs.Route.{KeptAnswers}
 -- ---- any walk
 
 module _ {State : Type 0} (R : State → State → Type 0) where
-  -- the same but for the state, and the states are related
+  -- the same except for the state, and the states are related
   pub record ServedTwins (a b : Served State) : Type 0 where
     pub rest : record a { state = b.state } ≡ b
     pub state : R a.state b.state
@@ -27,7 +27,7 @@ module _ {State : Type 0} (R : State → State → Type 0) where
   abbrev pub ServesTwins : Serving State → Type 0
   ServesTwins serve = (rule : Rule) (at : ℕ) (s t : State) → R s t → ServedTwins (serve rule at s) (serve rule at t)
 
-  -- what follows a line, by what it was served, and what follows a substack
+  -- what follows a line, by its result, and what follows a substack
   abbrev behind_line : PassKind → Serving State → Rule → Stack → ℕ → Opinion → Opinion → Served State → Walked State
   behind_line kind serve rule rest at entry opinion served =
       let action = action_at rule.control served.deciding in

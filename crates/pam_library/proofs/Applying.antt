@@ -1,6 +1,6 @@
--- A step on one place, seen in all places.
+-- A step in one slot, as a change of all slots.
 use Rattle.std.proofs.lemmas.Bool.Decides.{nat_tests}
-use Rattle.std.proofs.Common.{◌≡◌, ◌≢◌, ℕ, zero, suc, ◌+◌, ◌-◌, ◌<◌, ◌≤◌, ◌++◌, nat_eq, Bool, true, false, ◌&&◌, if◌then◌else◌, is_ok, IsTrue, IsOk, IfOk, OnErr, List, [], ◌∷◌, length, map, get_or, slice_get, slice_set, Option, Some, None, option_map, Result, Ok, Err, refl, sym, ap, ◌∙◌, subst, arith}
+use Rattle.std.proofs.Common.{◌≡◌, ◌≢◌, ℕ, zero, suc, ◌+◌, ◌-◌, ◌<◌, ◌≤◌, ◌++◌, nat_eq, Bool, true, false, ◌&&◌, if◌then◌else◌, IsTrue, IsOk, IfOk, OnErr, List, [], ◌∷◌, length, map, get_or, slice_get, slice_set, Option, Some, None, option_map, Result, Ok, Err, refl, sym, ap, ◌∙◌, subst, arith}
 use Rattle.std.specs.List.{SwappedAt, list_all}
 use Rattle.std.proofs.lemmas.List.{ext_get_or, get_or_append_left, get_or-set_other, get_or-set_same, length-set}
 use Rattle.std.proofs.lemmas.Option.{slice_get-map, slice_get_past, slice_get_read}
@@ -25,8 +25,9 @@ use Rattle.pam_library.specs.Slots.{PlainSlot, closed, opened, slot_at, with_slo
 use Rattle.pam_library.specs.SlotStep.{SlotStepsAs, filed_in, slot_step}
 use Rattle.pam_library.specs.Step.{Stepped, StepsAs, stepped, stepped_at}
 use Rattle.pam_library.specs.Sound.{IsAtPlace, IsSound}
-use Rattle.pam_library.specs.AnyWorld.{AnswersBy, Fails, FailsAt, SpendsAt, end_at, refusal, stays_inside, takes_no_memory}
+use Rattle.pam_library.specs.AnyWorld.{AnswersBy, Fails, FailsAt, SpendsAt, StopsAt, end_at, refusal, stays_inside, takes_no_memory}
 use Rattle.pam_library.specs.InPlace.{GoesInPlace, IsReadyAt}
+use Rattle.pam_library.proofs.Stopping.{stops_on, stops_when}
 use Rattle.pam_library.proofs.Placing.{slot_at-with_slot_other, slot_at-with_slot_same, slot_at-within}
 use Rattle.pam_library.proofs.Stacking.{IsOnly}
 use Rattle.pam_library.proofs.Within.{failed_by}
@@ -60,7 +61,7 @@ all-at p [] i x is all = absurd (cc)
 all-at p (z ∷ xs) zero x is all = let e : z ≡ x = cc in ap p (sym e) ∙ and_first (p z) (list_all p xs) all
 all-at p (z ∷ xs) (suc i) x is all = all-at p xs i x is (and_second (p z) (list_all p xs) all)
 
--- one element of a list was taken out and another put back in its place
+-- one element of a list was taken out, and another put back at the same index
 pub record IsReplaced {A : Type 0} (xs ys : List A) (number : ℕ) (x y : A) : Type 0 where
   pub there : slice_get xs (number - 1) ≡ Some x
   pub ys_is : ys ≡ slice_set xs (number - 1) y
@@ -69,7 +70,7 @@ chosen : {A : Type 0} (b : Bool) (xs ys : List A) → b ≡ true → (if b then 
 chosen true xs ys e = refl
 chosen false xs ys e = absurd (cc)
 
--- the last element stood in its place while it was out
+-- the last element was at that index meanwhile
 pub swapped_back : {A : Type 0} (xs rest ys : List A) (i : ℕ) (y : A) → i < length xs → length rest + 1 ≡ length xs → length ys ≡ length rest + 1
     → ((d : A) → i + 1 < length xs → get_or rest i d ≡ get_or xs (length xs - 1) d)
     → ((k : ℕ) (d : A) → k ≢ i → k + 1 < length xs → get_or rest k d ≡ get_or xs k d)
@@ -110,7 +111,7 @@ replaced xs rest ys number x y some within read shorter long last others swapped
       ys_is = swapped_back xs rest ys i y in_list shorter long last others swapped;
     }
 
--- ---- the places
+-- ---- the slots
 
 pub record IsPut (slots next : List PlainSlot) (number : ℕ) (old new : PlainSlot) : Type 0 where
   pub there : slot_at slots number ≡ Some old
@@ -137,7 +138,7 @@ tell_as p xs ys number x y r same = ap (list_all p) r.ys_is ∙ all-set p xs (nu
 pub tells_at : {A : Type 0} (p : A → Bool) (xs ys : List A) (number : ℕ) (x y : A) → IsReplaced xs ys number x y → IsTrue (list_all p xs) → IsTrue (p x)
 tells_at p xs ys number x y r all = all-at p xs (number - 1) x r.there all
 
--- ---- where there is no place
+-- ---- if there is no such slot
 
 pub none_first : (slots : List PlainSlot) (number : ℕ) → number ≡ 0 → slot_at slots number ≡ None
 none_first slots zero e = refl
@@ -263,3 +264,9 @@ module _ (players : List Player) (gives : (Code → ℕ → ℕ) → Type 0) (te
       subst (λ (s : Option PlainSlot). OnErr result (FailsAt all call s (slot_at next number))) (sym is.there)
       (subst (λ (s : Option PlainSlot). OnErr result (FailsAt all call (Some old) s)) (sym new_there)
       (failed_by result (Fails tells call old new) (FailsAt all call (Some old) (Some new)) (fails_when tells all call old new more) goes.fails))
+
+  pub stops_after : (all : Bool) → (IsTrue all → IsTrue (tells && world_tells)) → OnErr result (StopsAt players all call (slot_at slots number) (slot_at next number) w v)
+  stops_after all known =
+      subst (λ (s : Option PlainSlot). OnErr result (StopsAt players all call s (slot_at next number) w v)) (sym is.there)
+      (subst (λ (s : Option PlainSlot). OnErr result (StopsAt players all call (Some old) s w v)) (sym new_there)
+      (stops_on result players all call old new w v (stops_when players (tells && world_tells) all known call result old new w v goes.stops)))

@@ -1,4 +1,4 @@
--- The first open place, and its end.
+-- The first open slot, and its end.
 use Rattle.std.proofs.Common.{◌≢◌, ◌++◌, slice_set, ◌≡◌, ◌↔◌, ℕ, zero, suc, ◌+◌, ◌-◌, ◌<◌, ◌≤◌, true, false, if◌then◌else◌, is_ok, List, [], ◌∷◌, length, map, drop, get_or, slice_get, Option, Some, None, IsNone, is_some, option_map, Result, refl, sym, ap, ◌∙◌, subst, arith, add-one}
 use Rattle.std.specs.List.{SwappedAt}
 use Rattle.std.proofs.lemmas.List.{drop_all, drop_more, length-map}
@@ -49,7 +49,7 @@ module _ {A : Type 0} (f : A → PlainSlot) where
       → IsFirstOpen None found
   finds_none xs i found past e = e ∙ ap (λ (l : List A). first_open (i + 1) (map f l)) (drop_all i xs past)
 
--- ---- the place that was found
+-- ---- the slot that was found
 
 no_less : (n : ℕ) (slots : List PlainSlot) (m : ℕ) (h : PlainHandle) → first_open n slots ≡ Some (m, h) → n ≤ m
 no_less n [] m h e = absurd (cc)
@@ -65,7 +65,7 @@ open_from n (closed conv ∷ slots) (suc i) h e =
 open_from n (opened k ∷ slots) zero h e = let f : k ≡ h = (some_pair_parts n (n + 0) k h e).1 in ap (λ (j : PlainHandle). Some (opened j)) f
 open_from n (opened k ∷ slots) (suc i) h e = let f : n ≡ n + suc i = (some_pair_parts n (n + suc i) k h e).0 in absurd (omega arith)
 
--- of the first open place from 0
+-- of the first open slot from 0
 open_place : (slots : List PlainSlot) (place : ℕ) (h : PlainHandle) → first_open 1 slots ≡ Some (place + 1, h) → slice_get slots place ≡ Some (opened h)
 open_place slots place h e = let same : place + 1 ≡ 1 + place = omega arith in open_from 1 slots place h (e ∙ ap (λ (m : ℕ). Some (m, h)) same)
 
@@ -82,7 +82,7 @@ none_open n [] e = tt
 none_open n (closed conv ∷ slots) e = (refl, none_open (n + 1) slots e)
 none_open n (opened h ∷ slots) e = absurd (cc)
 
--- what was found, where something was
+-- what was found, if anything was
 pub found_at : (result : Option ℕ) (found : Option (ℕ × PlainHandle)) (place : ℕ) → IsFirstOpen result found → result ≡ Some place
     → (h : PlainHandle) × (found ≡ Some (place + 1, h))
 found_at result found place is e = subst (λ (r : Option ℕ). IsFirstOpen r found) e is
@@ -90,7 +90,7 @@ found_at result found place is e = subst (λ (r : Option ℕ). IsFirstOpen r fou
 pub found_none : (result : Option ℕ) (found : Option (ℕ × PlainHandle)) → IsFirstOpen result found → result ≡ None → found ≡ None
 found_none result found is e = subst (λ (r : Option ℕ). IsFirstOpen r found) e is
 
--- what was found is what stands there
+-- what was found is what the slot holds
 pub found_as : (slot : PlainSlot) (found : Option (ℕ × PlainHandle)) (number : ℕ) (h k : PlainHandle) → slot ≡ opened h → slot ≡ opened k
     → found ≡ Some (number, h) → found ≡ Some (number, k)
 found_as slot found number h k is also e = let same : h ≡ k = cc in e ∙ ap (λ (j : PlainHandle). Some (number, j)) same
@@ -113,7 +113,7 @@ module _ {A : Type 0} (f : A → PlainSlot) (xs : List A) (place : ℕ) (h : Pla
   pub place_there : slot_at (map f xs) (place + 1) ≡ Some (opened h)
   place_there = at_place (map f xs) place ∙ open_place (map f xs) place h found
 
-  -- another stands there now
+  -- the slot holds another now
   pub put_there : (rest ys : List A) (x y : A) → x ≡ get_or xs place x → length rest + 1 ≡ length xs → length ys ≡ length rest + 1
       → ((d : A) → place + 1 < length xs → get_or rest place d ≡ get_or xs (length xs - 1) d)
       → ((k : ℕ) (d : A) → k ≢ place → k + 1 < length xs → get_or rest k d ≡ get_or xs k d)
@@ -125,7 +125,7 @@ module _ {A : Type 0} (f : A → PlainSlot) (xs : List A) (place : ℕ) (h : Pla
         ys_is = swapped_back xs rest ys place y place_within shorter long last others swapped ∙ ap (λ (i : ℕ). slice_set xs i y) same;
       }
 
--- ---- the end of a transaction in its place
+-- ---- the end of a transaction in its slot
 
 module _ (note : Notes) (names : List (List ℕ)) (modules : ℕ) (slots next : List PlainSlot) (number : ℕ) (h : PlainHandle) (status : ℕ) (w v : PlainWorld)
     (is : IsPut slots next number (opened h) (closed h.room.conv)) (sound : IsSound names modules slots w.process.ledger) (world : v ≡ world_after_end note status h w) (numbered : AreNumbered 0 v.process.ledger.births) where

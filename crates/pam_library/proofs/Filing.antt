@@ -1,6 +1,6 @@
--- What each visit keeps of the files and the trail, a call of the application keeps.
-use Rattle.std.proofs.Common.{◌≡◌, ℕ, zero, suc, ◌+◌, ◌==◌, Bool, true, false, cond, if◌then◌else◌, List, [], ◌∷◌, ◌++◌, Option, Some, None, slice_get, Result, Ok, Err, refl, sym, ap, ◌∙◌, subst}
-use Rattle.std.specs.Prelude.{bit_or}
+-- What a step runs, one line after another, and how it changes files.
+use Rattle.std.proofs.Common.{◌≡◌, inl, inr, ℕ, zero, suc, ◌+◌, ◌==◌, Bool, true, false, cond, if◌then◌else◌, List, [], ◌∷◌, ◌++◌, map, Option, Some, None, slice_get, Result, Ok, Err, refl, sym, ap, ◌∙◌, subst}
+use Rattle.std.specs.List.{AllByRecursion}
 use Rattle.std.proofs.lemmas.List.{map_push}
 use Rattle.pam_base.specs.declared.code.Code.{Code}
 use Rattle.pam_base.specs.declared.code.Code.TheVariants as codes
@@ -19,35 +19,38 @@ use Rattle.pam_handle.specs.stack_walk.specs.declared.opinion.Opinion.{Opinion}
 use Rattle.pam_handle.specs.stack_walk.specs.declared.pass_kind.PassKind.{PassKind}
 use Rattle.pam_handle.specs.stack_walk.specs.declared.pass_kind.PassKind.TheVariants as kinds
 use Rattle.pam_handle.specs.stack_walk.specs.Opinion.{opening as first_opinion}
-use Rattle.pam_handle.specs.stack_walk.specs.Walk.{Served, Serving, Walked, Next, after, stop, onward, walk}
-use Rattle.pam_handle.specs.stack_walk.specs.Pass.{Answering, PassState, Visit as Passing, pass_state, pass_after, served_past, serving}
+use Rattle.pam_handle.specs.stack_walk.specs.Walk.{Serving, Walked, Next, after, stop, onward, walk}
+use Rattle.pam_handle.specs.stack_walk.specs.Pass.{Answering, PassState, Visit as Passing, pass_state, served_past, serving}
 use Rattle.pam_handle.specs.stack_walk.specs.Route.{KeptAnswers}
 use Rattle.pam_handle.specs.dispatch_core.specs.Lines.{answers_by, call_of, names_of}
 use Rattle.pam_handle.specs.handler_chain.specs.FlatLines.{module_of}
 use Rattle.pam_outside.specs.Files.{File}
-use Rattle.pam_outside.specs.Time.{ClockState, after_draws, drawn}
-use Rattle.pam_handle.specs.pam_room.specs.Call.{PlainCall, prelim_check}
-use Rattle.pam_handle.specs.pam_room.specs.Module.{NamedData, Played, Player, SeenRoom, Sight, played_in}
-use Rattle.pam_handle.specs.pam_room.specs.Serve.{answer_or_incomplete, at_work, serve_line, served_by, visited}
+use Rattle.pam_handle.specs.pam_room.specs.Call.{PlainCall}
+use Rattle.pam_handle.specs.pam_room.specs.Module.{Player}
+use Rattle.pam_handle.specs.pam_room.specs.Serve.{serve_line, served_by, visited}
 use Rattle.pam_handle.specs.pam_room.specs.declared.visits.Visit.{Visit}
-use Rattle.pam_handle.specs.pam_room.specs.State.{PlainRoom, PlainWorld, State, state_of, scene_in}
+use Rattle.pam_handle.specs.pam_room.specs.State.{PlainRoom, PlainWorld, State, state_of}
 use Rattle.pam_handle.specs.service_load.specs.FirstFault.{Counts, Stop}
 use Rattle.pam_handle.specs.service_load.specs.declared.load_fault.LoadFault.{LoadFault}
 use Rattle.pam_outside.specs.Time.{drawn, rested}
 use Rattle.fail_delay.specs.Delay.{asked_delay}
 use Rattle.fail_delay.specs.Wait.{wait_of}
 use Rattle.pam_handle.specs.service_load.specs.Stacks.{Stacks}
-use Rattle.pam_handle.specs.dispatch_core.specs.Pending.{Pending, pending_behind, same_func}
+use Rattle.pam_handle.specs.dispatch_core.specs.Pending.{Pending, pending_after, same_func}
 use Rattle.pam_handle.specs.Handle.{PlainHandle}
 use Rattle.pam_handle.specs.dispatch_core.specs.Calls.{answers_held, following}
+use Rattle.pam_handle.specs.Items.{all_told}
 use Rattle.pam_handle.specs.Pass.{Passed, passed}
-use Rattle.pam_handle.specs.Call.{Called, begun_or_going_on, called, drawn_by, request_behind, rested_by, tokens_cleared}
-use Rattle.pam_handle.specs.StackCalls.{account, acct_mgmt, authenticate, authenticated, authentication, behind_check, change_goes_on, changed, chauthtok, check, close_session, closing, credential_flags, credentials, has_pass_flag, open_session, opening, setcred, stack_call, update, update_authtok}
-use Rattle.pam_library.specs.Plays.{TimedVisit, VisitLeads, VisitsLead, module_of_path, player_numbered, timed, visits_at}
+use Rattle.pam_handle.specs.Call.{Called, begun_or_going_on, called, drawn_by, items_begun, request_behind, rested_by, tokens_cleared}
+use Rattle.pam_handle.specs.StackCalls.{account, authenticated, authentication, behind_check, change_goes_on, changed, check, closing, credentials, flags_seen, has_pass_flag, opening, stack_call, update}
+use Rattle.pam_handle.specs.Start.{started, started_by}
+use Rattle.pam_handle.specs.Stopping.{first_stack, room_begun}
+use Rattle.pam_library.specs.declared.outcome.Answer.{Answer}
+use Rattle.pam_library.specs.declared.outcome.Answer.TheVariants as answers
+use Rattle.pam_library.specs.Plays.{AskedLine, IsLineOf, LineLeads, LineRun, LinesLead, RunOn, RunsBy, RunsLines, RunsNothing, StackCall, StandsAt, StepAsks, asked_along, asked_by, module_of_path, player_numbered, run_in, stack_call_of, visit_of, visits_of}
 use Rattle.pam_library.specs.SlotStep.{SlotStepped, answered, closed_step, filed_in, is_refused_for_flags, open_step, opened_by, other_pending, slot_step, stack_step, told_by, unless_pending}
 use Rattle.pam_library.specs.Slots.{PlainSlot, closed, opened, slot_at}
-use Rattle.pam_library.specs.Step.{Stepped, stepped, stepped_at}
-use Rattle.pam_handle.specs.Start.{Started, started, started_by}
+use Rattle.pam_library.specs.Step.{stepped, stepped_at}
 
 -- ---- any walk
 
@@ -60,281 +63,444 @@ module _ {State : Type 0} (K : State → Type 0) where
   onward_keeps (after n) rest here k l = k n
   onward_keeps stop rest here k l = l
 
-  module _ (kind : PassKind) (serve : Serving State) (serves : (rule : Rule) (at : ℕ) (s : State) → K s → K (serve rule at s).state) where
-    pub walk_keeps : (skip : ℕ) (stack : Stack) (at : ℕ) (entry opinion : Opinion) (s : State) → K s → K (walk kind serve skip stack at entry opinion s).state
-    walk_keeps skip none at entry opinion s k = k
-    walk_keeps (suc skip) (line rule rest) at entry opinion s k = walk_keeps skip rest (at + 1) entry opinion s k
-    walk_keeps (suc skip) (sub inner rest) at entry opinion s k = walk_keeps skip rest (at + lines_in inner) entry opinion s k
-    walk_keeps zero (line rule rest) at entry opinion s k =
-        let here : K (serve rule at s).state = serves rule at s k in
-        either (serve rule at s).stopped _ _ here (onward_keeps _ _ _ (λ n. walk_keeps n rest (at + 1) entry _ (serve rule at s).state here) here)
-    walk_keeps zero (sub inner rest) at entry opinion s k =
+  module _ (whole : Stack) (kind : PassKind) (serve : Serving State) (serves : (rule : Rule) (at : ℕ) (s : State) → StandsAt rule at whole 1 → K s → K (serve rule at s).state) where
+    -- a walk over a part of the stack, whose lines stand in it
+    pub walk_keeps : (skip : ℕ) (stack : Stack) (at : ℕ) (entry opinion : Opinion) (s : State) → ((rule : Rule) (place : ℕ) → StandsAt rule place stack at → StandsAt rule place whole 1)
+        → K s → K (walk kind serve skip stack at entry opinion s).state
+    walk_keeps skip none at entry opinion s within k = k
+    walk_keeps (suc skip) (line rule rest) at entry opinion s within k =
+        walk_keeps skip rest (at + 1) entry opinion s (λ r p stands. within r p (inr stands)) k
+    walk_keeps (suc skip) (sub inner rest) at entry opinion s within k =
+        walk_keeps skip rest (at + lines_in inner) entry opinion s (λ r p stands. within r p (inr stands)) k
+    walk_keeps zero (line rule rest) at entry opinion s within k =
+        let here : K (serve rule at s).state = serves rule at s (within rule at (inl (refl, refl))) k in
+        either (serve rule at s).stopped _ _ here
+        (onward_keeps _ _ _ (λ n. walk_keeps n rest (at + 1) entry _ (serve rule at s).state (λ r p stands. within r p (inr stands)) here) here)
+    walk_keeps zero (sub inner rest) at entry opinion s within k =
         let inside = walk kind serve zero inner at opinion opinion s in
-        let here : K inside.state = walk_keeps zero inner at opinion opinion s k in
-        either inside.stopped _ _ here (walk_keeps zero rest (at + lines_in inner) entry inside.opinion inside.state here)
+        let here : K inside.state = walk_keeps zero inner at opinion opinion s (λ r p stands. within r p (inl stands)) k in
+        either inside.stopped _ _ here (walk_keeps zero rest (at + lines_in inner) entry inside.opinion inside.state (λ r p stands. within r p (inr stands)) here)
 
-  module _ (kind : PassKind) (kept : KeptAnswers) (answering : Answering State) (asks : (rule : Rule) (at : ℕ) (s : State) → K s → K (answering rule at s).state) where
-    by_past : (rule : Rule) (at : ℕ) (past : List Code) (visits : List Passing) (s : State) → K s
+  module _ (whole : Stack) (kind : PassKind) (kept : KeptAnswers) (answering : Answering State)
+      (asks : (rule : Rule) (at : ℕ) (s : State) → StandsAt rule at whole 1 → K s → K (answering rule at s).state) where
+    by_past : (rule : Rule) (at : ℕ) (past : List Code) (visits : List Passing) (s : State) → StandsAt rule at whole 1 → K s
         → K (served_past kind kept answering rule at past visits s).state.state
-    by_past rule at [] visits s k = asks rule at s k
-    by_past rule at (p ∷ past) visits s k = k
+    by_past rule at [] visits s stands k = asks rule at s stands k
+    by_past rule at (p ∷ past) visits s stands k = k
 
 abbrev pub KeptWithin : {State : Type 0} → (State → Type 0) → PassState State → Type 0
 KeptWithin K p = K p.state
 
+-- ---- one line more
+
+module _ (players : List Player) where
+  run_last : (ls : List LineRun) (l : LineRun) (s t : State) → RunOn players ls s t → l.visit ≡ visit_of l.visit.place l.rule.path (run_in players l t).answer
+      → RunOn players (ls ++ l ∷ []) s (run_in players l t).state
+  run_last [] l s t ran e = subst (λ (u : State). RunOn players (l ∷ []) u (run_in players l t).state) ran (e, refl)
+  run_last (m ∷ ls) l s t ran e = (ran.0, run_last ls l (run_in players m s).state t ran.1 e)
+
+  trail_of : (o : Option Player) (number place : ℕ) (path : List ℕ) (call : PlainCall) (s : State)
+      → let a = visited place path (served_by players o number call s) in a.state.room.transaction.trail ≡ s.room.transaction.trail ++ visit_of place path a.answer ∷ []
+  trail_of None number place path call s = refl
+  trail_of (Some p) number place path call s = refl
+
+  trail_after : (number : Option ℕ) (place : ℕ) (path : List ℕ) (call : PlainCall) (s : State)
+      → let a = serve_line players number place path call s in a.state.room.transaction.trail ≡ s.room.transaction.trail ++ visit_of place path a.answer ∷ []
+  trail_after None place path call s = refl
+  trail_after (Some n) place path call s = trail_of (slice_get players n) n place path call s
+
+all_and_last : {A : Type 0} (P : A → Type 0) (xs : List A) (x : A) → AllByRecursion P xs → P x → AllByRecursion P (xs ++ x ∷ [])
+all_and_last P [] x a p = (p, tt)
+all_and_last P (y ∷ ys) x a p = (a.0, all_and_last P ys x a.1 p)
+
 -- ---- a call of modules
 
--- what is kept of the files, the moment and the trail
-abbrev pub Kind : Type 1
-Kind = List File → ℕ → List Visit → Type 0
+module _ (players : List Player) (call : StackCall) (stacks : Stacks) (first : State) where
+  -- these lines were run from the first state to this one, and all of them are recorded
+  pub record Comes (s : State) : Type 0 where
+    pub lines : List LineRun
+    pub each : AllByRecursion (IsLineOf call stacks) lines
+    pub recorded : map (λ (l : LineRun). l.visit) lines ≡ s.room.transaction.trail
+    pub ran : RunOn players lines first s
 
-abbrev visit_of : ℕ → List ℕ → Code → Visit
-visit_of place path code = record { place = place; path = path; answer = code }
+  asks : (second : Bool) (rule : Rule) (at : ℕ) (s : State) → StandsAt rule at (first_stack call.func stacks) 1 → Comes s
+      → Comes (answers_by players call.func (flags_seen call.func second call.flags) rule at s).state
+  asks second rule at s stands k =
+      let flags = flags_seen call.func second call.flags in
+      let answer = (answers_by players call.func flags rule at s).answer in
+      let l : LineRun = record { func = call.func; flags = flags; rule = rule; visit = visit_of at rule.path answer } in
+      record {
+        lines = k.lines ++ l ∷ [];
+        each = all_and_last (IsLineOf call stacks) k.lines l k.each (record { func_is = refl; second = second; flags_are = refl; stands = stands });
+        recorded = map_push (λ (m : LineRun). m.visit) k.lines l ∙ ap (λ (t : List Visit). t ++ l.visit ∷ []) k.recorded
+            ∙ sym (trail_after players (module_of (names_of players) rule) at rule.path (call_of call.func flags rule) s);
+        ran = run_last players k.lines l first s k.ran refl;
+      }
 
--- what a visit of the line at a place keeps, by its module, if it is there
-abbrev KeepsVisit : Kind → ℕ → List ℕ → Option Player → Type 0
-KeepsVisit P place path None = (files : List File) (moment : ℕ) (trail : List Visit) → P files moment trail → P files moment (trail ++ visit_of place path codes.ModuleUnknown ∷ [])
-KeepsVisit P place path (Some p) = (call : PlainCall) (room : SeenRoom) (held : List NamedData) (sight : Sight) (trail : List Visit) → P sight.files sight.clock.moment trail
-    → let a = p.plays call room held sight in P a.files sight.clock.moment (trail ++ visit_of place path (answer_or_incomplete a.room.put_off a.code) ∷ [])
+  pub pass_comes : (second : Bool) (kind : PassKind) (kept : Option KeptAnswers) (past : List Code) (s : State) → Comes s
+      → Comes (passed players call.func (flags_seen call.func second call.flags) kind kept (first_stack call.func stacks) past s).state
+  pass_comes second kind kept past s k =
+      let whole = first_stack call.func stacks in
+      let answering = answers_by players call.func (flags_seen call.func second call.flags) in
+      walk_keeps (KeptWithin Comes) whole kind (serving kind (answers_held kept) answering)
+      (λ rule at p stands l. by_past Comes whole kind (answers_held kept) answering (asks second) rule at p.past p.visits p.state stands l)
+      0 whole 1 first_opinion first_opinion (pass_state past [] s) (λ rule place stands. stands) k
 
--- drawn words leave the moment
-moment_stays : (n : ℕ) (s : ClockState) → (after_draws n s).moment ≡ s.moment
-moment_stays zero s = refl
-moment_stays (suc n) s = moment_stays n (drawn s)
+  -- the world after a call has the files that the last line left
+  pub record Ends (c : Called) : Type 0 where
+    pub state : State
+    pub comes : Comes state
+    pub files : c.world.vault.files ≡ state.world.vault.files
+    pub trail : c.handle.room.transaction.trail ≡ state.room.transaction.trail
 
-behind_draws : (P : Kind) (files : List File) (trail : List Visit) (n : ℕ) (s : ClockState) → P files s.moment trail → P files (after_draws n s).moment trail
-behind_draws P files trail n s k = subst (λ (m : ℕ). P files m trail) (sym (moment_stays n s)) k
+  rested_files : (wait : Option ℕ) (w : PlainWorld) → (rested_by wait w).vault.files ≡ w.vault.files
+  rested_files None w = refl
+  rested_files (Some n) w = elim (n == 0) as (λ (x : Bool). (if x then w else record w { nap = rested w.nap n }).vault.files ≡ w.vault.files) [ true ↦ refl | false ↦ refl ]
 
-module _ (P : Kind) (players : List Player) (keep : (place : ℕ) (path : List ℕ) → KeepsVisit P place path (module_of_path players path)) where
-  -- of a world, and of a trail
-  abbrev pub In : PlainWorld → List Visit → Type 0
-  In w trail = P w.vault.files w.clock.moment trail
+  drawn_files : (longest : ℕ) (w : PlainWorld) → (drawn_by longest w).vault.files ≡ w.vault.files
+  drawn_files longest w = elim (longest == 0) as (λ (x : Bool). (if x then w else record w { clock = drawn w.clock }).vault.files ≡ w.vault.files) [ true ↦ refl | false ↦ refl ]
 
-  abbrev pub K : State → Type 0
-  K s = In s.world s.room.transaction.trail
+  as_it_is : (code : Code) (h : PlainHandle) (w : PlainWorld) → Comes (state_of h.room w) → Ends (called code h w)
+  as_it_is code h w k = record { state = state_of h.room w; comes = k; files = refl; trail = refl }
 
-  by_player : (o : Option Player) (number place : ℕ) (path : List ℕ) (call : PlainCall) (s : State) → KeepsVisit P place path o → K s
-      → K (visited place path (served_by players o number call s)).state
-  by_player None number place path call s keeps k = keeps _ _ _ k
-  by_player (Some p) number place path call s keeps k =
-      behind_draws P _ _ (played_in p.plays call (scene_in (at_work number s))).draws s.world.clock (keeps call _ _ _ _ k)
+  authenticated_ends : (number : Code → ℕ → ℕ) (paused : Option (List Code)) (code : Code) (h : PlainHandle) (w : PlainWorld) → Comes (state_of h.room w)
+      → Ends (authenticated number paused code h w)
+  authenticated_ends number (Some past) code h w k = as_it_is code h w k
+  authenticated_ends number None code h w k = record {
+    state = state_of h.room w;
+    comes = k;
+    files = rested_files (wait_of h.delay_on number code (asked_delay h.room.transaction.delay w.clock.word)) (drawn_by h.room.transaction.delay w)
+        ∙ drawn_files h.room.transaction.delay w;
+    trail = refl;
+  }
 
-  by_number : (number : Option ℕ) (place : ℕ) (path : List ℕ) (call : PlainCall) (s : State)
-      → KeepsVisit P place path (player_numbered players number) → K s → K (serve_line players number place path call s).state
-  by_number None place path call s keeps k = keeps _ _ _ k
-  by_number (Some n) place path call s keeps k = by_player (slice_get players n) n place path call s keeps k
+  changed_ends : (paused : Option (List Code)) (code : Code) (h : PlainHandle) (w : PlainWorld) → Comes (state_of h.room w) → Ends (changed paused code h w)
+  changed_ends (Some past) code h w k = as_it_is code h w k
+  changed_ends None code h w k = record { state = state_of h.room w; comes = k; files = refl; trail = refl }
 
-  asked : (func : Func) (flags : ℕ) (rule : Rule) (at : ℕ) (s : State) → K s → K (answers_by players func flags rule at s).state
-  asked func flags rule at s k = by_number (module_of (names_of players) rule) at rule.path (call_of func flags rule) s (keep at rule.path) k
-
-  passed_keeps : (func : Func) (flags : ℕ) (kind : PassKind) (kept : Option KeptAnswers) (stack : Stack) (past : List Code) (s : State) → K s
-      → K (passed players func flags kind kept stack past s).state
-  passed_keeps func flags kind kept stack past s k =
-      walk_keeps (KeptWithin K) kind (serving kind (answers_held kept) (answers_by players func flags))
-      (λ rule at p l. by_past K kind (answers_held kept) (answers_by players func flags) (asked func flags) rule at p.past p.visits p.state l)
-      0 stack 1 first_opinion first_opinion (pass_state past [] s) k
-
-  -- ---- the stack calls
-
-  abbrev pub Kept : Called → Type 0
-  Kept c = In c.world c.handle.room.transaction.trail
-
-  begun : (pending : Option Pending) (func : Func) (a b : Called) (f : Pending → Called) → Kept a → Kept b → ((p : Pending) → Kept (f p))
-      → Kept (begun_or_going_on pending func a b f)
-  begun None func a b f k l m = l
-  begun (Some p) func a b f k l m = elim (same_func p.func func) as (λ (x : Bool). Kept (if x then f p else a)) [ true ↦ m p | false ↦ k ]
-
-  rested_keeps : (wait : Option ℕ) (w : PlainWorld) (trail : List Visit) → In w trail → In (rested_by wait w) trail
-  rested_keeps None w trail k = k
-  rested_keeps (Some n) w trail k = elim (n == 0) as (λ (x : Bool). In (if x then w else record w { nap = rested w.nap n }) trail) [ true ↦ k | false ↦ k ]
-
-  drawn_keeps : (longest : ℕ) (w : PlainWorld) (trail : List Visit) → In w trail → In (drawn_by longest w) trail
-  drawn_keeps longest w trail k = elim (longest == 0) as (λ (x : Bool). In (if x then w else record w { clock = drawn w.clock }) trail) [ true ↦ k | false ↦ k ]
-
-  behind_keeps : (paused : Option (List Code)) (r : PlainRoom) (w : PlainWorld) → In w r.transaction.trail → In w (request_behind paused r).transaction.trail
-  behind_keeps None r w k = k
-  behind_keeps (Some past) r w k = k
+  behind_trail : (paused : Option (List Code)) (r : PlainRoom) → (request_behind paused r).transaction.trail ≡ r.transaction.trail
+  behind_trail None r = refl
+  behind_trail (Some past) r = refl
 
   -- the only pass of a call
-  only_keeps : (func : Func) (flags : ℕ) (kind : PassKind) (kept : Option KeptAnswers) (stack : Stack) (past : List Code) (h : PlainHandle) (w : PlainWorld)
-      → In w h.room.transaction.trail
-      → let p = passed players func flags kind kept stack past (state_of h.room w) in In p.state.world (request_behind p.paused p.state.room).transaction.trail
-  only_keeps func flags kind kept stack past h w k =
-      let p = passed players func flags kind kept stack past (state_of h.room w) in
-      behind_keeps p.paused p.state.room p.state.world (passed_keeps func flags kind kept stack past (state_of h.room w) k)
+  only_ends : (code : Code) (g : PlainHandle) (p : Passed) → g.room.transaction.trail ≡ (request_behind p.paused p.state.room).transaction.trail → Comes p.state
+      → Ends (called code g p.state.world)
+  only_ends code g p e k = record { state = p.state; comes = k; files = refl; trail = e ∙ behind_trail p.paused p.state.room }
 
-  changed_keeps : (paused : Option (List Code)) (code : Code) (h : PlainHandle) (w : PlainWorld) → In w h.room.transaction.trail
-      → Kept (changed paused code h w)
-  changed_keeps (Some past) code h w k = k
-  changed_keeps None code h w k = k
+  pub begun : (pending : Option Pending) (func : Func) (a b : Called) (f : Pending → Called) → Ends a → Ends b → ((p : Pending) → Ends (f p))
+      → Ends (begun_or_going_on pending func a b f)
+  begun None func a b f k l m = l
+  begun (Some p) func a b f k l m = elim (same_func p.func func) as (λ (x : Bool). Ends (if x then f p else a)) [ true ↦ m p | false ↦ k ]
 
-  module _ (number : Code → ℕ → ℕ) where
-    authenticated_keeps : (paused : Option (List Code)) (code : Code) (h : PlainHandle) (w : PlainWorld) → In w h.room.transaction.trail
-        → Kept (authenticated number paused code h w)
-    authenticated_keeps (Some past) code h w k = k
-    authenticated_keeps None code h w k = rested_keeps (wait_of h.delay_on number code (asked_delay h.room.transaction.delay w.clock.word)) (drawn_by h.room.transaction.delay w) h.room.transaction.trail
-        (drawn_keeps h.room.transaction.delay w h.room.transaction.trail k)
+-- ---- the stack calls
 
-    authentication_keeps : (flags : ℕ) (past : List Code) (h : PlainHandle) (w : PlainWorld) → In w h.room.transaction.trail
-        → Kept (authentication players number flags past h w)
-    authentication_keeps flags past h w k =
-        let p = passed players funcs.Authenticate flags kinds.Keep h.authenticated h.stacks.auth past (state_of h.room w) in
-        authenticated_keeps p.paused p.code (record h { room = p.state.room; authenticated = p.kept; pending = pending_behind funcs.Authenticate None p.paused }) p.state.world
-        (passed_keeps funcs.Authenticate flags kinds.Keep h.authenticated h.stacks.auth past (state_of h.room w) k)
+-- the transaction as a call takes it up that clears the tokens
+abbrev taken_up : Option Pending → PlainHandle → PlainRoom
+taken_up pending h = record h.room { transaction = record h.room.transaction { items = items_begun pending h.room.transaction.items } }
 
-    update_keeps : (flags : ℕ) (first : Option KeptAnswers) (past : List Code) (h : PlainHandle) (w : PlainWorld) → In w h.room.transaction.trail
-        → Kept (update players flags first past h w)
-    update_keeps flags first past h w k =
-        let p = passed players funcs.ChAuthTok (bit_or flags update_authtok) kinds.Follow first h.stacks.password past (state_of h.room w) in
-        changed_keeps p.paused p.code (record h { room = p.state.room; pending = pending_behind funcs.ChAuthTok first p.paused }) p.state.world
-        (passed_keeps funcs.ChAuthTok (bit_or flags update_authtok) kinds.Follow first h.stacks.password past (state_of h.room w) k)
+module _ (players : List Player) (number : Code → ℕ → ℕ) where
+  abbrev call_in : Func → ℕ → StackCall
+  call_in func flags = record { func = func; flags = flags }
 
-    behind_check_keeps : (flags : ℕ) (code : Code) (paused : Option (List Code)) (kept : Option KeptAnswers) (h : PlainHandle) (w : PlainWorld)
-        → In w h.room.transaction.trail → Kept (behind_check players flags code paused kept h w)
-    behind_check_keeps flags codes.Success paused kept h w k = update_keeps flags kept [] h w k
-    behind_check_keeps flags other paused kept h w k = changed_keeps paused other h w k
+  authentication_ends : (flags : ℕ) (past : List Code) (h : PlainHandle) (w : PlainWorld) (first : State) → Comes players (call_in funcs.Authenticate flags) h.stacks first (state_of h.room w)
+      → Ends players (call_in funcs.Authenticate flags) h.stacks first (authentication players number flags past h w)
+  authentication_ends flags past h w first k =
+      let p = passed players funcs.Authenticate flags kinds.Keep h.authenticated h.stacks.auth past (state_of h.room w) in
+      authenticated_ends players (call_in funcs.Authenticate flags) h.stacks first number p.paused p.code
+      (record h { room = p.state.room; authenticated = p.kept; pending = pending_after funcs.Authenticate None p.paused }) p.state.world
+      (pass_comes players (call_in funcs.Authenticate flags) h.stacks first false kinds.Keep h.authenticated past (state_of h.room w) k)
 
-    check_keeps : (flags : ℕ) (past : List Code) (h : PlainHandle) (w : PlainWorld) → In w h.room.transaction.trail → Kept (check players flags past h w)
-    check_keeps flags past h w k =
-        let p = passed players funcs.ChAuthTok (bit_or flags prelim_check) kinds.Keep None h.stacks.password past (state_of h.room w) in
-        behind_check_keeps flags p.code p.paused p.kept (record h { room = p.state.room; pending = pending_behind funcs.ChAuthTok None p.paused }) p.state.world
-        (passed_keeps funcs.ChAuthTok (bit_or flags prelim_check) kinds.Keep None h.stacks.password past (state_of h.room w) k)
+  update_ends : (flags : ℕ) (kept : Option KeptAnswers) (past : List Code) (h : PlainHandle) (w : PlainWorld) (first : State)
+      → Comes players (call_in funcs.ChAuthTok flags) h.stacks first (state_of h.room w) → Ends players (call_in funcs.ChAuthTok flags) h.stacks first (update players flags kept past h w)
+  update_ends flags kept past h w first k =
+      let p = passed players funcs.ChAuthTok (flags_seen funcs.ChAuthTok true flags) kinds.Follow kept h.stacks.password past (state_of h.room w) in
+      changed_ends players (call_in funcs.ChAuthTok flags) h.stacks first p.paused p.code
+      (record h { room = p.state.room; pending = pending_after funcs.ChAuthTok kept p.paused }) p.state.world
+      (pass_comes players (call_in funcs.ChAuthTok flags) h.stacks first true kinds.Follow kept past (state_of h.room w) k)
 
-    change_keeps : (flags : ℕ) (past : List Code) (first : Option KeptAnswers) (h : PlainHandle) (w : PlainWorld) → In w h.room.transaction.trail
-        → Kept (change_goes_on players flags past first h w)
-    change_keeps flags past None h w k = check_keeps flags past h w k
-    change_keeps flags past (Some first) h w k = update_keeps flags (Some first) past h w k
+  behind_check_ends : (flags : ℕ) (code : Code) (paused : Option (List Code)) (kept : Option KeptAnswers) (h : PlainHandle) (w : PlainWorld) (first : State)
+      → Comes players (call_in funcs.ChAuthTok flags) h.stacks first (state_of h.room w)
+      → Ends players (call_in funcs.ChAuthTok flags) h.stacks first (behind_check players flags code paused kept h w)
+  behind_check_ends flags codes.Success paused kept h w first k = update_ends flags kept [] h w first k
+  behind_check_ends flags other paused kept h w first k = changed_ends players (call_in funcs.ChAuthTok flags) h.stacks first paused other h w k
 
-    pub stack_call_keeps : (func : Func) (flags : ℕ) (h : PlainHandle) (w : PlainWorld) → In w h.room.transaction.trail
-        → Kept (stack_call players number func flags h w)
-    stack_call_keeps funcs.Authenticate flags h w k =
-        begun h.pending funcs.Authenticate _ _ _ k (authentication_keeps flags [] (tokens_cleared h) w k) (λ p. authentication_keeps flags p.past h w k)
-    stack_call_keeps funcs.SetCred flags h w k =
-        let goes = λ (past : List Code). only_keeps funcs.SetCred (credential_flags flags) (following h.authenticated) h.authenticated h.stacks.auth past h w k in
-        begun h.pending funcs.SetCred _ _ _ k (goes []) (λ p. goes p.past)
-    stack_call_keeps funcs.AcctMgmt flags h w k =
-        let goes = λ (past : List Code). only_keeps funcs.AcctMgmt flags kinds.Keep None h.stacks.account past h w k in
-        begun h.pending funcs.AcctMgmt _ _ _ k (goes []) (λ p. goes p.past)
-    stack_call_keeps funcs.OpenSession flags h w k =
-        let goes = λ (past : List Code). only_keeps funcs.OpenSession flags kinds.Keep h.opened h.stacks.session past h w k in
-        begun h.pending funcs.OpenSession _ _ _ k (goes []) (λ p. goes p.past)
-    stack_call_keeps funcs.CloseSession flags h w k =
-        let goes = λ (past : List Code). only_keeps funcs.CloseSession flags (following h.opened) h.opened h.stacks.session past h w k in
-        begun h.pending funcs.CloseSession _ _ _ k (goes []) (λ p. goes p.past)
-    stack_call_keeps funcs.ChAuthTok flags h w k =
-        elim (has_pass_flag flags) as (λ (x : Bool). Kept (if x then called codes.SystemErr h w else begun_or_going_on h.pending funcs.ChAuthTok (called codes.Abort h w) (check players flags [] (tokens_cleared h) w) (λ p. change_goes_on players flags p.past p.first h w))) [
-          | true ↦ k
-          | false ↦ begun h.pending funcs.ChAuthTok _ _ _ k (check_keeps flags [] (tokens_cleared h) w k) (λ p. change_keeps flags p.past p.first h w k)
+  check_ends : (flags : ℕ) (past : List Code) (h : PlainHandle) (w : PlainWorld) (first : State) → Comes players (call_in funcs.ChAuthTok flags) h.stacks first (state_of h.room w)
+      → Ends players (call_in funcs.ChAuthTok flags) h.stacks first (check players flags past h w)
+  check_ends flags past h w first k =
+      let p = passed players funcs.ChAuthTok (flags_seen funcs.ChAuthTok false flags) kinds.Keep None h.stacks.password past (state_of h.room w) in
+      behind_check_ends flags p.code p.paused p.kept (record h { room = p.state.room; pending = pending_after funcs.ChAuthTok None p.paused }) p.state.world first
+      (pass_comes players (call_in funcs.ChAuthTok flags) h.stacks first false kinds.Keep None past (state_of h.room w) k)
+
+  change_ends : (flags : ℕ) (past : List Code) (kept : Option KeptAnswers) (h : PlainHandle) (w : PlainWorld) (first : State)
+      → Comes players (call_in funcs.ChAuthTok flags) h.stacks first (state_of h.room w)
+      → Ends players (call_in funcs.ChAuthTok flags) h.stacks first (change_goes_on players flags past kept h w)
+  change_ends flags past None h w first k = check_ends flags past h w first k
+  change_ends flags past (Some kept) h w first k = update_ends flags (Some kept) past h w first k
+
+  module _ (h : PlainHandle) (w : PlainWorld) (empty : h.room.transaction.trail ≡ []) where
+    -- no line was run yet
+    start_in : (call : StackCall) (r : PlainRoom) → r.transaction.trail ≡ [] → Comes players call h.stacks (state_of r w) (state_of r w)
+    start_in call r none_yet = record { lines = []; each = tt; recorded = sym none_yet; ran = refl }
+
+    -- a call that is refused at once
+    at_once : (call : StackCall) (code : Code) (r : PlainRoom) → r.transaction.trail ≡ [] → Ends players call h.stacks (state_of r w) (called code h w)
+    at_once call code r none_yet = record { state = state_of r w; comes = start_in call r none_yet; files = refl; trail = empty ∙ sym none_yet }
+
+    authenticate_ends : (flags : ℕ) (pending : Option Pending)
+        → Ends players (call_in funcs.Authenticate flags) h.stacks (state_of (taken_up pending h) w)
+        (begun_or_going_on pending funcs.Authenticate (called codes.Abort h w) (authentication players number flags [] (tokens_cleared h) w)
+        (λ p. authentication players number flags p.past h w))
+    authenticate_ends flags None = authentication_ends flags [] (tokens_cleared h) w (state_of (taken_up None h) w) (start_in (call_in funcs.Authenticate flags) (taken_up None h) empty)
+    authenticate_ends flags (Some p) =
+        let call = call_in funcs.Authenticate flags in
+        elim (same_func p.func funcs.Authenticate) as (λ (x : Bool). Ends players call h.stacks (state_of h.room w) (if x then authentication players number flags p.past h w else called codes.Abort h w)) [
+          | true ↦ authentication_ends flags p.past h w (state_of h.room w) (start_in call h.room empty)
+          | false ↦ at_once call codes.Abort h.room empty
         ]
 
-    -- ---- a step
+    chauthtok_ends : (flags : ℕ) (pending : Option Pending)
+        → Ends players (call_in funcs.ChAuthTok flags) h.stacks (state_of (taken_up pending h) w)
+        (begun_or_going_on pending funcs.ChAuthTok (called codes.Abort h w) (check players flags [] (tokens_cleared h) w)
+        (λ p. change_goes_on players flags p.past p.first h w))
+    chauthtok_ends flags None = check_ends flags [] (tokens_cleared h) w (state_of (taken_up None h) w) (start_in (call_in funcs.ChAuthTok flags) (taken_up None h) empty)
+    chauthtok_ends flags (Some p) =
+        let call = call_in funcs.ChAuthTok flags in
+        elim (same_func p.func funcs.ChAuthTok) as (λ (x : Bool). Ends players call h.stacks (state_of h.room w) (if x then change_goes_on players flags p.past p.first h w else called codes.Abort h w)) [
+          | true ↦ change_ends flags p.past p.first h w (state_of h.room w) (start_in call h.room empty)
+          | false ↦ at_once call codes.Abort h.room empty
+        ]
 
-    abbrev pub KeptAt : SlotStepped → Type 0
-    KeptAt s = In s.world s.outcome.trail
+    -- the passes of the other calls
+    one_ends : (func : Func) (flags : ℕ) (kind : PassKind) (kept : Option KeptAnswers) (past : List Code) (g : PlainHandle)
+        → let p = passed players func (flags_seen func false flags) kind kept (first_stack func h.stacks) past (state_of h.room w) in
+        g.room.transaction.trail ≡ (request_behind p.paused p.state.room).transaction.trail → Ends players (call_in func flags) h.stacks (state_of h.room w) (called p.code g p.state.world)
+    one_ends func flags kind kept past g e =
+        let call = call_in func flags in
+        let p = passed players func (flags_seen func false flags) kind kept (first_stack func h.stacks) past (state_of h.room w) in
+        only_ends players call h.stacks (state_of h.room w) p.code g p e
+        (pass_comes players call h.stacks (state_of h.room w) false kind kept past (state_of h.room w) (start_in call h.room empty))
 
-    step_either : (b : Bool) (x y : SlotStepped) → KeptAt x → KeptAt y → KeptAt (cond b x y)
-    step_either true x y k l = k
-    step_either false x y k l = l
+    pub call_ends : (func : Func) (flags : ℕ) → Ends players (call_in func flags) h.stacks (state_of (room_begun func h) w) (stack_call players number func flags h w)
+    call_ends funcs.Authenticate flags = authenticate_ends flags h.pending
+    call_ends funcs.SetCred flags =
+        let call = call_in funcs.SetCred flags in
+        let goes : (past : List Code) → Ends players call h.stacks (state_of h.room w) (credentials players flags past h w) = λ past. one_ends funcs.SetCred flags (following h.authenticated) h.authenticated past _ refl in
+        begun players call h.stacks (state_of h.room w) h.pending funcs.SetCred _ _ _ (at_once call codes.Abort h.room empty) (goes []) (λ p. goes p.past)
+    call_ends funcs.AcctMgmt flags =
+        let call = call_in funcs.AcctMgmt flags in
+        let goes : (past : List Code) → Ends players call h.stacks (state_of h.room w) (account players flags past h w) = λ past. one_ends funcs.AcctMgmt flags kinds.Keep None past _ refl in
+        begun players call h.stacks (state_of h.room w) h.pending funcs.AcctMgmt _ _ _ (at_once call codes.Abort h.room empty) (goes []) (λ p. goes p.past)
+    call_ends funcs.OpenSession flags =
+        let call = call_in funcs.OpenSession flags in
+        let goes : (past : List Code) → Ends players call h.stacks (state_of h.room w) (opening players flags past h w) = λ past. one_ends funcs.OpenSession flags kinds.Keep h.opened past _ refl in
+        begun players call h.stacks (state_of h.room w) h.pending funcs.OpenSession _ _ _ (at_once call codes.Abort h.room empty) (goes []) (λ p. goes p.past)
+    call_ends funcs.CloseSession flags =
+        let call = call_in funcs.CloseSession flags in
+        let goes : (past : List Code) → Ends players call h.stacks (state_of h.room w) (closing players flags past h w) = λ past. one_ends funcs.CloseSession flags (following h.opened) h.opened past _ refl in
+        begun players call h.stacks (state_of h.room w) h.pending funcs.CloseSession _ _ _ (at_once call codes.Abort h.room empty) (goes []) (λ p. goes p.past)
+    call_ends funcs.ChAuthTok flags =
+        let call = call_in funcs.ChAuthTok flags in
+        elim (has_pass_flag flags) as (λ (x : Bool). Ends players call h.stacks (state_of (room_begun funcs.ChAuthTok h) w)
+        (if x then called codes.SystemErr h w else begun_or_going_on h.pending funcs.ChAuthTok (called codes.Abort h w) (check players flags [] (tokens_cleared h) w)
+        (λ p. change_goes_on players flags p.past p.first h w))) [
+          | true ↦ at_once call codes.SystemErr (room_begun funcs.ChAuthTok h) empty
+          | false ↦ chauthtok_ends flags h.pending
+        ]
 
-    unless_keeps : (other : Option Func) (slot : PlainSlot) (w : PlainWorld) (s : SlotStepped) → In w [] → KeptAt s → KeptAt (unless_pending other slot w s)
-    unless_keeps None slot w s k l = l
-    unless_keeps (Some func) slot w s k l = k
+    -- ---- a step on an open transaction
 
-    stack_step_keeps : (func : Func) (flags : ℕ) (h : PlainHandle) (w : PlainWorld) → In w h.room.transaction.trail → In w []
-        → KeptAt (stack_step players number func flags h w)
-    stack_step_keeps func flags h w k l = step_either (is_refused_for_flags func flags) _ _ l (unless_keeps (other_pending h.pending func) _ w _ l (stack_call_keeps func flags h w k))
+    -- what its modules got, and what it ran
+    abbrev pub Runs : StackCall → SlotStepped → Type 0
+    Runs call s = (asked : List AskedLine) × RunsLines players h w call s.outcome.trail asked s.world.vault.files
 
-    open_keeps : (h : PlainHandle) (w : PlainWorld) (call : AppCall) → In w h.room.transaction.trail → In w [] → KeptAt (open_step players number h w call)
-    open_keeps h w (calls.Start service user) k l = l
-    open_keeps h w (calls.End status) k l = l
-    open_keeps h w (calls.Authenticate flags) k l = stack_step_keeps funcs.Authenticate flags h w k l
-    open_keeps h w (calls.SetCred flags) k l = stack_step_keeps funcs.SetCred flags h w k l
-    open_keeps h w (calls.AcctMgmt flags) k l = stack_step_keeps funcs.AcctMgmt flags h w k l
-    open_keeps h w (calls.OpenSession flags) k l = stack_step_keeps funcs.OpenSession flags h w k l
-    open_keeps h w (calls.CloseSession flags) k l = stack_step_keeps funcs.CloseSession flags h w k l
-    open_keeps h w (calls.ChAuthTok flags) k l = stack_step_keeps funcs.ChAuthTok flags h w k l
-    open_keeps h w (calls.SetItem item value) k l = step_either (is_refused_item ApplicationSets item) _ _ l l
-    open_keeps h w (calls.GetItem item) k l = step_either (is_refused_item ApplicationGets item) _ _ l l
-    open_keeps h w (calls.PutEnv text) k l = step_either (is_refused_text text h.room.transaction.env) _ _ l l
-    open_keeps h w (calls.GetEnv name) k l = l
-    open_keeps h w calls.EnvList k l = l
-    open_keeps h w (calls.FailDelay micros) k l = l
-    open_keeps h w (calls.DelayFn on) k l = l
-    open_keeps h w (calls.Reply text) k l = l
+    runs_nothing : (call : StackCall) (slot : PlainSlot) (answer : Answer) → Runs call (answered slot w answer)
+    runs_nothing call slot answer = (
+      [],
+      record {
+        lines = [];
+        each = tt;
+        recorded = refl;
+        last = state_of (room_begun call.func h) w;
+        ran = refl;
+        asked_are = refl;
+        left = refl;
+      },
+    )
 
-    load_keeps : (made : Stacks → PlainHandle) (r : Result Counts Stop) (stacks : Stacks) (w : PlainWorld) → In w [] → In (started_by made r stacks w).world []
-    load_keeps made (Ok counts) stacks w k = k
-    load_keeps made (Err s) stacks w k = k
+    runs_call : (func : Func) (flags : ℕ) (filed : ℕ) (answer : Answer) → Runs (call_in func flags) (told_by filed answer (stack_call players number func flags h w))
+    runs_call func flags filed answer =
+        let e = call_ends func flags in (
+          asked_along players e.comes.lines (state_of (room_begun func h) w),
+          record {
+            lines = e.comes.lines;
+            each = e.comes.each;
+            recorded = e.comes.recorded ∙ sym e.trail;
+            last = e.state;
+            ran = e.comes.ran;
+            asked_are = refl;
+            left = e.files;
+          },
+        )
 
-    opened_keeps : (names : List (List ℕ)) (conv : ConvState) (filed : ℕ) (w : PlainWorld) (r : Result PlainHandle LoadFault) → In w []
-        → KeptAt (opened_by names conv filed w r)
-    opened_keeps names conv filed w (Ok h) k = k
-    opened_keeps names conv filed w (Err fault) k = k
+    runs_either : (call : StackCall) (b : Bool) (x y : SlotStepped) → Runs call x → Runs call y → Runs call (cond b x y)
+    runs_either call true x y k l = k
+    runs_either call false x y k l = l
 
-    closed_keeps : (place : ℕ) (conv : ConvState) (w : PlainWorld) (call : AppCall) → In w [] → KeptAt (closed_step players number place conv w call)
-    closed_keeps place conv w (calls.Start service user) k =
-        let s = started place service user conv (names_of players) w in
-        opened_keeps (names_of players) conv (filed_in w) s.world s.answer (load_keeps _ _ _ w k)
-    closed_keeps place conv w (calls.Reply text) k = k
-    closed_keeps place conv w call k = k
+    runs_unless : (call : StackCall) (other : Option Func) (slot : PlainSlot) (s : SlotStepped) → Runs call s → Runs call (unless_pending other slot w s)
+    runs_unless call None slot s k = k
+    runs_unless call (Some func) slot s k = runs_nothing call slot (answers.Pending func)
 
-    slot_keeps : (place : ℕ) (slot : PlainSlot) (w : PlainWorld) (call : AppCall) → In w [] → KeptAt (slot_step players number place slot w call)
-    slot_keeps place (closed conv) w call k = closed_keeps place conv w call k
-    slot_keeps place (opened h) w call k = open_keeps _ w call k k
+    pub stack_step_runs : (func : Func) (flags : ℕ) → Runs (call_in func flags) (stack_step players number func flags h w)
+    stack_step_runs func flags =
+        let call = call_in func flags in
+        runs_either call (is_refused_for_flags func flags) _ _ (runs_nothing call (opened h) (answers.Code codes.SystemErr))
+        (runs_unless call (other_pending h.pending func) (opened h) _
+        (runs_call func flags (filed_in w) (answers.Code (stack_call players number func flags h w).code)))
 
-    at_keeps : (slots : List PlainSlot) (w : PlainWorld) (place : ℕ) (call : AppCall) (o : Option PlainSlot) → In w [] → let s = stepped_at players number slots w place call o in In s.world s.outcome.trail
-    at_keeps slots w place call None k = k
-    at_keeps slots w place call (Some slot) k = slot_keeps place slot w call k
+  -- ---- any step
 
-    pub step_keeps : (slots : List PlainSlot) (w : PlainWorld) (step : Step) → In w [] → let s = stepped players number slots w step in In s.world s.outcome.trail
-    unfolding stepped
-    step_keeps slots w step k = at_keeps slots w step.number step.call (slot_at slots step.number) k
+  abbrev pub RunsSlot : PlainWorld → Option PlainSlot → Option StackCall → SlotStepped → Type 0
+  RunsSlot w slot call s = (asked : List AskedLine) × RunsBy players w slot call s.outcome.trail asked s.world.vault.files
 
--- ---- visits one after another
+  -- neither the trace nor the files show anything
+  abbrev pub IsQuiet : PlainWorld → SlotStepped → Type 0
+  IsQuiet w s = (s.outcome.trail ≡ []) × (s.world.vault.files ≡ w.vault.files)
 
--- a visit leads to what more follows from
-lead_on : (o : Option Player) (t : TimedVisit) (before : List File) (next more : List File → Type 0) → ((files : List File) → next files → more files)
-    → VisitLeads o t before next → VisitLeads o t before more
-lead_on None t before next more on v = (v.0, on before v.1)
-lead_on (Some p) t before next more on v = (v.0, v.1, v.2, v.3, on _ v.4)
+  quiet : (w : PlainWorld) (s : SlotStepped) → IsQuiet w s → (asked : List AskedLine) × RunsNothing w s.outcome.trail asked s.world.vault.files
+  quiet w s q = ([], record { recorded = q.0; asked_are = refl; left = q.1 })
 
-pub together : (players : List Player) (first middle last : List File) (some others : List TimedVisit) → VisitsLead players first some middle
-    → VisitsLead players middle others last
-    → VisitsLead players first (some ++ others) last
-together players first middle last [] others g h = subst (λ (f : List File). VisitsLead players f others last) g h
-together players first middle last (t ∷ ts) others g h =
-    lead_on (module_of_path players t.visit.path) t first (λ files. VisitsLead players files ts middle) (λ files. VisitsLead players files (ts ++ others) last)
-    (λ files more. together players files middle last ts others more h) g
+  quiet_either : (w : PlainWorld) (b : Bool) (x y : SlotStepped) → IsQuiet w x → IsQuiet w y → IsQuiet w (cond b x y)
+  quiet_either w true x y k l = k
+  quiet_either w false x y k l = l
 
--- ---- one visit more
+  quiet_open : (h : PlainHandle) (w : PlainWorld) (call : AppCall) → IsQuiet w (open_step players number (all_told h) w call)
+      → (asked : List AskedLine) × RunsNothing w (open_step players number (all_told h) w call).outcome.trail asked (open_step players number (all_told h) w call).world.vault.files
+  quiet_open h w call q = quiet w (open_step players number (all_told h) w call) q
 
-module _ (players : List Player) (before : List File) (moment : ℕ) where
-  -- the visits lead here, and the moment is this
-  abbrev pub Led : List File → ℕ → List Visit → Type 0
-  Led files now trail = (now ≡ moment) × VisitsLead players before (visits_at moment trail) files
+  open_runs : (h : PlainHandle) (w : PlainWorld) (call : AppCall) → RunsSlot w (Some (opened h)) (stack_call_of call) (open_step players number (all_told h) w call)
+  open_runs h w (calls.Start service user) = quiet_open h w (calls.Start service user) (refl, refl)
+  open_runs h w (calls.End status) = quiet_open h w (calls.End status) (refl, refl)
+  open_runs h w (calls.Authenticate flags) = stack_step_runs (all_told h) w refl funcs.Authenticate flags
+  open_runs h w (calls.SetCred flags) = stack_step_runs (all_told h) w refl funcs.SetCred flags
+  open_runs h w (calls.AcctMgmt flags) = stack_step_runs (all_told h) w refl funcs.AcctMgmt flags
+  open_runs h w (calls.OpenSession flags) = stack_step_runs (all_told h) w refl funcs.OpenSession flags
+  open_runs h w (calls.CloseSession flags) = stack_step_runs (all_told h) w refl funcs.CloseSession flags
+  open_runs h w (calls.ChAuthTok flags) = stack_step_runs (all_told h) w refl funcs.ChAuthTok flags
+  open_runs h w (calls.SetItem item value) = quiet_open h w (calls.SetItem item value) (quiet_either w (is_refused_item ApplicationSets item) _ _ (refl, refl) (refl, refl))
+  open_runs h w (calls.GetItem item) = quiet_open h w (calls.GetItem item) (quiet_either w (is_refused_item ApplicationGets item) _ _ (refl, refl) (refl, refl))
+  open_runs h w (calls.PutEnv text) = quiet_open h w (calls.PutEnv text) (quiet_either w (is_refused_text text h.room.transaction.env) _ _ (refl, refl) (refl, refl))
+  open_runs h w (calls.GetEnv name) = quiet_open h w (calls.GetEnv name) (refl, refl)
+  open_runs h w calls.EnvList = quiet_open h w calls.EnvList (refl, refl)
+  open_runs h w (calls.FailDelay micros) = quiet_open h w (calls.FailDelay micros) (refl, refl)
+  open_runs h w (calls.DelayFn on) = quiet_open h w (calls.DelayFn on) (refl, refl)
+  open_runs h w (calls.Reply text) = quiet_open h w (calls.Reply text) (refl, refl)
 
-  one_more : (trail : List Visit) (v : Visit) (middle last : List File) → VisitsLead players before (visits_at moment trail) middle
-      → VisitsLead players middle (timed moment v ∷ []) last → VisitsLead players before (visits_at moment (trail ++ v ∷ [])) last
-  one_more trail v middle last g h =
-      rw (map_push (timed moment) trail v) (together players before middle last (visits_at moment trail) (timed moment v ∷ []) g h)
+  load_files : (made : Stacks → PlainHandle) (r : Result Counts Stop) (stacks : Stacks) (w : PlainWorld) → (started_by made r stacks w).world.vault.files ≡ w.vault.files
+  load_files made (Ok counts) stacks w = refl
+  load_files made (Err s) stacks w = refl
 
-  keeps_led : (place : ℕ) (path : List ℕ) (o : Option Player) → module_of_path players path ≡ o → KeepsVisit Led place path o
-  keeps_led place path None e = λ files now trail led. (
-    led.0,
-    one_more trail (visit_of place path codes.ModuleUnknown) files files led.1
-        (subst (λ (o : Option Player). VisitLeads o (timed moment (visit_of place path codes.ModuleUnknown)) files (λ f. files ≡ f)) (sym e) (refl, refl)),
-  )
-  keeps_led place path (Some p) e = λ call room held sight trail led.
-      let a : Played = p.plays call room held sight in
-      let v : Visit = visit_of place path (answer_or_incomplete a.room.put_off a.code) in (
-        led.0,
-        one_more trail v sight.files a.files led.1
-            (subst (λ (o : Option Player). VisitLeads o (timed moment v) sight.files (λ f. a.files ≡ f)) (sym e)
-            (record { call = call; room = room; held = held; sight = sight }, refl, led.0, refl, refl)),
-      )
+  opened_quiet : (names : List (List ℕ)) (conv : ConvState) (filed : ℕ) (w v : PlainWorld) (r : Result PlainHandle LoadFault) → v.vault.files ≡ w.vault.files
+      → IsQuiet w (opened_by names conv filed v r)
+  opened_quiet names conv filed w v (Ok h) e = (refl, e)
+  opened_quiet names conv filed w v (Err fault) e = (refl, e)
 
-pub visits_lead : (players : List Player) (number : Code → ℕ → ℕ) (slots : List PlainSlot) (w : PlainWorld) (step : Step)
-    → let s = stepped players number slots w step in VisitsLead players w.vault.files (visits_at w.clock.moment s.outcome.trail) s.world.vault.files
-visits_lead players number slots w step =
-    (step_keeps (Led players w.vault.files w.clock.moment) players
-    (λ place path. keeps_led players w.vault.files w.clock.moment place path (module_of_path players path) refl) number slots w step (refl, refl)).1
+  closed_quiet : (place : ℕ) (conv : ConvState) (w : PlainWorld) (call : AppCall) → IsQuiet w (closed_step players number place conv w call)
+  closed_quiet place conv w (calls.Start service user) =
+      let s = started place service user conv (names_of players) w in
+      opened_quiet (names_of players) conv (filed_in w) w s.world s.answer (load_files _ _ _ w)
+  closed_quiet place conv w (calls.Reply text) = (refl, refl)
+  closed_quiet place conv w call = (refl, refl)
+
+  slot_runs : (place : ℕ) (slot : PlainSlot) (w : PlainWorld) (call : AppCall) → RunsSlot w (Some slot) (stack_call_of call) (slot_step players number place slot w call)
+  slot_runs place (closed conv) w call = quiet w (closed_step players number place conv w call) (closed_quiet place conv w call)
+  slot_runs place (opened h) w call = open_runs h w call
+
+  at_runs : (slots : List PlainSlot) (w : PlainWorld) (place : ℕ) (call : AppCall) (o : Option PlainSlot)
+      → let s = stepped_at players number slots w place call o in
+      (asked : List AskedLine) × RunsBy players w o (stack_call_of call) s.outcome.trail asked s.world.vault.files
+  at_runs slots w place call None = ([], record { recorded = refl; asked_are = refl; left = refl })
+  at_runs slots w place call (Some slot) = slot_runs place slot w call
+
+  pub step_asks : (slots : List PlainSlot) (w : PlainWorld) (step : Step) → (asked : List AskedLine) × StepAsks players number slots w step asked
+  unfolding stepped
+  step_asks slots w step = at_runs slots w step.number step.call (slot_at slots step.number)
+
+-- ---- files
+
+-- a line leads to what more follows from
+lead_on : (o : Option Player) (l : AskedLine) (before : List File) (next more : List File → Type 0) → ((files : List File) → next files → more files)
+    → LineLeads o l before next → LineLeads o l before more
+lead_on None l before next more on v = (v.0, on before v.1)
+lead_on (Some p) l before next more on v = (v.0, v.1, on _ v.2)
+
+pub together : (players : List Player) (first middle last : List File) (some others : List AskedLine) → LinesLead players first some middle
+    → LinesLead players middle others last
+    → LinesLead players first (some ++ others) last
+together players first middle last [] others g h = subst (λ (f : List File). LinesLead players f others last) g h
+together players first middle last (l ∷ ls) others g h =
+    lead_on (module_of_path players l.visit.path) l first (λ files. LinesLead players files ls middle) (λ files. LinesLead players files (ls ++ others) last)
+    (λ files more. together players files middle last ls others more h) g
+
+module _ (players : List Player) where
+  by_player : (o : Option Player) (n : ℕ) (l : LineRun) (s : State) (next : List File → Type 0)
+      → let a = visited l.visit.place l.rule.path (served_by players o n (call_of l.func l.flags l.rule) s) in
+      l.visit.answer ≡ a.answer → next a.state.world.vault.files → LineLeads o (record { visit = l.visit; asked = asked_by players (Some n) l s }) s.world.vault.files next
+  by_player None n l s next e more = (e, more)
+  by_player (Some p) n l s next e more = (refl, e, more)
+
+  by_number : (number : Option ℕ) (l : LineRun) (s : State) (next : List File → Type 0)
+      → let a = serve_line players number l.visit.place l.rule.path (call_of l.func l.flags l.rule) s in
+      l.visit.answer ≡ a.answer → next a.state.world.vault.files
+      → LineLeads (player_numbered players number) (record { visit = l.visit; asked = asked_by players number l s }) s.world.vault.files next
+  by_number None l s next e more = (e, more)
+  by_number (Some n) l s next e more = by_player (slice_get players n) n l s next e more
+
+  pub run_leads : (ls : List LineRun) (s t : State) → RunOn players ls s t → LinesLead players s.world.vault.files (asked_along players ls s) t.world.vault.files
+  run_leads [] s t ran = ap (λ (u : State). u.world.vault.files) ran
+  run_leads (l ∷ ls) s t ran =
+      let path_is : l.visit.path ≡ l.rule.path = ap (λ (v : Visit). v.path) ran.0 in
+      let next : List File → Type 0 = λ files. LinesLead players files (asked_along players ls (run_in players l s).state) t.world.vault.files in
+      subst (λ (p : List ℕ). LineLeads (module_of_path players p) (record { visit = l.visit; asked = asked_by players (module_of (names_of players) l.rule) l s }) s.world.vault.files next)
+      (sym path_is)
+      (by_number (module_of (names_of players) l.rule) l s next (ap (λ (v : Visit). v.answer) ran.0) (run_leads ls (run_in players l s).state t ran.1))
+
+  leads_nothing : (w : PlainWorld) (trail : List Visit) (asked : List AskedLine) (last : List File) → RunsNothing w trail asked last → LinesLead players w.vault.files asked last
+  leads_nothing w trail asked last r = subst (λ (a : List AskedLine). LinesLead players w.vault.files a last) (sym r.asked_are) r.left
+
+  leads_lines : (h : PlainHandle) (w : PlainWorld) (call : StackCall) (trail : List Visit) (asked : List AskedLine) (last : List File)
+      → RunsLines players h w call trail asked last → LinesLead players w.vault.files asked last
+  leads_lines h w call trail asked last r =
+      subst (λ (f : List File). LinesLead players w.vault.files asked f) (sym r.left)
+      (subst (λ (a : List AskedLine). LinesLead players w.vault.files a r.last.world.vault.files) (sym r.asked_are)
+      (run_leads r.lines (state_of (room_begun call.func h) w) r.last r.ran))
+
+  leads_by : (w : PlainWorld) (slot : Option PlainSlot) (call : Option StackCall) (trail : List Visit) (asked : List AskedLine) (last : List File)
+      → RunsBy players w slot call trail asked last → LinesLead players w.vault.files asked last
+  leads_by w (Some (opened h)) (Some call) trail asked last r = leads_lines (all_told h) w call trail asked last r
+  leads_by w (Some (opened h)) None trail asked last r = leads_nothing w trail asked last r
+  leads_by w (Some (closed conv)) call trail asked last r = leads_nothing w trail asked last r
+  leads_by w None call trail asked last r = leads_nothing w trail asked last r
+
+  pub step_leads : (number : Code → ℕ → ℕ) (slots : List PlainSlot) (w : PlainWorld) (step : Step) (asked : List AskedLine) → StepAsks players number slots w step asked
+      → LinesLead players w.vault.files asked (stepped players number slots w step).world.vault.files
+  step_leads number slots w step asked a = leads_by w (slot_at slots step.number) (stack_call_of step.call) _ asked _ a
+
+  -- the lines are those that are recorded
+  along_visits : (ls : List LineRun) (s : State) → visits_of (asked_along players ls s) ≡ map (λ (l : LineRun). l.visit) ls
+  along_visits [] s = refl
+  along_visits (l ∷ ls) s = ap (λ (t : List Visit). l.visit ∷ t) (along_visits ls (run_in players l s).state)
+
+  visits_nothing : (w : PlainWorld) (trail : List Visit) (asked : List AskedLine) (last : List File) → RunsNothing w trail asked last → visits_of asked ≡ trail
+  visits_nothing w trail asked last r = ap visits_of r.asked_are ∙ sym r.recorded
+
+  visits_by : (w : PlainWorld) (slot : Option PlainSlot) (call : Option StackCall) (trail : List Visit) (asked : List AskedLine) (last : List File)
+      → RunsBy players w slot call trail asked last → visits_of asked ≡ trail
+  visits_by w (Some (opened h)) (Some call) trail asked last r =
+      ap visits_of r.asked_are ∙ along_visits r.lines (state_of (room_begun call.func (all_told h)) w) ∙ r.recorded
+  visits_by w (Some (opened h)) None trail asked last r = visits_nothing w trail asked last r
+  visits_by w (Some (closed conv)) call trail asked last r = visits_nothing w trail asked last r
+  visits_by w None call trail asked last r = visits_nothing w trail asked last r
+
+  pub step_visits : (number : Code → ℕ → ℕ) (slots : List PlainSlot) (w : PlainWorld) (step : Step) (asked : List AskedLine) → StepAsks players number slots w step asked
+      → visits_of asked ≡ (stepped players number slots w step).outcome.trail
+  step_visits number slots w step asked a = visits_by w (slot_at slots step.number) (stack_call_of step.call) _ asked _ a

@@ -1,4 +1,4 @@
--- What a list of calls stands for.
+-- The events that a list of calls means.
 use Rattle.std.proofs.Common.{◌≡◌, ℕ, List, [], ◌∷◌, ◌++◌, length, map, drop, refl, sym, ap, ◌∙◌, subst, append_assoc}
 use Rattle.std.proofs.lemmas.List.{append-nil}
 use Rattle.data_cleanup.specs.Ledger.{PlainLedger}

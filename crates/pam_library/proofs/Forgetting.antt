@@ -1,4 +1,4 @@
--- Data and births without their ids.
+-- Module data and the log of sets without their ids.
 use Rattle.std.proofs.Common.{◌≡◌, ℕ, ◌+◌, Bool, true, false, nat_eq, if◌then◌else◌, List, [], ◌∷◌, ◌++◌, map, refl, sym, ap, ◌∙◌}
 use Rattle.std.proofs.lemmas.Grind.{flat_map-append}
 use Rattle.std.proofs.lemmas.List.{map-append}
@@ -37,7 +37,7 @@ all_held : (l : PlainDataList) (bs : List Birth) → data_without_ids (hold_all 
 all_held l [] = refl
 all_held l (b ∷ bs) = all_held (hold l b) bs ∙ ap (λ (x : PlainDataList). hold_all x (map birth_without_id bs)) (held l b)
 
--- the births of data, without ids
+-- the sets of some data, without ids
 abbrev pub unnumbered : ℕ → ℕ → List NamedData → List Birth
 unnumbered handle owner ds = map (λ (d : NamedData). birth_of 0 handle owner d.name d.payload) ds
 
@@ -53,7 +53,7 @@ pub named_without_ids : (ds : List PlainDatum) → named_data (map datum_without
 named_without_ids [] = refl
 named_without_ids (d ∷ ds) = ap (λ (l : List NamedData). record { name = d.name; payload = d.payload } ∷ l) (named_without_ids ds)
 
--- ---- the births of a number
+-- ---- the sets of a number
 
 own_without_ids : (number : ℕ) (bs : List Birth) → births_on number (map birth_without_id bs) ≡ births_on number bs
 own_without_ids number [] = refl

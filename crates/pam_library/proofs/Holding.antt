@@ -1,4 +1,4 @@
--- Places, and what holds them.
+-- Slots, and their contents.
 use Rattle.std.proofs.Common.{◌≡◌, ℕ, zero, suc, ◌-◌, ◌<◌, ◌≤◌, ◌&&◌, Bool, true, false, List, [], ◌∷◌, ◌++◌, length, map, Option, Some, None, option_map, slice_get, slice_set, get_or, refl, sym, ap, ap₂, ◌∙◌, arith, IsTrue}
 use Rattle.std.specs.List.{list_all}
 use Rattle.std.proofs.lemmas.List.{append-nil}
@@ -29,7 +29,7 @@ module _ {A : Type 0} (plain : A → PlainSlot) where
   map-slice_set (x ∷ slots) zero s = refl
   map-slice_set (x ∷ slots) (suc i) s = ap (λ (t : List PlainSlot). plain x ∷ t) (map-slice_set slots i s)
 
-  -- another is put into the place of a number
+  -- another is put into the slot of a number
   pub put_at : (slots : List A) (number : ℕ) (s : A) (now : PlainSlot) → 0 < number → plain s ≡ now
       → map plain (slice_set slots (number - 1) s) ≡ with_slot (map plain slots) number now
   put_at slots zero s now positive is = absurd (omega arith)
@@ -37,7 +37,7 @@ module _ {A : Type 0} (plain : A → PlainSlot) where
       let e : suc i - 1 ≡ i = omega arith in
       ap (λ (k : ℕ). map plain (slice_set slots k s)) e ∙ map-slice_set slots i s ∙ ap (slice_set (map plain slots) i) is
 
-  -- the last of some places, none of which is open
+  -- the last of some slots, none of which is open
   pub last_closed : (slots : List A) (s : A) → NoneIsOpen (map plain (slots ++ s ∷ [])) → is_open (plain s) ≡ false
   last_closed [] s all = all.0
   last_closed (x ∷ slots) s all = last_closed slots s all.1
@@ -46,7 +46,7 @@ module _ {A : Type 0} (plain : A → PlainSlot) where
   others_closed [] s all = tt
   others_closed (x ∷ slots) s all = (all.0, others_closed slots s all.1)
 
--- what was made of each of some things, where none is left
+-- the results of mapping an empty list
 module _ {A B C : Type 0} (make : B → A) (of : A → C) (from : B → C) (same : (b : B) → of (make b) ≡ from b) where
   map-made : (bs : List B) → map of (map make bs) ≡ map from bs
   map-made [] = refl
@@ -69,7 +69,7 @@ pub empty_of : {A : Type 0} (xs : List A) → length xs ≡ 0 → xs ≡ []
 empty_of [] none = refl
 empty_of (x ∷ xs) none = absurd (omega arith)
 
--- ---- another is put into a place
+-- ---- another is put into a slot
 
 module _ {A : Type 0} (plain : A → PlainSlot) where
   was_held : (slots : List A) (number : ℕ) (was : A) (slot : PlainSlot) → 0 < number → number - 1 < length slots → was ≡ get_or slots (number - 1) was

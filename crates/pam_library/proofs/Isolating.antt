@@ -20,7 +20,7 @@ use Rattle.pam_library.proofs.Placewise.{PlaceTwins, WorldTwins, filed_from_is, 
 use Rattle.pam_library.proofs.Recording.{cleaned_then, still_recorded}
 use Rattle.pam_library.proofs.Twins.{KeptIn}
 
--- ---- the order of all places
+-- ---- the order of all slots
 
 still_at : (number : ℕ) (births more : List Birth) (slot : PlainSlot) → IsRecordedAt number births slot → IsRecordedAt number (births ++ more) slot
 still_at number births more (closed conv) r = tt

@@ -8,6 +8,7 @@ pub mod Stacking
 pub mod Within
 pub mod Starting
 pub mod Onward
+pub mod Stopping
 pub mod Applying
 pub mod Ending
 pub mod Forgetting

@@ -1,4 +1,5 @@
--- A load over two vaults with the same files, of which no call is to fail: it comes to the same, but for the number of calls.
+-- A load over two file stores with the same files and no planned failure has the same result, except for the number of
+-- accesses.
 use Rattle.std.proofs.Common.{◌≡◌, ℕ, ◌+◌, Bool, true, false, if◌then◌else◌, List, [], ◌∷◌, Option, Result, Ok, Err, refl, sym, subst}
 use Rattle.std.specs.Prelude.{nat_lt, nat_le}
 use Rattle.pam_base.specs.declared.fault.FaultKind.TheVariants.{TooDeep, TooManyLines, TooManyFiles, ReadFailed}
@@ -13,7 +14,7 @@ use Rattle.pam_handle.specs.service_load.specs.Order.{Opener, as_service, as_oth
 use Rattle.pam_library.specs.Alike.{NoCallFails}
 use Rattle.pam_library.proofs.Quiet.{quiet_counted, quiet_now, quiet_with_files}
 
--- by the numbers of the calls that are to fail, and how many calls were made
+-- by the numbers of the accesses planned to fail, and the number of accesses made
 abbrev pub QuietAt : List ℕ → ℕ → Type 0
 QuietAt fails calls = NoCallFails (record { files = []; calls = calls; fails = fails })
 
@@ -24,7 +25,7 @@ one_more : (fails : List ℕ) (calls : ℕ) → QuietAt fails calls → QuietAt 
 one_more fails calls quiet = quiet_counted (record { files = []; calls = calls; fails = fails }) quiet
 
 module _ (some others : List ℕ) where
-  -- the same but for the number of calls
+  -- the same except for the number of accesses
   pub record CountsTwins (c d : Counts) : Type 0 where
     pub rest : record c { calls = d.calls } ≡ d
     pub first : QuietAt some c.calls
@@ -131,6 +132,6 @@ loaded_twins v w root root' service files roots first second =
     (subst (λ (r : List ℕ). LookTwins v.fails w.fails (loaded v root service) (loaded (record w { files = v.files }) r service)) roots
     (same_files v w root service first second))
 
--- the number of calls alone
+-- only the number of accesses
 pub quiet_with_calls : (v : VaultState) (calls : ℕ) → QuietAt v.fails calls → NoCallFails (record v { calls = calls })
 quiet_with_calls v calls quiet = quiet_with_files v.files (record { files = []; calls = calls; fails = v.fails }) quiet

@@ -1,4 +1,4 @@
--- The steps of a run in one place.
+-- The steps of a run in one slot.
 use Rattle.std.proofs.Common.{◌≡◌, ℕ, Bool, true, false, nat_eq, if◌then◌else◌, List, [], ◌∷◌, Option, Some, None, refl, sym, ap, ◌∙◌, arith}
 use Rattle.std.proofs.lemmas.Bool.Decides.{nat_tests}
 use Rattle.pam_base.specs.declared.code.Code.{Code}
@@ -11,7 +11,7 @@ use Rattle.pam_library.specs.SideBySide.{Met, own_steps, slots_after, outcomes_o
 use Rattle.pam_library.proofs.Placing.{slot_at-with_slot_same, slot_at-with_slot_other}
 
 module _ (players : List Player) (number_of : Code → ℕ → ℕ) where
-  -- a step by the place of its number
+  -- a step by the slot of its number
   at_place : (slots : List PlainSlot) (m : Met) (found : Option PlainSlot) → slot_at slots m.step.number ≡ found
       → stepped players number_of slots m.world m.step ≡ stepped_at players number_of slots m.world m.step.number m.step.call found
   unfolding stepped

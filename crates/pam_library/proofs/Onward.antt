@@ -1,5 +1,5 @@
--- A step on an open place: what its transaction had told before is thrown away.
-use Rattle.std.proofs.Common.{◌≡◌, ℕ, Bool, true, false, ◌⊎◌, inl, inr, if◌then◌else◌, IsTrue, IfOk, List, Option, Some, None, option_map, Result, Ok, Err, subst}
+-- A step in an open slot: what its transaction had to report before is dropped.
+use Rattle.std.proofs.Common.{◌≡◌, ℕ, Bool, true, false, ◌&&◌, ◌⊎◌, inl, inr, if◌then◌else◌, IsTrue, IfOk, List, Option, Some, None, option_map, Result, Ok, Err, subst}
 use Rattle.pam_base.specs.declared.code.Code.{Code}
 use Rattle.pam_base.specs.declared.code.Code.TheVariants as codes
 use Rattle.pam_base.specs.declared.call.Func.{Func}
@@ -21,7 +21,7 @@ use Rattle.pam_library.specs.declared.outcome.Outcome.{Outcome}
 use Rattle.pam_library.specs.Slots.{PlainSlot, closed, opened}
 use Rattle.pam_library.specs.SlotStep.{is_refused_for_flags, other_pending}
 use Rattle.pam_library.specs.Sound.{IsPlaced}
-use Rattle.pam_library.specs.AnyWorld.{AnswersBy, CanAnswer, CountsRefusal, Fails, GetsItem, StackFails, is_code, refusal}
+use Rattle.pam_library.specs.AnyWorld.{AnswersBy, CanAnswer, CountsRefusal, Fails, GetsItem, StackFails, StackStops, StopsBy, is_code, refusal}
 use Rattle.pam_library.specs.InPlace.{GoesInPlace}
 use Rattle.pam_library.proofs.Within.{failed_by}
 
@@ -39,6 +39,21 @@ fails_told tells (calls.ChAuthTok flags) h new f = stack_fails funcs.ChAuthTok h
 fails_told tells (calls.Reply text) h new f = record { rest = f.rest; told = f.told }
 fails_told tells call h new f = f
 
+stack_stops : (func : Func) (flags : ℕ) (players : List Player) (tells : Bool) (h : PlainHandle) (new : PlainSlot) (w v : PlainWorld) → StackStops func flags players tells (opened (all_told h)) new w v
+    → StackStops func flags players tells (opened h) new w v
+stack_stops func flags players tells h (closed conv) w v s = s
+stack_stops func flags players tells h (opened next) w v s = s
+
+stops_told : (players : List Player) (tells : Bool) (call : AppCall) (result : Result Outcome NoMemory) (h : PlainHandle) (new : PlainSlot) (w v : PlainWorld) → StopsBy players tells call result (opened (all_told h)) new w v
+    → StopsBy players tells call result (opened h) new w v
+stops_told players tells (calls.Authenticate flags) result h new w v s = failed_by result _ _ (stack_stops funcs.Authenticate flags players tells h new w v) s
+stops_told players tells (calls.SetCred flags) result h new w v s = failed_by result _ _ (stack_stops funcs.SetCred flags players tells h new w v) s
+stops_told players tells (calls.AcctMgmt flags) result h new w v s = failed_by result _ _ (stack_stops funcs.AcctMgmt flags players tells h new w v) s
+stops_told players tells (calls.OpenSession flags) result h new w v s = failed_by result _ _ (stack_stops funcs.OpenSession flags players tells h new w v) s
+stops_told players tells (calls.CloseSession flags) result h new w v s = failed_by result _ _ (stack_stops funcs.CloseSession flags players tells h new w v) s
+stops_told players tells (calls.ChAuthTok flags) result h new w v s = failed_by result _ _ (stack_stops funcs.ChAuthTok flags players tells h new w v) s
+stops_told players tells call result h new w v s = s
+
 module _ (players : List Player) (gives : (Code → ℕ → ℕ) → Type 0) (tells world_tells : Bool) (call : AppCall) (h : PlainHandle) (w : PlainWorld) (result : Result Outcome NoMemory) (new : PlainSlot) (v : PlainWorld) where
   from_told : (number : ℕ) → GoesInPlace players gives tells world_tells number call (opened (all_told h)) w result new v
       → GoesInPlace players gives tells world_tells number call (opened h) w result new v
@@ -49,6 +64,7 @@ module _ (players : List Player) (gives : (Code → ℕ → ℕ) → Type 0) (te
     filed_from = goes.filed_from;
     succeeds = goes.succeeds;
     fails = failed_by result (Fails tells call (opened (all_told h)) new) (Fails tells call (opened h) new) (fails_told tells call h new) goes.fails;
+    stops = stops_told players (tells && world_tells) call result h new w v goes.stops;
     placed = goes.placed;
     spends = goes.spends;
     root = goes.root;
@@ -64,7 +80,7 @@ module _ (players : List Player) (gives : (Code → ℕ → ℕ) → Type 0) (te
       (subst (λ (k : ℕ). GoesInPlace players gives told_tells world_tells k call (opened (all_told h)) w result new v) placed.handle
       (subst (λ (k : PlainHandle). GoesInPlace players gives told_tells world_tells k.room.transaction.handle call (opened k) w result new v) same goes)))
 
--- ---- an open place refuses no start for its configuration
+-- ---- an open slot refuses no start for its configuration
 
 not_by_flags : (b : Bool) (o : Option Func) (call : AppCall) (fault : LoadFault) → ((answer : Answer) → CanAnswer call answer → IsTrue (is_code answer))
     → AnswersBy (if b then Some (answers.Code codes.SystemErr) else option_map answers.Pending o) call (answers.Refused fault) → ⊥

@@ -1,4 +1,4 @@
--- Places and a ledger that are sound are in order.
+-- Sound slots and a sound cleanup log are in order.
 use Rattle.std.proofs.Common.{◌≡◌, ℕ, zero, suc, ◌+◌, ◌<◌, ◌≤◌, List, [], ◌∷◌, length, map, Some, None, slice_get, refl, sym, ap, ◌∙◌, subst, arith}
 use Rattle.std.specs.List.{AllByRecursion}
 use Rattle.conv_port.specs.Conv.{ConvState}
@@ -12,7 +12,7 @@ use Rattle.pam_library.specs.Alike.{AreInOrder, IsOfBirth, IsRecorded, IsRecorde
 use Rattle.pam_library.specs.Slots.{PlainSlot, closed, data_in, lists_of, opened, slot_at}
 use Rattle.pam_library.specs.Sound.{IsSound}
 
--- ---- births that are numbered by their places
+-- ---- sets numbered by their positions
 
 record Found (P : Birth → Type 0) (births : List Birth) (i id : ℕ) : Type 0 where
   birth : Birth
@@ -46,7 +46,7 @@ all_recorded : (modules number : ℕ) (births : List Birth) (ds : List PlainDatu
 all_recorded modules number births [] numbered known = tt
 all_recorded modules number births (d ∷ ds) numbered known = (recorded modules number births d numbered known.0, all_recorded modules number births ds numbered known.1)
 
--- ---- receipts of births that stand there
+-- ---- cleanup records of sets in the log
 
 each_born : (births : List Birth) → AllByRecursion (λ (b : Birth). Unit {0}) births
 each_born [] = tt
@@ -60,7 +60,7 @@ of_births births (f ∷ fs) numbered born marks =
     let b : Found (λ (b : Birth). Unit {0}) births f.receipt.id (0 + f.receipt.id) = found (λ (b : Birth). Unit {0}) births 0 f.receipt.id numbered (each_born births) below in
     ((b.birth, b.there), of_births births fs numbered born.1 marks.1)
 
--- ---- all places
+-- ---- all slots
 
 module _ (names : List (List ℕ)) (modules : ℕ) (slots : List PlainSlot) (ledger : PlainLedger) where
   at_place : (number : ℕ) (slot : PlainSlot) → slot_at slots number ≡ Some slot → IsSound names modules slots ledger → AreNumbered 0 ledger.births
@@ -82,7 +82,7 @@ module _ (names : List (List ℕ)) (modules : ℕ) (slots : List PlainSlot) (led
     each = λ number slot there. at_place number slot there sound numbered;
   }
 
--- ---- closed places
+-- ---- closed slots
 
 closed_at : (convs : List ConvState) (number i : ℕ) (slot : PlainSlot) → slice_get (map closed convs) i ≡ Some slot → IsRecordedAt number [] slot
 closed_at [] number i slot there = absurd (cc)

@@ -1,4 +1,4 @@
--- A call on one place, in two runs that are alike for its number.
+-- A call in one slot, in two runs that are alike for its number.
 use Rattle.std.proofs.Common.{◌≡◌, ℕ, Bool, true, false, if◌then◌else◌, List, [], ◌++◌, length, map, max, reverse, Option, Some, None, Result, Ok, Err, refl, sym, ap, ◌∙◌, subst, append_assoc}
 use Rattle.std.proofs.lemmas.List.{append-nil}
 use Rattle.pam_base.specs.declared.code.Code.{Code}
@@ -52,7 +52,7 @@ module _ (n number : ℕ) (first second : PlainWorld) where
     pub first_data : IsRecordedAt number a.world.process.ledger.births a.slot
     pub second_data : IsRecordedAt number b.world.process.ledger.births b.slot
 
-  -- ---- an answer alone
+  -- ---- a result without anything to report
 
   pub record WorldTwins (v w : PlainWorld) : Type 0 where
     pub shown : shown_to n v ≡ shown_to n w
@@ -77,7 +77,7 @@ module _ (n number : ℕ) (first second : PlainWorld) where
         second_data = t.second_data;
       }
 
-  -- the room alone is changed
+  -- only the room changes
   changed_room : (u : PlainRoom → PlainRoom) → Touches n number u → (x : PlainHandle) (r : PlainRoom) (v w : PlainWorld) (a : Answer)
       → Both (state_of x.room v) (state_of r w) →
       PlaceTwins (answered (opened (in_room (u x.room) x)) v a) (answered (opened (in_room (u r) x)) w a)
@@ -142,7 +142,7 @@ module _ (n number : ℕ) (first second : PlainWorld) where
         second_data = tt;
       }
 
-  -- ---- what was told is handed out
+  -- ---- what is to report is handed out
 
   abbrev told_room : PlainRoom → PlainRoom
   told_room r = record r { transaction = record r.transaction { said = []; trail = [] } }
@@ -174,7 +174,7 @@ module _ (n number : ℕ) (first second : PlainWorld) where
       } in
       subst (λ (x : Called). PlaceTwins (told_by before (answers.Code c.code) c) (told_by after (answers.Code x.code) x)) t.rest main
 
-  -- ---- a call on an open place
+  -- ---- a call in an open slot
 
   module _ (players : List Player) (delay : Code → ℕ → ℕ) (x : PlainHandle) (r : PlainRoom) (v w : PlainWorld) (t : Twins n number first second (state_of x.room v) (state_of r w)) where
     unless_twins : (found : Option Func) (a b : SlotStepped) → PlaceTwins a b
@@ -298,7 +298,7 @@ module _ (n number : ℕ) (first second : PlainWorld) where
         (λ i. stacks_under (record { files = (t.shown i).files; calls = 0; fails = [] }) (t.shown i).root service)
         (loaded_twins v.vault w.vault v.process.root w.process.root service (λ i. (t.shown i).files) (λ i. (t.shown i).root) t.first_kept.quiet t.second_kept.quiet)
 
-  -- ---- a call on a place
+  -- ---- a call in a slot
 
   module _ (players : List Player) (delay : Code → ℕ → ℕ) where
     closed_step_twins : (conv : ConvState) (v w : PlainWorld) → WorldTwins v w → (call : AppCall)
@@ -340,7 +340,7 @@ module _ (n number : ℕ) (first second : PlainWorld) where
     place_twins (closed c) (opened y) v w call same t p q = absurd (subst IsOpen (sym (ap is_open same)) tt)
     place_twins (opened x) (closed d) v w call same t p q = absurd (subst IsOpen (ap is_open same) tt)
 
--- ---- what was filed before a call is counted first
+-- ---- first the number of cleanup records before a call
 
 opened_from : (names : List (List ℕ)) (conv : ConvState) (filed : ℕ) (w : PlainWorld) (r : Result PlainHandle LoadFault)
     → (opened_by names conv filed w r).outcome.filed_from ≡ filed

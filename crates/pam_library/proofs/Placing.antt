@@ -1,4 +1,4 @@
--- Places by their numbers, and what another in one of them changes.
+-- Slots by their numbers, and what replacing one of them changes.
 use Rattle.std.proofs.Common.{◌≡◌, ℕ, zero, suc, ◌<◌, ◌≤◌, List, [], ◌∷◌, length, Some, slice_get, slice_set, refl, ap, arith}
 use Rattle.pam_library.specs.Slots.{PlainSlot, slot_at, with_slot, data_in, lists_of}
 
@@ -34,14 +34,14 @@ pub length-with_slot : (slots : List PlainSlot) (number : ℕ) (new : PlainSlot)
 length-with_slot slots zero new = refl
 length-with_slot slots (suc i) new = length-slice_set slots i new
 
--- the numbers of places
+-- the numbers of slots
 pub slot_at-within : (slots : List PlainSlot) (number : ℕ) (slot : PlainSlot) → slot_at slots number ≡ Some slot → (0 < number) × (number ≤ length slots)
 slot_at-within slots zero slot is = absurd (cc)
 slot_at-within [] (suc i) slot is = absurd (cc)
 slot_at-within (x ∷ slots) (suc zero) slot is = (omega arith, omega arith)
 slot_at-within (x ∷ slots) (suc (suc i)) slot is = let h = slot_at-within slots (suc i) slot is in (omega arith, omega arith)
 
--- only the data of one place change
+-- only the data of one slot change
 pub lists-other : (slots : List PlainSlot) (number : ℕ) (new : PlainSlot) (other : ℕ) → (other ≡ number → ⊥)
     → lists_of (with_slot slots number new) other ≡ lists_of slots other
 lists-other slots number new other differs = ap (data_in other) (slot_at-with_slot_other slots number other new differs)

@@ -1,4 +1,4 @@
--- A vault of which no call is to fail.
+-- A file store without a planned failure.
 use Rattle.std.proofs.Common.{◌≡◌, ℕ, zero, suc, ◌-◌, ◌^◌, Bool, true, false, ◌&&◌, List, [], refl, ap, ◌∙◌}
 use Rattle.std.specs.Prelude.{nat_lt}
 use Rattle.pam_outside.specs.Counts.{fails_next}

@@ -1,4 +1,4 @@
--- Data that stand among the births of a ledger, and their receipts.
+-- Module data recorded among the sets of a cleanup log, and their cleanup records.
 use Rattle.std.proofs.Common.{◌≡◌, ℕ, zero, suc, ◌+◌, Bool, true, false, nat_eq, if◌then◌else◌, List, [], ◌∷◌, ◌++◌, length, drop, map, reverse, Option, Some, slice_get, refl, sym, ap, ◌∙◌, subst, arith, append_assoc}
 use Rattle.std.proofs.lemmas.Bool.Decides.{nat_tests}
 use Rattle.std.proofs.lemmas.Grind.{flat_map-append}
@@ -41,7 +41,7 @@ look_behind : (births more : List Birth) (b : Birth) → slice_get (births ++ b 
 look_behind [] more b = refl
 look_behind (x ∷ births) more b = look_behind births more b
 
--- ---- births that are added
+-- ---- sets that are added
 
 pub still_recorded : (number : ℕ) (births more : List Birth) (ds : List PlainDatum) → AllByRecursion (IsRecorded number births) ds
     → AllByRecursion (IsRecorded number (births ++ more)) ds
@@ -50,7 +50,7 @@ still_recorded number births more ds a = all_more (IsRecorded number births) (Is
 pub still_of_births : (births more : List Birth) (fs : List Filed) → AllByRecursion (IsOfBirth births) fs → AllByRecursion (IsOfBirth (births ++ more)) fs
 still_of_births births more fs a = all_more (IsOfBirth births) (IsOfBirth (births ++ more)) (λ f is. (is.0, look_further births more f.receipt.id is.0 is.1)) fs a
 
--- old receipts are found as before
+-- old cleanup records are found as before
 pub receipts_stay : (n : ℕ) (births more : List Birth) (fs : List Filed) → AllByRecursion (IsOfBirth births) fs
     → flat_map (own_filed n (births ++ more)) fs ≡ flat_map (own_filed n births) fs
 receipts_stay n births more [] a = refl
@@ -60,7 +60,7 @@ receipts_stay n births more (f ∷ fs) a =
     let rest : flat_map (own_filed n (births ++ more)) fs ≡ flat_map (own_filed n births) fs = receipts_stay n births more fs a.1 in
     λ i. head i ++ rest i
 
--- a birth of a number that stands at its id
+-- a set of a number at the position of its id
 abbrev Stands : ℕ → List Birth → Birth → Type 0
 Stands number births b = slice_get births b.id ≡ Some (birth_of b.id number b.owner b.name b.payload)
 
@@ -104,7 +104,7 @@ all_held P l [] live gone new = (live, gone)
 all_held P l (b ∷ bs) live gone new =
     all_held P (hold l b) bs (all_placed P l.live (datum_of b) live new.0) (all_appended P l.gone (data_named l.live b.name) gone (all_named P l.live b.name live)) new.1
 
--- data that were recorded are so after others are set, and the others too
+-- data that were recorded still are after others are set, and the others are too
 pub set_recorded : (number handle owner : ℕ) (births : List Birth) (l : PlainDataList) (ds : List NamedData) → handle ≡ number →
     AllByRecursion (IsRecorded number births) l.live → AllByRecursion (IsRecorded number births) l.gone →
     AllByRecursion (IsRecorded number (births ++ births_of (length births) handle owner ds)) (hold_all l (births_of (length births) handle owner ds)).live
@@ -116,7 +116,7 @@ set_recorded number handle owner births l ds same live gone =
 
 -- ---- data that are cleaned up
 
--- what is filed for data of a handle, as a number sees it
+-- the cleanup records of a handle's data, as a number sees them
 abbrev pub cleanings : ℕ → ℕ → Notes → ℕ → List PlainDatum → List Cleaned
 cleanings n handle note status ds = flat_map (λ (d : PlainDatum). own_receipt n (Some (birth_of 0 handle d.owner d.name d.payload)) (record { id = 0; status = status; note = note d.owner d.payload status })) ds
 
@@ -158,7 +158,7 @@ pub filed_of_births : (handle : ℕ) (note : Notes) (status mark : ℕ) (births 
     AllByRecursion (IsOfBirth births) (fs ++ receipts_for note status mark ds)
 filed_of_births handle note status mark births fs ds old a = all_appended (IsOfBirth births) fs (receipts_for note status mark ds) old (new_of_births handle note status mark births ds a)
 
--- a receipt of a birth of this number
+-- a cleanup record for a set of this number
 abbrev pub IsOwnFiled : ℕ → List Birth → Filed → Type 0
 IsOwnFiled number births f = (b : Birth) × (slice_get births f.receipt.id ≡ Some b) × (b.handle ≡ number)
 
@@ -193,7 +193,7 @@ left_over : (xs ys : List Filed) → drop (length xs) (xs ++ ys) ≡ ys
 left_over [] ys = refl
 left_over (x ∷ xs) ys = left_over xs ys
 
--- what a call filed, after what was filed before, of births of its number
+-- what a call logged, after what was logged before, for sets of its number
 pub cleaned_then : (n : ℕ) (before after : PlainLedger) (added : List Birth) (more : List Filed) → after.births ≡ before.births ++ added
     → after.filed ≡ before.filed ++ more →
     AllByRecursion (IsOfBirth before.births) before.filed → AllByRecursion (IsOwnFiled n after.births) more →

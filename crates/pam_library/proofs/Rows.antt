@@ -1,4 +1,4 @@
--- Worked steps, computed on the definitions.
+-- Test cases of steps, computed on the definitions.
 use Rattle.std.proofs.Common.{◌≡◌, ℕ, true, false, List, [], ◌∷◌, Some, None, refl}
 use Rattle.std.specs.Prelude.{codes, replicate}
 use Rattle.std.specs.Option.{option_map}
@@ -34,7 +34,7 @@ use Rattle.pam_library.specs.Step.{Stepped, stepped}
 use Rattle.pam_library.specs.Closing.{ClosedOne, closed_one}
 use Rattle.pam_outside.specs.Paths.{path_of}
 
--- ---- two modules: one sets a datum, the other is put off by its conversation
+-- ---- two modules: one sets module data, the other returns INCOMPLETE since its conversation has no reply
 
 abbrev sets_datum : Player
 sets_datum = record {
@@ -59,7 +59,7 @@ players = sets_datum ∷ is_put_off ∷ []
 abbrev number_of : Code → ℕ → ℕ
 number_of code asked = 0
 
--- ---- sixteen places, a world, and a transaction whose stacks have one line each
+-- ---- sixteen slots, a world, and a transaction whose stacks have one line each
 
 abbrev no_offers : ConvState
 no_offers = record { offers = []; waits = false; handed = [] }
@@ -84,7 +84,7 @@ by path = record { auth = one path; account = one path; password = one path; ses
 abbrev of_joe : ℕ → List ℕ → PlainHandle
 of_joe number path = new_handle number (codes "t") (Some (codes "joe")) no_offers (codes "p" ∷ codes "q" ∷ []) (by path)
 
--- the first place open over one module, and the third
+-- the first slot open with one module, and the third
 abbrev first_open : List ℕ → List PlainSlot
 first_open path = opened (of_joe 1 path) ∷ replicate 15 (closed no_offers)
 
@@ -97,13 +97,13 @@ step number call = record { number = number; call = call }
 abbrev of_step : List PlainSlot → ℕ → AppCall → Stepped
 of_step slots number call = stepped players number_of slots at_first (step number call)
 
--- the answer, where nothing is told and the places stay
+-- the result, if nothing is to report and the slots stay
 record OnlyAnswers (slots : List PlainSlot) (number : ℕ) (call : AppCall) (answer : StepAnswer) : Type 0 where
   outcome : (of_step slots number call).outcome ≡ answers_only 0 answer
   slots_are : (of_step slots number call).slots ≡ slots
   world_is : (of_step slots number call).world ≡ at_first
 
--- ---- number, place and pending call come first
+-- ---- number, slot and pending call are checked first
 
 bad_number : OnlyAnswers (first_open (codes "p")) 17 (calls.Start (codes "t") None) answers.BadNumber
 unfolding stepped
@@ -134,7 +134,7 @@ unset : OnlyAnswers (first_open (codes "p")) 1 (calls.GetItem Tty) (answers.Valu
 unfolding stepped
 unset = record { outcome = refl; slots_are = refl; world_is = refl }
 
--- ---- a reply waits in a closed place for the next transaction there
+-- ---- a reply waits in a closed slot for the next transaction there
 
 replied : Stepped
 replied = of_step (first_open (codes "p")) 2 (calls.Reply (codes "y"))
@@ -160,12 +160,12 @@ start_opens : is_open_at (slot_at started_second.slots 2) ≡ true
 unfolding stepped started_second look items answer_to answer_at pieces_behind first_piece entry_of nodes path_of
 start_opens = refl
 
--- a module that isn't there is told
+-- a missing module is reported
 missing_told : (stepped (is_put_off ∷ []) number_of all_closed at_first (step 1 (calls.Start (codes "t") None))).outcome.missing ≡ codes "p" ∷ []
 unfolding stepped look items answer_to answer_at pieces_behind first_piece entry_of nodes path_of
 missing_told = refl
 
--- ---- a datum is set, and cleaned up at the end; the other transaction stays
+-- ---- module data are set, and cleaned up at the end; the other transaction stays
 
 authenticated : Stepped
 authenticated = of_step first_and_third 1 (calls.Authenticate 0)
@@ -197,7 +197,7 @@ end_closes : slot_at ended_first.slots 1 ≡ Some (closed no_offers)
 unfolding stepped authenticated ended_first
 end_closes = refl
 
--- ---- a call that was put off goes on first, but for an end
+-- ---- a pending call is resumed first, except that a transaction may end
 
 put_off : Stepped
 put_off = of_step (first_open (codes "q")) 1 (calls.Authenticate 0)
@@ -217,7 +217,7 @@ ended_anyway : (stepped players number_of put_off.slots put_off.world (step 1 (c
 unfolding stepped put_off
 ended_anyway = refl
 
--- ---- the lowest is ended first
+-- ---- the lowest number is ended first
 
 lowest : option_map (λ (c : ClosedOne). c.number) (closed_one (notes_of players) 26 first_and_third at_first) ≡ Some 1
 unfolding closed_one

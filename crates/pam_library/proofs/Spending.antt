@@ -1,4 +1,4 @@
--- What a call does in one place, and all places with the ledger.
+-- What a call does in one slot, and what that means for all slots and the cleanup log.
 use Rattle.std.proofs.Common.{◌≡◌, ℕ, zero, suc, ◌<◌, Bool, true, false, nat_eq, List, [], ◌∷◌, ◌++◌, length, map, reverse, Option, Some, None, slice_get, refl, sym, ap, ◌∙◌, subst, arith}
 use Rattle.std.proofs.lemmas.Bool.Decides.{nat_tests}
 use Rattle.std.specs.List.{AllByRecursion}
@@ -20,7 +20,7 @@ use Rattle.pam_library.specs.Sound.{ArePlaced, IsAtPlace, IsSound}
 use Rattle.pam_library.specs.AnyWorld.{IsEndOf, IsUntouched, SpendsAs, SpendsAt, end_of_call, end_at}
 use Rattle.pam_library.proofs.Placing.{slot_at-with_slot_same, slot_at-with_slot_other, slot_at-within, length-with_slot, lists-other, lists-same}
 
--- ---- the laws that are cited
+-- ---- the laws that are used
 
 abbrev pub GrowthHolds : Type 0
 GrowthHolds = (note : Notes) (modules limit handle : ℕ) (before after : PlainLedger) (lists next : Lists) →
@@ -49,7 +49,7 @@ abbrev pub NothingMoves : Type 0
 NothingMoves = (note : Notes) (limit : ℕ) (before after : PlainLedger) (lists next : Lists) →
     after ≡ before → ((h : ℕ) → next h ≡ lists h) → Moves note limit [] before lists after next
 
--- ---- births have owners
+-- ---- sets have owners
 
 owned_of : (added : List Birth) (modules handle : ℕ) → AllByRecursion (IsOf modules handle) added → AllByRecursion (λ (b : Birth). b.owner < modules) added
 owned_of [] modules handle each = tt
@@ -60,9 +60,9 @@ owned-append : (births added : List Birth) (modules handle : ℕ) → AllByRecur
 owned-append (b ∷ births) added modules handle owned each = (owned.0, owned-append births added modules handle owned.1 each)
 owned-append [] added modules handle owned each = owned_of added modules handle each
 
--- ---- another in the place of a number
+-- ---- another in the slot of a number
 
--- what is known where something was done in one place
+-- what is known after something was done in one slot
 pub record IsDone (names : List (List ℕ)) (modules : ℕ) (slots : List PlainSlot) (number : ℕ) (old new : PlainSlot) (before after : PlainLedger) : Type 0 where
   pub sound : IsSound names modules slots before
   pub there : slot_at slots number ≡ Some old
@@ -117,7 +117,7 @@ module _ (names : List (List ℕ)) (modules : ℕ) (slots : List PlainSlot) (num
       subst (λ (l : PlainDataList). Grows note modules (data_in number (Some old)) before l after) (sym same.list)
       (subst (λ (l : PlainLedger). Grows note modules (data_in number (Some old)) before (data_in number (Some old)) l) (sym same.ledger) (nothing note modules (data_in number (Some old)) before none_gone))
 
-  -- ---- the places
+  -- ---- the slots
 
   new_at : (n : ℕ) (slot : PlainSlot) → slot_at (with_slot slots number new) n ≡ Some slot → IsAtPlace names n slot
   new_at n slot is = elim (nat_eq n number) as (λ (b : Bool). nat_eq n number ≡ b → IsAtPlace names n slot) [
@@ -167,7 +167,7 @@ module _ (names : List (List ℕ)) (modules : ℕ) (slots : List PlainSlot) (num
         → Moves note 17 [] before (lists_of slots) after (lists_of (with_slot slots number new))
     moves_of_nothing law same = law note 17 before after (lists_of slots) (lists_of (with_slot slots number new)) same.ledger (all_lists same.list)
 
--- ---- by the place and the call
+-- ---- by the slot and the call
 
 module _ (growth : GrowthHolds) (ending : EndHolds) (nothing : NothingGrows) (note : Notes) (names : List (List ℕ)) (modules : ℕ) (slots : List PlainSlot) (number : ℕ) where
   sound_of_open : (h : PlainHandle) (new : PlainSlot) (call : AppCall) (before after : PlainLedger)
@@ -194,7 +194,7 @@ module _ (growth : GrowthMoves) (ending : EndMoves) (nothing : NothingMoves) (no
   moves_of (opened h) new call before after done spends = moves_of_open h new call before after done spends
   moves_of (closed conv) new call before after done same = moves_of_nothing names modules slots number (closed conv) new before after done note nothing same
 
--- ---- at first
+-- ---- the beginning
 
 pub closed_at : (convs : List ConvState) (i : ℕ) (slot : PlainSlot) → slice_get (map closed convs) i ≡ Some slot → (conv : ConvState) × (slot ≡ closed conv)
 closed_at [] i slot is = absurd (cc)

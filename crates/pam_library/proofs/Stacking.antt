@@ -18,7 +18,7 @@ use Rattle.pam_handle.specs.declared.wait.Wait.{Wait}
 use Rattle.pam_handle.specs.Handle.{PlainHandle}
 use Rattle.pam_handle.specs.Items.{all_told}
 use Rattle.pam_handle.specs.Call.{Called, CallsAs}
-use Rattle.pam_handle.specs.StackCalled.{DelayGives}
+use Rattle.pam_handle.specs.StackCalled.{DelayGives, Stops}
 use Rattle.pam_handle.specs.StackCalls.{stack_call}
 use Rattle.pam_handle.specs.AnyWorld.{FailsAs, RunsSoundly}
 use Rattle.pam_library.specs.declared.outcome.Answer.{Answer}
@@ -28,12 +28,12 @@ use Rattle.pam_library.specs.Outcome.{PlainOutcome, plain_outcome, answers_only}
 use Rattle.pam_library.specs.Slots.{PlainSlot, opened}
 use Rattle.pam_library.specs.SlotStep.{SlotStepped, SlotStepsAs, answered, filed_in, is_refused_for_flags, other_pending, slot_step, stack_step, told_by, unless_pending}
 use Rattle.pam_library.specs.Sound.{IsPlaced}
-use Rattle.pam_library.specs.AnyWorld.{AnswersBy, CanAnswer, Fails, SpendsAt, is_free, needs_outside, refusal, stack_refusal, stays_inside, takes_no_memory}
+use Rattle.pam_library.specs.AnyWorld.{AnswersBy, CanAnswer, Fails, SpendsAt, StopsBy, is_free, needs_outside, refusal, stack_refusal, stays_inside, takes_no_memory}
 use Rattle.pam_library.specs.InPlace.{GoesInPlace, stack_app_call}
 
 -- ---- the six calls
 
--- what the delay function gives is known to every call where it is known to authenticate
+-- what the delay function returns is known to every call if it is known to authenticate
 pub delay_gives : (func : Func) (gives : (Code → ℕ → ℕ) → Type 0) (number_of : Code → ℕ → ℕ) → gives number_of → DelayGives func gives number_of
 delay_gives funcs.Authenticate gives number_of given = given
 delay_gives funcs.SetCred gives number_of given = tt
@@ -92,6 +92,23 @@ fails_is tells funcs.OpenSession flags h next f = f
 fails_is tells funcs.CloseSession flags h next f = f
 fails_is tells funcs.ChAuthTok flags h next f = f
 
+stops_is : (players : List Player) (tells : Bool) (func : Func) (flags : ℕ) (error : NoMemory) (h next : PlainHandle) (w v : PlainWorld) → Stops func players flags tells (all_told h) next w v w v
+    → StopsBy players tells (stack_app_call func flags) (Err error) (opened h) (opened next) w v
+stops_is players tells funcs.Authenticate flags error h next w v s = s
+stops_is players tells funcs.SetCred flags error h next w v s = s
+stops_is players tells funcs.AcctMgmt flags error h next w v s = s
+stops_is players tells funcs.OpenSession flags error h next w v s = s
+stops_is players tells funcs.CloseSession flags error h next w v s = s
+stops_is players tells funcs.ChAuthTok flags error h next w v s = s
+
+stops_not : (players : List Player) (tells : Bool) (func : Func) (flags : ℕ) (o : Outcome) (old new : PlainSlot) (w v : PlainWorld) → StopsBy players tells (stack_app_call func flags) (Ok o) old new w v
+stops_not players tells funcs.Authenticate flags o old new w v = tt
+stops_not players tells funcs.SetCred flags o old new w v = tt
+stops_not players tells funcs.AcctMgmt flags o old new w v = tt
+stops_not players tells funcs.OpenSession flags o old new w v = tt
+stops_not players tells funcs.CloseSession flags o old new w v = tt
+stops_not players tells funcs.ChAuthTok flags o old new w v = tt
+
 spends_is : (note : Notes) (modules : ℕ) (func : Func) (flags : ℕ) (h : PlainHandle) (old new : PlainDataList) (before after : PlainLedger)
     → Grows note modules old before new after → SpendsAt note modules (Some (opened h)) (stack_app_call func flags) old before new after
 spends_is note modules funcs.Authenticate flags h old new before after g = g
@@ -117,7 +134,7 @@ run_by true o slot w s e = absurd (cc)
 run_by false None slot w s e = refl
 run_by false (Some func) slot w s e = absurd (cc)
 
--- the step that a call is where it isn't refused
+-- the step of a call that isn't refused
 called_as : (players : List Player) (number_of : Code → ℕ → ℕ) (number : ℕ) (func : Func) (flags : ℕ) (h : PlainHandle) (w : PlainWorld)
     → ◌≡◌ {A = Option Answer} (stack_refusal h.pending func flags) None → h ≡ all_told h
     → slot_step players number_of number (opened h) w (stack_app_call func flags)
@@ -148,13 +165,13 @@ memory_not : (func : Func) (flags : ℕ) (h : PlainHandle) → ◌≡◌ {A = Op
     → takes_no_memory (Some (opened h)) (stack_app_call func flags) ≡ true → ⊥
 memory_not func flags h none e = memory_false (refusal (Some (opened h)) (stack_app_call func flags)) (is_free (stack_app_call func flags)) (refusal_is func flags h ∙ none) (free_is func flags) e
 
--- an answer alone, as the outcome has it
+-- a result without anything to report, as in the outcome
 pub record IsOnly (o : Outcome) (filed : ℕ) (answer : Answer) : Type 0 where
   pub plain : plain_outcome o ≡ answers_only filed answer
   pub answer_is : o.answer ≡ answer
   pub filed_is : o.filed_from ≡ filed
 
--- what a transaction told and answered, as the outcome has it
+-- what a transaction reported and returned, as in the outcome
 pub record IsToldOf (o : Outcome) (filed : ℕ) (code : Code) (h : PlainHandle) : Type 0 where
   pub plain : plain_outcome o ≡ record { said = h.room.transaction.said; trail = h.room.transaction.trail; filed_from = filed; wait = h.waited; missing = []; answer = answers.Code code }
   pub answer_is : o.answer ≡ answers.Code code
@@ -181,7 +198,7 @@ told_of o said trail n filed wait code h plain answer_is filed_is same said_is t
 }
 
 module _ (players : List Player) (gives : (Code → ℕ → ℕ) → Type 0) (tells world_tells : Bool) (func : Func) (flags : ℕ) (h : PlainHandle) (w : PlainWorld) where
-  -- a call that is refused
+  -- a refused call
   pub stack_refused : (o : Outcome) (refused : Answer)
       → ((note : Notes) (modules : ℕ) (list : PlainDataList) (ledger : PlainLedger) → list.gone ≡ [] → Grows note modules list ledger list ledger)
       → h ≡ all_told h → h.names ≡ names_of players → h.room.transaction.datums.gone ≡ []
@@ -205,13 +222,14 @@ module _ (players : List Player) (gives : (Code → ℕ → ℕ) → Type 0) (te
         filed_from = only.filed_is;
         succeeds = λ free. refl;
         fails = tt;
+        stops = stops_not players (tells && world_tells) func flags o (opened h) (opened h) w w;
         placed = record { handle = refl; started_with = names };
         spends = spends_is (notes_of players) (length players) func flags h h.room.transaction.datums h.room.transaction.datums w.process.ledger w.process.ledger (grows (notes_of players) (length players) h.room.transaction.datums w.process.ledger gone);
         root = refl;
         caller = refl;
       }
 
-  -- a call that was run, with the transaction after it, and the one that told what it had to tell
+  -- a call that was run, with the transaction after it, and that transaction with nothing left to report
   pub stack_ran : (o : Outcome) (code : Code) (next after : PlainHandle) (v : PlainWorld)
       → h ≡ all_told h → h.names ≡ names_of players
       → ◌≡◌ {A = Option Answer} (stack_refusal h.pending func flags) None
@@ -238,6 +256,7 @@ module _ (players : List Player) (gives : (Code → ℕ → ℕ) → Type 0) (te
     filed_from = tells_of.filed_is;
     succeeds = λ free. refl;
     fails = tt;
+    stops = stops_not players (tells && world_tells) func flags o (opened h) (opened after) w v;
     placed = subst (IsPlaced (names_of players) h.room.transaction.handle) (sym emptied) (record { handle = sound.goes.stays.handle; started_with = sound.names ∙ names });
     spends = subst (λ (k : PlainHandle). SpendsAt (notes_of players) (length players) (Some (opened h)) (stack_app_call func flags) h.room.transaction.datums w.process.ledger k.room.transaction.datums v.process.ledger) (sym emptied)
         (spends_is (notes_of players) (length players) func flags h h.room.transaction.datums next.room.transaction.datums w.process.ledger v.process.ledger sound.goes.grows);
@@ -245,19 +264,20 @@ module _ (players : List Player) (gives : (Code → ℕ → ℕ) → Type 0) (te
     caller = sound.goes.stays.caller;
   }
 
-  -- a call that found no memory
+  -- a call that ran out of memory
   pub stack_failed : (error : NoMemory) (next : PlainHandle) (v : PlainWorld)
       → h ≡ all_told h → h.names ≡ names_of players
       → ◌≡◌ {A = Option Answer} (stack_refusal h.pending func flags) None
-      → FailsAs func h next → RunsSoundly (notes_of players) (length players) h next w.process v.process
+      → FailsAs func h next → Stops func players flags (tells && world_tells) h next w v w v → RunsSoundly (notes_of players) (length players) h next w.process v.process
       → GoesInPlace players gives tells world_tells h.room.transaction.handle (stack_app_call func flags) (opened h) w (Err error) (opened next) v
-  stack_failed error next v told names none fails sound = record {
+  stack_failed error next v told names none fails stops sound = record {
     told = λ number_of given all. tt;
     alone = λ number_of inside. tt;
     answers = tt;
     filed_from = tt;
     succeeds = λ free. absurd (memory_not func flags h none free);
     fails = fails_is tells func flags h next (subst (λ (k : PlainHandle). FailsAs func k next) told fails);
+    stops = stops_is players (tells && world_tells) func flags error h next w v (subst (λ (k : PlainHandle). Stops func players flags (tells && world_tells) k next w v w v) told stops);
     placed = record { handle = sound.goes.stays.handle; started_with = sound.names ∙ names };
     spends = spends_is (notes_of players) (length players) func flags h h.room.transaction.datums next.room.transaction.datums w.process.ledger v.process.ledger sound.goes.grows;
     root = sound.goes.stays.root;

@@ -1,4 +1,4 @@
--- A start in a closed place.
+-- A start in a closed slot.
 use Rattle.std.proofs.Common.{◌≡◌, ℕ, Bool, ◌&&◌, inl, inr, IsTrue, List, Option, Some, Result, Ok, Err, refl, sym, ap, ◌∙◌, subst}
 use Rattle.pam_base.specs.declared.code.Code.{Code}
 use Rattle.pam_base.specs.declared.code.Code.TheVariants as codes
@@ -28,7 +28,7 @@ refused_is : (answer : Answer) (fault : LoadFault) → answer ≡ answers.Refuse
 refused_is answer fault is = subst (λ (a : Answer). IsTrue (is_refused a)) (sym is) refl
 
 module _ (players : List Player) (gives : (Code → ℕ → ℕ) → Type 0) (tells world_tells : Bool) (number : ℕ) where
-  -- the same start, of a service and a user that are written in another way
+  -- the same start, of a service and a user written in another form
   pub start_of : (service given : List ℕ) (user known : Option (List ℕ)) (old : PlainSlot) (w : PlainWorld) (result : Result Outcome NoMemory) (new : PlainSlot) (v : PlainWorld)
       → given ≡ service → known ≡ user → GoesInPlace players gives tells world_tells number (calls.Start given known) old w result new v
       → GoesInPlace players gives tells world_tells number (calls.Start service user) old w result new v
@@ -69,6 +69,7 @@ module _ (players : List Player) (gives : (Code → ℕ → ℕ) → Type 0) (te
         filed_from = is.filed_is;
         succeeds = λ free. refl;
         fails = tt;
+        stops = tt;
         placed = at_place slot is.slot_is;
         spends = record {
           ledger = ap (λ (p : PlainProcess). p.ledger) process;
@@ -86,6 +87,7 @@ module _ (players : List Player) (gives : (Code → ℕ → ℕ) → Type 0) (te
             filed_from = tt;
             succeeds = λ free. absurd (cc);
             fails = same;
+            stops = tt;
             placed = subst (IsAtPlace (names_of players) number) (sym same) tt;
             spends = record { ledger = ap (λ (p : PlainProcess). p.ledger) process; list = ap (λ (s : PlainSlot). data_in number (Some s)) same };
             root = ap (λ (p : PlainProcess). p.root) process;
@@ -112,6 +114,7 @@ module _ (players : List Player) (gives : (Code → ℕ → ℕ) → Type 0) (te
       filed_from = is.filed_is;
       succeeds = λ free. refl;
       fails = tt;
+      stops = tt;
       placed = subst (IsAtPlace (names_of players) number) (sym same) tt;
       spends = record { ledger = ap (λ (p : PlainProcess). p.ledger) process; list = ap (λ (s : PlainSlot). data_in number (Some s)) same };
       root = ap (λ (p : PlainProcess). p.root) process;
@@ -126,6 +129,7 @@ module _ (players : List Player) (gives : (Code → ℕ → ℕ) → Type 0) (te
       filed_from = tt;
       succeeds = λ free. absurd (cc);
       fails = same;
+      stops = tt;
       placed = subst (IsAtPlace (names_of players) number) (sym same) tt;
       spends = record { ledger = ap (λ (p : PlainProcess). p.ledger) process; list = ap (λ (s : PlainSlot). data_in number (Some s)) same };
       root = ap (λ (p : PlainProcess). p.root) process;

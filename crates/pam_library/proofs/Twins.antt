@@ -1,4 +1,4 @@
--- A transaction and the world, in two runs that are alike for its number: what a call makes of them on the way.
+-- A transaction and the world, in two runs that are alike for its number: what a call makes of them while it runs.
 use Rattle.std.proofs.Common.{◌≡◌, ℕ, zero, suc, false, nat_eq, List, [], ◌∷◌, ◌++◌, length, Option, Some, None, slice_get, refl, sym, ap, ◌∙◌, subst, append_assoc}
 use Rattle.std.proofs.Math.Path.{fun_ext}
 use Rattle.std.proofs.lemmas.List.{append-nil}
@@ -23,14 +23,14 @@ use Rattle.pam_library.proofs.Forgetting.{births_added, named_without_ids, none_
 use Rattle.pam_library.proofs.Quiet.{quiet_after, quiet_with_files}
 use Rattle.pam_library.proofs.Recording.{IsOwnFiled, cleanings, cleanings_without_ids, filed_of_births, filed_own, no_cleanings_of_another, receipts_filed, receipts_stay, set_recorded, still_of_births, still_own}
 
--- drawn words leave the time
+-- reading random words leaves the time
 draws_pass : (n : ℕ) (s : ClockState) → time_of (after_draws n s) ≡ time_of s
 draws_pass zero s = refl
 draws_pass (suc n) s = draws_pass n (drawn s)
 
--- n is the number that looks, `number` that of the call
+-- n is the number that is compared, `number` that of the call
 module _ (n number : ℕ) where
-  -- what a call keeps of the world in which it began, and what of its ledger another number sees
+  -- what a call keeps of the world in which it began, and what another number sees of its cleanup log
   pub record Kept (start : PlainWorld) (vault : VaultState) (clock : ClockState) (p : PlainProcess) : Type 0 where
     pub quiet : NoCallFails vault
     pub clock_is : time_of clock ≡ time_of start.clock
@@ -59,7 +59,7 @@ module _ (n number : ℕ) where
     pub first_data : RecordedIn a.room a.world
     pub second_data : RecordedIn b.room b.world
 
-  -- ---- the room alone is changed, and not its data
+  -- ---- only the room changes, and not its module data
 
   pub record Touches (u : PlainRoom → PlainRoom) : Type 0 where
     pub same : (r : PlainRoom) → room_without_ids (u r) ≡ u (room_without_ids r)
@@ -86,9 +86,9 @@ module _ (n number : ℕ) where
     second_data = touched_data u t b.world.process.ledger.births b.room w.second_data;
   }
 
-  -- ---- a module plays
+  -- ---- a module is called
 
-  -- what it plays, by what is the same in both
+  -- its result, by what is the same in both
   abbrev played_of : Plays → PlainCall → PlainRoom → Shown → Played
   played_of plays call r shown = plays call (seen_of r) (named_data r.transaction.datums.live) (record { files = shown.files; failing = λ (k : ℕ). false; clock = shown.clock; root = shown.root; caller = shown.caller })
 
@@ -111,7 +111,7 @@ module _ (n number : ℕ) where
   abbrev births_after : Played → State → List Birth
   births_after p s = s.world.process.ledger.births ++ born p s
 
-  -- the same of what is without ids
+  -- the same for what has no ids
   abbrev list_next : Played → PlainRoom → PlainDataList
   list_next p r = hold_all r.transaction.datums (unnumbered r.transaction.handle r.transaction.serving p.births)
 
@@ -221,9 +221,9 @@ module _ (n number : ℕ) where
         second_data = data_after notes q b t.second_data;
       }
 
-  -- ---- a line is served
+  -- ---- a line is run
 
-  -- two answers are the same, and the states after them twins
+  -- two codes are the same, and the states after them are alike
   pub record AnswerTwins (first second : PlainWorld) (x y : Answered) : Type 0 where
     pub answer : x.answer ≡ y.answer
     pub state : Twins first second x.state y.state
@@ -264,7 +264,7 @@ module _ (n number : ℕ) where
         state = subst (λ (c : Code). Twins first second (visited place path x).state (visited place path (record y { answer = c })).state) answer seen;
       }
 
-  -- a line that is asked, as a pass sees it
+  -- a line that is run, as a pass sees it
   pub asked_twins : (first second : PlainWorld) (players : List Player) (func : Func) (flags : ℕ) (rule : Rule) (place : ℕ) (a b : State)
       → Twins first second a b →
       ((answers_by players func flags rule place a).answer ≡ (answers_by players func flags rule place b).answer)

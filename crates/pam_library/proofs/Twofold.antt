@@ -18,7 +18,7 @@ use Rattle.pam_handle.specs.stack_walk.specs.declared.pass_kind.PassKind.TheVari
 use Rattle.pam_handle.specs.stack_walk.specs.Pass.{PassState, pass_after}
 use Rattle.pam_handle.specs.stack_walk.specs.Route.{KeptAnswers}
 use Rattle.pam_handle.specs.stack_walk.specs.Walk.{Walked}
-use Rattle.pam_handle.specs.dispatch_core.specs.Pending.{Pending, pending_behind, same_func}
+use Rattle.pam_handle.specs.dispatch_core.specs.Pending.{Pending, pending_after, same_func}
 use Rattle.pam_handle.specs.Handle.{PlainHandle, in_room}
 use Rattle.pam_handle.specs.dispatch_core.specs.Calls.{answers_held, following, passed_by}
 use Rattle.pam_handle.specs.Pass.{Passed, passed}
@@ -31,7 +31,7 @@ module _ (n number : ℕ) (first second : PlainWorld) where
   abbrev Both : State → State → Type 0
   Both a b = Twins n number first second a b
 
-  -- ---- the room alone
+  -- ---- only the room
 
   no_tokens : (a b : State) → Both a b → Both (record a { room = without_its_tokens a.room }) (record b { room = without_its_tokens b.room })
   no_tokens a b t = touched n number without_its_tokens (record { same = λ r. refl; datums = λ r. refl; handle = λ r. refl }) first second a b t
@@ -44,7 +44,7 @@ module _ (n number : ℕ) (first second : PlainWorld) where
   request_twins None a b t = no_request a b t
   request_twins (Some past) a b t = t
 
-  -- ---- the world rests
+  -- ---- the world sleeps
 
   rested_twins : (wait : Option ℕ) (a b : State) → Both a b → Both (record a { world = rested_by wait a.world }) (record b { world = rested_by wait b.world })
   rested_twins None a b t = t
@@ -78,7 +78,7 @@ module _ (n number : ℕ) (first second : PlainWorld) where
     other_receipts = k.other_receipts;
   }
 
-  -- a word is drawn
+  -- a random word is read
   drawn_twins : (longest : ℕ) (a b : State) → Both a b → Both (record a { world = drawn_by longest a.world }) (record b { world = drawn_by longest b.world })
   drawn_twins longest a b t = elim (longest == 0) as (λ (x : Bool). Both
       (record a { world = if x then a.world else record a.world { clock = drawn a.world.clock } })
@@ -96,7 +96,7 @@ module _ (n number : ℕ) (first second : PlainWorld) where
 
   -- ---- a pass
 
-  -- the same but for the state, and the states are twins
+  -- the same except for the state, and the states are alike
   record PassedTwins (p q : Passed) : Type 0 where
     rest : record p { state = q.state } ≡ q
     state : Both p.state q.state
@@ -116,7 +116,7 @@ module _ (n number : ℕ) (first second : PlainWorld) where
 
   -- ---- a call
 
-  -- the same but for room and world, and these are twins
+  -- the same except for room and world, and these are alike
   pub record CalledTwins (c d : Called) : Type 0 where
     pub rest : called c.code (in_room d.handle.room c.handle) d.world ≡ d
     pub state : Both (state_of c.handle.room c.world) (state_of d.handle.room d.world)
@@ -144,7 +144,7 @@ module _ (n number : ℕ) (first second : PlainWorld) where
   changed_twins None code x r v w t = record { rest = refl; state = no_request (state_of (without_its_tokens x.room) v) (state_of (without_its_tokens r) w) (no_tokens (state_of x.room v) (state_of r w) t) }
 
   module _ (delay : Code → ℕ → ℕ) where
-    -- after an authentication that waits, for as long as was asked
+    -- after an authentication that waits, for the requested time
     abbrev behind_wait : Code → PlainHandle → PlainWorld → ℕ → Called
     behind_wait code h w asked = let c = waits code asked (wait_of h.delay_on delay code asked) (tokens_cleared h) w in called code (request_forgotten c.handle) c.world
 
@@ -192,14 +192,14 @@ module _ (n number : ℕ) (first second : PlainWorld) where
     authentication_goes : (flags : ℕ) (past : List Code) → Goes (authentication players delay flags past)
     authentication_goes flags past x r v w t =
         behind_pass
-        (λ p. authenticated delay p.paused p.code (record x { room = p.state.room; authenticated = p.kept; pending = pending_behind Authenticate None p.paused }) p.state.world)
-        (λ p. authenticated delay p.paused p.code (record x { room = p.state.room; authenticated = p.kept; pending = pending_behind Authenticate None p.paused }) p.state.world)
+        (λ p. authenticated delay p.paused p.code (record x { room = p.state.room; authenticated = p.kept; pending = pending_after Authenticate None p.paused }) p.state.world)
+        (λ p. authenticated delay p.paused p.code (record x { room = p.state.room; authenticated = p.kept; pending = pending_after Authenticate None p.paused }) p.state.world)
         (passed players Authenticate flags kinds.Keep x.authenticated x.stacks.auth past (state_of x.room v))
         (passed players Authenticate flags kinds.Keep x.authenticated x.stacks.auth past (state_of r w))
         (passed_twins players Authenticate flags kinds.Keep x.authenticated x.stacks.auth past (state_of x.room v) (state_of r w) t)
         (λ s both.
         let p : Passed = passed players Authenticate flags kinds.Keep x.authenticated x.stacks.auth past (state_of x.room v) in
-        authenticated_twins delay p.paused p.code (record x { room = p.state.room; authenticated = p.kept; pending = pending_behind Authenticate None p.paused }) s.room p.state.world s.world both)
+        authenticated_twins delay p.paused p.code (record x { room = p.state.room; authenticated = p.kept; pending = pending_after Authenticate None p.paused }) s.room p.state.world s.world both)
 
     credentials_goes : (flags : ℕ) (past : List Code) → Goes (credentials players flags past)
     credentials_goes flags past x r v w t =
@@ -245,14 +245,14 @@ module _ (n number : ℕ) (first second : PlainWorld) where
     update_goes : (flags : ℕ) (kept : Option KeptAnswers) (past : List Code) → Goes (update players flags kept past)
     update_goes flags kept past x r v w t =
         behind_pass
-        (λ p. changed p.paused p.code (record x { room = p.state.room; pending = pending_behind ChAuthTok kept p.paused }) p.state.world)
-        (λ p. changed p.paused p.code (record x { room = p.state.room; pending = pending_behind ChAuthTok kept p.paused }) p.state.world)
+        (λ p. changed p.paused p.code (record x { room = p.state.room; pending = pending_after ChAuthTok kept p.paused }) p.state.world)
+        (λ p. changed p.paused p.code (record x { room = p.state.room; pending = pending_after ChAuthTok kept p.paused }) p.state.world)
         (passed players ChAuthTok (bit_or flags update_authtok) kinds.Follow kept x.stacks.password past (state_of x.room v))
         (passed players ChAuthTok (bit_or flags update_authtok) kinds.Follow kept x.stacks.password past (state_of r w))
         (passed_twins players ChAuthTok (bit_or flags update_authtok) kinds.Follow kept x.stacks.password past (state_of x.room v) (state_of r w) t)
         (λ s both.
         let p : Passed = passed players ChAuthTok (bit_or flags update_authtok) kinds.Follow kept x.stacks.password past (state_of x.room v) in
-        changed_twins p.paused p.code (record x { room = p.state.room; pending = pending_behind ChAuthTok kept p.paused }) s.room p.state.world s.world both)
+        changed_twins p.paused p.code (record x { room = p.state.room; pending = pending_after ChAuthTok kept p.paused }) s.room p.state.world s.world both)
 
     behind_check_goes : (flags : ℕ) (code : Code) (paused : Option (List Code)) (kept : Option KeptAnswers) → Goes (behind_check players flags code paused kept)
     behind_check_goes flags codes.Success paused kept x r v w t = update_goes flags kept [] x r v w t
@@ -261,14 +261,14 @@ module _ (n number : ℕ) (first second : PlainWorld) where
     check_goes : (flags : ℕ) (past : List Code) → Goes (check players flags past)
     check_goes flags past x r v w t =
         behind_pass
-        (λ p. behind_check players flags p.code p.paused p.kept (record x { room = p.state.room; pending = pending_behind ChAuthTok None p.paused }) p.state.world)
-        (λ p. behind_check players flags p.code p.paused p.kept (record x { room = p.state.room; pending = pending_behind ChAuthTok None p.paused }) p.state.world)
+        (λ p. behind_check players flags p.code p.paused p.kept (record x { room = p.state.room; pending = pending_after ChAuthTok None p.paused }) p.state.world)
+        (λ p. behind_check players flags p.code p.paused p.kept (record x { room = p.state.room; pending = pending_after ChAuthTok None p.paused }) p.state.world)
         (passed players ChAuthTok (bit_or flags prelim_check) kinds.Keep None x.stacks.password past (state_of x.room v))
         (passed players ChAuthTok (bit_or flags prelim_check) kinds.Keep None x.stacks.password past (state_of r w))
         (passed_twins players ChAuthTok (bit_or flags prelim_check) kinds.Keep None x.stacks.password past (state_of x.room v) (state_of r w) t)
         (λ s both.
         let p : Passed = passed players ChAuthTok (bit_or flags prelim_check) kinds.Keep None x.stacks.password past (state_of x.room v) in
-        behind_check_goes flags p.code p.paused p.kept (record x { room = p.state.room; pending = pending_behind ChAuthTok None p.paused }) s.room p.state.world s.world both)
+        behind_check_goes flags p.code p.paused p.kept (record x { room = p.state.room; pending = pending_after ChAuthTok None p.paused }) s.room p.state.world s.world both)
 
     change_goes : (flags : ℕ) (past : List Code) (kept : Option KeptAnswers) → Goes (change_goes_on players flags past kept)
     change_goes flags past None x r v w t = check_goes flags past x r v w t

@@ -18,11 +18,11 @@ use Rattle.pam_library.specs.declared.outcome.Outcome.{Outcome}
 use Rattle.pam_library.specs.Outcome.{plain_outcome}
 use Rattle.pam_library.specs.Slots.{PlainSlot, opened}
 use Rattle.pam_library.specs.SlotStep.{SlotStepped, SlotStepsAs, filed_in, open_step, slot_step}
-use Rattle.pam_library.specs.AnyWorld.{AnswersBy, CanAnswer, Fails, SpendsAt, is_free, refusal}
+use Rattle.pam_library.specs.AnyWorld.{AnswersBy, CanAnswer, Fails, SpendsAt, StopsBy, is_free, refusal}
 use Rattle.pam_library.specs.InPlace.{GoesInPlace, GoesInside}
 use Rattle.pam_library.proofs.Spending.{NothingGrows}
 
--- the calls that ask only the transaction itself
+-- the calls that concern only the transaction itself
 abbrev pub is_inside : AppCall → Bool
 is_inside (calls.SetItem item value) = true
 is_inside (calls.GetItem item) = true
@@ -53,6 +53,16 @@ fails_same tells (calls.FailDelay micros) h next e same = ap opened same
 fails_same tells (calls.DelayFn on) h next e same = ap opened same
 fails_same tells call h next e same = absurd (cc)
 
+stops_nowhere : (players : List Player) (tells : Bool) (call : AppCall) (result : Result Outcome NoMemory) (old new : PlainSlot) (w v : PlainWorld) → is_inside call ≡ true → StopsBy players tells call result old new w v
+stops_nowhere players tells (calls.SetItem item value) result old new w v e = tt
+stops_nowhere players tells (calls.GetItem item) result old new w v e = tt
+stops_nowhere players tells (calls.PutEnv text) result old new w v e = tt
+stops_nowhere players tells (calls.GetEnv name) result old new w v e = tt
+stops_nowhere players tells calls.EnvList result old new w v e = tt
+stops_nowhere players tells (calls.FailDelay micros) result old new w v e = tt
+stops_nowhere players tells (calls.DelayFn on) result old new w v e = tt
+stops_nowhere players tells call result old new w v e = absurd (cc)
+
 spends_same : (note : Notes) (modules : ℕ) (call : AppCall) (h : PlainHandle) (old new : PlainDataList) (before after : PlainLedger) → is_inside call ≡ true
     → Grows note modules old before new after → SpendsAt note modules (Some (opened h)) call old before new after
 spends_same note modules (calls.SetItem item value) h old new before after e g = g
@@ -68,7 +78,7 @@ memory_by : (r : Option Answer) (free : Bool) → r ≡ None → (if is_some r t
 memory_by None free r e = e
 memory_by (Some a) free r e = absurd (cc)
 
--- a fact of an outcome and the step that it is of, where the step is another way to write it
+-- a fact about an outcome and its step, if the step is another way to write the same
 steps_by : {E : Type 0} (result : Result Outcome E) (s t : SlotStepped) (slot : PlainSlot) (w : PlainWorld) → s ≡ t
     → IfOk result (λ o. SlotStepsAs s (plain_outcome o) slot w) → IfOk result (λ o. SlotStepsAs t (plain_outcome o) slot w)
 steps_by result s t slot w e = subst (λ (u : SlotStepped). IfOk result (λ o. SlotStepsAs u (plain_outcome o) slot w)) e
@@ -112,6 +122,7 @@ module _ (players : List Player) (gives : (Code → ℕ → ℕ) → Type 0) (te
         filed_from = filed_by result n (filed_in w) filed goes.filed_from;
         succeeds = λ e. goes.succeeds (memory_by (refusal (Some (opened h)) call) (is_free call) (no_refusal call h inside) e);
         fails = failed_by result (next ≡ h) (Fails tells call (opened h) (opened next)) (λ (same : next ≡ h). fails_same tells call h next inside (same ∙ told)) goes.fails;
+        stops = stops_nowhere players (tells && world_tells) call result (opened h) (opened next) w w inside;
         placed = record { handle = goes.handle; started_with = goes.names ∙ names };
         spends = spends_same (notes_of players) (length players) call h h.room.transaction.datums next.room.transaction.datums w.process.ledger w.process.ledger inside
             (subst (λ (l : PlainDataList). Grows (notes_of players) (length players) h.room.transaction.datums w.process.ledger l w.process.ledger) (sym goes.datums)

@@ -1,5 +1,5 @@
--- What a transaction comes to doesn't hang on the others (this project's own): what two states of a run have in
--- common for one number, so that each call on it comes to the same in both.
+-- The result of a transaction doesn't depend on the others (this project's own): what two states of a run have in
+-- common for one number, so that each call on it has the same result in both.
 use Rattle.std.specs.Prelude.{◌≡◌, ℕ, false, nat_eq, if◌then◌else◌, List, [], ◌∷◌, map, drop, Option, Some, None, slice_get}
 use Rattle.std.specs.List.{AllByRecursion, flat_map}
 use Rattle.std.specs.Option.{option_map}
@@ -18,7 +18,7 @@ use Rattle.pam_library.specs.Outcome.{PlainOutcome}
 use Rattle.pam_library.specs.Slots.{PlainSlot, closed, opened, slot_at}
 use Rattle.pam_library.specs.Step.{Stepped}
 
--- ---- what is left of births, data and outcomes when the numbers that the ledger gave are forgotten
+-- ---- what is left of sets, data and outcomes without the ids of the cleanup log
 
 abbrev pub birth_without_id : Birth → Birth
 birth_without_id b = record b { id = 0 }
@@ -43,42 +43,42 @@ abbrev pub slot_without_ids : PlainSlot → PlainSlot
 slot_without_ids (closed conv) = closed conv
 slot_without_ids (opened h) = opened (in_room (room_without_ids h.room) h)
 
--- what a step told and answered, without the number of receipts that stood before it
+-- what a step reported and returned, without the number of cleanup records before it
 abbrev pub told_in : PlainOutcome → PlainOutcome
 told_in outcome = record outcome { filed_from = 0 }
 
--- ---- what a ledger has of one number
+-- ---- the part of a cleanup log that concerns one number
 
--- a birth, where it is of this number
+-- a set, if it is of this number
 abbrev pub own_birth : ℕ → Birth → List Birth
 own_birth number b = if nat_eq b.handle number then birth_without_id b ∷ [] else []
 
--- the births of a number, in their order and but for their ids
+-- the sets of a number, in their order and without their ids
 abbrev pub births_on : ℕ → List Birth → List Birth
 births_on number births = flat_map (own_birth number) births
 
--- a cleanup, but for id and mark: the birth of its datum, the status and the owner's note
+-- a cleanup, without id and position: the set of its data, the status and the owner's result
 pub record Cleaned : Type 0 where
   pub birth : Birth
   pub status : ℕ
   pub note : ℕ
 
--- a receipt, where its birth is of this number
+-- a cleanup record, if its set is of this number
 abbrev pub own_receipt : ℕ → Option Birth → Receipt → List Cleaned
 own_receipt number None receipt = []
 own_receipt number (Some b) receipt = if nat_eq b.handle number
     then record { birth = birth_without_id b; status = receipt.status; note = receipt.note } ∷ []
     else []
 
--- births are numbered by their places, from 0
+-- sets are numbered by their positions, from 0
 abbrev pub own_filed : ℕ → List Birth → Filed → List Cleaned
 own_filed number births f = own_receipt number (slice_get births f.receipt.id) f.receipt
 
--- the receipts of a number's births, in their order and but for ids and marks
+-- the cleanup records of a number's sets, in their order and without ids and positions
 abbrev pub receipts_on : ℕ → PlainLedger → List Cleaned
 receipts_on number ledger = flat_map (own_filed number ledger.births) ledger.filed
 
--- a receipt, whosever its birth is
+-- a cleanup record, whatever number its set is of
 abbrev pub cleaned_by : Option Birth → Receipt → List Cleaned
 cleaned_by None receipt = []
 cleaned_by (Some b) receipt = record {
@@ -90,12 +90,12 @@ cleaned_by (Some b) receipt = record {
 abbrev pub cleaned_as : List Birth → Filed → List Cleaned
 cleaned_as births f = cleaned_by (slice_get births f.receipt.id) f.receipt
 
--- the receipts after the first n, in their order and but for ids and marks
+-- the cleanup records after the first n, in their order and without ids and positions
 abbrev pub cleaned_behind : ℕ → PlainLedger → List Cleaned
 cleaned_behind filed_from ledger =
     flat_map (cleaned_as ledger.births) (drop filed_from ledger.filed)
 
--- ---- what a world has that a transaction sees, and what the ledger has of it
+-- ---- what a transaction sees of a world, and what the cleanup log has of it
 
 pub record Shown : Type 0 where
   pub files : List File
@@ -115,13 +115,13 @@ shown_to number w = record {
   receipts = receipts_on number w.process.ledger;
 }
 
--- no call of the vault from now on is to fail
+-- no file access from now on is planned to fail
 abbrev pub NoCallFails : VaultState → Type 0
 NoCallFails vault = (k : ℕ) → failing_of vault k ≡ false
 
--- ---- places and a ledger that belong together
+-- ---- slots and a cleanup log that belong together
 
--- a datum of a number stands among the births at its id
+-- module data of a number are among the sets at the position of their id
 abbrev pub IsRecorded : ℕ → List Birth → PlainDatum → Type 0
 IsRecorded number births d = slice_get births d.id
     ≡ Some (birth_of d.id number d.owner d.name d.payload)
@@ -137,11 +137,12 @@ IsRecordedAt number births (closed conv) = Unit {0}
 IsRecordedAt number births (opened h) =
     AreRecorded number births h.room.transaction.handle h.room.transaction.datums
 
--- a receipt has the id of a birth
+-- a cleanup record has the id of a set
 abbrev pub IsOfBirth : List Birth → Filed → Type 0
 IsOfBirth births f = (b : Birth) × (slice_get births f.receipt.id ≡ Some b)
 
--- each open transaction has the number of its place, its data are births of that number, and each receipt is of a birth
+-- each open transaction has the number of its slot, its data are sets of that number, and each cleanup record is of a
+-- set
 pub record AreInOrder (slots : List PlainSlot) (ledger : PlainLedger) : Type 0 where
   pub filed : AllByRecursion (IsOfBirth ledger.births) ledger.filed
   pub each : (number : ℕ) (slot : PlainSlot) → slot_at slots number ≡ Some slot
@@ -159,7 +160,7 @@ pub record AreAlike (number : ℕ) (slots : List PlainSlot) (w : PlainWorld) (ot
   pub first_quiet : NoCallFails w.vault
   pub second_quiet : NoCallFails v.vault
 
--- a call on a number comes to the same: what it told and answered, what it cleaned up, and what is left is alike
+-- a call on a number has the same result: what it reported and returned, what it cleaned up, and what it left are alike
 pub record ComeToSame (number : ℕ) (a b : Stepped) : Type 0 where
   pub told : told_in a.outcome ≡ told_in b.outcome
   pub cleaned : cleaned_behind a.outcome.filed_from a.world.process.ledger

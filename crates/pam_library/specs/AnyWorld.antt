@@ -1,7 +1,8 @@
--- What stands after a step in any world, also after want of memory (this project's own).
-use Rattle.std.specs.Prelude.{◌≡◌, ℕ, ◌⊎◌, not, Bool, true, false, if◌then◌else◌, Option, Some, None, is_some, IsTrue, List, [], ◌∷◌, reverse}
+-- What holds after a step with real objects, and out of memory too (this project's own).
+use Rattle.std.specs.Prelude.{◌≡◌, ℕ, ◌⊎◌, not, Bool, true, false, if◌then◌else◌, Option, Some, None, is_some, IsTrue, Result, OnErr, List, [], ◌∷◌, reverse}
 use Rattle.std.specs.Option.{option_map}
 use Rattle.pam_base.specs.declared.code.Code.TheVariants as codes
+use Rattle.pam_base.specs.declared.fault.NoMemory.{NoMemory}
 use Rattle.pam_base.specs.declared.call.Func.{Func}
 use Rattle.pam_base.specs.declared.call.Func.TheVariants as funcs
 use Rattle.pam_base.specs.declared.call.AppCall.{AppCall}
@@ -20,12 +21,16 @@ use Rattle.data_due.specs.Stands.{clean_list}
 use Rattle.pam_handle.specs.dispatch_core.specs.Pending.{Pending}
 use Rattle.pam_handle.specs.Items.{all_told, with_conversation}
 use Rattle.pam_handle.specs.AnyWorld.{FailsAs}
+use Rattle.pam_handle.specs.StackCalled.{Stops}
+use Rattle.pam_handle.specs.pam_room.specs.Module.{Player}
+use Rattle.pam_handle.specs.pam_room.specs.State.{PlainWorld}
+use Rattle.pam_library.specs.declared.outcome.Outcome.{Outcome}
 use Rattle.pam_library.specs.declared.outcome.Answer.{Answer}
 use Rattle.pam_library.specs.declared.outcome.Answer.TheVariants as answers
 use Rattle.pam_library.specs.Slots.{PlainSlot, closed, opened}
 use Rattle.pam_library.specs.SlotStep.{is_refused_for_flags, other_pending}
 
--- ---- what is answered by number, place and pending call alone, in this order
+-- ---- what is returned because of number, slot and pending call, in this order
 
 abbrev pub stack_refusal : Option Pending → Func → ℕ → Option Answer
 stack_refusal pending func flags =
@@ -52,7 +57,7 @@ refusal None call = Some answers.BadNumber
 refusal (Some (closed conv)) call = closed_refusal call
 refusal (Some (opened h)) call = open_refusal h.pending call
 
--- ---- which steps need something from outside: files, modules or a conversation
+-- ---- which steps use something outside: files, modules or a conversation
 
 abbrev pub needs_outside : AppCall → Bool
 needs_outside (calls.Start service user) = true
@@ -65,21 +70,21 @@ needs_outside (calls.ChAuthTok flags) = true
 needs_outside (calls.Reply text) = true
 needs_outside call = false
 
--- A step stays inside where its call does, or where it is refused.
+-- A step stays inside if its call does, or if it is refused.
 abbrev pub stays_inside : Option PlainSlot → AppCall → Bool
 stays_inside slot call = if is_some (refusal slot call) then true else not (needs_outside call)
 
--- the calls that touch the world
+-- the calls that use the world
 abbrev pub touches_world : AppCall → Bool
 touches_world (calls.End status) = true
 touches_world (calls.Reply text) = false
 touches_world call = needs_outside call
 
--- a step leaves the world where its call doesn't touch it, or where it is refused
+-- a step leaves the world as it was if its call doesn't use it, or if it is refused
 abbrev pub leaves_world : Option PlainSlot → AppCall → Bool
 leaves_world slot call = if is_some (refusal slot call) then true else not (touches_world call)
 
--- ---- which answers a call can have where it isn't refused by that
+-- ---- which results a call can have if it isn't refused by these
 
 abbrev pub is_code : Answer → Bool
 is_code (answers.Code code) = true
@@ -120,25 +125,26 @@ CanAnswer (calls.DelayFn on) answer = answer ≡ answers.Code codes.Success
 CanAnswer (calls.Reply text) answer = answer ≡ answers.Nothing
 CanAnswer call answer = IsTrue (is_code answer)
 
--- the answer of a step, in any world: by number, place and pending call where they refuse it, else one of its call's
+-- the result of a step, with real objects too: by number, slot and pending call if they refuse it, else one of its
+-- call's
 abbrev pub AnswersBy : Option Answer → AppCall → Answer → Type 0
 AnswersBy (Some refused) call answer = answer ≡ refused
 AnswersBy None call answer = CanAnswer call answer
 
--- in any world: where a start is refused, the vault's count of faults rises where a file couldn't be read, and with
--- no other fault
+-- with real objects too: if a start is refused, the count of failed file accesses rises if a file couldn't be read, and
+-- with no other fault
 abbrev pub CountsRefusal : Answer → ℕ → ℕ → Type 0
 CountsRefusal (answers.Refused fault) before now = KindCounts fault.kind before now
 CountsRefusal answer before now = Unit {0}
 
--- in any world: a start that found no memory hides no fault of the vault behind that
+-- with real objects too: a start that runs out of memory had no failed file access
 abbrev pub HidesNoFault : AppCall → ℕ → ℕ → Type 0
 HidesNoFault (calls.Start service user) before now = now ≡ before
 HidesNoFault call before now = Unit {0}
 
 -- ---- memory
 
--- the calls that take no memory
+-- the calls that allocate nothing
 abbrev pub is_free : AppCall → Bool
 is_free (calls.End status) = true
 is_free (calls.SetItem item None) = true
@@ -150,7 +156,7 @@ is_free call = false
 abbrev pub takes_no_memory : Option PlainSlot → AppCall → Bool
 takes_no_memory slot call = if is_some (refusal slot call) then true else is_free call
 
--- what an open transaction had told before counts as told
+-- what an open transaction had to report before counts as reported
 abbrev pub told_slot : PlainSlot → PlainSlot
 told_slot (closed conv) = closed conv
 told_slot (opened h) = opened (all_told h)
@@ -163,18 +169,18 @@ abbrev pub conv_of : PlainSlot → ConvState
 conv_of (closed conv) = conv
 conv_of (opened h) = h.room.conv
 
--- a stack call found no memory
+-- a stack call ran out of memory
 abbrev pub StackFails : Func → PlainSlot → PlainSlot → Type 0
 StackFails func (opened old) (opened new) = FailsAs func (all_told old) new
 StackFails func old new = ⊥
 
--- a reply found no memory: a conversation that tells holds what it held
+-- a reply ran out of memory: a modelled conversation holds what it held before
 pub record ReplyFails (tells : Bool) (old new : PlainSlot) : Type 0 where
   pub rest : new ≡ with_conv (conv_of new) (told_slot old)
   pub told : IsTrue tells → new ≡ told_slot old
 
--- A step found no memory. A start leaves its place closed with its conversation; any other call that isn't a stack
--- call or a reply leaves all as it was.
+-- A step ran out of memory. A start leaves its slot closed with its conversation; any other call except a stack call or
+-- a reply leaves everything as it was.
 abbrev pub Fails : Bool → AppCall → PlainSlot → PlainSlot → Type 0
 Fails tells (calls.Authenticate flags) old new = StackFails funcs.Authenticate old new
 Fails tells (calls.SetCred flags) old new = StackFails funcs.SetCred old new
@@ -185,33 +191,79 @@ Fails tells (calls.ChAuthTok flags) old new = StackFails funcs.ChAuthTok old new
 Fails tells (calls.Reply text) old new = ReplyFails tells old new
 Fails tells call old new = new ≡ told_slot old
 
--- the same of the place with a number, which must be there
+-- a stack call ran out of memory: the line at which it did, by what its transaction and the world then hold
+abbrev pub StackStops : Func → ℕ → List Player → Bool → PlainSlot → PlainSlot → PlainWorld
+    → PlainWorld → Type 0
+StackStops func flags players tells (opened old) (opened new) w v =
+    Stops func players flags tells (all_told old) new w v w v
+StackStops func flags players tells old new w v = ⊥
+
+-- the same of a step by its result, for the private functions that make it
+abbrev pub StopsBy : List Player → Bool → AppCall → Result Outcome NoMemory → PlainSlot
+    → PlainSlot → PlainWorld → PlainWorld → Type 0
+StopsBy players tells (calls.Authenticate flags) result old new w v =
+    OnErr result (StackStops funcs.Authenticate flags players tells old new w v)
+StopsBy players tells (calls.SetCred flags) result old new w v =
+    OnErr result (StackStops funcs.SetCred flags players tells old new w v)
+StopsBy players tells (calls.AcctMgmt flags) result old new w v =
+    OnErr result (StackStops funcs.AcctMgmt flags players tells old new w v)
+StopsBy players tells (calls.OpenSession flags) result old new w v =
+    OnErr result (StackStops funcs.OpenSession flags players tells old new w v)
+StopsBy players tells (calls.CloseSession flags) result old new w v =
+    OnErr result (StackStops funcs.CloseSession flags players tells old new w v)
+StopsBy players tells (calls.ChAuthTok flags) result old new w v =
+    OnErr result (StackStops funcs.ChAuthTok flags players tells old new w v)
+StopsBy players tells call result old new w v = Unit {0}
+
+-- the same of the slot with a number, which must exist
 abbrev pub FailsAt : Bool → AppCall → Option PlainSlot → Option PlainSlot → Type 0
 FailsAt tells call (Some old) (Some new) = Fails tells call old new
 FailsAt tells call old new = ⊥
 
+-- a step ran out of memory: what a stack call had done by then
+abbrev pub StopsOn : List Player → Bool → AppCall → PlainSlot → PlainSlot → PlainWorld → PlainWorld
+    → Type 0
+StopsOn players tells (calls.Authenticate flags) old new w v =
+    StackStops funcs.Authenticate flags players tells old new w v
+StopsOn players tells (calls.SetCred flags) old new w v =
+    StackStops funcs.SetCred flags players tells old new w v
+StopsOn players tells (calls.AcctMgmt flags) old new w v =
+    StackStops funcs.AcctMgmt flags players tells old new w v
+StopsOn players tells (calls.OpenSession flags) old new w v =
+    StackStops funcs.OpenSession flags players tells old new w v
+StopsOn players tells (calls.CloseSession flags) old new w v =
+    StackStops funcs.CloseSession flags players tells old new w v
+StopsOn players tells (calls.ChAuthTok flags) old new w v =
+    StackStops funcs.ChAuthTok flags players tells old new w v
+StopsOn players tells call old new w v = Unit {0}
+
+abbrev pub StopsAt : List Player → Bool → AppCall → Option PlainSlot → Option PlainSlot → PlainWorld
+    → PlainWorld → Type 0
+StopsAt players tells call (Some old) (Some new) w v = StopsOn players tells call old new w v
+StopsAt players tells call old new w v = ⊥
+
 -- ---- module data
 
--- the data of a transaction were cleaned up at its end, with this status
+-- the module data of a transaction were cleaned up at its end, with this status
 pub record IsEndOf (note : Notes) (status : ℕ) (old : PlainDataList) (before : PlainLedger)
     (new : PlainDataList) (after : PlainLedger) : Type 0 where
   pub ledger : after ≡ ledger_after note status (reverse old.live) before
   pub list : new ≡ clean_list old.handle []
 
--- nothing was set and nothing filed
+-- nothing was set and nothing cleaned up
 pub record IsUntouched (old : PlainDataList) (before : PlainLedger) (new : PlainDataList)
     (after : PlainLedger) : Type 0 where
   pub ledger : after ≡ before
   pub list : new ≡ old
 
--- what a call on an open transaction does to its data and the ledger
+-- what a call in an open transaction does to its module data and the cleanup log
 abbrev pub SpendsAs : Notes → ℕ → AppCall → PlainDataList → PlainLedger → PlainDataList
     → PlainLedger → Type 0
 SpendsAs note modules (calls.End status) old before new after =
     IsEndOf note status old before new after
 SpendsAs note modules call old before new after = Grows note modules old before new after
 
--- what a step does to the data of its number and the ledger
+-- what a step does to the module data of its number and the cleanup log
 abbrev pub SpendsAt : Notes → ℕ → Option PlainSlot → AppCall → PlainDataList → PlainLedger
     → PlainDataList → PlainLedger → Type 0
 SpendsAt note modules (Some (opened h)) call old before new after =
@@ -220,12 +272,12 @@ SpendsAt note modules (Some (closed conv)) call old before new after =
     IsUntouched old before new after
 SpendsAt note modules None call old before new after = IsUntouched old before new after
 
--- the end that a call on an open transaction of a number is
+-- the event if a call on an open transaction of a number is an end
 abbrev pub end_of_call : ℕ → AppCall → List Event
 end_of_call number (calls.End status) = ends number status ∷ []
 end_of_call number call = []
 
--- the end that a call on a place of a number is, if it is one
+-- the event if a call in the slot of a number is an end
 abbrev pub end_at : Option PlainSlot → ℕ → AppCall → List Event
 end_at (Some (opened h)) number call = end_of_call number call
 end_at (Some (closed conv)) number call = []

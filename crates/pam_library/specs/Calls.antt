@@ -1,4 +1,4 @@
--- The births and ends of a list of calls of a library (this project's own).
+-- The sets and ends in a list of calls of a library (this project's own).
 use Rattle.std.specs.Prelude.{ℕ, List, [], ◌∷◌, ◌++◌, map, length, drop}
 use Rattle.data_cleanup.specs.Ledger.{PlainLedger}
 use Rattle.data_cleanup.specs.Cleanup.{Notes}
@@ -7,23 +7,23 @@ use Rattle.data_cleanup.specs.declared.datum.Birth.{Birth}
 use Rattle.data_due.specs.Stands.{Lists}
 use Rattle.data_due.specs.Moves.{Moves}
 
--- a call: the end that it was, if it was one, and ledger and data lists after it
+-- a call: its end, if it was one, and the cleanup log and data lists after it
 pub record Moved : Type 0 where
   pub ended : List Event
   pub ledger : PlainLedger
   pub lists : Lists
 
--- each call moved on from where the one before it had left ledger and lists
+-- each call continued from the log and lists that the one before it had left
 abbrev pub MoveOn : Notes → ℕ → PlainLedger → Lists → List Moved → Type 0
 MoveOn note limit ledger lists [] = Unit {0}
 MoveOn note limit ledger lists (m ∷ calls) = Moves note limit m.ended ledger lists m.ledger m.lists
     × MoveOn note limit m.ledger m.lists calls
 
--- the births that were added to a ledger
+-- the sets that were added to a cleanup log
 abbrev pub births_added : PlainLedger → PlainLedger → List Birth
 births_added before after = drop (length before.births) after.births
 
--- of each call the births that it added, in order, and then its end
+-- for each call the sets that it added, in order, and then its end
 abbrev pub events_of : PlainLedger → List Moved → List Event
 events_of ledger [] = []
 events_of ledger (m ∷ calls) = (map birth (births_added ledger m.ledger) ++ m.ended)

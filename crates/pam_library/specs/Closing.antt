@@ -8,13 +8,13 @@ use Rattle.pam_handle.specs.Handle.{PlainHandle}
 use Rattle.pam_handle.specs.End.{world_after_end}
 use Rattle.pam_library.specs.Slots.{PlainSlot, closed, opened, with_slot}
 
--- the number of the first open place, where the first place has this number, with its transaction
+-- the number of the first open slot, if the first slot has this number, with its transaction
 abbrev pub first_open : ℕ → List PlainSlot → Option (ℕ × PlainHandle)
 first_open number [] = None
 first_open number (closed conv ∷ slots) = first_open (number + 1) slots
 first_open number (opened h ∷ slots) = Some (number, h)
 
--- the lowest open transaction was ended: its number, and the places and the world after it
+-- the lowest open transaction was ended: its number, and the slots and the world after it
 pub record ClosedOne : Type 0 where
   pub number : ℕ
   pub slots : List PlainSlot
@@ -28,23 +28,23 @@ module _ (note : Notes) (status : ℕ) where
     world = world_after_end note status found.1 w;
   }
 
-  -- None where no transaction is open
+  -- None if no transaction is open
   unfoldable pub closed_one : List PlainSlot → PlainWorld → Option ClosedOne
   closed_one slots w = option_map (ended_at slots w) (first_open 1 slots)
 
--- what an end of the lowest open transaction answers and leaves
+-- what ending the lowest open transaction returns and leaves
 abbrev pub ClosesAs : Option ClosedOne → Option ℕ → List PlainSlot → PlainWorld → List PlainSlot
     → PlainWorld → Type 0
 ClosesAs None answer slots w next v = (answer ≡ None) × (next ≡ slots) × (v ≡ w)
 ClosesAs (Some c) answer slots w next v = (answer ≡ Some c.number) × (next ≡ c.slots)
     × (v ≡ c.world)
 
--- the end that it was, if it was one
+-- the end, if there was one
 abbrev pub end_of : ℕ → Option ℕ → List Event
 end_of status None = []
 end_of status (Some number) = ends number status ∷ []
 
--- the place of the first open transaction, from 0
+-- the slot of the first open transaction, from 0
 abbrev pub IsFirstOpen : Option ℕ → Option (ℕ × PlainHandle) → Type 0
 IsFirstOpen None found = found ≡ None
 IsFirstOpen (Some i) found = (h : PlainHandle) × (found ≡ Some (i + 1, h))

@@ -1,4 +1,4 @@
--- What a call on one place comes to, in one record for the private functions that do it.
+-- The result of a call in one slot, in one record for the private functions that make it.
 use Rattle.std.specs.Prelude.{◌≡◌, ℕ, Bool, true, false, ◌&&◌, IsTrue, IsOk, OnErr, IfOk, List, Some, Result, Ok, Err, length}
 use Rattle.pam_base.specs.declared.code.Code.{Code}
 use Rattle.pam_base.specs.declared.code.Code.TheVariants as codes
@@ -23,14 +23,14 @@ use Rattle.pam_library.specs.Slots.{PlainSlot, closed, opened, data_in}
 use Rattle.conv_port.specs.Conv.{ConvState}
 use Rattle.pam_library.specs.SlotStep.{SlotStepsAs, filed_in, offered, open_step, slot_step}
 use Rattle.pam_library.specs.Sound.{IsAtPlace}
-use Rattle.pam_library.specs.AnyWorld.{AnswersBy, CanAnswer, CountsRefusal, Fails, HidesNoFault, SpendsAt, is_free, leaves_world, refusal, stays_inside, takes_no_memory}
+use Rattle.pam_library.specs.AnyWorld.{AnswersBy, CanAnswer, CountsRefusal, Fails, HidesNoFault, SpendsAt, StopsBy, is_free, leaves_world, refusal, stays_inside, takes_no_memory}
 
--- a place that may be called: an open transaction is the one of its number, and its data await their cleanup
+-- a slot that may be called: an open transaction has its number, and its module data wait for their cleanup
 abbrev pub IsReadyAt : ℕ → PlainSlot → PlainProcess → Type 0
 IsReadyAt modules (closed conv) process = Unit {0}
 IsReadyAt modules (opened h) process = IsReady modules h.room.transaction process
 
--- a call on the place of a number, in any world and in one that tells
+-- a call in the slot of a number, with real objects and with modelled ones
 pub record GoesInPlace (players : List Player) (gives : (Code → ℕ → ℕ) → Type 0)
     (tells world_tells : Bool) (number : ℕ) (call : AppCall)
     (old : PlainSlot) (before : PlainWorld) (result : Result Outcome NoMemory) (new : PlainSlot)
@@ -45,6 +45,7 @@ pub record GoesInPlace (players : List Player) (gives : (Code → ℕ → ℕ) �
   pub filed_from : IfOk result (λ o. o.filed_from ≡ length before.process.ledger.filed)
   pub succeeds : takes_no_memory (Some old) call ≡ true → IsOk result
   pub fails : OnErr result (Fails tells call old new)
+  pub stops : StopsBy players (tells && world_tells) call result old new before after
   pub placed : IsAtPlace (names_of players) number new
   pub spends : SpendsAt (notes_of players) (length players) (Some old) call
       (data_in number (Some old)) before.process.ledger (data_in number (Some new))
@@ -52,9 +53,9 @@ pub record GoesInPlace (players : List Player) (gives : (Code → ℕ → ℕ) �
   pub root : after.process.root ≡ before.process.root
   pub caller : after.process.caller ≡ before.process.caller
 
--- A step on a place, with the world before and after it: what it comes to, and what it leaves of the world. The two
--- functions say whether a world tells and what it holds; `tells` and `faults`, whether the place's conversation tells
--- and what the vault counts.
+-- A step in a slot, with the world before and after it: its result, and what it leaves of the world. The two functions
+-- say whether a world is modelled and what it holds; `tells` and `faults`, whether the slot's conversation is modelled
+-- and the file store's count of failures.
 pub record StepsPlace {World : Type 0} (players : List Player) (gives : (Code → ℕ → ℕ) → Type 0)
     (number : ℕ) (call : AppCall) (world_tell : World → Bool) (plain_world : World → PlainWorld)
     (tells : Bool) (old : PlainSlot) (before : World) (faults : ℕ)
@@ -68,7 +69,7 @@ pub record StepsPlace {World : Type 0} (players : List Player) (gives : (Code �
   pub counts : IfOk result (λ o. CountsRefusal o.answer faults faults_after)
   pub hides_none : OnErr result (HidesNoFault call faults faults_after)
 
--- A call that stays inside an open transaction which told all that it had to tell: it is exact in any world.
+-- A call that stays inside an open transaction without anything to report: its result is exact with real objects too.
 pub record GoesInside (call : AppCall) (filed : ℕ) (old : PlainHandle)
     (result : Result Outcome NoMemory) (new : PlainHandle) : Type 0 where
   pub steps : (players : List Player) (number_of : Code → ℕ → ℕ) (w : PlainWorld)
@@ -92,7 +93,7 @@ stack_app_call funcs.OpenSession flags = calls.OpenSession flags
 stack_app_call funcs.CloseSession flags = calls.CloseSession flags
 stack_app_call funcs.ChAuthTok flags = calls.ChAuthTok flags
 
--- a reply was offered to a conversation, or there was no memory, and then it holds what it held
+-- a reply was offered to a conversation, or memory ran out, and then it holds what it held before
 abbrev pub IsOffered : Result Outcome NoMemory → List ℕ → ConvState → ConvState → Type 0
 IsOffered (Ok o) text old new = new ≡ offered text old
 IsOffered (Err e) text old new = new ≡ old
@@ -109,8 +110,8 @@ opened_outcome filed h =
     record (answers_only filed (answers.Code codes.Success))
     { missing = missing_from h.names h.stacks }
 
--- A transaction without data was opened in a place, or there was no memory to tell what is missing; then its place is
--- closed with its conversation. Nothing is filed.
+-- A transaction without module data was opened in a slot; or memory ran out for the names of the missing modules, and
+-- its slot is closed with its conversation. Nothing is cleaned up.
 pub record OpensPlace (filed : ℕ) (h : PlainHandle) (o : Outcome) (slot : PlainSlot) : Type 0 where
   pub slot_is : slot ≡ opened h
   pub outcome_is : plain_outcome o ≡ opened_outcome filed h
@@ -121,7 +122,7 @@ abbrev pub IsOpened : ℕ → PlainHandle → Result Outcome NoMemory → PlainS
 IsOpened filed h (Ok o) slot = OpensPlace filed h o slot
 IsOpened filed h (Err e) slot = slot ≡ closed h.room.conv
 
--- a start was refused by a fault of the configuration, or found no memory
+-- a start was refused by a fault of the configuration, or ran out of memory
 pub record RefusesPlace (filed : ℕ) (fault : LoadFault) (o : Outcome) : Type 0 where
   pub outcome_is : plain_outcome o ≡ answers_only filed (answers.Refused fault)
   pub answer_is : o.answer ≡ answers.Refused fault

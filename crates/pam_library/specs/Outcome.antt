@@ -1,4 +1,4 @@
--- What a step on a transaction told and answered (this project's own).
+-- What a step on a transaction reported and returned (this project's own).
 use Rattle.std.specs.Prelude.{ℕ, List, [], Option, None}
 use Rattle.conv_port.specs.declared.message.Message.{Message}
 use Rattle.pam_handle.specs.pam_room.specs.declared.visits.Visit.{Visit}
@@ -6,8 +6,8 @@ use Rattle.pam_handle.specs.declared.wait.Wait.{Wait}
 use Rattle.pam_library.specs.declared.outcome.Answer.{Answer}
 use Rattle.pam_library.specs.declared.outcome.Outcome.{Outcome}
 
--- what was said and visited in this step, the number of receipts before it, the wait, the modules that are missing,
--- and the answer
+-- the messages of this step and the lines it ran, the number of cleanup records before it, the wait, the missing
+-- modules, and the result
 pub record PlainOutcome : Type 0 where
   pub said : List Message
   pub trail : List Visit
@@ -26,7 +26,7 @@ plain_outcome o = record {
   answer = o.answer;
 }
 
--- an answer and nothing told
+-- a result without anything to report
 abbrev pub answers_only : ℕ → Answer → PlainOutcome
 answers_only filed answer = record {
   said = [];

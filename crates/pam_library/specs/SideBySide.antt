@@ -1,4 +1,4 @@
--- Transactions side by side (this project's own): what the steps of a run come to in one place.
+-- Transactions side by side (this project's own): the results of a run's steps in one slot.
 use Rattle.std.specs.Prelude.{ℕ, nat_eq, if◌then◌else◌, List, [], ◌∷◌, filter}
 use Rattle.pam_base.specs.declared.code.Code.{Code}
 use Rattle.pam_base.specs.declared.call.Step.{Step}
@@ -9,7 +9,7 @@ use Rattle.pam_library.specs.Slots.{PlainSlot}
 use Rattle.pam_library.specs.SlotStep.{slot_step}
 use Rattle.pam_library.specs.Step.{stepped}
 
--- a step, and the world as it stood before it
+-- a step, and the world before it
 pub record Met : Type 0 where
   pub step : Step
   pub world : PlainWorld
@@ -19,7 +19,7 @@ abbrev pub own_steps : ℕ → List Met → List Met
 own_steps number steps = filter (λ (m : Met). nat_eq m.step.number number) steps
 
 module _ (players : List Player) (number_of : Code → ℕ → ℕ) where
-  -- all places after some steps; between two of them the world may change
+  -- all slots after some steps; between two of them the world may change
   abbrev pub slots_after : List PlainSlot → List Met → List PlainSlot
   slots_after slots [] = slots
   slots_after slots (m ∷ steps) =
@@ -33,7 +33,7 @@ module _ (players : List Player) (number_of : Code → ℕ → ℕ) where
       if nat_eq m.step.number number then s.outcome ∷ outcomes_on number s.slots steps
       else outcomes_on number s.slots steps
 
-  -- one place alone, after some steps on it
+  -- one slot alone, after some steps in it
   abbrev pub alone : ℕ → PlainSlot → List Met → PlainSlot
   alone number slot [] = slot
   alone number slot (m ∷ steps) =

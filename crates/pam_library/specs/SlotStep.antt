@@ -1,4 +1,4 @@
--- One call on one place (the calls of the Application Developers' Guide; that a call may be put off, the delay
+-- One call in one slot (the calls of the Application Developers' Guide; that a call may be incomplete, the delay
 -- function and the replies are this project's own).
 use Rattle.std.specs.Prelude.{◌≡◌, ℕ, Bool, if◌then◌else◌, List, [], ◌∷◌, ◌++◌, map, length, Option, Some, None, Result, Ok, Err}
 use Rattle.pam_base.specs.declared.code.Code.{Code}
@@ -30,13 +30,13 @@ use Rattle.pam_library.specs.declared.outcome.Answer.TheVariants as answers
 use Rattle.pam_library.specs.Outcome.{PlainOutcome, answers_only}
 use Rattle.pam_library.specs.Slots.{PlainSlot, closed, opened}
 
--- a place, the world and what the step told and answered
+-- a slot, the world and what the step reported and returned
 pub record SlotStepped : Type 0 where
   pub slot : PlainSlot
   pub world : PlainWorld
   pub outcome : PlainOutcome
 
--- an outcome, a place and a world are those of a step
+-- an outcome, a slot and a world are those of a step
 pub record SlotStepsAs (s : SlotStepped) (outcome : PlainOutcome) (slot : PlainSlot)
     (world : PlainWorld) : Type 0 where
   pub outcome_is : outcome ≡ s.outcome
@@ -46,7 +46,7 @@ pub record SlotStepsAs (s : SlotStepped) (outcome : PlainOutcome) (slot : PlainS
 abbrev pub filed_in : PlainWorld → ℕ
 filed_in w = length w.process.ledger.filed
 
--- only an answer; the world stays
+-- a result only; the world stays
 abbrev pub answered : PlainSlot → PlainWorld → Answer → SlotStepped
 answered slot w answer = record {
   slot = slot;
@@ -57,7 +57,7 @@ answered slot w answer = record {
 abbrev pub succeeded : PlainSlot → PlainWorld → SlotStepped
 succeeded slot w = answered slot w (answers.Code codes.Success)
 
--- a transaction ends, and its conversation stays in its place
+-- a transaction ends, and its conversation stays in its slot
 abbrev pub ended : Notes → ℕ → PlainHandle → PlainWorld → SlotStepped
 ended note status h w = record {
   slot = closed h.room.conv;
@@ -65,7 +65,7 @@ ended note status h w = record {
   outcome = answers_only (filed_in w) (answers.Code codes.Success);
 }
 
--- a reply is offered to the conversation, be its place open or not
+-- a reply is offered to the conversation, whether its slot is open or not
 abbrev pub offered : List ℕ → ConvState → ConvState
 offered text conv = record conv { offers = conv.offers ++ offer_taken conv.waits text ∷ [] }
 
@@ -85,7 +85,7 @@ opened_by names conv filed w (Err fault) =
 
 -- ---- the stack calls
 
--- what the transaction told is handed out
+-- what the transaction has to report is handed out
 abbrev pub told_by : ℕ → Answer → Called → SlotStepped
 told_by filed answer c = record {
   slot = opened (all_told c.handle);
@@ -117,7 +117,7 @@ module _ (players : List Player) (number : Code → ℕ → ℕ) where
       (let c = stack_call players number func flags h w in
       told_by (filed_in w) (answers.Code c.code) c)
 
-  -- ---- the calls on an open transaction that told all that it had to tell
+  -- ---- the calls on an open transaction without anything to report
 
   abbrev pub open_step : PlainHandle → PlainWorld → AppCall → SlotStepped
   open_step h w (calls.Start service user) = answered (opened h) w answers.AlreadyOpen
@@ -149,7 +149,7 @@ module _ (players : List Player) (number : Code → ℕ → ℕ) where
   open_step h w (calls.Reply text) =
       answered (opened (with_conversation (offered text h.room.conv) h)) w answers.Nothing
 
-  -- ---- the calls on a closed place
+  -- ---- the calls in a closed slot
 
   abbrev pub closed_step : ℕ → ConvState → PlainWorld → AppCall → SlotStepped
   closed_step place conv w (calls.Start service user) =
@@ -159,7 +159,7 @@ module _ (players : List Player) (number : Code → ℕ → ℕ) where
       answered (closed (offered text conv)) w answers.Nothing
   closed_step place conv w call = answered (closed conv) w answers.NotOpen
 
-  -- a call on the place of this number; what an open transaction had told before counts as told
+  -- a call in the slot of this number; what an open transaction had to report before counts as reported
   abbrev pub slot_step : ℕ → PlainSlot → PlainWorld → AppCall → SlotStepped
   slot_step place (closed conv) w call = closed_step place conv w call
   slot_step place (opened h) w call = open_step (all_told h) w call

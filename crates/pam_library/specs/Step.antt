@@ -10,13 +10,13 @@ use Rattle.pam_library.specs.Outcome.{PlainOutcome, answers_only}
 use Rattle.pam_library.specs.Slots.{PlainSlot, slot_at, with_slot}
 use Rattle.pam_library.specs.SlotStep.{SlotStepped, filed_in, slot_step}
 
--- the places, the world, and what the step told and answered
+-- the slots, the world, and what the step reported and returned
 pub record Stepped : Type 0 where
   pub slots : List PlainSlot
   pub world : PlainWorld
   pub outcome : PlainOutcome
 
--- the step of one place leaves every other place as it was
+-- a step in one slot leaves every other slot as it was
 abbrev pub stepped_in : List PlainSlot → ℕ → SlotStepped → Stepped
 stepped_in slots number s = record {
   slots = with_slot slots number s.slot;
@@ -25,7 +25,7 @@ stepped_in slots number s = record {
 }
 
 module _ (players : List Player) (number_of : Code → ℕ → ℕ) where
-  -- by the place of that number, if there is one
+  -- by the slot of that number, if there is one
   abbrev pub stepped_at : List PlainSlot → PlainWorld → ℕ → AppCall → Option PlainSlot → Stepped
   stepped_at slots w number call None =
       record { slots = slots; world = w; outcome = answers_only (filed_in w) answers.BadNumber }
@@ -35,7 +35,7 @@ module _ (players : List Player) (number_of : Code → ℕ → ℕ) where
   unfoldable pub stepped : List PlainSlot → PlainWorld → Step → Stepped
   stepped slots w step = stepped_at slots w step.number step.call (slot_at slots step.number)
 
--- an outcome, places and a world are those of a step
+-- an outcome, slots and a world are those of a step
 pub record StepsAs (s : Stepped) (outcome : PlainOutcome) (slots : List PlainSlot)
     (world : PlainWorld) : Type 0 where
   pub outcome_is : outcome ≡ s.outcome

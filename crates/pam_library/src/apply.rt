@@ -8,7 +8,7 @@ ghost use Rattle.pam_library.specs.Slots.{handle_limit, lists_of, slot_at};
 ghost use Rattle.pam_library.specs.Sound.{IsSoundFor};
 ghost use Rattle.pam_base.specs.Call.{is_fit};
 ghost use Rattle.pam_library.specs.Step.{StepsAs, stepped};
-ghost use Rattle.pam_library.specs.AnyWorld.{AnswersBy, CountsRefusal, FailsAt, HidesNoFault, SpendsAt, end_at, leaves_world, refusal, stays_inside, takes_no_memory};
+ghost use Rattle.pam_library.specs.AnyWorld.{AnswersBy, CountsRefusal, FailsAt, HidesNoFault, SpendsAt, StopsAt, end_at, leaves_world, refusal, stays_inside, takes_no_memory};
 
 use crate::laws;
 use crate::library::{Library, LibraryTold};
@@ -25,24 +25,25 @@ use std::alloc::Global;
 impl Library {
     ghost use Rattle.pam_library.specs.Plain.{gear_in};
 
-    /// One call of an application on the transaction of a number (the Application Developers'
-    /// Guide). What that transaction had told before is thrown away, so messages, visits and wait
-    /// of the outcome are this step's alone.
+    /// One call of an application on the transaction with this number (the Application Developers'
+    /// Guide). What that transaction had to report before is dropped, so the messages, lines run
+    /// and wait of the outcome are those of this step.
     ///
-    /// First the number and the place are tested, in this order: a number that isn't 1 to 16 is a
-    /// bad one; a start finds the place open already; any other call but a reply finds it not open.
-    /// Then a change of token with the flags of its passes is SYSTEM_ERR, and a stack call is
-    /// pending after another one that was put off. All these change nothing and take no memory;
-    /// nor do an end, a request for a delay, and turning the delay function on or off.
+    /// First the number and the slot are checked, in this order: a number that isn't 1 to 16 is a
+    /// bad number; a start needs a closed slot, and any other call except a reply an open one. Then
+    /// a change of token with one of the library's own flags returns SYSTEM_ERR, and a stack call
+    /// is refused while another one is pending. In all these cases nothing changes and nothing is
+    /// allocated; nor does an end, a requested delay, or switching the delay function on or off
+    /// allocate.
     ///
-    /// A start names a service, and is refused exactly as the configuration is; a reply has at most
-    /// 512 bytes. Without memory a start leaves its place closed with its conversation, a stack
-    /// call leaves nothing pending, no request for a delay and nothing kept of its own, and any
-    /// other call leaves transaction and world as they were. Nothing was waited then, and a start
-    /// that found none had no fault of the vault.
+    /// A start names a service, and is refused exactly if its configuration is; a reply has at most
+    /// 512 bytes. If memory runs out, a start leaves its slot closed with its conversation, a stack
+    /// call leaves nothing pending, no requested delay and no cached codes of its own, and any
+    /// other call leaves the transaction and the world as they were. Then nothing was waited, and a
+    /// start had no failed file access.
     ///
-    /// The births of the world's ledger that have no receipt are exactly the data of the open
-    /// transactions, before and after.
+    /// The sets in the world's cleanup log without a cleanup record are exactly the module data of
+    /// the open transactions, before and after.
     pub fn apply(
         &mut self,
         alloc: Global,
@@ -54,7 +55,7 @@ impl Library {
             (⟦<World as WorldTold>⟧.plain world.old).process.ledger }
         requires fit { IsTrue (is_fit step.now.call) }
 
-        // In every world, with every answer and without memory too.
+        // With real objects, with every result, and out of memory too.
         ensures sound { IsSoundFor (⟦<Gear as GearTold>⟧.players (gear_in self.new))
             (⟦<Library as LibraryTold>⟧.slots self.new)
             (⟦<World as WorldTold>⟧.plain world.new).process.ledger }
@@ -88,7 +89,7 @@ impl Library {
         ensures world { leaves_world (slot_at (⟦<Library as LibraryTold>⟧.slots self.old)
             step.now.number) step.now.call ≡ true → world.new ≡ world.old }
 
-        // The answer, in every world: by number, place and pending call, else one of those that the call has.
+        // The result, with real objects too: by number, slot and pending call, else one of those that the call has.
         ensures answer { IfOk result (λ outcome. AnswersBy
             (refusal
             (slot_at (⟦<Library as LibraryTold>⟧.slots self.old) step.now.number) step.now.call)
@@ -98,7 +99,8 @@ impl Library {
         ensures faults { IfOk result (λ outcome. CountsRefusal outcome.answer
             (vault_faults (in_box world.old.vault)) (vault_faults (in_box world.new.vault))) }
 
-        // What a step comes to: in every world where it asks nobody outside, else where all that it asks tells.
+        // The result of a step: with real objects too if it uses nothing outside, else if everything that it uses is
+        // modelled.
         ensures inside { (number_of : Code → ℕ → ℕ) →
             stays_inside
             (slot_at (⟦<Library as LibraryTold>⟧.slots self.old) step.now.number) step.now.call
@@ -120,13 +122,18 @@ impl Library {
             (plain_outcome outcome) (⟦<Library as LibraryTold>⟧.slots self.new)
             (⟦<World as WorldTold>⟧.plain world.new)) }
 
-        // Want of memory.
+        // Out of memory.
         ensures succeeds { takes_no_memory (slot_at
             (⟦<Library as LibraryTold>⟧.slots self.old) step.now.number) step.now.call ≡ true →
             IsOk result }
         ensures fails { OnErr result (FailsAt (⟦<Library as LibraryTold>⟧.tells self.old)
             step.now.call (slot_at (⟦<Library as LibraryTold>⟧.slots self.old) step.now.number)
             (slot_at (⟦<Library as LibraryTold>⟧.slots self.new) step.now.number)) }
+        ensures stops { OnErr result (StopsAt (⟦<Gear as GearTold>⟧.players (gear_in self.old))
+            (⟦<Library as LibraryTold>⟧.tells self.old && ⟦<World as WorldTold>⟧.tells world.old)
+            step.now.call (slot_at (⟦<Library as LibraryTold>⟧.slots self.old) step.now.number)
+            (slot_at (⟦<Library as LibraryTold>⟧.slots self.new) step.now.number)
+            (⟦<World as WorldTold>⟧.plain world.old) (⟦<World as WorldTold>⟧.plain world.new)) }
         ensures no_nap { OnErr result (world.new.nap ≡ world.old.nap) }
         ensures hides_none { OnErr result (HidesNoFault step.now.call
             (vault_faults (in_box world.old.vault)) (vault_faults (in_box world.new.vault))) }
@@ -140,7 +147,7 @@ impl Library {
             return Ok(Outcome::only(alloc, filed_from, Answer::BadNumber));
         }
         let slot = self.slots.swap_remove(number - 1);
-        let Stepped { slot, outcome } = slot.step(alloc, &self.gear, world, step);
+        let Stepped { slot, outcome } = slot.step(alloc, &self.gear, world, step, &mut self.cache);
         put_back(&mut self.slots, number - 1, slot);
         data_cleanup::laws::ledger_is_sound(&world.process.ledger);
         outcome

@@ -10,7 +10,9 @@ ghost use Rattle.pam_base.specs.Call.{is_fit};
 use crate::outcome::{Answer, Outcome};
 use crate::reply::offer_open;
 use crate::stack_call::call_stack;
-use crate::values::{get_env, get_item, list_env, put_env, request_delay, set_item, turn_delay};
+use crate::values::{
+    get_env, get_item, list_env, put_env, request_delay, set_delay_enabled, set_item,
+};
 use crate::world::receipts_in;
 use data_cleanup::laws;
 use fail_delay::{DelayFn, DelayTold};
@@ -19,7 +21,7 @@ use pam_handle::pam_room::{Room, RoomTold, World, WorldTold};
 use pam_handle::{Gear, GearTold, Handle};
 use std::alloc::Global;
 
-// Any call but its end on a transaction that told all that it had to tell.
+// Any call except the end, on a transaction without anything to report.
 pub(crate) fn call_open(
     alloc: Global,
     gear: &Gear,
@@ -78,7 +80,7 @@ pub(crate) fn call_open(
         AppCall::GetEnv { name } => get_env(alloc, handle, filed, name),
         AppCall::EnvList => list_env(alloc, handle, filed),
         AppCall::FailDelay { micros } => request_delay(alloc, handle, filed, *micros),
-        AppCall::DelayFn { on } => turn_delay(alloc, handle, filed, *on),
+        AppCall::DelayFn { on } => set_delay_enabled(alloc, handle, filed, *on),
         AppCall::Reply { text } => offer_open(alloc, handle, filed, text),
     }
 }

@@ -12,7 +12,7 @@ use crate::slot::{Slot, SlotTold};
 use pam_handle::pam_room::{World, WorldTold};
 use pam_handle::{Gear, GearTold};
 
-// The place of the first open transaction, from 0.
+// The slot of the first open transaction, from 0.
 fn place_of_first_open(slots: &[Slot]) -> Option<usize>
     ensures { IsFirstOpen result (first_open 1 (map ⟦<Slot as SlotTold>⟧.plain slots.now)) }
 {
@@ -27,12 +27,12 @@ fn place_of_first_open(slots: &[Slot]) -> Option<usize>
 impl Library {
     ghost use Rattle.pam_library.specs.Plain.{gear_in};
 
-    /// Ends the open transaction of the lowest number with this status (`pam_end(3)`), and answers
-    /// its number; its conversation stays in its place. None comes exactly where none is open, and
-    /// then nothing changes. It takes no memory.
+    /// Ends the open transaction with the lowest number with this status (`pam_end(3)`), and
+    /// returns its number; its conversation stays in its slot. Returns None exactly if none is
+    /// open, and then nothing changes. Allocates nothing.
     ///
-    /// As with `apply`, the births of the world's ledger that have no receipt are exactly the data
-    /// of the open transactions.
+    /// As with `apply`, the sets in the world's cleanup log without a cleanup record are exactly
+    /// the module data of the open transactions.
     pub fn close_one(&mut self, world: &mut World, status: u32) -> Option<u32>
         requires { IsSoundFor (⟦<Gear as GearTold>⟧.players (gear_in self.old))
             (⟦<Library as LibraryTold>⟧.slots self.old)

@@ -13,7 +13,7 @@ use pam_handle::pam_room::{Room, RoomTold, World, WorldTold};
 use pam_handle::{Gear, GearTold, Handle};
 use std::alloc::Global;
 
-// Ends a transaction; its conversation stays in its place. It takes no memory.
+// Ends a transaction; its conversation stays in its slot. Allocates nothing.
 pub(crate) fn end(
     alloc: Global,
     gear: &Gear,

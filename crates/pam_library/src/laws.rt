@@ -4,7 +4,7 @@ ghost use Rattle.pam_base.specs.declared.call.AppCall.{AppCall};
 ghost use Rattle.pam_base.specs.declared.call.Step.{Step};
 ghost use Rattle.pam_outside.specs.Files.{File, VaultState};
 ghost use Rattle.pam_handle.specs.pam_room.specs.State.{PlainWorld};
-ghost use Rattle.pam_library.specs.Plays.{TimedVisit, VisitsLead, visits_at};
+ghost use Rattle.pam_library.specs.Plays.{AskedLine, LinesLead, StepAsks, visits_of};
 ghost use Rattle.pam_library.specs.Step.{stepped};
 ghost use Rattle.conv_port.specs.Conv.{ConvState};
 ghost use Rattle.data_cleanup.specs.Ledger.{AreNumbered, IsSound as LedgerIsSound, PlainLedger};
@@ -20,10 +20,9 @@ ghost use Rattle.pam_library.specs.Calls.{MoveOn, Moved, events_of, last_ledger,
 ghost use Rattle.pam_library.specs.Alike.{AreAlike, AreInOrder, ComeToSame, NoCallFails};
 ghost use Rattle.pam_library.specs.SideBySide.{Met, alone, outcomes_alone, outcomes_on, own_steps, slots_after};
 
-// Each of these does nothing: its contract is a law about the definitions, for those who call it in a proof.
+// The laws of this crate, for the proofs of its callers.
 
-/// What a call does in one place keeps all places and the ledger sound, and moves them on by the births that were added
-/// and by the end that the call was.
+/// A call in one slot keeps all slots and the cleanup log sound; it adds its sets and, if it is an end, that end.
 pub fn one_place_moves()
     ensures sound { (note : Notes) (names : List (List ℕ)) (modules : ℕ) (slots : List PlainSlot)
         (number : ℕ) (old new : PlainSlot) (call : AppCall) (before after : PlainLedger) →
@@ -49,7 +48,7 @@ pub fn one_place_moves()
     data_due::laws::nothing_moves();
 }
 
-/// Sixteen closed places and a ledger without births are sound, and stand for no events.
+/// Sixteen closed slots and a cleanup log without sets are sound, and mean no events.
 pub fn closed_places_stand_for_none()
     ensures sound { (names : List (List ℕ)) (modules : ℕ) (convs : List ConvState) →
         length convs ≡ 16 →
@@ -65,8 +64,8 @@ pub fn closed_places_stand_for_none()
     data_due::laws::nothing_stands_for_none();
 }
 
-/// What stood for some events stands, after a list of calls of which each moved on, for these
-/// events and then the births and the end of each call, in order.
+/// After a list of calls, each of which continued from the one before, the events are those before it and then the sets
+/// and the end of each call, in order.
 pub fn calls_stand_for_their_events()
     ensures { (note : Notes) (limit : ℕ) (calls : List Moved) (ledger : PlainLedger) (lists : Lists)
         (events : List Event) →
@@ -75,8 +74,8 @@ pub fn calls_stand_for_their_events()
         (events ++ events_of ledger calls) }
 {}
 
-/// Whatever steps a run has, what stands in one place after them, and the outcomes of the steps on it, are what its own
-/// steps come to alone, each in the world as it stood before it.
+/// Whatever steps a run has, the content of one slot after them, and the outcomes of the steps in it, are the results
+/// of its own steps alone, each with the world before it.
 pub fn places_stand_side_by_side()
     ensures slot { (players : List Player) (number_of : Code → ℕ → ℕ) (number : ℕ)
         (steps : List Met) (slots : List PlainSlot) (slot : PlainSlot) →
@@ -90,7 +89,7 @@ pub fn places_stand_side_by_side()
         ≡ outcomes_alone players number_of number slot (own_steps number steps) }
 {}
 
-/// Places and a ledger between two calls are in order; and so are closed places and a ledger without births.
+/// Slots and a cleanup log between two calls are in order; and so are closed slots and a log without sets.
 pub fn sound_places_are_in_order()
     ensures sound { (names : List (List ℕ)) (modules : ℕ) (slots : List PlainSlot)
         (ledger : PlainLedger) →
@@ -100,14 +99,14 @@ pub fn sound_places_are_in_order()
         AreInOrder (map closed convs) (record { births = []; filed = [] }) }
 {}
 
-/// Where a vault lists no number of a call that is to fail, no call is.
+/// If a file store has no planned failure, no access is planned to fail.
 pub fn no_call_fails_where_none_is_listed()
     ensures { (vault : VaultState) → vault.fails ≡ [] → NoCallFails vault }
 {}
 
-/// What a call on one number comes to doesn't hang on the others. In two states that are alike for
-/// a number, a call on it comes to the same, and leaves two that are alike; and so does, in one of
-/// them, a call on another number that changes no file. It holds of whatever the modules play.
+/// The result of a call on one number doesn't depend on the others. In two states that are alike for a number, a call
+/// on it has the same result and leaves two that are alike; so does, in one of them, a call on another number that
+/// changes no file. This holds whatever the modules do.
 pub fn calls_keep_to_themselves()
     ensures own { (players : List Player) (number_of : Code → ℕ → ℕ) (step : Step)
         (slots others : List PlainSlot) (w v : PlainWorld) →
@@ -122,16 +121,26 @@ pub fn calls_keep_to_themselves()
         (stepped players number_of slots w step).world others v }
 {}
 
-/// A step changes files by what the modules of the lines that it visits play, one after another,
-/// and by nothing else. What some visits lead to, and others lead on from, both lead to together.
+/// Of each step it is said what the modules of the lines that it runs get (`asks`): each line is one
+/// of its function's stack, and its module gets the arguments of its rule, and the room and the
+/// world as the line before left them. They are the lines that are recorded (`visits`), and their
+/// modules' meanings change files, one after another, and nothing else does (`step`). What some
+/// lines lead to, and others lead on from, both lead to together (`together`).
 pub fn steps_change_files_by_plays()
-    ensures step { (players : List Player) (number_of : Code → ℕ → ℕ) (slots : List PlainSlot)
+    ensures asks { (players : List Player) (number_of : Code → ℕ → ℕ) (slots : List PlainSlot)
         (w : PlainWorld) (step : Step) →
-        VisitsLead players w.vault.files
-        (visits_at w.clock.moment (stepped players number_of slots w step).outcome.trail)
+        (asked : List AskedLine) × StepAsks players number_of slots w step asked }
+    ensures visits { (players : List Player) (number_of : Code → ℕ → ℕ) (slots : List PlainSlot)
+        (w : PlainWorld) (step : Step) (asked : List AskedLine) →
+        StepAsks players number_of slots w step asked →
+        visits_of asked ≡ (stepped players number_of slots w step).outcome.trail }
+    ensures step { (players : List Player) (number_of : Code → ℕ → ℕ) (slots : List PlainSlot)
+        (w : PlainWorld) (step : Step) (asked : List AskedLine) →
+        StepAsks players number_of slots w step asked →
+        LinesLead players w.vault.files asked
         (stepped players number_of slots w step).world.vault.files }
     ensures together { (players : List Player) (first middle last : List File)
-        (some others : List TimedVisit) →
-        VisitsLead players first some middle → VisitsLead players middle others last →
-        VisitsLead players first (some ++ others) last }
+        (some others : List AskedLine) →
+        LinesLead players first some middle → LinesLead players middle others last →
+        LinesLead players first (some ++ others) last }
 {}

@@ -6,27 +6,29 @@ use crate::slot::Slot;
 use conv_port::Conv;
 use pam_base::NoMemory;
 use pam_handle::pam_room::{Module, name_of};
-use pam_handle::{Gear, GearTold};
+use pam_handle::{Gear, GearTold, StartCache};
 use std::alloc::Global;
 use std::mem;
 
-/// Sixteen transactions over one list of modules and one delay function. Each place has a conversation, also while no
+/// Sixteen transactions with one list of modules and one delay function. Each slot has a conversation, even while no
 /// transaction is open there.
 pub struct Library {
     pub(crate) gear: Gear,
     pub(crate) slots: Vec<Slot>,
+    // What its starts keep.
+    pub(crate) cache: StartCache,
     ghost sixteen: { length slots.items ≡ 16 },
 }
 
-/// Names what a library holds and what its conversations tell, for contracts.
+/// Names a library's content and whether its conversations are modelled, for contracts.
 pub trait LibraryTold {
     ghost use Rattle.std.specs.Prelude.{Bool, List};
     ghost use Rattle.pam_library.specs.Slots.{PlainSlot};
 
-    /// Whether all its conversations tell.
+    /// Whether all its conversations are modelled.
     ghost tells: { Self → Bool };
 
-    /// Its places, by their numbers from 1.
+    /// Its slots, by their numbers from 1.
     ghost slots: { Self → List PlainSlot };
 }
 
@@ -43,8 +45,9 @@ impl Library {
     ghost use Rattle.pam_library.specs.AnyWorld.{conv_of, with_conv};
     ghost use Rattle.pam_library.specs.Slots.{NoneIsOpen, PlainSlot, is_open_at, slot_at, with_slot};
 
-    /// A library of sixteen closed places with these conversations, in order, and fewer than 2^32
-    /// modules. Without memory gear and conversations are given up.
+    /// A library of sixteen closed slots with these conversations, in order, and fewer than 2^32
+    /// modules. If memory runs out, the modules, the delay function and the conversations are
+    /// dropped.
     pub fn new(alloc: Global, gear: Gear, convs: Vec<Box<dyn Conv>>) -> Result<Library, NoMemory>
         requires sixteen { length convs.items ≡ 16 }
         ensures slots { IfOk result (λ library. ⟦<Library as LibraryTold>⟧.slots library
@@ -57,7 +60,11 @@ impl Library {
         for conv in convs {
             slots.push(Slot::Closed(conv)).unwrap();
         }
-        Ok(Library { gear, slots })
+        Ok(Library {
+            gear,
+            slots,
+            cache: StartCache::new(alloc),
+        })
     }
 
     /// Whether this is the number of an open transaction.
@@ -82,8 +89,8 @@ impl Library {
         name_of(&self.gear.mods[owner as usize])
     }
 
-    /// Makes the conversation that of the place with this number, from 1 to 16, be it open or not,
-    /// and gives the old one back. Nothing else changes.
+    /// Sets the conversation of the slot with this number, from 1 to 16, open or closed, and
+    /// returns the old one. Nothing else changes.
     pub fn put_conv(&mut self, number: u32, conv: Box<dyn Conv>) -> Box<dyn Conv>
         requires first { 1 ≤ number }
         requires last { number ≤ 16 }
@@ -105,11 +112,15 @@ impl Library {
         }
     }
 
-    /// Gives up a library in which no transaction is open, with its modules and conversations. It takes no memory.
+    /// Drops a library in which no transaction is open, with its modules and conversations. Allocates nothing.
     pub fn dismiss(self)
         requires { NoneIsOpen (⟦<Library as LibraryTold>⟧.slots self) }
     {
-        let Library { gear: _, slots } = self;
+        let Library {
+            gear: _,
+            slots,
+            cache: _,
+        } = self;
         let mut slots = slots;
         while let Some(slot) = slots.pop() {
             match slot {

@@ -8,48 +8,48 @@ use pam_handle::service_load::LoadFault;
 use pam_handle::{Told, Wait};
 use std::alloc::Global;
 
-/// What a step answers.
+/// What a step returns.
 #[derive(Debug, Drop)]
 pub enum Answer {
-    /// The code of a call. Calls without a code of their own answer SUCCESS.
+    /// The code of a call. Calls without a code of their own return SUCCESS.
     Code(Code),
-    /// A start that the configuration refused.
+    /// A start refused because of the configuration.
     Refused(LoadFault),
-    /// An item or a variable; None where it isn't set.
+    /// An item or a variable; None if it isn't set.
     Value(Option<Text>),
     /// The environment, `NAME=VALUE` each.
     List(Texts),
     /// No transaction has this number.
     NotOpen,
-    /// A transaction has this number already.
+    /// A transaction already has this number.
     AlreadyOpen,
     /// The number isn't 1 to 16.
     BadNumber,
     /// A reply was offered.
     Nothing,
-    /// Another stack call was put off, the one of this function, and goes on first.
+    /// Another stack call is pending, that of this function, and has to be resumed first.
     Pending(Func),
 }
 
-/// What a step told and answered.
+/// What a step reported and returned.
 #[derive(Debug, Drop)]
 pub struct Outcome {
-    /// The messages that this step handed to the conversation.
+    /// The messages that this step passed to the conversation.
     pub said: Messages,
-    /// The lines that it visited.
+    /// The lines that it ran.
     pub trail: Visits,
-    /// The number of receipts in the ledger before it: its own are those from there on, and stay in the ledger, which
+    /// The number of cleanup records in the log before it: those from there on are its own, and stay in the log, which
     /// has the name of each.
     pub filed_from: u64,
-    /// What was waited after an authentication.
+    /// The wait after an authentication.
     pub wait: Option<Wait>,
-    /// After a start: the modules that lines name and that aren't there.
+    /// After a start: the missing modules that lines name.
     pub missing: Texts,
     pub answer: Answer,
 }
 
 impl Outcome {
-    // An answer, and nothing told. It takes no memory.
+    // A result without anything to report. Allocates nothing.
     pub(crate) fn only(alloc: Global, filed_from: u64, answer: Answer) -> Self
         ensures plain { plain_outcome result ≡ answers_only filed_from answer }
         ensures answer { result.answer ≡ answer }
@@ -65,7 +65,7 @@ impl Outcome {
         }
     }
 
-    // SUCCESS of a start, and the modules that are missing. It takes no memory.
+    // SUCCESS of a start, and the missing modules. Allocates nothing.
     pub(crate) fn missing(alloc: Global, filed_from: u64, missing: Texts) -> Self
         ensures plain { plain_outcome result ≡ record
             (answers_only filed_from (Answer.Code Code.Success)) { missing = missing } }
@@ -82,7 +82,7 @@ impl Outcome {
         }
     }
 
-    // An answer, and what was told. It takes no memory.
+    // A result, and what is to report. Allocates nothing.
     pub(crate) fn telling(alloc: Global, filed_from: u64, told: Told, answer: Answer) -> Self
         ensures plain { plain_outcome result ≡ record {
           said = told.said;

@@ -36,7 +36,7 @@ pub(crate) fn offer_open(
     Ok(Outcome::only(alloc, filed_from, Answer::Nothing))
 }
 
-// A reply for the conversation of a closed place.
+// A reply for the conversation of a closed slot.
 pub(crate) fn offer_closed(
     alloc: Global,
     conv: &mut Box<dyn Conv>,

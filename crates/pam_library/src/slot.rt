@@ -6,24 +6,24 @@ use conv_port::Conv;
 use pam_base::NoMemory;
 use pam_handle::Handle;
 
-/// A place for a transaction: closed, with a conversation, or open.
+/// A slot for a transaction: closed, with a conversation, or open.
 pub enum Slot {
     Closed(Box<dyn Conv>),
     Open(Handle),
 }
 
-/// A place after a call on it, and what the call came to.
+/// A slot after a call in it, and the result of the call.
 pub struct Stepped {
     pub slot: Slot,
     pub outcome: Result<Outcome, NoMemory>,
 }
 
-/// Names what a place holds and whether its conversation tells, for contracts.
+/// Names what a slot holds and whether its conversation is modelled, for contracts.
 pub trait SlotTold {
     ghost use Rattle.std.specs.Prelude.{Bool};
     ghost use Rattle.pam_library.specs.Slots.{PlainSlot};
 
-    /// Whether its conversation tells.
+    /// Whether its conversation is modelled.
     ghost tells: { Self → Bool };
 
     ghost plain: { Self → PlainSlot };

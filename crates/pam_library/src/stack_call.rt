@@ -17,8 +17,8 @@ use pam_handle::pam_room::{Room, RoomTold, World, WorldTold};
 use pam_handle::{Gear, GearTold, Handle, has_pass_flag};
 use std::alloc::Global;
 
-// What a stack call is answered before a stack is run: SYSTEM_ERR for the flags of the two passes
-// of a change of token, and then the call that is pending, where it is another one.
+// What a stack call returns before a stack is run: SYSTEM_ERR for the flags of the two passes of a change of token, and
+// then the pending call, if it is another one.
 fn refusal(handle: &Handle, func: Func, flags: u32) -> Option<Answer>
     ensures { result ≡ stack_refusal (plain_handle ⟦<Room as RoomTold>⟧.plain handle.now).pending
         func flags }
@@ -61,7 +61,7 @@ fn call_handle(
     }
 }
 
-// A stack call on a transaction that told all that it had to tell.
+// A stack call on a transaction without anything to report.
 pub(crate) fn call_stack(
     alloc: Global,
     gear: &Gear,

@@ -14,11 +14,11 @@ use conv_port::Conv;
 use fail_delay::{DelayFn, DelayTold};
 use pam_base::{AppCall, Code, NoMemory, Refuse, Text};
 use pam_handle::pam_room::{Room, RoomTold, World, WorldTold};
-use pam_handle::{Gear, GearTold, Handle, StartRefused};
+use pam_handle::{Gear, GearTold, Handle, StartCache, StartRefused};
 use std::alloc::Global;
 
-// Opens a place for a transaction that was started, and tells which modules are missing; without
-// memory for their names the transaction, which has no data yet, is ended again.
+// Opens a slot for a transaction that was started, and reports the missing modules; if memory runs out for their names,
+// the transaction, which has no module data yet, is ended again.
 fn open(alloc: Global, gear: &Gear, world: &mut World, handle: Handle, filed_from: u64) -> Stepped
     requires ready { IsReadyFor (⟦<Gear as GearTold>⟧.players gear.now)
         (plain_handle ⟦<Room as RoomTold>⟧.plain handle)
@@ -43,7 +43,7 @@ fn open(alloc: Global, gear: &Gear, world: &mut World, handle: Handle, filed_fro
     }
 }
 
-// A start that was refused leaves its place closed with its conversation.
+// A refused start leaves its slot closed with its conversation.
 fn refuse(alloc: Global, refused: StartRefused, filed_from: u64) -> Stepped
     ensures tells { ⟦<Slot as SlotTold>⟧.tells result.slot ≡ conv_tells refused.conv }
     ensures slot { ⟦<Slot as SlotTold>⟧.plain result.slot ≡ closed (conv_holds refused.conv) }
@@ -60,7 +60,7 @@ fn refuse(alloc: Global, refused: StartRefused, filed_from: u64) -> Stepped
     }
 }
 
-// Starts a transaction in a closed place.
+// Starts a transaction in a closed slot.
 pub(crate) fn start(
     alloc: Global,
     gear: &Gear,
@@ -69,6 +69,7 @@ pub(crate) fn start(
     service: &Text,
     user: &Option<Text>,
     conv: Box<dyn Conv>,
+    cache: &mut StartCache,
 ) -> Stepped
     requires service { IsTrue (is_service_name service.now) }
     ensures tells { ⟦<Slot as SlotTold>⟧.tells result.slot ≡ conv_tells conv }
@@ -89,7 +90,7 @@ pub(crate) fn start(
         ≡ vault_faults (in_box world.old.vault)) }
 {
     let filed_from = receipts_in(world);
-    match Handle::start(
+    match Handle::start_with(
         alloc,
         gear,
         world,
@@ -97,6 +98,7 @@ pub(crate) fn start(
         service.bytes(),
         bytes_of(user),
         conv,
+        cache,
     ) {
         Ok(handle) => open(alloc, gear, world, handle, filed_from),
         Err(refused) => refuse(alloc, refused, filed_from),

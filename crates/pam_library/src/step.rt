@@ -18,12 +18,19 @@ use conv_port::Conv;
 use fail_delay::{DelayFn, DelayTold};
 use pam_base::{AppCall, Step};
 use pam_handle::pam_room::{Room, RoomTold, World, WorldTold};
-use pam_handle::{Gear, GearTold, Handle};
+use pam_handle::{Gear, GearTold, Handle, StartCache};
 use std::alloc::Global;
 
 impl Slot {
-    // A step on the place of its number.
-    pub(crate) fn step(self, alloc: Global, gear: &Gear, world: &mut World, step: &Step) -> Stepped
+    // A step in the slot of its number.
+    pub(crate) fn step(
+        self,
+        alloc: Global,
+        gear: &Gear,
+        world: &mut World,
+        step: &Step,
+        cache: &mut StartCache,
+    ) -> Stepped
         requires placed { IsAtPlace (names_of (⟦<Gear as GearTold>⟧.players gear.now))
             step.now.number (⟦<Slot as SlotTold>⟧.plain self) }
         requires ready { IsReadyAt (length (⟦<Gear as GearTold>⟧.players gear.now))
@@ -39,19 +46,20 @@ impl Slot {
         ensures no_nap { OnErr result.outcome (world.new.nap ≡ world.old.nap) }
     {
         match self {
-            Slot::Closed(conv) => step_closed(alloc, gear, world, conv, step),
+            Slot::Closed(conv) => step_closed(alloc, gear, world, conv, step, cache),
             Slot::Open(handle) => step_open(alloc, gear, world, handle, step),
         }
     }
 }
 
-// A step on a closed place.
+// A step in a closed slot.
 fn step_closed(
     alloc: Global,
     gear: &Gear,
     world: &mut World,
     conv: Box<dyn Conv>,
     step: &Step,
+    cache: &mut StartCache,
 ) -> Stepped
     requires fit { IsTrue (is_fit step.now.call) }
     ensures called { StepsPlace (⟦<Gear as GearTold>⟧.players gear.now)
@@ -65,7 +73,7 @@ fn step_closed(
 {
     match &step.call {
         AppCall::Start { service, user } => {
-            start(alloc, gear, world, step.number, service, user, conv)
+            start(alloc, gear, world, step.number, service, user, conv, cache)
         }
         AppCall::Reply { text } => {
             let mut conv = conv;
@@ -82,7 +90,7 @@ fn step_closed(
     }
 }
 
-// A step on an open place. What its transaction had told before is thrown away.
+// A step in an open slot. What its transaction had to report before is dropped.
 fn step_open(alloc: Global, gear: &Gear, world: &mut World, handle: Handle, step: &Step) -> Stepped
     requires placed { IsPlaced (names_of (⟦<Gear as GearTold>⟧.players gear.now)) step.now.number
         (plain_handle ⟦<Room as RoomTold>⟧.plain handle) }
@@ -101,7 +109,7 @@ fn step_open(alloc: Global, gear: &Gear, world: &mut World, handle: Handle, step
     ensures no_nap { OnErr result.outcome (world.new.nap ≡ world.old.nap) }
 {
     let mut handle = handle;
-    // What a call on the handle alone told before is dropped.
+    // What a call on the handle alone had to report before is dropped.
     let _before = handle.take_told(alloc);
     if let AppCall::End { status } = &step.call {
         return end(alloc, gear, world, handle, *status);

@@ -4,7 +4,7 @@ ghost use Rattle.std.specs.Option.{option_copied};
 use pam_base::{NoMemory, Text};
 use std::alloc::Global;
 
-// The bytes of a text, where there is one.
+// The bytes of a text, if there is one.
 pub(crate) fn bytes_of(text: &Option<Text>) -> Option<&[u8]>
     ensures { option_copied result ≡ text.now }
 {
@@ -14,7 +14,7 @@ pub(crate) fn bytes_of(text: &Option<Text>) -> Option<&[u8]>
     }
 }
 
-// A copy of some bytes, where there are any.
+// A copy of some bytes, if there are any.
 pub(crate) fn copy_of(alloc: Global, bytes: Option<&[u8]>) -> Result<Option<Text>, NoMemory>
     ensures { IfOk result (λ text. text ≡ option_copied bytes.entry) }
 {

@@ -10,7 +10,7 @@ use pam_handle::Handle;
 use pam_handle::pam_room::{Room, RoomTold};
 use std::alloc::Global;
 
-// Each of these calls is one on a transaction that told all that it had to tell.
+// Each of these calls is one on a transaction without anything to report.
 
 pub(crate) fn set_item(
     alloc: Global,
@@ -129,7 +129,7 @@ pub(crate) fn request_delay(
     Ok(Outcome::only(alloc, filed_from, Answer::Code(Code::Success)))
 }
 
-pub(crate) fn turn_delay(
+pub(crate) fn set_delay_enabled(
     alloc: Global,
     handle: &mut Handle,
     filed_from: u64,

@@ -3,7 +3,7 @@ ghost use Rattle.pam_library.specs.SlotStep.{filed_in};
 
 use pam_handle::pam_room::{World, WorldTold};
 
-// How many receipts the ledger has.
+// The number of cleanup records in the log.
 pub(crate) fn receipts_in(world: &World) -> u64
     ensures { result ≡ filed_in (⟦<World as WorldTold>⟧.plain world.now) }
 {

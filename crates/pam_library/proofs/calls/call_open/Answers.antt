@@ -22,7 +22,7 @@ pub returns-in-FailDelay-clause-goes : goal.returns-in-FailDelay-clause-goes
 returns-in-FailDelay-clause-goes g c = rw c.in-FailDelay.is (inside_goes _ _ _ _ _ _ _ _ _ _ refl c.nothing_grows.ensures c.requires.told c.requires.ready.0 c.requires.ready.1.none_gone c.receipts_in-filed.ensures c.request_delay.ensures.goes)
 
 pub returns-in-DelayFn-clause-goes : goal.returns-in-DelayFn-clause-goes
-returns-in-DelayFn-clause-goes g c = rw c.in-DelayFn.is (inside_goes _ _ _ _ _ _ _ _ _ _ refl c.nothing_grows.ensures c.requires.told c.requires.ready.0 c.requires.ready.1.none_gone c.receipts_in-filed.ensures c.turn_delay.ensures.goes)
+returns-in-DelayFn-clause-goes g c = rw c.in-DelayFn.is (inside_goes _ _ _ _ _ _ _ _ _ _ refl c.nothing_grows.ensures c.requires.told c.requires.ready.0 c.requires.ready.1.none_gone c.receipts_in-filed.ensures c.set_delay_enabled.ensures.goes)
 
 pub returns-in-SetItem-clause-no_nap : goal.returns-in-SetItem-clause-no_nap
 returns-in-SetItem-clause-no_nap g c = anyway c.set_item.result refl
@@ -43,7 +43,7 @@ pub returns-in-FailDelay-clause-no_nap : goal.returns-in-FailDelay-clause-no_nap
 returns-in-FailDelay-clause-no_nap g c = anyway c.request_delay.result refl
 
 pub returns-in-DelayFn-clause-no_nap : goal.returns-in-DelayFn-clause-no_nap
-returns-in-DelayFn-clause-no_nap g c = anyway c.turn_delay.result refl
+returns-in-DelayFn-clause-no_nap g c = anyway c.set_delay_enabled.result refl
 
 pub returns-in-Reply-clause-no_nap : goal.returns-in-Reply-clause-no_nap
 returns-in-Reply-clause-no_nap g c = anyway c.offer_open.result refl

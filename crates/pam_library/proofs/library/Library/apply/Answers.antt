@@ -1,11 +1,11 @@
-use Rattle.std.proofs.Common.{◌≡◌, ◌+◌, ◌<◌, true, length, is_ok, subst, arith, rules, Option}
+use Rattle.std.proofs.Common.{◌≡◌, ◌+◌, ◌<◌, true, length, subst, arith, rules, Option}
 use Rattle.pam_library.specs.Slots.{PlainSlot}
 use Rattle.pam_library.specs.Plain.{plain_slot, slot_tells}
 use Rattle.pam_library.specs.AnyWorld.{leaves_world}
 use Rattle.pam_library.proofs.Stacking.{only_of}
 use Rattle.pam_library.proofs.Within.{both_of, first_of, second_of}
 use Rattle.pam_library.proofs.Holding.{held_in}
-use Rattle.pam_library.proofs.Applying.{IsReplaced, all_step, answer_after, bad_number, fails_after, inside_after, moves_after, none_beyond, none_first, others_stay, put, ready_at, replaced, slots_length, sound_after, spends_after, succeeds_after, tell_as, tells_at}
+use Rattle.pam_library.proofs.Applying.{IsReplaced, all_step, answer_after, bad_number, fails_after, inside_after, moves_after, none_beyond, none_first, others_stay, put, ready_at, replaced, slots_length, sound_after, spends_after, stops_after, succeeds_after, tell_as, tells_at}
 use Rattle.pam_library.proofs.library.Library.apply.Given as given
 use Rattle.pam_library.proofs.library.Library.apply.Goals as goal
 use Rattle.pam_library.proofs.library.Library.apply.Goals.{then-number-eq0-via-then-number-eq0, then-number-eq0-via-else-number-eq0+then-len-number}
@@ -40,7 +40,7 @@ step-slot-requires-clause-ready g c = ready_at _ _ _ _ c.args.step.now.number _ 
     (held_in (plain_slot (λ b. (goal.Conv-dyn g (b.vtable, b.value)).conv_holds b.value)) c.args.self.now.slots.items c.args.step.now.number c.swap_remove-slot.result
     (omega (arith, c.if-number-eq0.false)) (omega (arith, c.if-number-eq0.false, c.if-len-number.false, c.len.ensures)) c.swap_remove-slot.ensures.value)
 
--- the slot was taken out, and what became of it stands in its place
+-- the slot was taken out, and its new content is put back in its place
 stepped_in : (g : given.Over) (c : goal.After-ledger_is_sound g)
     → IsReplaced c.args.self.now.slots.items c.put_back.new.slots.items c.args.step.now.number c.swap_remove-slot.result c.step-slot.result.slot
 stepped_in g c =
@@ -98,3 +98,8 @@ pub returns-clause-fails : goal.returns-clause-fails
 returns-clause-fails g c = fails_after _ _ _ _ _ _ _ _ _ _ _ _ _
     (put (plain_slot (λ b. (goal.Conv-dyn g (b.vtable, b.value)).conv_holds b.value)) _ _ _ _ _ (omega (arith, c.if-number-eq0.false)) (stepped_in g c)) c.step-slot.ensures.called.goes
     _ (tells_at (slot_tells (λ b. (goal.Conv-dyn g (b.vtable, b.value)).conv_tells b.value)) _ _ _ _ _ (stepped_in g c))
+
+pub returns-clause-stops : goal.returns-clause-stops
+returns-clause-stops g c = stops_after _ _ _ _ _ _ _ _ _ _ _ _ _
+    (put (plain_slot (λ b. (goal.Conv-dyn g (b.vtable, b.value)).conv_holds b.value)) _ _ _ _ _ (omega (arith, c.if-number-eq0.false)) (stepped_in g c)) c.step-slot.ensures.called.goes
+    _ (λ all. both_of _ _ (tells_at (slot_tells (λ b. (goal.Conv-dyn g (b.vtable, b.value)).conv_tells b.value)) _ _ _ _ _ (stepped_in g c) (first_of _ _ all)) (second_of _ _ all))

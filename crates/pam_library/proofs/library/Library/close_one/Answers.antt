@@ -57,7 +57,7 @@ unreachable-requires g c =
     let open_here : false ≡ true = sym (ap (λ s. is_open ((plain_slot (λ b. (goal.Conv-dyn g (b.vtable, b.value)).conv_holds b.value)) s)) c.in-Closed.is) ∙ ap is_open stands in
     absurd (cc)
 
--- the transaction that was found, and its place now
+-- the transaction that was found, and its slot now
 found_here : (g : given.Over) (c : goal.After-ledger_is_sound g)
     → first_open 1 (map (plain_slot (λ b. (goal.Conv-dyn g (b.vtable, b.value)).conv_holds b.value)) c.args.self.now.slots.items) ≡ Some (c.in_ok-place.place + 1, (plain_handle (plain_room (λ b. (goal.Conv-dyn g (b.vtable, b.value)).conv_holds b.value)) c.in-Open.handle))
 found_here g c =
