@@ -18,6 +18,9 @@ use pam_library::{Library, Outcome};
 use report_lines::script_lang::call_word;
 use std::alloc::Global;
 
+/// The room that a report begins with, in bytes: that of a few lines.
+const ROOM: usize = 120;
+
 /// The lines of a step, each with its newline: the messages, the lines that were run, the cleanups, the wait, the
 /// missing modules, and the result. Library and cleanup log are those after the step. A reply that was queued has no
 /// line.
@@ -37,7 +40,7 @@ pub fn step_report(
 {
     let handle = step.number;
     let command = call_word(&step.call);
-    let mut text = String::new(alloc);
+    let mut text = String::with_capacity(alloc, ROOM)?;
     write_messages(&mut text, handle, outcome.said.items())?;
     write_visits(&mut text, handle, outcome.trail.items())?;
     write_cleanups(&mut text, handle, library, ledger, outcome.filed_from)?;

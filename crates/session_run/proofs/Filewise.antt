@@ -7,7 +7,7 @@ use Rattle.pam_base.specs.declared.fault.ScriptKind.TheVariants.{LineTooLong, To
 use Rattle.pam_outside.specs.Files.{File}
 use Rattle.session_report.specs.pam_room.specs.Module.{Player}
 use Rattle.session_report.specs.pam_room.specs.State.{PlainWorld}
-use Rattle.session_report.specs.pam_library.specs.Plays.{TimedVisit, VisitsLead, visits_at}
+use Rattle.session_report.specs.pam_library.specs.Plays.{AskedLine, LinesLead, StepAsks}
 use Rattle.session_report.specs.pam_library.specs.SideBySide.{Met}
 use Rattle.session_report.specs.pam_library.specs.Slots.{PlainSlot, closed, opened}
 use Rattle.session_report.specs.pam_library.specs.Step.{stepped}
@@ -20,16 +20,23 @@ use Rattle.session_run.specs.Closings.{all_closed, closings_behind, last_state, 
 use Rattle.session_run.specs.SideBySide.{step_of, steps_behind, steps_in}
 use Rattle.session_run.specs.State.{RunState, Setting, state_of}
 use Rattle.session_run.specs.Step.{applied, applied_or_refused, line_step}
-use Rattle.session_run.specs.Visits.{visits_in, visits_of_steps}
+use Rattle.session_run.specs.Visits.{StepsAsk}
 
 -- ---- the lines
 
-module _ (setting : Setting)
-    (step_leads : (players : List Player) (number_of : Code → ℕ → ℕ) (slots : List PlainSlot) (w : PlainWorld) (step : Step) → VisitsLead players w.vault.files (visits_at w.clock.moment (stepped players number_of slots w step).outcome.trail) (stepped players number_of slots w step).world.vault.files)
-    (together : (players : List Player) (first middle last : List File) (some others : List TimedVisit) → VisitsLead players first some middle → VisitsLead players middle others last → VisitsLead players first (some ++ others) last) where
+-- what the modules get of the lines that a step runs, and that their calls alone change the files
+abbrev AllStepsAsk : Type 0
+AllStepsAsk = (players : List Player) (number_of : Code → ℕ → ℕ) (slots : List PlainSlot) (w : PlainWorld) (step : Step) → (asked : List AskedLine) × StepAsks players number_of slots w step asked
+
+abbrev AllStepsLead : Type 0
+AllStepsLead = (players : List Player) (number_of : Code → ℕ → ℕ) (slots : List PlainSlot) (w : PlainWorld) (step : Step) (asked : List AskedLine)
+    → StepAsks players number_of slots w step asked → LinesLead players w.vault.files asked (stepped players number_of slots w step).world.vault.files
+
+module _ (setting : Setting) (asks : AllStepsAsk) (step_leads : AllStepsLead)
+    (together : (players : List Player) (first middle last : List File) (some others : List AskedLine) → LinesLead players first some middle → LinesLead players middle others last → LinesLead players first (some ++ others) last) where
   -- some steps lead from a state to these files
   abbrev pub Leads : RunState → List Met → List File → Type 0
-  Leads s met last = VisitsLead setting.players s.world.vault.files (visits_of_steps setting s.slots met) last
+  Leads s met last = (asked : List AskedLine) × StepsAsk setting s.slots met asked × LinesLead setting.players s.world.vault.files asked last
 
   -- a line that isn't refused, and what leads on from the state after it
   abbrev pub LineLeads : RunState → Result Line ScriptKind → Result (RunState × List ℕ) ScriptKind → Type 0
@@ -38,7 +45,10 @@ module _ (setting : Setting)
 
   parsed_leads : (s : RunState) (read : Result Line ScriptKind) → LineLeads s read (applied_or_refused setting s read)
   parsed_leads s (Ok lines.Blank) = λ met last more. more
-  parsed_leads s (Ok (lines.Step step)) = λ met last more. together setting.players _ _ last _ _ (step_leads setting.players setting.delay s.slots s.world step) more
+  parsed_leads s (Ok (lines.Step step)) = λ met last more.
+      let a = asks setting.players setting.delay s.slots s.world step in
+      let leads = step_leads setting.players setting.delay s.slots s.world step a.0 a.1 in
+      (a.0 ++ more.0, (a.0, more.0, refl, a.1, more.1), together setting.players _ _ last a.0 more.0 leads more.2)
   parsed_leads s (Ok (lines.At moment)) = λ met last more. more
   parsed_leads s (Ok (lines.Random word)) = λ met last more. more
   parsed_leads s (Ok (lines.Caller caller)) = λ met last more. more
@@ -58,12 +68,12 @@ module _ (setting : Setting)
       → ((t : RunState) → Leads t (steps_in setting (n + 1) t ls) (run_lines (line_step setting) (n + 1) t ls).last.world.vault.files)
       → Leads s (steps_behind setting s l r (λ t. steps_in setting (n + 1) t ls)) (after n s r (λ t. run_lines (line_step setting) (n + 1) t ls)).last.world.vault.files
   behind n s l ls (Ok x) leads more = leads (steps_in setting (n + 1) x.0 ls) _ (more x.0)
-  behind n s l ls (Err kind) leads more = refl
+  behind n s l ls (Err kind) leads more = ([], refl, refl)
 
   pub script_leads : (script : List (List ℕ)) (n : ℕ) (s : RunState)
-      → VisitsLead setting.players s.world.vault.files (visits_in setting n s script) (run_lines (line_step setting) n s script).last.world.vault.files
+      → Leads s (steps_in setting n s script) (run_lines (line_step setting) n s script).last.world.vault.files
   unfolding run_items steps_in
-  script_leads [] n s = refl
+  script_leads [] n s = ([], refl, refl)
   script_leads (l ∷ ls) n s = behind n s l ls (step_at (line_step setting) n s l) (line_leads n s l) (λ t. script_leads ls (n + 1) t)
 
 -- ---- the implicit ends after them

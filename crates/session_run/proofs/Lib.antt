@@ -3,9 +3,9 @@ pub mod Lowest
 pub mod Serving
 pub mod Asking
 pub mod Reporting
-pub mod Telling
 pub mod Parting
-mod Proceeding
+pub mod Proceeding
+pub mod Going
 pub mod Wholly
 pub mod Filed
 pub mod Completing

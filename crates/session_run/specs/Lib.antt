@@ -20,6 +20,7 @@ pub mod Reported
 pub mod Whole
 pub mod Ends
 pub mod AnyWorld
+pub mod Seen
 pub mod Isolation
 pub mod Events
 pub mod Reading

@@ -1,6 +1,6 @@
--- Which lines of stacks a script runs (this project's own).
-use Rattle.std.specs.Prelude.{ℕ, List, [], ◌∷◌, ◌++◌}
-use Rattle.session_report.specs.pam_library.specs.Plays.{TimedVisit, visits_at}
+-- What the modules of the stack lines get that a script runs (this project's own).
+use Rattle.std.specs.Prelude.{◌≡◌, ℕ, List, [], ◌∷◌, ◌++◌}
+use Rattle.session_report.specs.pam_library.specs.Plays.{AskedLine, StepAsks}
 use Rattle.session_report.specs.pam_library.specs.SideBySide.{Met}
 use Rattle.session_report.specs.pam_library.specs.Slots.{PlainSlot}
 use Rattle.session_report.specs.pam_library.specs.Step.{stepped}
@@ -8,13 +8,14 @@ use Rattle.session_run.specs.SideBySide.{steps_in}
 use Rattle.session_run.specs.State.{RunState, Setting}
 
 module _ (setting : Setting) where
-  -- the lines that some steps run, in order, each with the time of its step
-  abbrev pub visits_of_steps : List PlainSlot → List Met → List TimedVisit
-  visits_of_steps slots [] = []
-  visits_of_steps slots (m ∷ steps) =
-      let t = stepped setting.players setting.delay slots m.world m.step in
-      visits_at m.world.clock.moment t.outcome.trail ++ visits_of_steps t.slots steps
+  -- The modules of the stack lines that some steps run get this, step by step.
+  abbrev pub StepsAsk : List PlainSlot → List Met → List AskedLine → Type 0
+  StepsAsk slots [] asked = asked ≡ []
+  StepsAsk slots (m ∷ steps) asked =
+      (first : List AskedLine) × (others : List AskedLine) × (asked ≡ first ++ others)
+      × StepAsks setting.players setting.delay slots m.world m.step first
+      × StepsAsk (stepped setting.players setting.delay slots m.world m.step).slots steps others
 
-  -- those that the lines of a script run, up to the first that is refused; it has n lines before it
-  abbrev pub visits_in : ℕ → RunState → List (List ℕ) → List TimedVisit
-  visits_in n s script = visits_of_steps s.slots (steps_in setting n s script)
+  -- Those of the lines of a script get this, up to the first that is refused; it has n lines before it.
+  abbrev pub ScriptAsks : ℕ → RunState → List (List ℕ) → List AskedLine → Type 0
+  ScriptAsks n s script asked = StepsAsk s.slots (steps_in setting n s script) asked

@@ -7,7 +7,7 @@ ghost use Rattle.pam_base.specs.Lines.{lines_of};
 ghost use Rattle.session_report.specs.dispatch_core.specs.Lines.{names_of};
 ghost use Rattle.pam_base.specs.declared.code.Code.{Code};
 ghost use Rattle.session_report.specs.pam_library.specs.Calls.{events_of};
-ghost use Rattle.session_report.specs.pam_library.specs.Plays.{VisitsLead};
+ghost use Rattle.session_report.specs.pam_library.specs.Plays.{AskedLine, LinesLead};
 ghost use Rattle.session_report.specs.pam_library.specs.Slots.{PlainSlot, handle_limit, slot_at};
 ghost use Rattle.script_stream.specs.Run.{run_lines, run_of};
 ghost use Rattle.session_report.specs.report_lines.specs.Line.{number_words};
@@ -19,7 +19,7 @@ ghost use Rattle.session_run.specs.Reading.{line_read, refused_in};
 ghost use Rattle.session_run.specs.SideBySide.{ComesAlone, TellsSteps};
 ghost use Rattle.session_run.specs.State.{RunState, Setting};
 ghost use Rattle.session_run.specs.Step.{line_step};
-ghost use Rattle.session_run.specs.Visits.{visits_in};
+ghost use Rattle.session_run.specs.Visits.{ScriptAsks};
 
 /// If the cleanup log and the module data model some events before a run, they model these events
 /// followed by those of the run's calls after it.
@@ -85,11 +85,12 @@ pub fn refusals_are_of_the_bytes()
         ≡ (run_of line_read 0 tt bytes ended).items }
 {}
 
-/// A script changes files only through the modules of the stack lines that its steps run, one after another. The
-/// implicit pam_end calls after it change no file.
+/// What the modules of the stack lines get that a script runs is said step by step (`ScriptAsks`), and their meanings
+/// change files, one after another, and nothing else does. The implicit pam_end calls after it change no file.
 pub fn runs_change_files_by_plays()
     ensures script { (setting : Setting) (n : ℕ) (s : RunState) (script : List (List ℕ)) →
-        VisitsLead setting.players s.world.vault.files (visits_in setting n s script)
+        (asked : List AskedLine) × ScriptAsks setting n s script asked
+        × LinesLead setting.players s.world.vault.files asked
         (run_lines (line_step setting) n s script).last.world.vault.files }
     ensures closings { (players : List Player) (status : Code) (s : RunState) →
         (all_closed players status s).world.vault.files ≡ s.world.vault.files }

@@ -11,12 +11,14 @@ mod meaning;
 mod reading;
 mod run;
 mod serve;
+mod session;
 mod status;
 mod world;
 
 pub use closing::{close_silently, end_next};
 pub use item_stream;
 pub use run::run_script;
+pub use session::{Session, Told};
 pub use session_report;
 pub use session_report::{data_due, fail_delay, pam_handle, pam_library, pam_room};
 pub use status::stop_status;

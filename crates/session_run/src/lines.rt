@@ -1,9 +1,6 @@
-ghost use Rattle.std.specs.Prelude.{◌≡◌, ◌&&◌, ◌≤◌, ◌+◌, ◌++◌, ℕ, None, Ok, IsTrue};
+ghost use Rattle.std.specs.Prelude.{◌≡◌, ◌≤◌, ◌+◌, ◌++◌, ℕ, None, Ok, IsTrue};
 ghost use Rattle.pam_base.specs.declared.code.Code.{Code};
 ghost use Rattle.pam_outside.specs.Counts.{RisesIf};
-ghost use Rattle.session_report.specs.pam_library.specs.Plain.{gear_in};
-ghost use Rattle.session_report.specs.pam_library.specs.Sound.{IsSoundFor};
-ghost use Rattle.session_run.specs.AnyWorld.{ProceedsFor};
 ghost use Rattle.session_run.specs.Ends.{IsEndIn, LeadsTo};
 ghost use Rattle.session_run.specs.Events.{ServesAll, ServesTurn};
 ghost use Rattle.item_stream.specs.Turns.{has_read_fault, has_write_fault};
@@ -11,20 +8,19 @@ ghost use Rattle.script_stream.specs.Turns.{Turns};
 ghost use Rattle.item_stream.specs.Whole.{at_last};
 ghost use Rattle.script_stream.specs.Turns.{Runs};
 ghost use Rattle.session_run.specs.Reading.{ReadsAll, ReadsTurn, WritesSome};
-ghost use Rattle.session_run.specs.State.{setting_of, state_of};
+ghost use Rattle.session_run.specs.Seen.{AllTell, IsSoundIn, Went, setting_in, state};
 ghost use Rattle.session_run.specs.Step.{line_step, Fails};
 
 use crate::meaning::Meaning;
 use crate::reading;
 use crate::serve::answer_line;
+use crate::session::{Session, Told};
 use item_stream::{Ending, Found, Reader, Stop};
 use pam_base::{Failed, NoMemory, ScriptKind};
 use pam_outside::{Sink, Source};
 use script_stream::{Lines, MAX_LINES};
-use session_report::fail_delay::{DelayFn, DelayTold};
-use session_report::pam_handle::{Gear, GearTold};
-use session_report::pam_library::{Library, LibraryTold};
-use session_report::pam_room::{World, WorldTold};
+use session_report::pam_library::Library;
+use session_report::pam_room::World;
 use std::alloc::Global;
 
 /// Applies the lines of a script one by one until they end or one is refused, and counts those that were applied.
@@ -37,51 +33,31 @@ pub(crate) fn serve_lines<S: Source, K: Sink>(
     world: &mut World,
 ) -> Result<Ending<ScriptKind>, Stop>
     requires first { lines.old ≡ 0 }
-    requires sound { IsSoundFor (⟦<Gear as GearTold>⟧.players (gear_in library.old))
-        (⟦<Library as LibraryTold>⟧.slots library.old) world.old.process.ledger }
-    ensures gear { gear_in library.new ≡ gear_in library.old }
-    ensures tells { ⟦<Library as LibraryTold>⟧.tells library.new
-        ≡ ⟦<Library as LibraryTold>⟧.tells library.old }
-    ensures world_tells { ⟦<World as WorldTold>⟧.tells world.new
-        ≡ ⟦<World as WorldTold>⟧.tells world.old }
+    requires sound { IsSoundIn (⟦<Session as Told>⟧.seen library.old world.old) }
     ensures source_tells { S.source_tells source.new ≡ S.source_tells source.old }
     ensures sink_tells { K.sink_tells sink.new ≡ K.sink_tells sink.old }
-    ensures told { (delay : Code → ℕ → ℕ) →
-        ⟦<DelayFn as DelayTold>⟧.delay_is (gear_in library.old).delay delay →
-        IsTrue (⟦<Library as LibraryTold>⟧.tells library.old
-        && ⟦<World as WorldTold>⟧.tells world.old) →
+    ensures told { let seen = ⟦<Session as Told>⟧.seen in (delay : Code → ℕ → ℕ) →
+        (seen library.old world.old).gives delay → AllTell (seen library.old world.old) →
         IsTrue (S.source_tells source.old) → IsTrue (K.sink_tells sink.old) →
-        (let setting = setting_of (⟦<Gear as GearTold>⟧.players (gear_in library.old)) delay in
+        (let setting = setting_in (seen library.old world.old) delay in
         Runs (line_step setting) (Fails setting) result lines.new
-        (state_of (⟦<Library as LibraryTold>⟧.slots library.old)
-        (⟦<World as WorldTold>⟧.plain world.old))
-        (state_of (⟦<Library as LibraryTold>⟧.slots library.new)
-        (⟦<World as WorldTold>⟧.plain world.new))
-        (S.source_holds source.old) (S.source_holds source.new)
-        (K.sink_holds sink.old) (K.sink_holds sink.new)) }
-    ensures served { (delay : Code → ℕ → ℕ) →
-        ⟦<DelayFn as DelayTold>⟧.delay_is (gear_in library.old).delay delay →
-        IsTrue (⟦<Library as LibraryTold>⟧.tells library.old
-        && ⟦<World as WorldTold>⟧.tells world.old) →
+        (state (seen library.old world.old)) (state (seen library.new world.new))
+        (S.source_holds source.old) (S.source_holds source.new) (K.sink_holds sink.old)
+        (K.sink_holds sink.new)) }
+    ensures served { let seen = ⟦<Session as Told>⟧.seen in (delay : Code → ℕ → ℕ) →
+        (seen library.old world.old).gives delay → AllTell (seen library.old world.old) →
         IsTrue (S.source_tells source.old) → IsTrue (K.sink_tells sink.old) →
-        ServesAll
-        (setting_of (⟦<Gear as GearTold>⟧.players (gear_in library.old)) delay) result lines.new
-        (state_of (⟦<Library as LibraryTold>⟧.slots library.old)
-        (⟦<World as WorldTold>⟧.plain world.old))
-        (state_of (⟦<Library as LibraryTold>⟧.slots library.new)
-        (⟦<World as WorldTold>⟧.plain world.new))
+        ServesAll (setting_in (seen library.old world.old) delay) result lines.new
+        (state (seen library.old world.old)) (state (seen library.new world.new))
         (S.source_holds source.old).left (K.sink_holds sink.old) (K.sink_holds sink.new) }
     ensures reads { IsTrue (S.source_tells source.old) →
         ReadsAll result lines.new (S.source_holds source.old) (S.source_holds source.new) }
     ensures writes { IsTrue (K.sink_tells sink.old) →
         WritesSome result (K.sink_holds sink.old) (K.sink_holds sink.new) }
     ensures few { lines.new ≤ MAX_LINES }
-    ensures proceeds { ProceedsFor (IsEndIn (S.source_tells source.old)
-        (S.source_holds source.old).left) (⟦<Gear as GearTold>⟧.players (gear_in library.old))
-        world.old.process.ledger (⟦<Library as LibraryTold>⟧.slots library.old)
-        world.new.process.ledger (⟦<Library as LibraryTold>⟧.slots library.new) }
-    ensures sound { IsSoundFor (⟦<Gear as GearTold>⟧.players (gear_in library.new))
-        (⟦<Library as LibraryTold>⟧.slots library.new) world.new.process.ledger }
+    ensures went { let seen = ⟦<Session as Told>⟧.seen in Went (IsEndIn
+        (S.source_tells source.old) (S.source_holds source.old).left) (seen library.old world.old)
+        (seen library.new world.new) }
     ensures source_faults { RisesIf (has_read_fault (at_last result)) (S.source_faults source.old)
         (S.source_faults source.new) }
     ensures sink_faults { RisesIf (has_write_fault result) (K.sink_faults sink.old)
@@ -115,41 +91,22 @@ fn take_turn<S: Source, K: Sink>(
     world: &mut World,
 ) -> Result<Option<Ending<ScriptKind>>, Stop>
     requires few { lines.old ≤ MAX_LINES }
-    requires sound { IsSoundFor (⟦<Gear as GearTold>⟧.players (gear_in library.old))
-        (⟦<Library as LibraryTold>⟧.slots library.old) world.old.process.ledger }
-    ensures gear { gear_in library.new ≡ gear_in library.old }
-    ensures tells { ⟦<Library as LibraryTold>⟧.tells library.new
-        ≡ ⟦<Library as LibraryTold>⟧.tells library.old }
-    ensures world_tells { ⟦<World as WorldTold>⟧.tells world.new
-        ≡ ⟦<World as WorldTold>⟧.tells world.old }
+    requires sound { IsSoundIn (⟦<Session as Told>⟧.seen library.old world.old) }
     ensures source_tells { S.source_tells source.new ≡ S.source_tells source.old }
     ensures sink_tells { K.sink_tells sink.new ≡ K.sink_tells sink.old }
-    ensures told { (delay : Code → ℕ → ℕ) →
-        ⟦<DelayFn as DelayTold>⟧.delay_is (gear_in library.old).delay delay →
-        IsTrue (⟦<Library as LibraryTold>⟧.tells library.old
-        && ⟦<World as WorldTold>⟧.tells world.old) →
+    ensures told { let seen = ⟦<Session as Told>⟧.seen in (delay : Code → ℕ → ℕ) →
+        (seen library.old world.old).gives delay → AllTell (seen library.old world.old) →
         IsTrue (S.source_tells source.old) → IsTrue (K.sink_tells sink.old) →
-        (let setting = setting_of (⟦<Gear as GearTold>⟧.players (gear_in library.old)) delay in
+        (let setting = setting_in (seen library.old world.old) delay in
         Turns (line_step setting) (Fails setting) result lines.old lines.new
-        (state_of (⟦<Library as LibraryTold>⟧.slots library.old)
-        (⟦<World as WorldTold>⟧.plain world.old))
-        (state_of (⟦<Library as LibraryTold>⟧.slots library.new)
-        (⟦<World as WorldTold>⟧.plain world.new))
-        reader.old reader.new
-        (S.source_holds source.old) (S.source_holds source.new)
-        (K.sink_holds sink.old) (K.sink_holds sink.new)) }
-    ensures served { (delay : Code → ℕ → ℕ) →
-        ⟦<DelayFn as DelayTold>⟧.delay_is (gear_in library.old).delay delay →
-        IsTrue (⟦<Library as LibraryTold>⟧.tells library.old
-        && ⟦<World as WorldTold>⟧.tells world.old) →
+        (state (seen library.old world.old)) (state (seen library.new world.new)) reader.old
+        reader.new (S.source_holds source.old) (S.source_holds source.new) (K.sink_holds sink.old)
+        (K.sink_holds sink.new)) }
+    ensures served { let seen = ⟦<Session as Told>⟧.seen in (delay : Code → ℕ → ℕ) →
+        (seen library.old world.old).gives delay → AllTell (seen library.old world.old) →
         IsTrue (S.source_tells source.old) → IsTrue (K.sink_tells sink.old) →
-        ServesTurn
-        (setting_of (⟦<Gear as GearTold>⟧.players (gear_in library.old)) delay) result lines.old
-        lines.new
-        (state_of (⟦<Library as LibraryTold>⟧.slots library.old)
-        (⟦<World as WorldTold>⟧.plain world.old))
-        (state_of (⟦<Library as LibraryTold>⟧.slots library.new)
-        (⟦<World as WorldTold>⟧.plain world.new))
+        ServesTurn (setting_in (seen library.old world.old) delay) result lines.old lines.new
+        (state (seen library.old world.old)) (state (seen library.new world.new))
         (reader.old ++ (S.source_holds source.old).left)
         (reader.new ++ (S.source_holds source.new).left) (K.sink_holds sink.old)
         (K.sink_holds sink.new) }
@@ -163,13 +120,9 @@ fn take_turn<S: Source, K: Sink>(
     ensures leads { result ≡ Ok None → IsTrue (S.source_tells source.old) →
         LeadsTo (reader.old ++ (S.source_holds source.old).left)
         (reader.new ++ (S.source_holds source.new).left) }
-    ensures proceeds { ProceedsFor (IsEndIn (S.source_tells source.old)
-        (reader.old ++ (S.source_holds source.old).left))
-        (⟦<Gear as GearTold>⟧.players (gear_in library.old))
-        world.old.process.ledger (⟦<Library as LibraryTold>⟧.slots library.old)
-        world.new.process.ledger (⟦<Library as LibraryTold>⟧.slots library.new) }
-    ensures sound { IsSoundFor (⟦<Gear as GearTold>⟧.players (gear_in library.new))
-        (⟦<Library as LibraryTold>⟧.slots library.new) world.new.process.ledger }
+    ensures went { let seen = ⟦<Session as Told>⟧.seen in Went (IsEndIn
+        (S.source_tells source.old) (reader.old ++ (S.source_holds source.old).left))
+        (seen library.old world.old) (seen library.new world.new) }
     ensures source_faults { RisesIf (has_read_fault result) (S.source_faults source.old)
         (S.source_faults source.new) }
     ensures sink_faults { RisesIf (has_write_fault result) (K.sink_faults sink.old)

@@ -1,28 +1,23 @@
-ghost use Rattle.std.specs.Prelude.{◌≡◌, ◌&&◌, ◌≤◌, ◌<◌, ℕ, true, Ok, Some, IsTrue, IfOk, OnOk, length, string_bytes};
+ghost use Rattle.std.specs.Prelude.{◌≡◌, ◌≤◌, ◌<◌, ℕ, true, Ok, Some, IsTrue, IfOk, OnOk, length, string_bytes};
 ghost use Rattle.pam_base.specs.declared.code.Code.{Code};
 ghost use Rattle.data_cleanup.specs.Ledger.{is_filed};
 ghost use Rattle.pam_outside.specs.Counts.{RisesIf, Rose};
-ghost use Rattle.session_report.specs.pam_library.specs.Plain.{gear_in};
-ghost use Rattle.session_report.specs.pam_library.specs.Slots.{NoneIsOpen};
-ghost use Rattle.session_report.specs.pam_library.specs.Sound.{IsSoundFor};
 ghost use Rattle.item_stream.specs.Turns.{has_read_fault, has_write_fault};
-ghost use Rattle.session_run.specs.AnyWorld.{ProceedsFor};
 ghost use Rattle.session_run.specs.Ends.{HasStatus, IsEndOfRun};
 ghost use Rattle.session_run.specs.Reading.{ReadsScript, WritesScript};
-ghost use Rattle.session_run.specs.State.{setting_of, state_of};
+ghost use Rattle.session_run.specs.Seen.{AllTell, IsSoundIn, NoneIsOpenIn, Went, setting_in, state};
 ghost use Rattle.session_run.specs.Whole.{Completes, EndsWith, RunsScript, ending_status, last_line};
 
 use crate::closing::{close_reported, close_silently};
 use crate::lines::serve_lines;
+use crate::session::{Session, Told};
 use crate::status::{ending_status, stop_status};
 use item_stream::{Ending, Stop};
 use pam_base::{Failed, NoMemory, ScriptKind};
 use pam_outside::{Sink, Source, write_all};
 use script_stream::MAX_LINES;
-use session_report::fail_delay::{DelayFn, DelayTold};
-use session_report::pam_handle::{Gear, GearTold};
-use session_report::pam_library::{Library, LibraryTold};
-use session_report::pam_room::{World, WorldTold};
+use session_report::pam_library::Library;
+use session_report::pam_room::World;
 use session_report::{read_fault_report, script_report};
 use std::alloc::Global;
 
@@ -45,33 +40,24 @@ pub fn run_script<S: Source, K: Sink>(
     sink: &mut K,
     world: &mut World,
 ) -> Result<Ending<ScriptKind>, Stop>
-    requires { IsSoundFor (⟦<Gear as GearTold>⟧.players (gear_in library.old))
-        (⟦<Library as LibraryTold>⟧.slots library.old) world.old.process.ledger }
+    requires { IsSoundIn (⟦<Session as Told>⟧.seen library.old world.old) }
 
     // If all objects are modelled: what was read and written, and what library and world are afterwards.
-    ensures told { (delay : Code → ℕ → ℕ) →
-        ⟦<DelayFn as DelayTold>⟧.delay_is (gear_in library.old).delay delay →
-        IsTrue (⟦<Library as LibraryTold>⟧.tells library.old
-        && ⟦<World as WorldTold>⟧.tells world.old) →
+    ensures told { let seen = ⟦<Session as Told>⟧.seen in (delay : Code → ℕ → ℕ) →
+        (seen library.old world.old).gives delay → AllTell (seen library.old world.old) →
         IsTrue (S.source_tells source.old) → IsTrue (K.sink_tells sink.old) →
-        RunsScript (setting_of (⟦<Gear as GearTold>⟧.players (gear_in library.old)) delay) result
-        (state_of (⟦<Library as LibraryTold>⟧.slots library.old)
-        (⟦<World as WorldTold>⟧.plain world.old))
-        (state_of (⟦<Library as LibraryTold>⟧.slots library.new)
-        (⟦<World as WorldTold>⟧.plain world.new))
-        (S.source_holds source.old) (S.source_holds source.new)
-        (K.sink_holds sink.old) (K.sink_holds sink.new) }
+        RunsScript (setting_in (seen library.old world.old) delay) result
+        (state (seen library.old world.old)) (state (seen library.new world.new))
+        (S.source_holds source.old) (S.source_holds source.new) (K.sink_holds sink.old)
+        (K.sink_holds sink.new) }
 
     // A run stops early only if an allocation, a read or a write fails.
-    ensures complete { (delay : Code → ℕ → ℕ) →
-        ⟦<DelayFn as DelayTold>⟧.delay_is (gear_in library.old).delay delay →
-        IsTrue (⟦<Library as LibraryTold>⟧.tells library.old
-        && ⟦<World as WorldTold>⟧.tells world.old) →
+    ensures complete { let seen = ⟦<Session as Told>⟧.seen in (delay : Code → ℕ → ℕ) →
+        (seen library.old world.old).gives delay → AllTell (seen library.old world.old) →
         IsTrue (S.source_tells source.old) → IsTrue (K.sink_tells sink.old) →
-        Completes (setting_of (⟦<Gear as GearTold>⟧.players (gear_in library.old)) delay) result
-        (state_of (⟦<Library as LibraryTold>⟧.slots library.old)
-        (⟦<World as WorldTold>⟧.plain world.old)) (S.source_holds source.old).left
-        (Rose (S.source_faults source.old) (S.source_faults source.new))
+        Completes (setting_in (seen library.old world.old) delay) result
+        (state (seen library.old world.old)) (S.source_holds source.old).left (Rose
+        (S.source_faults source.old) (S.source_faults source.new))
         (Rose (K.sink_faults sink.old) (K.sink_faults sink.new)) }
 
     // If only the source is modelled: how often it was read, and how the bytes of the script end the run. If only the
@@ -82,16 +68,12 @@ pub fn run_script<S: Source, K: Sink>(
         WritesScript (K.sink_holds sink.old) (K.sink_holds sink.new) }
 
     // With real objects too: all module data was cleaned up, and no transaction is open.
-    ensures none_open { NoneIsOpen (⟦<Library as LibraryTold>⟧.slots library.new) }
+    ensures none_open { NoneIsOpenIn (⟦<Session as Told>⟧.seen library.new world.new) }
     ensures filed { (id : ℕ) → id < length world.new.process.ledger.births →
         is_filed world.new.process.ledger id ≡ true }
-    ensures proceeds { ProceedsFor (IsEndOfRun (S.source_tells source.old)
-        (S.source_holds source.old).left) (⟦<Gear as GearTold>⟧.players (gear_in library.old))
-        world.old.process.ledger (⟦<Library as LibraryTold>⟧.slots library.old)
-        world.new.process.ledger (⟦<Library as LibraryTold>⟧.slots library.new) }
-    ensures sound { IsSoundFor (⟦<Gear as GearTold>⟧.players (gear_in library.new))
-        (⟦<Library as LibraryTold>⟧.slots library.new) world.new.process.ledger }
-    ensures gear { gear_in library.new ≡ gear_in library.old }
+    ensures went { let seen = ⟦<Session as Told>⟧.seen in Went (IsEndOfRun
+        (S.source_tells source.old) (S.source_holds source.old).left) (seen library.old world.old)
+        (seen library.new world.new) }
 
     // The causes, with real objects too.
     ensures source_faults { IfOk result (λ ending. RisesIf (has_read_fault (Ok (Some ending)))
@@ -100,10 +82,6 @@ pub fn run_script<S: Source, K: Sink>(
         (K.sink_faults sink.new) }
 
     // What is modelled before the run is modelled after it.
-    ensures tells { ⟦<Library as LibraryTold>⟧.tells library.new
-        ≡ ⟦<Library as LibraryTold>⟧.tells library.old }
-    ensures world_tells { ⟦<World as WorldTold>⟧.tells world.new
-        ≡ ⟦<World as WorldTold>⟧.tells world.old }
     ensures source_tells { S.source_tells source.new ≡ S.source_tells source.old }
     ensures sink_tells { K.sink_tells sink.new ≡ K.sink_tells sink.old }
 {
@@ -137,28 +115,17 @@ fn finish<K: Sink>(
     world: &mut World,
 ) -> Result<(), Stop>
     requires few { lines ≤ MAX_LINES }
-    requires sound { IsSoundFor (⟦<Gear as GearTold>⟧.players (gear_in library.old))
-        (⟦<Library as LibraryTold>⟧.slots library.old) world.old.process.ledger }
-    ensures gear { gear_in library.new ≡ gear_in library.old }
-    ensures tells { ⟦<Library as LibraryTold>⟧.tells library.new
-        ≡ ⟦<Library as LibraryTold>⟧.tells library.old }
-    ensures world_tells { ⟦<World as WorldTold>⟧.tells world.new
-        ≡ ⟦<World as WorldTold>⟧.tells world.old }
+    requires sound { IsSoundIn (⟦<Session as Told>⟧.seen library.old world.old) }
     ensures sink_tells { K.sink_tells sink.new ≡ K.sink_tells sink.old }
-    ensures told { IsTrue (K.sink_tells sink.old) →
-        EndsWith (⟦<Gear as GearTold>⟧.players (gear_in library.old)) ending lines result
-        (state_of (⟦<Library as LibraryTold>⟧.slots library.old)
-        (⟦<World as WorldTold>⟧.plain world.old))
-        (state_of (⟦<Library as LibraryTold>⟧.slots library.new)
-        (⟦<World as WorldTold>⟧.plain world.new))
+    ensures told { let seen = ⟦<Session as Told>⟧.seen in IsTrue (K.sink_tells sink.old) →
+        EndsWith (seen library.old world.old).players ending lines result
+        (state (seen library.old world.old)) (state (seen library.new world.new))
         (K.sink_holds sink.old) (K.sink_holds sink.new) }
-    ensures none_open { OnOk result (NoneIsOpen (⟦<Library as LibraryTold>⟧.slots library.new)) }
-    ensures proceeds { ProceedsFor (HasStatus (ending_status ending))
-        (⟦<Gear as GearTold>⟧.players (gear_in library.old))
-        world.old.process.ledger (⟦<Library as LibraryTold>⟧.slots library.old)
-        world.new.process.ledger (⟦<Library as LibraryTold>⟧.slots library.new) }
-    ensures sound { IsSoundFor (⟦<Gear as GearTold>⟧.players (gear_in library.new))
-        (⟦<Library as LibraryTold>⟧.slots library.new) world.new.process.ledger }
+    ensures none_open { OnOk result (NoneIsOpenIn
+        (⟦<Session as Told>⟧.seen library.new world.new)) }
+    ensures went { let seen = ⟦<Session as Told>⟧.seen in Went
+        (HasStatus (ending_status ending)) (seen library.old world.old)
+        (seen library.new world.new) }
     ensures faults { RisesIf (has_write_fault result) (K.sink_faults sink.old)
         (K.sink_faults sink.new) }
 {

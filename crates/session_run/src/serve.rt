@@ -1,4 +1,4 @@
-ghost use Rattle.std.specs.Prelude.{◌≡◌, ◌&&◌, ◌<◌, ℕ, List, IsTrue, None, Ok};
+ghost use Rattle.std.specs.Prelude.{◌≡◌, ◌<◌, ℕ, List, IsTrue, None, Ok};
 ghost use Rattle.script_lang.specs.declared.line.Line.TheVariants as script_lines;
 ghost use Rattle.script_lang.specs.Line.{parsed};
 ghost use Rattle.pam_base.specs.declared.code.Code.{Code};
@@ -6,30 +6,26 @@ ghost use Rattle.pam_outside.specs.Counts.{RisesIf};
 ghost use Rattle.session_report.specs.data_due.specs.Moves.{Moves};
 ghost use Rattle.session_report.specs.pam_room.specs.Module.{notes_of};
 ghost use Rattle.session_report.specs.pam_library.specs.AnyWorld.{end_at};
-ghost use Rattle.session_report.specs.pam_library.specs.Plain.{gear_in};
 ghost use Rattle.session_report.specs.pam_library.specs.Slots.{handle_limit, lists_of, slot_at};
 ghost use Rattle.pam_base.specs.Call.{is_fit};
-ghost use Rattle.session_report.specs.pam_library.specs.Sound.{IsSoundFor};
-ghost use Rattle.session_run.specs.AnyWorld.{ProceedsFor};
 ghost use Rattle.session_run.specs.Ends.{AsksEndAt, IsEndStep};
 ghost use Rattle.item_stream.specs.Turns.{has_write_fault};
 ghost use Rattle.script_stream.specs.Turns.{ServesTold};
 ghost use Rattle.session_run.specs.Events.{MovesBy};
 ghost use Rattle.session_run.specs.Reading.{ReadsLine, WritesSome};
-ghost use Rattle.session_run.specs.State.{setting_of, state_of};
+ghost use Rattle.session_run.specs.Seen.{AllTell, IsSoundIn, Went, setting_in, state};
 ghost use Rattle.session_run.specs.Step.{line_step, unrefused, Fails};
 
 use crate::meaning::Meaning;
+use crate::session::{Session, Told};
 use crate::world::{set_caller, set_world_moment, set_world_word};
 use item_stream::Stop;
 use pam_base::{Failed, NoMemory, Refuse, ScriptKind, Step};
 use pam_outside::{Sink, write_all};
 use script_lang::{Line, parse};
 use script_stream::{Lines, MAX_LINES};
-use session_report::fail_delay::{DelayFn, DelayTold};
-use session_report::pam_handle::{Gear, GearTold};
-use session_report::pam_library::{Library, LibraryTold};
-use session_report::pam_room::{World, WorldTold};
+use session_report::pam_library::Library;
+use session_report::pam_room::World;
 use session_report::step_report;
 use std::alloc::Global;
 
@@ -43,36 +39,21 @@ pub(crate) fn answer_line<K: Sink>(
     sink: &mut K,
     world: &mut World,
 ) -> Result<Option<ScriptKind>, Stop>
-    requires { IsSoundFor (⟦<Gear as GearTold>⟧.players (gear_in library.old))
-        (⟦<Library as LibraryTold>⟧.slots library.old) world.old.process.ledger }
-    ensures gear { gear_in library.new ≡ gear_in library.old }
-    ensures tells { ⟦<Library as LibraryTold>⟧.tells library.new
-        ≡ ⟦<Library as LibraryTold>⟧.tells library.old }
-    ensures world_tells { ⟦<World as WorldTold>⟧.tells world.new
-        ≡ ⟦<World as WorldTold>⟧.tells world.old }
+    requires { IsSoundIn (⟦<Session as Told>⟧.seen library.old world.old) }
     ensures sink_tells { K.sink_tells sink.new ≡ K.sink_tells sink.old }
-    ensures told { (delay : Code → ℕ → ℕ) →
-        ⟦<DelayFn as DelayTold>⟧.delay_is (gear_in library.old).delay delay →
-        IsTrue (⟦<Library as LibraryTold>⟧.tells library.old
-        && ⟦<World as WorldTold>⟧.tells world.old) → IsTrue (K.sink_tells sink.old) →
-        (let setting = setting_of (⟦<Gear as GearTold>⟧.players (gear_in library.old)) delay in
+    ensures told { let seen = ⟦<Session as Told>⟧.seen in (delay : Code → ℕ → ℕ) →
+        (seen library.old world.old).gives delay → AllTell (seen library.old world.old) →
+        IsTrue (K.sink_tells sink.old) →
+        (let setting = setting_in (seen library.old world.old) delay in
         ServesTold (line_step setting) (Fails setting) result lines line.now
-        (state_of (⟦<Library as LibraryTold>⟧.slots library.old)
-        (⟦<World as WorldTold>⟧.plain world.old))
-        (state_of (⟦<Library as LibraryTold>⟧.slots library.new)
-        (⟦<World as WorldTold>⟧.plain world.new))
+        (state (seen library.old world.old)) (state (seen library.new world.new))
         (K.sink_holds sink.old) (K.sink_holds sink.new)) }
-    ensures proceeds { ProceedsFor (AsksEndAt lines line.now)
-        (⟦<Gear as GearTold>⟧.players (gear_in library.old))
-        world.old.process.ledger (⟦<Library as LibraryTold>⟧.slots library.old)
-        world.new.process.ledger (⟦<Library as LibraryTold>⟧.slots library.new) }
-    ensures sound { IsSoundFor (⟦<Gear as GearTold>⟧.players (gear_in library.new))
-        (⟦<Library as LibraryTold>⟧.slots library.new) world.new.process.ledger }
-    ensures moves { result ≡ Ok None → MovesBy
-        (notes_of (⟦<Gear as GearTold>⟧.players (gear_in library.old)))
-        (⟦<Library as LibraryTold>⟧.slots library.old) line.now
-        world.old.process.ledger world.new.process.ledger
-        (⟦<Library as LibraryTold>⟧.slots library.new) }
+    ensures went { let seen = ⟦<Session as Told>⟧.seen in Went (AsksEndAt lines line.now)
+        (seen library.old world.old) (seen library.new world.new) }
+    ensures moves { let seen = ⟦<Session as Told>⟧.seen in result ≡ Ok None →
+        MovesBy (notes_of (seen library.old world.old).players) (seen library.old world.old).slots
+        line.now world.old.process.ledger world.new.process.ledger
+        (seen library.new world.new).slots }
     ensures few { result ≡ Ok None → lines < MAX_LINES }
     ensures reads { ReadsLine result lines line.now }
     ensures writes { IsTrue (K.sink_tells sink.old) →
@@ -117,39 +98,23 @@ fn serve_step<K: Sink>(
     world: &mut World,
 ) -> Result<(), Stop>
     requires fit { IsTrue (is_fit step.now.call) }
-    requires sound { IsSoundFor (⟦<Gear as GearTold>⟧.players (gear_in library.old))
-        (⟦<Library as LibraryTold>⟧.slots library.old) world.old.process.ledger }
-    ensures gear { gear_in library.new ≡ gear_in library.old }
-    ensures tells { ⟦<Library as LibraryTold>⟧.tells library.new
-        ≡ ⟦<Library as LibraryTold>⟧.tells library.old }
-    ensures world_tells { ⟦<World as WorldTold>⟧.tells world.new
-        ≡ ⟦<World as WorldTold>⟧.tells world.old }
+    requires sound { IsSoundIn (⟦<Session as Told>⟧.seen library.old world.old) }
     ensures sink_tells { K.sink_tells sink.new ≡ K.sink_tells sink.old }
-    ensures told { (delay : Code → ℕ → ℕ) →
-        ⟦<DelayFn as DelayTold>⟧.delay_is (gear_in library.old).delay delay →
-        IsTrue (⟦<Library as LibraryTold>⟧.tells library.old
-        && ⟦<World as WorldTold>⟧.tells world.old) → IsTrue (K.sink_tells sink.old) →
-        (lines : ℕ) (line : List ℕ) → lines < MAX_LINES →
+    ensures told { let seen = ⟦<Session as Told>⟧.seen in (delay : Code → ℕ → ℕ) →
+        (seen library.old world.old).gives delay → AllTell (seen library.old world.old) →
+        IsTrue (K.sink_tells sink.old) → (lines : ℕ) (line : List ℕ) → lines < MAX_LINES →
         parsed line ≡ Ok (script_lines.Step step.now) →
-        (let setting = setting_of (⟦<Gear as GearTold>⟧.players (gear_in library.old)) delay in
+        (let setting = setting_in (seen library.old world.old) delay in
         ServesTold (line_step setting) (Fails setting) (unrefused result) lines line
-        (state_of (⟦<Library as LibraryTold>⟧.slots library.old)
-        (⟦<World as WorldTold>⟧.plain world.old))
-        (state_of (⟦<Library as LibraryTold>⟧.slots library.new)
-        (⟦<World as WorldTold>⟧.plain world.new))
+        (state (seen library.old world.old)) (state (seen library.new world.new))
         (K.sink_holds sink.old) (K.sink_holds sink.new)) }
-    ensures moves { Moves (notes_of (⟦<Gear as GearTold>⟧.players (gear_in library.old)))
-        handle_limit
-        (end_at (slot_at (⟦<Library as LibraryTold>⟧.slots library.old) step.now.number)
-        step.now.number step.now.call)
-        world.old.process.ledger (lists_of (⟦<Library as LibraryTold>⟧.slots library.old))
-        world.new.process.ledger (lists_of (⟦<Library as LibraryTold>⟧.slots library.new)) }
-    ensures proceeds { ProceedsFor (IsEndStep step.now)
-        (⟦<Gear as GearTold>⟧.players (gear_in library.old))
-        world.old.process.ledger (⟦<Library as LibraryTold>⟧.slots library.old)
-        world.new.process.ledger (⟦<Library as LibraryTold>⟧.slots library.new) }
-    ensures sound { IsSoundFor (⟦<Gear as GearTold>⟧.players (gear_in library.new))
-        (⟦<Library as LibraryTold>⟧.slots library.new) world.new.process.ledger }
+    ensures moves { let seen = ⟦<Session as Told>⟧.seen in Moves
+        (notes_of (seen library.old world.old).players) handle_limit (end_at
+        (slot_at (seen library.old world.old).slots step.now.number) step.now.number step.now.call)
+        world.old.process.ledger (lists_of (seen library.old world.old).slots)
+        world.new.process.ledger (lists_of (seen library.new world.new).slots) }
+    ensures went { let seen = ⟦<Session as Told>⟧.seen in Went (IsEndStep step.now)
+        (seen library.old world.old) (seen library.new world.new) }
     ensures writes { IsTrue (K.sink_tells sink.old) →
         WritesSome result (K.sink_holds sink.old) (K.sink_holds sink.new) }
     ensures faults { RisesIf (has_write_fault result) (K.sink_faults sink.old)

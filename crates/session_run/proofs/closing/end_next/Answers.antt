@@ -1,5 +1,7 @@
+use Rattle.std.proofs.Common.{refl}
 use Rattle.session_run.proofs.Lowest.{some_ends, none_stays, receipts_by}
-use Rattle.session_run.proofs.Proceeding.{closing_ends, one_call}
+use Rattle.session_run.proofs.Going.{went_once}
+use Rattle.session_run.proofs.Proceeding.{closing_ends}
 use Rattle.session_run.proofs.closing.end_next.Goals as goal
 
 pub returns-clause-some : goal.returns-clause-some
@@ -11,5 +13,7 @@ returns-clause-stays g c = none_stays _ c.args.status _ _ _ _ _ (rw c.code_numbe
 pub returns-clause-filed : goal.returns-clause-filed
 returns-clause-filed g c = receipts_by _ c.args.status _ _ _ _ _ (rw c.code_number.ensures at c.close_one.ensures.closes)
 
-pub returns-clause-proceeds : goal.returns-clause-proceeds
-returns-clause-proceeds g c = one_call _ _ _ _ _ _ _ c.close_one.ensures.moves (closing_ends c.args.status _ _ c.code_number.ensures)
+pub returns-clause-went : goal.returns-clause-went
+returns-clause-went g c =
+    went_once _ _ _ (rw c.close_one.ensures.gear refl) c.close_one.ensures.tells c.close_one.ensures.world_tells (λ number gives. rw c.close_one.ensures.gear gives)
+    _ c.close_one.ensures.moves (closing_ends c.args.status _ _ c.code_number.ensures) c.close_one.ensures.sound

@@ -1,7 +1,8 @@
 use Rattle.std.proofs.Common.{Some, None, Ok, Err, refl, ap, ◌∙◌}
 use Rattle.session_run.proofs.Asking.{line_asked, line_asks, line_first, line_leads, rest_asked, rest_asks}
 use Rattle.session_run.proofs.Walking.{broken_off, none_served, one_served, refused_served, rest_served}
-use Rattle.session_run.proofs.Proceeding.{nothing_done, proceeds_so}
+use Rattle.session_run.proofs.Going.{went_nowhere, went_so}
+use Rattle.session_run.proofs.Proceeding.{proceeds_so}
 use Rattle.session_run.proofs.Consuming.{err_as, ok_as, ok_unwritten}
 use Rattle.session_run.proofs.lines.take_turn.Goals as goal
 
@@ -60,53 +61,53 @@ returns-in-Ok-None-answer_line-clause-told g c = λ delay is told source sink.
     let served = rw (c.bytes-in-Ok-Rest.ensures, c.in-Ok-None-answer_line.field-0-is) at c.in-Ok-None-answer_line.ensures.told in
     c.found_item_is_a_turn.ensures.rest _ _ _ _ _ _ _ _ _ _ (Ok None) found (finds source) (served delay is told sink)
 
-pub returns-in-Err-clause-proceeds : goal.returns-in-Err-clause-proceeds
-returns-in-Err-clause-proceeds g c = nothing_done _ _ _ _ _ _ refl refl
+pub returns-in-Err-clause-went : goal.returns-in-Err-clause-went
+returns-in-Err-clause-went g c = went_nowhere _ _ c.requires.sound
 
-pub returns-in-Ok-End-clause-proceeds : goal.returns-in-Ok-End-clause-proceeds
-returns-in-Ok-End-clause-proceeds g c = nothing_done _ _ _ _ _ _ refl refl
+pub returns-in-Ok-End-clause-went : goal.returns-in-Ok-End-clause-went
+returns-in-Ok-End-clause-went g c = went_nowhere _ _ c.requires.sound
 
-pub returns-in-Err-answer_line-clause-proceeds : goal.returns-in-Err-answer_line-clause-proceeds
-returns-in-Err-answer_line-clause-proceeds g c =
+pub returns-in-Err-answer_line-clause-went : goal.returns-in-Err-answer_line-clause-went
+returns-in-Err-answer_line-clause-went g c =
     let found = rw c.in-Ok-Item.field-0-is at c.in-Ok-Item.ensures.found in
     let finds = rw c.in-Ok-Item.field-0-is at c.in-Ok-Item.ensures.told in
-    let served = rw c.bytes.ensures at c.answer_line.ensures.proceeds in
-    proceeds_so _ _ (λ number status asks source. line_asks c.whole_input_is_looked_at.ensures _ _ _ _ _ _ _ found (finds source) _ number status asks) _ _ _ _ _ served
+    let served = rw c.bytes.ensures at c.answer_line.ensures.went in
+    went_so _ _ (λ number status asks source. line_asks c.whole_input_is_looked_at.ensures _ _ _ _ _ _ _ found (finds source) _ number status asks) _ _ served
 
-pub returns-in-Ok-Some-clause-proceeds : goal.returns-in-Ok-Some-clause-proceeds
-returns-in-Ok-Some-clause-proceeds g c =
+pub returns-in-Ok-Some-clause-went : goal.returns-in-Ok-Some-clause-went
+returns-in-Ok-Some-clause-went g c =
     let found = rw c.in-Ok-Item.field-0-is at c.in-Ok-Item.ensures.found in
     let finds = rw c.in-Ok-Item.field-0-is at c.in-Ok-Item.ensures.told in
-    let served = rw c.bytes.ensures at c.answer_line.ensures.proceeds in
-    proceeds_so _ _ (λ number status asks source. line_asks c.whole_input_is_looked_at.ensures _ _ _ _ _ _ _ found (finds source) _ number status asks) _ _ _ _ _ served
+    let served = rw c.bytes.ensures at c.answer_line.ensures.went in
+    went_so _ _ (λ number status asks source. line_asks c.whole_input_is_looked_at.ensures _ _ _ _ _ _ _ found (finds source) _ number status asks) _ _ served
 
-pub returns-in-Ok-None-clause-proceeds : goal.returns-in-Ok-None-clause-proceeds
-returns-in-Ok-None-clause-proceeds g c =
+pub returns-in-Ok-None-clause-went : goal.returns-in-Ok-None-clause-went
+returns-in-Ok-None-clause-went g c =
     let found = rw c.in-Ok-Item.field-0-is at c.in-Ok-Item.ensures.found in
     let finds = rw c.in-Ok-Item.field-0-is at c.in-Ok-Item.ensures.told in
-    let served = rw c.bytes.ensures at c.answer_line.ensures.proceeds in
-    proceeds_so _ _ (λ number status asks source. line_asks c.whole_input_is_looked_at.ensures _ _ _ _ _ _ _ found (finds source) _ number status asks) _ _ _ _ _ served
+    let served = rw c.bytes.ensures at c.answer_line.ensures.went in
+    went_so _ _ (λ number status asks source. line_asks c.whole_input_is_looked_at.ensures _ _ _ _ _ _ _ found (finds source) _ number status asks) _ _ served
 
-pub returns-in-Err-answer_line-2-clause-proceeds : goal.returns-in-Err-answer_line-2-clause-proceeds
-returns-in-Err-answer_line-2-clause-proceeds g c =
+pub returns-in-Err-answer_line-2-clause-went : goal.returns-in-Err-answer_line-2-clause-went
+returns-in-Err-answer_line-2-clause-went g c =
     let found = rw c.in-Ok-Rest.field-0-is at c.in-Ok-Rest.ensures.found in
     let finds = rw c.in-Ok-Rest.field-0-is at c.in-Ok-Rest.ensures.told in
-    let served = rw c.bytes-in-Ok-Rest.ensures at c.answer_line-in-Ok-Rest.ensures.proceeds in
-    proceeds_so _ _ (λ number status asks source. rest_asks c.whole_input_is_looked_at.ensures _ _ _ _ _ (finds source) number status asks) _ _ _ _ _ served
+    let served = rw c.bytes-in-Ok-Rest.ensures at c.answer_line-in-Ok-Rest.ensures.went in
+    went_so _ _ (λ number status asks source. rest_asks c.whole_input_is_looked_at.ensures _ _ _ _ _ (finds source) number status asks) _ _ served
 
-pub returns-in-Ok-Some-answer_line-clause-proceeds : goal.returns-in-Ok-Some-answer_line-clause-proceeds
-returns-in-Ok-Some-answer_line-clause-proceeds g c =
+pub returns-in-Ok-Some-answer_line-clause-went : goal.returns-in-Ok-Some-answer_line-clause-went
+returns-in-Ok-Some-answer_line-clause-went g c =
     let found = rw c.in-Ok-Rest.field-0-is at c.in-Ok-Rest.ensures.found in
     let finds = rw c.in-Ok-Rest.field-0-is at c.in-Ok-Rest.ensures.told in
-    let served = rw c.bytes-in-Ok-Rest.ensures at c.answer_line-in-Ok-Rest.ensures.proceeds in
-    proceeds_so _ _ (λ number status asks source. rest_asks c.whole_input_is_looked_at.ensures _ _ _ _ _ (finds source) number status asks) _ _ _ _ _ served
+    let served = rw c.bytes-in-Ok-Rest.ensures at c.answer_line-in-Ok-Rest.ensures.went in
+    went_so _ _ (λ number status asks source. rest_asks c.whole_input_is_looked_at.ensures _ _ _ _ _ (finds source) number status asks) _ _ served
 
-pub returns-in-Ok-None-answer_line-clause-proceeds : goal.returns-in-Ok-None-answer_line-clause-proceeds
-returns-in-Ok-None-answer_line-clause-proceeds g c =
+pub returns-in-Ok-None-answer_line-clause-went : goal.returns-in-Ok-None-answer_line-clause-went
+returns-in-Ok-None-answer_line-clause-went g c =
     let found = rw c.in-Ok-Rest.field-0-is at c.in-Ok-Rest.ensures.found in
     let finds = rw c.in-Ok-Rest.field-0-is at c.in-Ok-Rest.ensures.told in
-    let served = rw c.bytes-in-Ok-Rest.ensures at c.answer_line-in-Ok-Rest.ensures.proceeds in
-    proceeds_so _ _ (λ number status asks source. rest_asks c.whole_input_is_looked_at.ensures _ _ _ _ _ (finds source) number status asks) _ _ _ _ _ served
+    let served = rw c.bytes-in-Ok-Rest.ensures at c.answer_line-in-Ok-Rest.ensures.went in
+    went_so _ _ (λ number status asks source. rest_asks c.whole_input_is_looked_at.ensures _ _ _ _ _ (finds source) number status asks) _ _ served
 
 pub returns-in-Ok-None-clause-leads : goal.returns-in-Ok-None-clause-leads
 returns-in-Ok-None-clause-leads g c = λ none source.
@@ -229,7 +230,7 @@ pub returns-in-Err-answer_line-clause-served : goal.returns-in-Err-answer_line-c
 returns-in-Err-answer_line-clause-served g c = λ delay is told source sink.
     let found = rw c.in-Ok-Item.field-0-is at c.in-Ok-Item.ensures.found in
     let finds = rw c.in-Ok-Item.field-0-is at c.in-Ok-Item.ensures.told in
-    let served = rw c.bytes.ensures at c.answer_line.ensures.proceeds in
+    let served = rw c.bytes.ensures at c.answer_line.ensures.went.proceeds in
     let written = c.in-Err-answer_line.ensures.writes sink in
     broken_off _ _ _ _ _ written.text _ _ written.written (proceeds_so _ _ (λ number status asks. line_asked c.whole_input_is_looked_at.ensures _ _ _ _ _ _ _ found (finds source) _ number status asks) _ _ _ _ _ served)
 
@@ -237,6 +238,6 @@ pub returns-in-Err-answer_line-2-clause-served : goal.returns-in-Err-answer_line
 returns-in-Err-answer_line-2-clause-served g c = λ delay is told source sink.
     let found = rw c.in-Ok-Rest.field-0-is at c.in-Ok-Rest.ensures.found in
     let finds = rw c.in-Ok-Rest.field-0-is at c.in-Ok-Rest.ensures.told in
-    let served = rw c.bytes-in-Ok-Rest.ensures at c.answer_line-in-Ok-Rest.ensures.proceeds in
+    let served = rw c.bytes-in-Ok-Rest.ensures at c.answer_line-in-Ok-Rest.ensures.went.proceeds in
     let written = c.in-Err-answer_line-2.ensures.writes sink in
     broken_off _ _ _ _ _ written.text _ _ written.written (proceeds_so _ _ (λ number status asks. rest_asked c.whole_input_is_looked_at.ensures _ _ _ _ _ (finds source) number status asks) _ _ _ _ _ served)

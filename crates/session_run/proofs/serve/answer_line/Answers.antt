@@ -3,7 +3,7 @@ use Rattle.std.proofs.lemmas.Bool.{and_parts}
 use Rattle.script_lang.specs.declared.line.Line.TheVariants as script_lines
 use Rattle.pam_base.specs.declared.call.Step.{Step}
 use Rattle.session_report.specs.pam_room.specs.declared.process.Process.{Process}
-use Rattle.session_run.proofs.Proceeding.{nothing_done, proceeds_so}
+use Rattle.session_run.proofs.Going.{went_nowhere, went_quietly, went_so}
 use Rattle.session_run.proofs.Consuming.{err_as, err_unwritten, ok_as, ok_unwritten, reads_accepted, reads_refused, reads_stopped, reads_too_many, reads_unbegun}
 use Rattle.session_run.proofs.Serving.{too_many, refused, accepted}
 use Rattle.session_run.proofs.serve.answer_line.Goals as goal
@@ -49,36 +49,36 @@ returns-clause-told g c = λ delay is told sink.
     let e = rw c.in-Ok-Step.field-0-is at c.in-Ok-Step.ensures.ok in
     c.in-Err.ensures.told delay is told sink _ _ c.if-lines-ge-MAX_LINES.false e
 
-pub returns-in-Ok-clause-proceeds : goal.returns-in-Ok-clause-proceeds
-returns-in-Ok-clause-proceeds g c =
+pub returns-in-Ok-clause-went : goal.returns-in-Ok-clause-went
+returns-in-Ok-clause-went g c =
     let e = rw c.in-Ok-Step.field-0-is at c.in-Ok-Step.ensures.ok in
-    proceeds_so _ _ (λ number status is. (c.if-lines-ge-MAX_LINES.false, e ∙ ap (λ (s : Step). Ok (script_lines.Step s)) is)) _ _ _ _ _ c.serve_step.ensures.proceeds
+    went_so _ _ (λ number status is. (c.if-lines-ge-MAX_LINES.false, e ∙ ap (λ (s : Step). Ok (script_lines.Step s)) is)) _ _ c.serve_step.ensures.went
 
-pub returns-clause-proceeds : goal.returns-clause-proceeds
-returns-clause-proceeds g c =
+pub returns-clause-went : goal.returns-clause-went
+returns-clause-went g c =
     let e = rw c.in-Ok-Step.field-0-is at c.in-Ok-Step.ensures.ok in
-    proceeds_so _ _ (λ number status is. (c.if-lines-ge-MAX_LINES.false, e ∙ ap (λ (s : Step). Ok (script_lines.Step s)) is)) _ _ _ _ _ c.serve_step.ensures.proceeds
+    went_so _ _ (λ number status is. (c.if-lines-ge-MAX_LINES.false, e ∙ ap (λ (s : Step). Ok (script_lines.Step s)) is)) _ _ c.serve_step.ensures.went
 
-pub returns-then-lines-ge-MAX_LINES-clause-proceeds : goal.returns-then-lines-ge-MAX_LINES-clause-proceeds
-returns-then-lines-ge-MAX_LINES-clause-proceeds g c = nothing_done _ _ _ _ _ _ refl refl
+pub returns-then-lines-ge-MAX_LINES-clause-went : goal.returns-then-lines-ge-MAX_LINES-clause-went
+returns-then-lines-ge-MAX_LINES-clause-went g c = went_nowhere _ _ c.requires
 
-pub returns-in-Err-NoMemory-clause-proceeds : goal.returns-in-Err-NoMemory-clause-proceeds
-returns-in-Err-NoMemory-clause-proceeds g c = nothing_done _ _ _ _ _ _ refl refl
+pub returns-in-Err-NoMemory-clause-went : goal.returns-in-Err-NoMemory-clause-went
+returns-in-Err-NoMemory-clause-went g c = went_nowhere _ _ c.requires
 
-pub returns-in-Err-Named-clause-proceeds : goal.returns-in-Err-Named-clause-proceeds
-returns-in-Err-Named-clause-proceeds g c = nothing_done _ _ _ _ _ _ refl refl
+pub returns-in-Err-Named-clause-went : goal.returns-in-Err-Named-clause-went
+returns-in-Err-Named-clause-went g c = went_nowhere _ _ c.requires
 
-pub returns-in-Ok-Blank-clause-proceeds : goal.returns-in-Ok-Blank-clause-proceeds
-returns-in-Ok-Blank-clause-proceeds g c = nothing_done _ _ _ _ _ _ refl refl
+pub returns-in-Ok-Blank-clause-went : goal.returns-in-Ok-Blank-clause-went
+returns-in-Ok-Blank-clause-went g c = went_nowhere _ _ c.requires
 
-pub returns-in-Ok-At-clause-proceeds : goal.returns-in-Ok-At-clause-proceeds
-returns-in-Ok-At-clause-proceeds g c = nothing_done _ _ _ _ _ _ (ap (λ (p : Process). p.ledger) c.set_world_moment.ensures.process) refl
+pub returns-in-Ok-At-clause-went : goal.returns-in-Ok-At-clause-went
+returns-in-Ok-At-clause-went g c = went_quietly _ _ _ refl refl c.set_world_moment.ensures.tells (λ number gives. gives) refl (rw c.set_world_moment.ensures.process refl) c.requires
 
-pub returns-in-Ok-Random-clause-proceeds : goal.returns-in-Ok-Random-clause-proceeds
-returns-in-Ok-Random-clause-proceeds g c = nothing_done _ _ _ _ _ _ (ap (λ (p : Process). p.ledger) c.set_world_word.ensures.process) refl
+pub returns-in-Ok-Random-clause-went : goal.returns-in-Ok-Random-clause-went
+returns-in-Ok-Random-clause-went g c = went_quietly _ _ _ refl refl c.set_world_word.ensures.tells (λ number gives. gives) refl (rw c.set_world_word.ensures.process refl) c.requires
 
-pub returns-in-Ok-Caller-clause-proceeds : goal.returns-in-Ok-Caller-clause-proceeds
-returns-in-Ok-Caller-clause-proceeds g c = nothing_done _ _ _ _ _ _ c.set_caller.ensures.ledger refl
+pub returns-in-Ok-Caller-clause-went : goal.returns-in-Ok-Caller-clause-went
+returns-in-Ok-Caller-clause-went g c = went_quietly _ _ _ refl refl c.set_caller.ensures.tells (λ number gives. gives) refl c.set_caller.ensures.ledger c.requires
 
 pub returns-in-Ok-Blank-clause-moves : goal.returns-in-Ok-Blank-clause-moves
 returns-in-Ok-Blank-clause-moves g c = λ none.
