@@ -1,14 +1,10 @@
-ghost use Rattle.std.specs.Prelude.{◌≡◌, ◌&&◌, ◌≤◌, ℕ, IfOk, IsTrue};
+ghost use Rattle.std.specs.Prelude.{◌≡◌, ◌≤◌, ℕ, IfOk, IsTrue};
 ghost use Rattle.pam_base.specs.Code.{number_of};
 ghost use Rattle.pam_base.specs.declared.code.Code.{Code as TheCode};
 ghost use Rattle.pam_outside.specs.Counts.{RisesIf};
 ghost use Rattle.session_run.specs.item_stream.specs.Turns.{has_write_fault};
-ghost use Rattle.session_run.specs.pam_library.specs.Plain.{gear_in};
-ghost use Rattle.session_run.specs.pam_library.specs.Slots.{NoneIsOpen};
-ghost use Rattle.session_run.specs.pam_library.specs.Sound.{IsSoundFor};
-ghost use Rattle.session_run.specs.AnyWorld.{ProceedsFor};
 ghost use Rattle.session_run.specs.Reading.{WritesScript};
-ghost use Rattle.session_run.specs.State.{setting_of, state_of};
+ghost use Rattle.session_run.specs.Seen.{AllTell, IsSoundIn, NoneIsOpenIn, Went, setting_in, state};
 ghost use Rattle.session_generate.specs.Generated.{Finds, Generates, IsEndOfFinding, IsEndOfGenerate, IsFound, attempted, generated_text, generation};
 ghost use Rattle.session_generate.specs.Login.{ComesTo, IsEndWith, end_status};
 
@@ -19,12 +15,11 @@ use drawn_files::{MAX_DRAWN, draw_files, file_count};
 use pam_base::{Failed, NoMemory, Refuse, Text, code_name, code_number};
 use pam_outside::{Sink, write_all};
 use service_load::LoadFault;
-use session_run::fail_delay::{DelayFn, DelayTold};
 use session_run::item_stream::Stop;
-use session_run::pam_handle::{Gear, GearTold};
-use session_run::pam_library::{Library, LibraryTold};
-use session_run::pam_room::{World, WorldTold};
+use session_run::pam_library::Library;
+use session_run::pam_room::World;
 use session_run::session_report::refused_report;
+use session_run::{Session, Told};
 use std::alloc::Global;
 
 /// The result of a generation.
@@ -60,23 +55,15 @@ pub fn generate<K: Sink>(
     world: &mut World,
 ) -> Result<Generated, Stop>
     requires few { lines ≤ MAX_DRAWN }
-    requires none_open { NoneIsOpen (⟦<Library as LibraryTold>⟧.slots library.old) }
-    requires sound { IsSoundFor (⟦<Gear as GearTold>⟧.players (gear_in library.old))
-        (⟦<Library as LibraryTold>⟧.slots library.old) world.old.process.ledger }
+    requires none_open { NoneIsOpenIn (⟦<Session as Told>⟧.seen library.old world.old) }
+    requires sound { IsSoundIn (⟦<Session as Told>⟧.seen library.old world.old) }
 
     // If all objects are modelled: what was written, and the library and world afterwards.
-    ensures told { (delay : TheCode → ℕ → ℕ) →
-        ⟦<DelayFn as DelayTold>⟧.delay_is (gear_in library.old).delay delay →
-        IsTrue (⟦<Library as LibraryTold>⟧.tells library.old
-        && ⟦<World as WorldTold>⟧.tells world.old) →
+    ensures told { let seen = ⟦<Session as Told>⟧.seen in (delay : TheCode → ℕ → ℕ) →
+        (seen library.old world.old).gives delay → AllTell (seen library.old world.old) →
         IsTrue (K.sink_tells out.old) →
-        Generates result
-        (generation (setting_of (⟦<Gear as GearTold>⟧.players (gear_in library.old)) delay)
-        seed lines
-        (state_of (⟦<Library as LibraryTold>⟧.slots library.old)
-        (⟦<World as WorldTold>⟧.plain world.old)))
-        (state_of (⟦<Library as LibraryTold>⟧.slots library.new)
-        (⟦<World as WorldTold>⟧.plain world.new))
+        Generates result (generation (setting_in (seen library.old world.old) delay) seed lines
+        (state (seen library.old world.old))) (state (seen library.new world.new))
         (K.sink_holds out.old) (K.sink_holds out.new) }
 
     // If only the sink is modelled: how often it was written.
@@ -84,22 +71,13 @@ pub fn generate<K: Sink>(
         WritesScript (K.sink_holds out.old) (K.sink_holds out.new) }
 
     // With real objects too: no transaction is open, and what was ended.
-    ensures none_open { NoneIsOpen (⟦<Library as LibraryTold>⟧.slots library.new) }
-    ensures proceeds { ProceedsFor (IsEndOfGenerate result)
-        (⟦<Gear as GearTold>⟧.players (gear_in library.old))
-        world.old.process.ledger (⟦<Library as LibraryTold>⟧.slots library.old)
-        world.new.process.ledger (⟦<Library as LibraryTold>⟧.slots library.new) }
-    ensures sound { IsSoundFor (⟦<Gear as GearTold>⟧.players (gear_in library.new))
-        (⟦<Library as LibraryTold>⟧.slots library.new) world.new.process.ledger }
-    ensures gear { gear_in library.new ≡ gear_in library.old }
+    ensures none_open { NoneIsOpenIn (⟦<Session as Told>⟧.seen library.new world.new) }
+    ensures went { let seen = ⟦<Session as Told>⟧.seen in Went (IsEndOfGenerate result)
+        (seen library.old world.old) (seen library.new world.new) }
     ensures faults { RisesIf (has_write_fault result) (K.sink_faults out.old)
         (K.sink_faults out.new) }
 
     // What is modelled before is modelled after it.
-    ensures tells { ⟦<Library as LibraryTold>⟧.tells library.new
-        ≡ ⟦<Library as LibraryTold>⟧.tells library.old }
-    ensures world_tells { ⟦<World as WorldTold>⟧.tells world.new
-        ≡ ⟦<World as WorldTold>⟧.tells world.old }
     ensures sink_tells { K.sink_tells out.new ≡ K.sink_tells out.old }
 {
     match find(alloc, library, seed, lines, world) {
@@ -119,32 +97,16 @@ fn find(
     world: &mut World,
 ) -> Result<Finding, NoMemory>
     requires few { lines ≤ MAX_DRAWN }
-    requires none_open { NoneIsOpen (⟦<Library as LibraryTold>⟧.slots library.old) }
-    requires sound { IsSoundFor (⟦<Gear as GearTold>⟧.players (gear_in library.old))
-        (⟦<Library as LibraryTold>⟧.slots library.old) world.old.process.ledger }
-    ensures gear { gear_in library.new ≡ gear_in library.old }
-    ensures tells { ⟦<Library as LibraryTold>⟧.tells library.new
-        ≡ ⟦<Library as LibraryTold>⟧.tells library.old }
-    ensures world_tells { ⟦<World as WorldTold>⟧.tells world.new
-        ≡ ⟦<World as WorldTold>⟧.tells world.old }
-    ensures told { (delay : TheCode → ℕ → ℕ) →
-        ⟦<DelayFn as DelayTold>⟧.delay_is (gear_in library.old).delay delay →
-        IsTrue (⟦<Library as LibraryTold>⟧.tells library.old
-        && ⟦<World as WorldTold>⟧.tells world.old) →
-        IfOk result (λ finding. Finds finding
-        (generation (setting_of (⟦<Gear as GearTold>⟧.players (gear_in library.old)) delay)
-        seed lines
-        (state_of (⟦<Library as LibraryTold>⟧.slots library.old)
-        (⟦<World as WorldTold>⟧.plain world.old)))
-        (state_of (⟦<Library as LibraryTold>⟧.slots library.new)
-        (⟦<World as WorldTold>⟧.plain world.new))) }
-    ensures none_open { NoneIsOpen (⟦<Library as LibraryTold>⟧.slots library.new) }
-    ensures proceeds { ProceedsFor (IsEndOfFinding result)
-        (⟦<Gear as GearTold>⟧.players (gear_in library.old))
-        world.old.process.ledger (⟦<Library as LibraryTold>⟧.slots library.old)
-        world.new.process.ledger (⟦<Library as LibraryTold>⟧.slots library.new) }
-    ensures sound { IsSoundFor (⟦<Gear as GearTold>⟧.players (gear_in library.new))
-        (⟦<Library as LibraryTold>⟧.slots library.new) world.new.process.ledger }
+    requires none_open { NoneIsOpenIn (⟦<Session as Told>⟧.seen library.old world.old) }
+    requires sound { IsSoundIn (⟦<Session as Told>⟧.seen library.old world.old) }
+    ensures told { let seen = ⟦<Session as Told>⟧.seen in (delay : TheCode → ℕ → ℕ) →
+        (seen library.old world.old).gives delay → AllTell (seen library.old world.old) →
+        IfOk result (λ finding. Finds finding (generation
+        (setting_in (seen library.old world.old) delay) seed lines
+        (state (seen library.old world.old))) (state (seen library.new world.new))) }
+    ensures none_open { NoneIsOpenIn (⟦<Session as Told>⟧.seen library.new world.new) }
+    ensures went { let seen = ⟦<Session as Told>⟧.seen in Went (IsEndOfFinding result)
+        (seen library.old world.old) (seen library.new world.new) }
 {
     let login = attempt(alloc, library, seed, lines, world);
     describe(alloc, lines, login)
@@ -159,32 +121,16 @@ fn attempt(
     world: &mut World,
 ) -> Result<Login, Refuse<LoadFault>>
     requires few { lines ≤ MAX_DRAWN }
-    requires none_open { NoneIsOpen (⟦<Library as LibraryTold>⟧.slots library.old) }
-    requires sound { IsSoundFor (⟦<Gear as GearTold>⟧.players (gear_in library.old))
-        (⟦<Library as LibraryTold>⟧.slots library.old) world.old.process.ledger }
-    ensures gear { gear_in library.new ≡ gear_in library.old }
-    ensures tells { ⟦<Library as LibraryTold>⟧.tells library.new
-        ≡ ⟦<Library as LibraryTold>⟧.tells library.old }
-    ensures world_tells { ⟦<World as WorldTold>⟧.tells world.new
-        ≡ ⟦<World as WorldTold>⟧.tells world.old }
-    ensures told { (delay : TheCode → ℕ → ℕ) →
-        ⟦<DelayFn as DelayTold>⟧.delay_is (gear_in library.old).delay delay →
-        IsTrue (⟦<Library as LibraryTold>⟧.tells library.old
-        && ⟦<World as WorldTold>⟧.tells world.old) →
-        ComesTo result
-        (attempted (setting_of (⟦<Gear as GearTold>⟧.players (gear_in library.old)) delay)
-        seed lines
-        (state_of (⟦<Library as LibraryTold>⟧.slots library.old)
-        (⟦<World as WorldTold>⟧.plain world.old)))
-        (state_of (⟦<Library as LibraryTold>⟧.slots library.new)
-        (⟦<World as WorldTold>⟧.plain world.new)) }
-    ensures none_open { NoneIsOpen (⟦<Library as LibraryTold>⟧.slots library.new) }
-    ensures proceeds { ProceedsFor (IsEndWith (number_of (end_status result)))
-        (⟦<Gear as GearTold>⟧.players (gear_in library.old))
-        world.old.process.ledger (⟦<Library as LibraryTold>⟧.slots library.old)
-        world.new.process.ledger (⟦<Library as LibraryTold>⟧.slots library.new) }
-    ensures sound { IsSoundFor (⟦<Gear as GearTold>⟧.players (gear_in library.new))
-        (⟦<Library as LibraryTold>⟧.slots library.new) world.new.process.ledger }
+    requires none_open { NoneIsOpenIn (⟦<Session as Told>⟧.seen library.old world.old) }
+    requires sound { IsSoundIn (⟦<Session as Told>⟧.seen library.old world.old) }
+    ensures told { let seen = ⟦<Session as Told>⟧.seen in (delay : TheCode → ℕ → ℕ) →
+        (seen library.old world.old).gives delay → AllTell (seen library.old world.old) →
+        ComesTo result (attempted (setting_in (seen library.old world.old) delay) seed lines
+        (state (seen library.old world.old))) (state (seen library.new world.new)) }
+    ensures none_open { NoneIsOpenIn (⟦<Session as Told>⟧.seen library.new world.new) }
+    ensures went { let seen = ⟦<Session as Told>⟧.seen in Went
+        (IsEndWith (number_of (end_status result))) (seen library.old world.old)
+        (seen library.new world.new) }
 {
     go_to_root(alloc, world)?;
     let files = draw_files(alloc, seed, lines)?;

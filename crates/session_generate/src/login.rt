@@ -1,20 +1,15 @@
-ghost use Rattle.std.specs.Prelude.{◌≡◌, ◌&&◌, ℕ, false, IfOk, IsTrue};
+ghost use Rattle.std.specs.Prelude.{◌≡◌, ℕ, false, IfOk};
 ghost use Rattle.pam_base.specs.declared.code.Code.{Code as TheCode};
 ghost use Rattle.pam_base.specs.Code.{number_of};
-ghost use Rattle.session_run.specs.pam_library.specs.Outcome.{plain_outcome};
-ghost use Rattle.session_run.specs.pam_library.specs.Plain.{gear_in};
-ghost use Rattle.session_run.specs.pam_library.specs.Slots.{NoneIsOpen, is_open_at, slot_at};
-ghost use Rattle.session_run.specs.pam_library.specs.Sound.{IsSoundFor};
-ghost use Rattle.session_run.specs.AnyWorld.{ProceedsFor};
-ghost use Rattle.session_run.specs.State.{setting_of, state_of};
+ghost use Rattle.session_run.specs.pam_library.specs.Slots.{is_open_at, slot_at};
+ghost use Rattle.session_run.specs.Seen.{AllTell, IsSoundIn, NoneIsOpenIn, Went, setting_in, state};
 ghost use Rattle.session_generate.specs.Login.{Authenticates, ComesTo, IsEndWith, NoEnd, Starts, Tries, authenticate_call, called, code_in, end_status, ended, logged_in, refusal_in, start_call, step_of};
 
 use pam_base::{AppCall, Code, NoMemory, Refuse, Step, Text, code_number};
 use service_load::LoadFault;
-use session_run::fail_delay::{DelayFn, DelayTold};
-use session_run::pam_handle::{Gear, GearTold};
-use session_run::pam_library::{Answer, Library, LibraryTold, Outcome};
-use session_run::pam_room::{World, WorldTold};
+use session_run::pam_library::{Answer, Library, Outcome};
+use session_run::pam_room::World;
+use session_run::{Session, Told};
 use std::alloc::Global;
 
 /// The number of the transaction.
@@ -34,31 +29,16 @@ pub(crate) fn log_in(
     library: &mut Library,
     world: &mut World,
 ) -> Result<Login, Refuse<LoadFault>>
-    requires none_open { NoneIsOpen (⟦<Library as LibraryTold>⟧.slots library.old) }
-    requires sound { IsSoundFor (⟦<Gear as GearTold>⟧.players (gear_in library.old))
-        (⟦<Library as LibraryTold>⟧.slots library.old) world.old.process.ledger }
-    ensures gear { gear_in library.new ≡ gear_in library.old }
-    ensures tells { ⟦<Library as LibraryTold>⟧.tells library.new
-        ≡ ⟦<Library as LibraryTold>⟧.tells library.old }
-    ensures world_tells { ⟦<World as WorldTold>⟧.tells world.new
-        ≡ ⟦<World as WorldTold>⟧.tells world.old }
-    ensures told { (delay : TheCode → ℕ → ℕ) →
-        ⟦<DelayFn as DelayTold>⟧.delay_is (gear_in library.old).delay delay →
-        IsTrue (⟦<Library as LibraryTold>⟧.tells library.old
-        && ⟦<World as WorldTold>⟧.tells world.old) →
-        ComesTo result
-        (logged_in (setting_of (⟦<Gear as GearTold>⟧.players (gear_in library.old)) delay)
-        (state_of (⟦<Library as LibraryTold>⟧.slots library.old)
-        (⟦<World as WorldTold>⟧.plain world.old)))
-        (state_of (⟦<Library as LibraryTold>⟧.slots library.new)
-        (⟦<World as WorldTold>⟧.plain world.new)) }
-    ensures none_open { NoneIsOpen (⟦<Library as LibraryTold>⟧.slots library.new) }
-    ensures proceeds { ProceedsFor (IsEndWith (number_of (end_status result)))
-        (⟦<Gear as GearTold>⟧.players (gear_in library.old))
-        world.old.process.ledger (⟦<Library as LibraryTold>⟧.slots library.old)
-        world.new.process.ledger (⟦<Library as LibraryTold>⟧.slots library.new) }
-    ensures sound { IsSoundFor (⟦<Gear as GearTold>⟧.players (gear_in library.new))
-        (⟦<Library as LibraryTold>⟧.slots library.new) world.new.process.ledger }
+    requires none_open { NoneIsOpenIn (⟦<Session as Told>⟧.seen library.old world.old) }
+    requires sound { IsSoundIn (⟦<Session as Told>⟧.seen library.old world.old) }
+    ensures told { let seen = ⟦<Session as Told>⟧.seen in (delay : TheCode → ℕ → ℕ) →
+        (seen library.old world.old).gives delay → AllTell (seen library.old world.old) →
+        ComesTo result (logged_in (setting_in (seen library.old world.old) delay)
+        (state (seen library.old world.old))) (state (seen library.new world.new)) }
+    ensures none_open { NoneIsOpenIn (⟦<Session as Told>⟧.seen library.new world.new) }
+    ensures went { let seen = ⟦<Session as Told>⟧.seen in Went
+        (IsEndWith (number_of (end_status result))) (seen library.old world.old)
+        (seen library.new world.new) }
 {
     let login = attempt(alloc, library, world);
     let status = end_status(&login);
@@ -82,30 +62,16 @@ fn attempt(
     library: &mut Library,
     world: &mut World,
 ) -> Result<Login, Refuse<LoadFault>>
-    requires sound { IsSoundFor (⟦<Gear as GearTold>⟧.players (gear_in library.old))
-        (⟦<Library as LibraryTold>⟧.slots library.old) world.old.process.ledger }
-    ensures gear { gear_in library.new ≡ gear_in library.old }
-    ensures tells { ⟦<Library as LibraryTold>⟧.tells library.new
-        ≡ ⟦<Library as LibraryTold>⟧.tells library.old }
-    ensures world_tells { ⟦<World as WorldTold>⟧.tells world.new
-        ≡ ⟦<World as WorldTold>⟧.tells world.old }
-    ensures told { (delay : TheCode → ℕ → ℕ) →
-        ⟦<DelayFn as DelayTold>⟧.delay_is (gear_in library.old).delay delay →
-        IsTrue (⟦<Library as LibraryTold>⟧.tells library.old
-        && ⟦<World as WorldTold>⟧.tells world.old) →
-        Tries result (setting_of (⟦<Gear as GearTold>⟧.players (gear_in library.old)) delay)
-        (state_of (⟦<Library as LibraryTold>⟧.slots library.old)
-        (⟦<World as WorldTold>⟧.plain world.old))
-        (state_of (⟦<Library as LibraryTold>⟧.slots library.new)
-        (⟦<World as WorldTold>⟧.plain world.new)) }
-    ensures others { (number : ℕ) → (number ≡ 1 → ⊥) →
-        slot_at (⟦<Library as LibraryTold>⟧.slots library.new) number
-        ≡ slot_at (⟦<Library as LibraryTold>⟧.slots library.old) number }
-    ensures proceeds { ProceedsFor NoEnd (⟦<Gear as GearTold>⟧.players (gear_in library.old))
-        world.old.process.ledger (⟦<Library as LibraryTold>⟧.slots library.old)
-        world.new.process.ledger (⟦<Library as LibraryTold>⟧.slots library.new) }
-    ensures sound { IsSoundFor (⟦<Gear as GearTold>⟧.players (gear_in library.new))
-        (⟦<Library as LibraryTold>⟧.slots library.new) world.new.process.ledger }
+    requires sound { IsSoundIn (⟦<Session as Told>⟧.seen library.old world.old) }
+    ensures told { let seen = ⟦<Session as Told>⟧.seen in (delay : TheCode → ℕ → ℕ) →
+        (seen library.old world.old).gives delay → AllTell (seen library.old world.old) →
+        Tries result (setting_in (seen library.old world.old) delay)
+        (state (seen library.old world.old)) (state (seen library.new world.new)) }
+    ensures others { let seen = ⟦<Session as Told>⟧.seen in (number : ℕ) → (number ≡ 1 → ⊥) →
+        slot_at (seen library.new world.new).slots number
+        ≡ slot_at (seen library.old world.old).slots number }
+    ensures went { let seen = ⟦<Session as Told>⟧.seen in Went NoEnd (seen library.old world.old)
+        (seen library.new world.new) }
 {
     match start(alloc, library, world) {
         Err(refuse) => Err(refuse),
@@ -117,31 +83,16 @@ fn attempt(
 }
 
 fn start(alloc: Global, library: &mut Library, world: &mut World) -> Result<(), Refuse<LoadFault>>
-    requires sound { IsSoundFor (⟦<Gear as GearTold>⟧.players (gear_in library.old))
-        (⟦<Library as LibraryTold>⟧.slots library.old) world.old.process.ledger }
-    ensures gear { gear_in library.new ≡ gear_in library.old }
-    ensures tells { ⟦<Library as LibraryTold>⟧.tells library.new
-        ≡ ⟦<Library as LibraryTold>⟧.tells library.old }
-    ensures world_tells { ⟦<World as WorldTold>⟧.tells world.new
-        ≡ ⟦<World as WorldTold>⟧.tells world.old }
-    ensures told { (delay : TheCode → ℕ → ℕ) →
-        ⟦<DelayFn as DelayTold>⟧.delay_is (gear_in library.old).delay delay →
-        IsTrue (⟦<Library as LibraryTold>⟧.tells library.old
-        && ⟦<World as WorldTold>⟧.tells world.old) →
-        Starts result
-        (called (setting_of (⟦<Gear as GearTold>⟧.players (gear_in library.old)) delay)
-        (state_of (⟦<Library as LibraryTold>⟧.slots library.old)
-        (⟦<World as WorldTold>⟧.plain world.old)) start_call)
-        (state_of (⟦<Library as LibraryTold>⟧.slots library.new)
-        (⟦<World as WorldTold>⟧.plain world.new)) }
-    ensures others { (number : ℕ) → (number ≡ 1 → ⊥) →
-        slot_at (⟦<Library as LibraryTold>⟧.slots library.new) number
-        ≡ slot_at (⟦<Library as LibraryTold>⟧.slots library.old) number }
-    ensures proceeds { ProceedsFor NoEnd (⟦<Gear as GearTold>⟧.players (gear_in library.old))
-        world.old.process.ledger (⟦<Library as LibraryTold>⟧.slots library.old)
-        world.new.process.ledger (⟦<Library as LibraryTold>⟧.slots library.new) }
-    ensures sound { IsSoundFor (⟦<Gear as GearTold>⟧.players (gear_in library.new))
-        (⟦<Library as LibraryTold>⟧.slots library.new) world.new.process.ledger }
+    requires sound { IsSoundIn (⟦<Session as Told>⟧.seen library.old world.old) }
+    ensures told { let seen = ⟦<Session as Told>⟧.seen in (delay : TheCode → ℕ → ℕ) →
+        (seen library.old world.old).gives delay → AllTell (seen library.old world.old) →
+        Starts result (called (setting_in (seen library.old world.old) delay)
+        (state (seen library.old world.old)) start_call) (state (seen library.new world.new)) }
+    ensures others { let seen = ⟦<Session as Told>⟧.seen in (number : ℕ) → (number ≡ 1 → ⊥) →
+        slot_at (seen library.new world.new).slots number
+        ≡ slot_at (seen library.old world.old).slots number }
+    ensures went { let seen = ⟦<Session as Told>⟧.seen in Went NoEnd (seen library.old world.old)
+        (seen library.new world.new) }
 {
     let step = start_step(alloc)?;
     match library.apply(alloc, world, &step) {
@@ -181,31 +132,17 @@ fn start_step(alloc: Global) -> Result<Step, NoMemory>
 }
 
 fn authenticate(alloc: Global, library: &mut Library, world: &mut World) -> Result<Login, NoMemory>
-    requires sound { IsSoundFor (⟦<Gear as GearTold>⟧.players (gear_in library.old))
-        (⟦<Library as LibraryTold>⟧.slots library.old) world.old.process.ledger }
-    ensures gear { gear_in library.new ≡ gear_in library.old }
-    ensures tells { ⟦<Library as LibraryTold>⟧.tells library.new
-        ≡ ⟦<Library as LibraryTold>⟧.tells library.old }
-    ensures world_tells { ⟦<World as WorldTold>⟧.tells world.new
-        ≡ ⟦<World as WorldTold>⟧.tells world.old }
-    ensures told { (delay : TheCode → ℕ → ℕ) →
-        ⟦<DelayFn as DelayTold>⟧.delay_is (gear_in library.old).delay delay →
-        IsTrue (⟦<Library as LibraryTold>⟧.tells library.old
-        && ⟦<World as WorldTold>⟧.tells world.old) →
-        IfOk result (λ login. Authenticates login
-        (called (setting_of (⟦<Gear as GearTold>⟧.players (gear_in library.old)) delay)
-        (state_of (⟦<Library as LibraryTold>⟧.slots library.old)
-        (⟦<World as WorldTold>⟧.plain world.old)) authenticate_call)
-        (state_of (⟦<Library as LibraryTold>⟧.slots library.new)
-        (⟦<World as WorldTold>⟧.plain world.new))) }
-    ensures others { (number : ℕ) → (number ≡ 1 → ⊥) →
-        slot_at (⟦<Library as LibraryTold>⟧.slots library.new) number
-        ≡ slot_at (⟦<Library as LibraryTold>⟧.slots library.old) number }
-    ensures proceeds { ProceedsFor NoEnd (⟦<Gear as GearTold>⟧.players (gear_in library.old))
-        world.old.process.ledger (⟦<Library as LibraryTold>⟧.slots library.old)
-        world.new.process.ledger (⟦<Library as LibraryTold>⟧.slots library.new) }
-    ensures sound { IsSoundFor (⟦<Gear as GearTold>⟧.players (gear_in library.new))
-        (⟦<Library as LibraryTold>⟧.slots library.new) world.new.process.ledger }
+    requires sound { IsSoundIn (⟦<Session as Told>⟧.seen library.old world.old) }
+    ensures told { let seen = ⟦<Session as Told>⟧.seen in (delay : TheCode → ℕ → ℕ) →
+        (seen library.old world.old).gives delay → AllTell (seen library.old world.old) →
+        IfOk result (λ login. Authenticates login (called
+        (setting_in (seen library.old world.old) delay) (state (seen library.old world.old))
+        authenticate_call) (state (seen library.new world.new))) }
+    ensures others { let seen = ⟦<Session as Told>⟧.seen in (number : ℕ) → (number ≡ 1 → ⊥) →
+        slot_at (seen library.new world.new).slots number
+        ≡ slot_at (seen library.old world.old).slots number }
+    ensures went { let seen = ⟦<Session as Told>⟧.seen in Went NoEnd (seen library.old world.old)
+        (seen library.new world.new) }
 {
     let step = Step {
         number: NUMBER,
@@ -232,30 +169,17 @@ fn code_in(answer: &Answer) -> Code
 
 // Ends the transaction if it is open. It allocates nothing.
 fn end(alloc: Global, library: &mut Library, world: &mut World, status: u32)
-    requires sound { IsSoundFor (⟦<Gear as GearTold>⟧.players (gear_in library.old))
-        (⟦<Library as LibraryTold>⟧.slots library.old) world.old.process.ledger }
-    ensures gear { gear_in library.new ≡ gear_in library.old }
-    ensures tells { ⟦<Library as LibraryTold>⟧.tells library.new
-        ≡ ⟦<Library as LibraryTold>⟧.tells library.old }
-    ensures world_tells { ⟦<World as WorldTold>⟧.tells world.new
-        ≡ ⟦<World as WorldTold>⟧.tells world.old }
-    ensures ended { (delay : TheCode → ℕ → ℕ) →
-        state_of (⟦<Library as LibraryTold>⟧.slots library.new)
-        (⟦<World as WorldTold>⟧.plain world.new)
-        ≡ ended (setting_of (⟦<Gear as GearTold>⟧.players (gear_in library.old)) delay) status
-        (state_of (⟦<Library as LibraryTold>⟧.slots library.old)
-        (⟦<World as WorldTold>⟧.plain world.old)) }
-    ensures others { (number : ℕ) → (number ≡ 1 → ⊥) →
-        slot_at (⟦<Library as LibraryTold>⟧.slots library.new) number
-        ≡ slot_at (⟦<Library as LibraryTold>⟧.slots library.old) number }
-    ensures closed { is_open_at (slot_at (⟦<Library as LibraryTold>⟧.slots library.new) 1)
+    requires sound { IsSoundIn (⟦<Session as Told>⟧.seen library.old world.old) }
+    ensures ended { let seen = ⟦<Session as Told>⟧.seen in (delay : TheCode → ℕ → ℕ) →
+        state (seen library.new world.new) ≡ ended (setting_in (seen library.old world.old) delay)
+        status (state (seen library.old world.old)) }
+    ensures others { let seen = ⟦<Session as Told>⟧.seen in (number : ℕ) → (number ≡ 1 → ⊥) →
+        slot_at (seen library.new world.new).slots number
+        ≡ slot_at (seen library.old world.old).slots number }
+    ensures closed { is_open_at (slot_at (⟦<Session as Told>⟧.seen library.new world.new).slots 1)
         ≡ false }
-    ensures proceeds { ProceedsFor (IsEndWith status)
-        (⟦<Gear as GearTold>⟧.players (gear_in library.old))
-        world.old.process.ledger (⟦<Library as LibraryTold>⟧.slots library.old)
-        world.new.process.ledger (⟦<Library as LibraryTold>⟧.slots library.new) }
-    ensures sound { IsSoundFor (⟦<Gear as GearTold>⟧.players (gear_in library.new))
-        (⟦<Library as LibraryTold>⟧.slots library.new) world.new.process.ledger }
+    ensures went { let seen = ⟦<Session as Told>⟧.seen in Went (IsEndWith status)
+        (seen library.old world.old) (seen library.new world.new) }
 {
     let step = Step {
         number: NUMBER,

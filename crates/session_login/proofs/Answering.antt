@@ -1,5 +1,5 @@
 -- One call of a login.
-use Rattle.std.proofs.Common.{◌≡◌, ℕ, Bool, true, false, ◌&&◌, List, [], ◌∷◌, ◌++◌, Option, Ok, Err, inl, inr, refl, sym, ap, ◌∙◌, append-nil}
+use Rattle.std.proofs.Common.{◌≡◌, ℕ, true, List, [], ◌∷◌, ◌++◌, Ok, Err, inl, inr, refl, sym, ap, ◌∙◌, append-nil}
 use Rattle.pam_base.specs.declared.call.AppCall.{AppCall}
 use Rattle.pam_base.specs.declared.call.Func.{Func}
 use Rattle.pam_base.specs.declared.call.Func.TheVariants as funcs
@@ -7,7 +7,6 @@ use Rattle.pam_base.specs.declared.fault.Failed.{Failed}
 use Rattle.pam_base.specs.Call.{is_fit}
 use Rattle.pam_outside.specs.Streams.{SinkState, WritesWhole}
 use Rattle.session_run.specs.pam_room.specs.State.{PlainWorld}
-use Rattle.session_run.specs.pam_library.specs.AnyWorld.{FailsAt}
 use Rattle.session_run.specs.pam_library.specs.Outcome.{PlainOutcome}
 use Rattle.session_run.specs.pam_library.specs.Slots.{PlainSlot}
 use Rattle.session_run.specs.pam_library.specs.Step.{stepped, StepsAs}
@@ -26,11 +25,6 @@ fit_call funcs.AcctMgmt flags = refl
 fit_call funcs.OpenSession flags = refl
 fit_call funcs.CloseSession flags = refl
 fit_call funcs.ChAuthTok flags = refl
-
--- a call that ran out of memory, if all objects are modelled
-pub failed_place : (a b : Bool) (call : AppCall) (old new : Option PlainSlot) → (a && b) ≡ true → FailsAt a call old new → FailsAt true call old new
-failed_place true b call old new told fails = fails
-failed_place false b call old new told fails = absurd cc
 
 module _ (setting : Setting) (call : AppCall) (s : RunState) where
   stopped : (stop : Stop) (t : RunState) (p q : SinkState) → Goes {T = Answer} setting (make setting call s ∷ []) (Err stop) s t p q

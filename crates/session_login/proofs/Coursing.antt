@@ -1,5 +1,5 @@
 -- The calls between start and end, one after another.
-use Rattle.std.proofs.Common.{◌≡◌, Bool, true, false, ◌&&◌, List, [], ◌∷◌, Option, Some, None, Result, Ok, Err, refl, sym, ap, ◌∙◌, subst}
+use Rattle.std.proofs.Common.{◌≡◌, Bool, true, false, List, [], ◌∷◌, Option, Some, None, Result, Ok, Err, refl, sym, ap, ◌∙◌, subst}
 use Rattle.pam_base.specs.declared.code.Code.{Code}
 use Rattle.pam_base.specs.declared.call.AppCall.{AppCall}
 use Rattle.pam_outside.specs.Streams.{SinkState}
@@ -78,9 +78,6 @@ module _ (setting : Setting) where
           })
 
 -- ---- the same, by what is known of the list and the call
-
-pub both_tell : (a b x y : Bool) → x ≡ a → y ≡ b → (a && b) ≡ true → (x && y) ≡ true
-both_tell a b x y e f told = rw (e, f) told
 
 module _ (setting : Setting) (all : List LoginCall) (c : LoginCall) (calls : List LoginCall) (last : Code) (s : RunState) (e : all ≡ c ∷ calls) where
   pub told_not_due : is_due c.when last ≡ false → (result : Result (Option Code) Stop) (t : RunState) (p q : SinkState)

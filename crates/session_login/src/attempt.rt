@@ -1,15 +1,12 @@
-ghost use Rattle.std.specs.Prelude.{◌≡◌, ◌&&◌, ℕ, Ok, Some, IfOk, IsTrue, string_bytes};
+ghost use Rattle.std.specs.Prelude.{◌≡◌, ℕ, Ok, Some, IfOk, IsTrue, string_bytes};
 ghost use Rattle.std.specs.Option.{option_copied};
 ghost use Rattle.pam_base.specs.ServiceName.{is_service_name};
 ghost use Rattle.pam_base.specs.declared.code.Code.{Code};
 ghost use Rattle.pam_outside.specs.Counts.{RisesIf};
 ghost use Rattle.session_run.specs.pam_library.specs.AnyWorld.{is_refused};
-ghost use Rattle.session_run.specs.pam_library.specs.Plain.{gear_in};
-ghost use Rattle.session_run.specs.pam_library.specs.Slots.{NoneIsOpen, slot_at};
-ghost use Rattle.session_run.specs.pam_library.specs.Sound.{IsSoundFor};
+ghost use Rattle.session_run.specs.pam_library.specs.Slots.{slot_at};
 ghost use Rattle.item_stream.specs.Turns.{has_write_fault};
-ghost use Rattle.session_run.specs.AnyWorld.{ProceedsFor};
-ghost use Rattle.session_run.specs.State.{setting_of, state_of};
+ghost use Rattle.session_run.specs.Seen.{AllTell, IsSoundIn, NoneIsOpenIn, Went, setting_in, state};
 ghost use Rattle.session_login.specs.Ends.{IsDenial, IsEndOfLogin, IsEndWith, closing_code};
 ghost use Rattle.session_login.specs.Login.{denied_line, end_call, end_code, logging_in, login_of, make, settling, verdict_by};
 ghost use Rattle.session_login.specs.Told.{Comes, LogsIn, SaysEnd, SaysVerdict, Shows, WritesDenial, as_it_is};
@@ -17,14 +14,12 @@ ghost use Rattle.session_login.specs.Told.{Comes, LogsIn, SaysEnd, SaysVerdict, 
 use crate::calls::LOGIN_CALLS;
 use crate::course::go_through;
 use crate::making::make;
-use fail_delay::{DelayFn, DelayTold};
 use item_stream::Stop;
 use pam_base::{AppCall, Code, Failed, NoMemory, Step, Text, code_name, code_number};
 use pam_outside::{Sink, write_all};
-use session_run::pam_handle::{Gear, GearTold};
-use session_run::pam_library::{Answer, Library, LibraryTold};
-use session_run::pam_room::{World, WorldTold};
-use session_run::stop_status;
+use session_run::pam_library::{Answer, Library};
+use session_run::pam_room::World;
+use session_run::{Session, Told, stop_status};
 use std::alloc::Global;
 
 /// The result of a login.
@@ -65,24 +60,17 @@ pub fn login<K: Sink>(
     world: &mut World,
 ) -> Result<Verdict, Stop>
     requires service { IsTrue (is_service_name service.now) }
-    requires none_open { NoneIsOpen (⟦<Library as LibraryTold>⟧.slots library.old) }
-    requires sound { IsSoundFor (⟦<Gear as GearTold>⟧.players (gear_in library.old))
-        (⟦<Library as LibraryTold>⟧.slots library.old) world.old.process.ledger }
+    requires none_open { NoneIsOpenIn (⟦<Session as Told>⟧.seen library.old world.old) }
+    requires sound { IsSoundIn (⟦<Session as Told>⟧.seen library.old world.old) }
 
     // If all objects are modelled: the verdict, what is written, and the library and world afterwards.
-    ensures told { (delay : Code → ℕ → ℕ) →
-        ⟦<DelayFn as DelayTold>⟧.delay_is (gear_in library.old).delay delay →
-        IsTrue (⟦<Library as LibraryTold>⟧.tells library.old
-        && ⟦<World as WorldTold>⟧.tells world.old) → IsTrue (K.sink_tells out.old) →
-        (let setting = setting_of (⟦<Gear as GearTold>⟧.players (gear_in library.old)) delay in
+    ensures told { let seen = ⟦<Session as Told>⟧.seen in (delay : Code → ℕ → ℕ) →
+        (seen library.old world.old).gives delay → AllTell (seen library.old world.old) →
+        IsTrue (K.sink_tells out.old) →
+        (let setting = setting_in (seen library.old world.old) delay in
         LogsIn setting (login_of setting service.now (option_copied user.entry)
-        (state_of (⟦<Library as LibraryTold>⟧.slots library.old)
-        (⟦<World as WorldTold>⟧.plain world.old))) result
-        (state_of (⟦<Library as LibraryTold>⟧.slots library.old)
-        (⟦<World as WorldTold>⟧.plain world.old))
-        (state_of (⟦<Library as LibraryTold>⟧.slots library.new)
-        (⟦<World as WorldTold>⟧.plain world.new))
-        (K.sink_holds out.old) (K.sink_holds out.new)) }
+        (state (seen library.old world.old))) result (state (seen library.old world.old))
+        (state (seen library.new world.new)) (K.sink_holds out.old) (K.sink_holds out.new)) }
 
     // If only the sink is modelled: how often it was written, and how the verdict is written.
     ensures shows { IsTrue (K.sink_tells out.old) →
@@ -91,24 +79,15 @@ pub fn login<K: Sink>(
     // With real objects too: SUCCESS denies nobody; no transaction is open; and the cleanup log and the module data
     // are what calls of the library, with these statuses of pam_end, made of them.
     ensures denies { (code : Code) → result ≡ Ok (Verdict.Denied code) → IsDenial code }
-    ensures none_open { NoneIsOpen (⟦<Library as LibraryTold>⟧.slots library.new) }
-    ensures proceeds { ProceedsFor (IsEndOfLogin result)
-        (⟦<Gear as GearTold>⟧.players (gear_in library.old))
-        world.old.process.ledger (⟦<Library as LibraryTold>⟧.slots library.old)
-        world.new.process.ledger (⟦<Library as LibraryTold>⟧.slots library.new) }
-    ensures sound { IsSoundFor (⟦<Gear as GearTold>⟧.players (gear_in library.new))
-        (⟦<Library as LibraryTold>⟧.slots library.new) world.new.process.ledger }
-    ensures gear { gear_in library.new ≡ gear_in library.old }
+    ensures none_open { NoneIsOpenIn (⟦<Session as Told>⟧.seen library.new world.new) }
+    ensures went { let seen = ⟦<Session as Told>⟧.seen in Went (IsEndOfLogin result)
+        (seen library.old world.old) (seen library.new world.new) }
 
     // The cause, with real objects too.
     ensures faults { RisesIf (has_write_fault result) (K.sink_faults out.old)
         (K.sink_faults out.new) }
 
     // What is modelled before the login is modelled after it.
-    ensures tells { ⟦<Library as LibraryTold>⟧.tells library.new
-        ≡ ⟦<Library as LibraryTold>⟧.tells library.old }
-    ensures world_tells { ⟦<World as WorldTold>⟧.tells world.new
-        ≡ ⟦<World as WorldTold>⟧.tells world.old }
     ensures sink_tells { K.sink_tells out.new ≡ K.sink_tells out.old }
 {
     let result = try_login(alloc, library, service, user, out, world);
@@ -126,37 +105,21 @@ fn try_login<K: Sink>(
     world: &mut World,
 ) -> Result<Verdict, Stop>
     requires service { IsTrue (is_service_name service.now) }
-    requires sound { IsSoundFor (⟦<Gear as GearTold>⟧.players (gear_in library.old))
-        (⟦<Library as LibraryTold>⟧.slots library.old) world.old.process.ledger }
-    ensures gear { gear_in library.new ≡ gear_in library.old }
-    ensures tells { ⟦<Library as LibraryTold>⟧.tells library.new
-        ≡ ⟦<Library as LibraryTold>⟧.tells library.old }
-    ensures world_tells { ⟦<World as WorldTold>⟧.tells world.new
-        ≡ ⟦<World as WorldTold>⟧.tells world.old }
+    requires sound { IsSoundIn (⟦<Session as Told>⟧.seen library.old world.old) }
     ensures sink_tells { K.sink_tells out.new ≡ K.sink_tells out.old }
-    ensures told { (delay : Code → ℕ → ℕ) →
-        ⟦<DelayFn as DelayTold>⟧.delay_is (gear_in library.old).delay delay →
-        IsTrue (⟦<Library as LibraryTold>⟧.tells library.old
-        && ⟦<World as WorldTold>⟧.tells world.old) → IsTrue (K.sink_tells out.old) →
-        (let setting = setting_of (⟦<Gear as GearTold>⟧.players (gear_in library.old)) delay in
+    ensures told { let seen = ⟦<Session as Told>⟧.seen in (delay : Code → ℕ → ℕ) →
+        (seen library.old world.old).gives delay → AllTell (seen library.old world.old) →
+        IsTrue (K.sink_tells out.old) →
+        (let setting = setting_in (seen library.old world.old) delay in
         Comes setting as_it_is (login_of setting service.now (option_copied user.entry)
-        (state_of (⟦<Library as LibraryTold>⟧.slots library.old)
-        (⟦<World as WorldTold>⟧.plain world.old))) result
-        (state_of (⟦<Library as LibraryTold>⟧.slots library.old)
-        (⟦<World as WorldTold>⟧.plain world.old))
-        (state_of (⟦<Library as LibraryTold>⟧.slots library.new)
-        (⟦<World as WorldTold>⟧.plain world.new))
-        (K.sink_holds out.old) (K.sink_holds out.new)) }
+        (state (seen library.old world.old))) result (state (seen library.old world.old))
+        (state (seen library.new world.new)) (K.sink_holds out.old) (K.sink_holds out.new)) }
     ensures denies { (code : Code) → result ≡ Ok (Verdict.Denied code) → IsDenial code }
-    ensures others { (number : ℕ) → (number ≡ 1 → ⊥) →
-        slot_at (⟦<Library as LibraryTold>⟧.slots library.new) number
-        ≡ slot_at (⟦<Library as LibraryTold>⟧.slots library.old) number }
-    ensures proceeds { ProceedsFor (IsEndOfLogin result)
-        (⟦<Gear as GearTold>⟧.players (gear_in library.old))
-        world.old.process.ledger (⟦<Library as LibraryTold>⟧.slots library.old)
-        world.new.process.ledger (⟦<Library as LibraryTold>⟧.slots library.new) }
-    ensures sound { IsSoundFor (⟦<Gear as GearTold>⟧.players (gear_in library.new))
-        (⟦<Library as LibraryTold>⟧.slots library.new) world.new.process.ledger }
+    ensures others { let seen = ⟦<Session as Told>⟧.seen in (number : ℕ) → (number ≡ 1 → ⊥) →
+        slot_at (seen library.new world.new).slots number
+        ≡ slot_at (seen library.old world.old).slots number }
+    ensures went { let seen = ⟦<Session as Told>⟧.seen in Went (IsEndOfLogin result)
+        (seen library.old world.old) (seen library.new world.new) }
     ensures shows { IsTrue (K.sink_tells out.old) →
         Shows SaysVerdict result (K.sink_holds out.old) (K.sink_holds out.new) }
     ensures faults { RisesIf (has_write_fault result) (K.sink_faults out.old)
@@ -203,37 +166,21 @@ fn log_in<K: Sink>(
     out: &mut K,
     world: &mut World,
 ) -> Result<Verdict, Stop>
-    requires { IsSoundFor (⟦<Gear as GearTold>⟧.players (gear_in library.old))
-        (⟦<Library as LibraryTold>⟧.slots library.old) world.old.process.ledger }
-    ensures gear { gear_in library.new ≡ gear_in library.old }
-    ensures tells { ⟦<Library as LibraryTold>⟧.tells library.new
-        ≡ ⟦<Library as LibraryTold>⟧.tells library.old }
-    ensures world_tells { ⟦<World as WorldTold>⟧.tells world.new
-        ≡ ⟦<World as WorldTold>⟧.tells world.old }
+    requires { IsSoundIn (⟦<Session as Told>⟧.seen library.old world.old) }
     ensures sink_tells { K.sink_tells out.new ≡ K.sink_tells out.old }
-    ensures told { (delay : Code → ℕ → ℕ) →
-        ⟦<DelayFn as DelayTold>⟧.delay_is (gear_in library.old).delay delay →
-        IsTrue (⟦<Library as LibraryTold>⟧.tells library.old
-        && ⟦<World as WorldTold>⟧.tells world.old) → IsTrue (K.sink_tells out.old) →
-        (let setting = setting_of (⟦<Gear as GearTold>⟧.players (gear_in library.old)) delay in
-        Comes setting as_it_is (logging_in setting
-        (state_of (⟦<Library as LibraryTold>⟧.slots library.old)
-        (⟦<World as WorldTold>⟧.plain world.old))) result
-        (state_of (⟦<Library as LibraryTold>⟧.slots library.old)
-        (⟦<World as WorldTold>⟧.plain world.old))
-        (state_of (⟦<Library as LibraryTold>⟧.slots library.new)
-        (⟦<World as WorldTold>⟧.plain world.new))
+    ensures told { let seen = ⟦<Session as Told>⟧.seen in (delay : Code → ℕ → ℕ) →
+        (seen library.old world.old).gives delay → AllTell (seen library.old world.old) →
+        IsTrue (K.sink_tells out.old) →
+        (let setting = setting_in (seen library.old world.old) delay in
+        Comes setting as_it_is (logging_in setting (state (seen library.old world.old))) result
+        (state (seen library.old world.old)) (state (seen library.new world.new))
         (K.sink_holds out.old) (K.sink_holds out.new)) }
     ensures denies { (code : Code) → result ≡ Ok (Verdict.Denied code) → IsDenial code }
-    ensures others { (number : ℕ) → (number ≡ 1 → ⊥) →
-        slot_at (⟦<Library as LibraryTold>⟧.slots library.new) number
-        ≡ slot_at (⟦<Library as LibraryTold>⟧.slots library.old) number }
-    ensures proceeds { ProceedsFor (IsEndOfLogin result)
-        (⟦<Gear as GearTold>⟧.players (gear_in library.old))
-        world.old.process.ledger (⟦<Library as LibraryTold>⟧.slots library.old)
-        world.new.process.ledger (⟦<Library as LibraryTold>⟧.slots library.new) }
-    ensures sound { IsSoundFor (⟦<Gear as GearTold>⟧.players (gear_in library.new))
-        (⟦<Library as LibraryTold>⟧.slots library.new) world.new.process.ledger }
+    ensures others { let seen = ⟦<Session as Told>⟧.seen in (number : ℕ) → (number ≡ 1 → ⊥) →
+        slot_at (seen library.new world.new).slots number
+        ≡ slot_at (seen library.old world.old).slots number }
+    ensures went { let seen = ⟦<Session as Told>⟧.seen in Went (IsEndOfLogin result)
+        (seen library.old world.old) (seen library.new world.new) }
     ensures shows { IsTrue (K.sink_tells out.old) →
         Shows SaysEnd result (K.sink_holds out.old) (K.sink_holds out.new) }
     ensures faults { RisesIf (has_write_fault result) (K.sink_faults out.old)
@@ -253,37 +200,21 @@ fn settle<K: Sink>(
     out: &mut K,
     world: &mut World,
 ) -> Result<Verdict, Stop>
-    requires { IsSoundFor (⟦<Gear as GearTold>⟧.players (gear_in library.old))
-        (⟦<Library as LibraryTold>⟧.slots library.old) world.old.process.ledger }
-    ensures gear { gear_in library.new ≡ gear_in library.old }
-    ensures tells { ⟦<Library as LibraryTold>⟧.tells library.new
-        ≡ ⟦<Library as LibraryTold>⟧.tells library.old }
-    ensures world_tells { ⟦<World as WorldTold>⟧.tells world.new
-        ≡ ⟦<World as WorldTold>⟧.tells world.old }
+    requires { IsSoundIn (⟦<Session as Told>⟧.seen library.old world.old) }
     ensures sink_tells { K.sink_tells out.new ≡ K.sink_tells out.old }
-    ensures told { (delay : Code → ℕ → ℕ) →
-        ⟦<DelayFn as DelayTold>⟧.delay_is (gear_in library.old).delay delay →
-        IsTrue (⟦<Library as LibraryTold>⟧.tells library.old
-        && ⟦<World as WorldTold>⟧.tells world.old) → IsTrue (K.sink_tells out.old) →
-        (let setting = setting_of (⟦<Gear as GearTold>⟧.players (gear_in library.old)) delay in
-        Comes setting as_it_is (settling setting denied
-        (state_of (⟦<Library as LibraryTold>⟧.slots library.old)
-        (⟦<World as WorldTold>⟧.plain world.old))) result
-        (state_of (⟦<Library as LibraryTold>⟧.slots library.old)
-        (⟦<World as WorldTold>⟧.plain world.old))
-        (state_of (⟦<Library as LibraryTold>⟧.slots library.new)
-        (⟦<World as WorldTold>⟧.plain world.new))
+    ensures told { let seen = ⟦<Session as Told>⟧.seen in (delay : Code → ℕ → ℕ) →
+        (seen library.old world.old).gives delay → AllTell (seen library.old world.old) →
+        IsTrue (K.sink_tells out.old) →
+        (let setting = setting_in (seen library.old world.old) delay in
+        Comes setting as_it_is (settling setting denied (state (seen library.old world.old))) result
+        (state (seen library.old world.old)) (state (seen library.new world.new))
         (K.sink_holds out.old) (K.sink_holds out.new)) }
     ensures verdict { IfOk result (λ verdict. verdict ≡ verdict_by denied) }
-    ensures others { (number : ℕ) → (number ≡ 1 → ⊥) →
-        slot_at (⟦<Library as LibraryTold>⟧.slots library.new) number
-        ≡ slot_at (⟦<Library as LibraryTold>⟧.slots library.old) number }
-    ensures proceeds { ProceedsFor (IsEndWith (end_code denied))
-        (⟦<Gear as GearTold>⟧.players (gear_in library.old))
-        world.old.process.ledger (⟦<Library as LibraryTold>⟧.slots library.old)
-        world.new.process.ledger (⟦<Library as LibraryTold>⟧.slots library.new) }
-    ensures sound { IsSoundFor (⟦<Gear as GearTold>⟧.players (gear_in library.new))
-        (⟦<Library as LibraryTold>⟧.slots library.new) world.new.process.ledger }
+    ensures others { let seen = ⟦<Session as Told>⟧.seen in (number : ℕ) → (number ≡ 1 → ⊥) →
+        slot_at (seen library.new world.new).slots number
+        ≡ slot_at (seen library.old world.old).slots number }
+    ensures went { let seen = ⟦<Session as Told>⟧.seen in Went (IsEndWith (end_code denied))
+        (seen library.old world.old) (seen library.new world.new) }
     ensures shows { IsTrue (K.sink_tells out.old) →
         Shows SaysEnd result (K.sink_holds out.old) (K.sink_holds out.new) }
     ensures faults { RisesIf (has_write_fault result) (K.sink_faults out.old)
@@ -357,28 +288,16 @@ fn closing_code(outcome: Result<Verdict, Stop>) -> Code
 
 // Ends the first transaction, if it is open, and writes nothing. It allocates nothing.
 fn end_silently(alloc: Global, library: &mut Library, code: Code, world: &mut World)
-    requires { IsSoundFor (⟦<Gear as GearTold>⟧.players (gear_in library.old))
-        (⟦<Library as LibraryTold>⟧.slots library.old) world.old.process.ledger }
-    ensures gear { gear_in library.new ≡ gear_in library.old }
-    ensures tells { ⟦<Library as LibraryTold>⟧.tells library.new
-        ≡ ⟦<Library as LibraryTold>⟧.tells library.old }
-    ensures world_tells { ⟦<World as WorldTold>⟧.tells world.new
-        ≡ ⟦<World as WorldTold>⟧.tells world.old }
-    ensures ended { (delay : Code → ℕ → ℕ) →
-        (let setting = setting_of (⟦<Gear as GearTold>⟧.players (gear_in library.old)) delay in
-        state_of (⟦<Library as LibraryTold>⟧.slots library.new)
-        (⟦<World as WorldTold>⟧.plain world.new)
-        ≡ (make setting (end_call code) (state_of (⟦<Library as LibraryTold>⟧.slots library.old)
-        (⟦<World as WorldTold>⟧.plain world.old))).state) }
-    ensures others { (number : ℕ) → (number ≡ 1 → ⊥) →
-        slot_at (⟦<Library as LibraryTold>⟧.slots library.new) number
-        ≡ slot_at (⟦<Library as LibraryTold>⟧.slots library.old) number }
-    ensures proceeds { ProceedsFor (IsEndWith code)
-        (⟦<Gear as GearTold>⟧.players (gear_in library.old))
-        world.old.process.ledger (⟦<Library as LibraryTold>⟧.slots library.old)
-        world.new.process.ledger (⟦<Library as LibraryTold>⟧.slots library.new) }
-    ensures sound { IsSoundFor (⟦<Gear as GearTold>⟧.players (gear_in library.new))
-        (⟦<Library as LibraryTold>⟧.slots library.new) world.new.process.ledger }
+    requires { IsSoundIn (⟦<Session as Told>⟧.seen library.old world.old) }
+    ensures ended { let seen = ⟦<Session as Told>⟧.seen in (delay : Code → ℕ → ℕ) →
+        (let setting = setting_in (seen library.old world.old) delay in
+        state (seen library.new world.new) ≡ (make setting (end_call code)
+        (state (seen library.old world.old))).state) }
+    ensures others { let seen = ⟦<Session as Told>⟧.seen in (number : ℕ) → (number ≡ 1 → ⊥) →
+        slot_at (seen library.new world.new).slots number
+        ≡ slot_at (seen library.old world.old).slots number }
+    ensures went { let seen = ⟦<Session as Told>⟧.seen in Went (IsEndWith code)
+        (seen library.old world.old) (seen library.new world.new) }
 {
     let step = Step {
         number: 1,

@@ -1,11 +1,10 @@
 -- What the bytes of frames alone say of a run, and what was written.
-use Rattle.std.proofs.Common.{◌≡◌, ℕ, ◌≤◌, ◌<◌, inl, inr, List, [], ◌++◌, length, drop, Some, None, Result, Ok, Err, refl, sym, ap, ◌∙◌, append_assoc, append-nil, length-append, arith}
+use Rattle.std.proofs.Common.{◌≡◌, ℕ, ◌≤◌, ◌<◌, inl, inr, List, [], ◌++◌, length, drop, Some, None, Result, Ok, Err, refl, sym, ap, ◌∙◌, append_assoc, length-append, arith}
 use Rattle.std.proofs.lemmas.List.Elements.{All-append, All-drop, All-same}
 use Rattle.std.proofs.lemmas.Bool.{le-leb, lt-leb}
 use Rattle.std.proofs.Math.Seq.{drop-append_seam}
 use Rattle.pam_base.specs.declared.call.Step.{Step}
-use Rattle.pam_base.specs.declared.fault.Failed.{Failed}
-use Rattle.pam_outside.specs.Streams.{SourceState, SinkState, WritesWhole}
+use Rattle.pam_outside.specs.Streams.{SourceState, SinkState}
 use Rattle.session_run.specs.pam_room.specs.Module.{Player}
 use Rattle.pam_base.specs.declared.code.Code.{Code}
 use Rattle.pam_wire.specs.Read.{step_of}
@@ -71,40 +70,6 @@ takes_on held x y z a b = record {
 }
 
 -- ---- what is written
-
-pub ok_unwritten : {T : Type 0} (t : T) (p : SinkState) → WritesSome {T = T} (Ok t) p p
-ok_unwritten t p = record { text = []; written = sym (append-nil p.written); calls = omega arith; calls_ok = omega arith }
-
-pub err_unwritten : {T : Type 0} (stop : Stop) (p : SinkState) → WritesSome {T = T} (Err stop) p p
-err_unwritten stop p = record { text = []; written = sym (append-nil p.written); calls = omega arith; calls_ok = tt }
-
-pub all_written : {T : Type 0} (t : T) (u : Unit {0}) (text : List ℕ) (p q : SinkState) → WritesWhole {T = Unit {0}} (Ok u) text p q → WritesSome {T = T} (Ok t) p q
-all_written t u text p q w = record { text = w.front; written = w.written; calls = w.calls; calls_ok = w.calls_ok }
-
-pub front_written : {T : Type 0} (failed : Failed) (text : List ℕ) (p q : SinkState) → WritesWhole {T = Unit {0}} (Err failed) text p q → WritesSome {T = T} (Err WriteFault) p q
-front_written failed text p q w = record { text = w.front; written = w.written; calls = w.calls; calls_ok = tt }
-
-pub ok_as : {T U : Type 0} (t : T) (u : U) (p q : SinkState) → WritesSome {T = T} (Ok t) p q → WritesSome {T = U} (Ok u) p q
-ok_as t u p q w = record { text = w.text; written = w.written; calls = w.calls; calls_ok = w.calls_ok }
-
-pub err_as : {T U : Type 0} (stop : Stop) (p q : SinkState) → WritesSome {T = T} (Err stop) p q → WritesSome {T = U} (Err stop) p q
-err_as stop p q w = record { text = w.text; written = w.written; calls = w.calls; calls_ok = tt }
-
-pub ok_then : {T U V : Type 0} (t : T) (u : U) (v : V) (p q r : SinkState) → WritesSome {T = T} (Ok t) p q → WritesSome {T = U} (Ok u) q r → WritesSome {T = V} (Ok v) p r
-ok_then t u v p q r a b = record {
-  text = a.text ++ b.text;
-  written = b.written ∙ ap (λ (x : List ℕ). x ++ b.text) a.written ∙ append_assoc p.written a.text b.text;
-  calls = omega (arith, a.calls_ok, b.calls, length-append a.text b.text);
-  calls_ok = omega (arith, a.calls_ok, b.calls_ok, length-append a.text b.text);
-}
-
-pub err_then : {T U V : Type 0} (t : T) (stop : Stop) (p q r : SinkState) → WritesSome {T = T} (Ok t) p q → WritesSome {T = U} (Err stop) q r → WritesSome {T = V} (Err stop) p r
-err_then t stop p q r a b = record {
-  text = a.text ++ b.text;
-  written = b.written ∙ ap (λ (x : List ℕ). x ++ b.text) a.written ∙ append_assoc p.written a.text b.text;
-  calls = omega (arith, a.calls_ok, b.calls, length-append a.text b.text);
-  calls_ok = tt;
-}
 
 pub run_stopped : (stop : Stop) (p q : SinkState) → WritesSome {T = Ending FrameFault} (Err stop) p q → WritesScript p q
 run_stopped stop p q w = record { text = w.text; written = w.written; calls = w.calls }

@@ -1,9 +1,6 @@
 pub mod Serving
-pub mod Proceeding
-pub mod Filed
 pub mod Consuming
 pub mod Asking
 pub mod Wording
-pub mod Telling
 pub mod Answering
 pub mod Wholly

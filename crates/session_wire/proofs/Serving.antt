@@ -1,11 +1,9 @@
 -- What a frame does, by the step that it is read as.
-use Rattle.std.proofs.Common.{◌≡◌, ℕ, ◌≤◌, ◌<◌, Bool, true, false, ◌&&◌, List, Option, Some, None, Ok, Err, refl, ap, inl, inr}
+use Rattle.std.proofs.Common.{◌≡◌, ℕ, ◌≤◌, ◌<◌, List, Some, None, Ok, Err, refl, ap, inl, inr}
 use Rattle.std.proofs.lemmas.Bool.{le-leb, lt-leb}
-use Rattle.pam_base.specs.declared.call.AppCall.{AppCall}
 use Rattle.pam_base.specs.declared.call.Step.{Step}
 use Rattle.session_run.specs.dispatch_core.specs.Lines.{names_of}
 use Rattle.session_run.specs.pam_room.specs.State.{PlainWorld}
-use Rattle.session_run.specs.pam_library.specs.AnyWorld.{FailsAt}
 use Rattle.session_run.specs.pam_library.specs.Outcome.{PlainOutcome}
 use Rattle.session_run.specs.pam_library.specs.Slots.{PlainSlot}
 use Rattle.session_run.specs.pam_library.specs.Step.{stepped, StepsAs}
@@ -17,10 +15,6 @@ use Rattle.frame_stream.specs.declared.fault.FrameFault.TheVariants.{BadFrame, T
 use Rattle.frame_stream.specs.Run.{called, step_at}
 use Rattle.session_run.specs.State.{Setting, RunState, state_of}
 use Rattle.session_wire.specs.Step.{answers, Fails}
-
-pub failed_place : (a b : Bool) (call : AppCall) (old new : Option PlainSlot) → (a && b) ≡ true → FailsAt a call old new → FailsAt true call old new
-failed_place true b call old new told fails = fails
-failed_place false b call old new told fails = absurd cc
 
 module _ (setting : Setting) where
   pub too_many : (n : ℕ) (s : RunState) (frame : List ℕ) → 65536 ≤ n → step_at (answers setting) n s frame ≡ Err TooManyFrames

@@ -1,12 +1,8 @@
 ghost use Rattle.std.specs.Prelude.{◌≡◌, ◌<◌, true, false, Ok, IsTrue, OnOk};
 ghost use Rattle.pam_outside.specs.Counts.{RisesIf};
-ghost use Rattle.session_run.specs.pam_library.specs.Plain.{gear_in};
-ghost use Rattle.session_run.specs.pam_library.specs.Slots.{NoneIsOpen};
-ghost use Rattle.session_run.specs.pam_library.specs.Sound.{IsSoundFor};
-ghost use Rattle.session_run.specs.AnyWorld.{ProceedsFor};
 ghost use Rattle.session_run.specs.Ends.{HasStatus};
 ghost use Rattle.item_stream.specs.Turns.{has_write_fault};
-ghost use Rattle.session_run.specs.State.{state_of};
+ghost use Rattle.session_run.specs.Seen.{IsSoundIn, NoneIsOpenIn, Went, state};
 ghost use Rattle.session_run.specs.Closings.{open_count};
 ghost use Rattle.session_wire.specs.Answered.{Closes, ClosesNext};
 
@@ -14,11 +10,10 @@ use item_stream::Stop;
 use pam_base::{Code, Failed, NoMemory};
 use pam_outside::{Sink, write_all};
 use pam_wire::answer_of;
-use session_run::end_next;
-use session_run::pam_handle::{Gear, GearTold};
-use session_run::pam_library::{Library, LibraryTold};
-use session_run::pam_room::{World, WorldTold};
+use session_run::pam_library::Library;
+use session_run::pam_room::World;
 use session_run::session_report::closing_report;
+use session_run::{Session, Told, end_next};
 use std::alloc::Global;
 
 /// Ends every open transaction with this status, the lowest number first, and writes the answer of each before it
@@ -30,28 +25,16 @@ pub(crate) fn close_answered<K: Sink>(
     sink: &mut K,
     world: &mut World,
 ) -> Result<(), Stop>
-    requires { IsSoundFor (⟦<Gear as GearTold>⟧.players (gear_in library.old))
-        (⟦<Library as LibraryTold>⟧.slots library.old) world.old.process.ledger }
-    ensures gear { gear_in library.new ≡ gear_in library.old }
-    ensures tells { ⟦<Library as LibraryTold>⟧.tells library.new
-        ≡ ⟦<Library as LibraryTold>⟧.tells library.old }
-    ensures world_tells { ⟦<World as WorldTold>⟧.tells world.new
-        ≡ ⟦<World as WorldTold>⟧.tells world.old }
+    requires { IsSoundIn (⟦<Session as Told>⟧.seen library.old world.old) }
     ensures sink_tells { K.sink_tells sink.new ≡ K.sink_tells sink.old }
-    ensures told { IsTrue (K.sink_tells sink.old) →
-        Closes (⟦<Gear as GearTold>⟧.players (gear_in library.old)) status result
-        (state_of (⟦<Library as LibraryTold>⟧.slots library.old)
-        (⟦<World as WorldTold>⟧.plain world.old))
-        (state_of (⟦<Library as LibraryTold>⟧.slots library.new)
-        (⟦<World as WorldTold>⟧.plain world.new))
+    ensures told { let seen = ⟦<Session as Told>⟧.seen in IsTrue (K.sink_tells sink.old) →
+        Closes (seen library.old world.old).players status result
+        (state (seen library.old world.old)) (state (seen library.new world.new))
         (K.sink_holds sink.old) (K.sink_holds sink.new) }
-    ensures none_open { OnOk result (NoneIsOpen (⟦<Library as LibraryTold>⟧.slots library.new)) }
-    ensures proceeds { ProceedsFor (HasStatus status)
-        (⟦<Gear as GearTold>⟧.players (gear_in library.old))
-        world.old.process.ledger (⟦<Library as LibraryTold>⟧.slots library.old)
-        world.new.process.ledger (⟦<Library as LibraryTold>⟧.slots library.new) }
-    ensures sound { IsSoundFor (⟦<Gear as GearTold>⟧.players (gear_in library.new))
-        (⟦<Library as LibraryTold>⟧.slots library.new) world.new.process.ledger }
+    ensures none_open { OnOk result (NoneIsOpenIn
+        (⟦<Session as Told>⟧.seen library.new world.new)) }
+    ensures went { let seen = ⟦<Session as Told>⟧.seen in Went (HasStatus status)
+        (seen library.old world.old) (seen library.new world.new) }
     ensures faults { RisesIf (has_write_fault result) (K.sink_faults sink.old)
         (K.sink_faults sink.new) }
 {
@@ -72,31 +55,19 @@ fn close_next<K: Sink>(
     sink: &mut K,
     world: &mut World,
 ) -> Result<bool, Stop>
-    requires { IsSoundFor (⟦<Gear as GearTold>⟧.players (gear_in library.old))
-        (⟦<Library as LibraryTold>⟧.slots library.old) world.old.process.ledger }
-    ensures gear { gear_in library.new ≡ gear_in library.old }
-    ensures tells { ⟦<Library as LibraryTold>⟧.tells library.new
-        ≡ ⟦<Library as LibraryTold>⟧.tells library.old }
-    ensures world_tells { ⟦<World as WorldTold>⟧.tells world.new
-        ≡ ⟦<World as WorldTold>⟧.tells world.old }
+    requires { IsSoundIn (⟦<Session as Told>⟧.seen library.old world.old) }
     ensures sink_tells { K.sink_tells sink.new ≡ K.sink_tells sink.old }
-    ensures told { IsTrue (K.sink_tells sink.old) →
-        ClosesNext (⟦<Gear as GearTold>⟧.players (gear_in library.old)) status result
-        (state_of (⟦<Library as LibraryTold>⟧.slots library.old)
-        (⟦<World as WorldTold>⟧.plain world.old))
-        (state_of (⟦<Library as LibraryTold>⟧.slots library.new)
-        (⟦<World as WorldTold>⟧.plain world.new))
+    ensures told { let seen = ⟦<Session as Told>⟧.seen in IsTrue (K.sink_tells sink.old) →
+        ClosesNext (seen library.old world.old).players status result
+        (state (seen library.old world.old)) (state (seen library.new world.new))
         (K.sink_holds sink.old) (K.sink_holds sink.new) }
-    ensures fewer { result ≡ Ok true → open_count (⟦<Library as LibraryTold>⟧.slots library.new)
-        < open_count (⟦<Library as LibraryTold>⟧.slots library.old) }
-    ensures none_open { result ≡ Ok false → NoneIsOpen
-        (⟦<Library as LibraryTold>⟧.slots library.new) }
-    ensures proceeds { ProceedsFor (HasStatus status)
-        (⟦<Gear as GearTold>⟧.players (gear_in library.old))
-        world.old.process.ledger (⟦<Library as LibraryTold>⟧.slots library.old)
-        world.new.process.ledger (⟦<Library as LibraryTold>⟧.slots library.new) }
-    ensures sound { IsSoundFor (⟦<Gear as GearTold>⟧.players (gear_in library.new))
-        (⟦<Library as LibraryTold>⟧.slots library.new) world.new.process.ledger }
+    ensures fewer { let seen = ⟦<Session as Told>⟧.seen in result ≡ Ok true →
+        open_count (seen library.new world.new).slots
+        < open_count (seen library.old world.old).slots }
+    ensures none_open { result ≡ Ok false →
+        NoneIsOpenIn (⟦<Session as Told>⟧.seen library.new world.new) }
+    ensures went { let seen = ⟦<Session as Told>⟧.seen in Went (HasStatus status)
+        (seen library.old world.old) (seen library.new world.new) }
     ensures faults { RisesIf (has_write_fault result) (K.sink_faults sink.old)
         (K.sink_faults sink.new) }
 {

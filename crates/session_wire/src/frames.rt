@@ -1,17 +1,14 @@
-ghost use Rattle.std.specs.Prelude.{◌≡◌, ◌&&◌, ◌≤◌, ◌+◌, ◌++◌, ℕ, [], None, Ok, IsTrue, is_err};
+ghost use Rattle.std.specs.Prelude.{◌≡◌, ◌≤◌, ◌+◌, ◌++◌, ℕ, [], None, Ok, IsTrue, is_err};
 ghost use Rattle.pam_base.specs.declared.code.Code.{Code};
 ghost use Rattle.pam_outside.specs.Counts.{RisesIf};
-ghost use Rattle.session_run.specs.pam_library.specs.Plain.{gear_in};
-ghost use Rattle.session_run.specs.pam_library.specs.Sound.{IsSoundFor};
 ghost use Rattle.pam_wire.specs.Frame.{AreBytes};
 ghost use Rattle.item_stream.specs.Taking.{Finds, IsFound};
 ghost use Rattle.item_stream.specs.Turns.{Turns, has_read_fault, has_write_fault};
 ghost use Rattle.item_stream.specs.Whole.{Runs, at_last};
 ghost use Rattle.frame_stream.specs.Looked.{looked, refuses};
 ghost use Rattle.frame_stream.specs.Run.{step_at};
-ghost use Rattle.session_run.specs.AnyWorld.{ProceedsFor};
 ghost use Rattle.session_run.specs.Reading.{WritesSome};
-ghost use Rattle.session_run.specs.State.{setting_of, state_of};
+ghost use Rattle.session_run.specs.Seen.{AllTell, IsSoundIn, Went, setting_in, state};
 ghost use Rattle.session_wire.specs.Ends.{IsEndIn, LeadsTo};
 ghost use Rattle.session_wire.specs.Reading.{ReadsAll, ReadsTurn, TakesBytes};
 ghost use Rattle.session_wire.specs.Step.{answers, Fails};
@@ -19,14 +16,13 @@ ghost use Rattle.session_wire.specs.Step.{answers, Fails};
 use crate::meaning::Meaning;
 use crate::reading::reading_is_turns;
 use crate::serve::serve_frame;
-use fail_delay::{DelayFn, DelayTold};
 use frame_stream::{FrameFault, FramesOf, MAX_FRAMES};
 use item_stream::{Ending, Found, Reader, Stop, laws};
 use pam_base::{Failed, NoMemory};
 use pam_outside::{Sink, Source};
-use session_run::pam_handle::{Gear, GearTold};
-use session_run::pam_library::{Library, LibraryTold};
-use session_run::pam_room::{World, WorldTold};
+use session_run::pam_library::Library;
+use session_run::pam_room::World;
+use session_run::{Session, Told};
 use std::alloc::Global;
 
 /// Applies the frames of a stream one by one until they end or one is refused, and counts those that were applied.
@@ -39,28 +35,17 @@ pub(crate) fn serve_frames<S: Source, K: Sink>(
     world: &mut World,
 ) -> Result<Ending<FrameFault>, Stop>
     requires first { frames.old ≡ 0 }
-    requires sound { IsSoundFor (⟦<Gear as GearTold>⟧.players (gear_in library.old))
-        (⟦<Library as LibraryTold>⟧.slots library.old) world.old.process.ledger }
-    ensures gear { gear_in library.new ≡ gear_in library.old }
-    ensures tells { ⟦<Library as LibraryTold>⟧.tells library.new
-        ≡ ⟦<Library as LibraryTold>⟧.tells library.old }
-    ensures world_tells { ⟦<World as WorldTold>⟧.tells world.new
-        ≡ ⟦<World as WorldTold>⟧.tells world.old }
+    requires sound { IsSoundIn (⟦<Session as Told>⟧.seen library.old world.old) }
     ensures source_tells { S.source_tells source.new ≡ S.source_tells source.old }
     ensures sink_tells { K.sink_tells sink.new ≡ K.sink_tells sink.old }
-    ensures told { (delay : Code → ℕ → ℕ) →
-        ⟦<DelayFn as DelayTold>⟧.delay_is (gear_in library.old).delay delay →
-        IsTrue (⟦<Library as LibraryTold>⟧.tells library.old
-        && ⟦<World as WorldTold>⟧.tells world.old) →
+    ensures told { let seen = ⟦<Session as Told>⟧.seen in (delay : Code → ℕ → ℕ) →
+        (seen library.old world.old).gives delay → AllTell (seen library.old world.old) →
         IsTrue (S.source_tells source.old) → IsTrue (K.sink_tells sink.old) →
-        (let setting = setting_of (⟦<Gear as GearTold>⟧.players (gear_in library.old)) delay in
+        (let setting = setting_in (seen library.old world.old) delay in
         Runs looked (step_at (answers setting)) (Fails setting) result frames.new
-        (state_of (⟦<Library as LibraryTold>⟧.slots library.old)
-        (⟦<World as WorldTold>⟧.plain world.old))
-        (state_of (⟦<Library as LibraryTold>⟧.slots library.new)
-        (⟦<World as WorldTold>⟧.plain world.new))
-        (S.source_holds source.old) (S.source_holds source.new)
-        (K.sink_holds sink.old) (K.sink_holds sink.new)) }
+        (state (seen library.old world.old)) (state (seen library.new world.new))
+        (S.source_holds source.old) (S.source_holds source.new) (K.sink_holds sink.old)
+        (K.sink_holds sink.new)) }
     ensures reads { IsTrue (S.source_tells source.old) →
         ReadsAll result frames.new (S.source_holds source.old) (S.source_holds source.new) }
     ensures takes { IsTrue (S.source_tells source.old) →
@@ -68,12 +53,9 @@ pub(crate) fn serve_frames<S: Source, K: Sink>(
     ensures writes { IsTrue (K.sink_tells sink.old) →
         WritesSome result (K.sink_holds sink.old) (K.sink_holds sink.new) }
     ensures few { frames.new ≤ MAX_FRAMES }
-    ensures proceeds { ProceedsFor (IsEndIn (S.source_tells source.old) 0
-        (S.source_holds source.old).left) (⟦<Gear as GearTold>⟧.players (gear_in library.old))
-        world.old.process.ledger (⟦<Library as LibraryTold>⟧.slots library.old)
-        world.new.process.ledger (⟦<Library as LibraryTold>⟧.slots library.new) }
-    ensures sound { IsSoundFor (⟦<Gear as GearTold>⟧.players (gear_in library.new))
-        (⟦<Library as LibraryTold>⟧.slots library.new) world.new.process.ledger }
+    ensures went { let seen = ⟦<Session as Told>⟧.seen in Went (IsEndIn (S.source_tells source.old)
+        0 (S.source_holds source.old).left) (seen library.old world.old)
+        (seen library.new world.new) }
     ensures source_faults { RisesIf (has_read_fault (at_last result)) (S.source_faults source.old)
         (S.source_faults source.new) }
     ensures sink_faults { RisesIf (has_write_fault result) (K.sink_faults sink.old)
@@ -107,29 +89,17 @@ fn take_turn<S: Source, K: Sink>(
     world: &mut World,
 ) -> Result<Option<Ending<FrameFault>>, Stop>
     requires few { frames.old ≤ MAX_FRAMES }
-    requires sound { IsSoundFor (⟦<Gear as GearTold>⟧.players (gear_in library.old))
-        (⟦<Library as LibraryTold>⟧.slots library.old) world.old.process.ledger }
-    ensures gear { gear_in library.new ≡ gear_in library.old }
-    ensures tells { ⟦<Library as LibraryTold>⟧.tells library.new
-        ≡ ⟦<Library as LibraryTold>⟧.tells library.old }
-    ensures world_tells { ⟦<World as WorldTold>⟧.tells world.new
-        ≡ ⟦<World as WorldTold>⟧.tells world.old }
+    requires sound { IsSoundIn (⟦<Session as Told>⟧.seen library.old world.old) }
     ensures source_tells { S.source_tells source.new ≡ S.source_tells source.old }
     ensures sink_tells { K.sink_tells sink.new ≡ K.sink_tells sink.old }
-    ensures told { (delay : Code → ℕ → ℕ) →
-        ⟦<DelayFn as DelayTold>⟧.delay_is (gear_in library.old).delay delay →
-        IsTrue (⟦<Library as LibraryTold>⟧.tells library.old
-        && ⟦<World as WorldTold>⟧.tells world.old) →
+    ensures told { let seen = ⟦<Session as Told>⟧.seen in (delay : Code → ℕ → ℕ) →
+        (seen library.old world.old).gives delay → AllTell (seen library.old world.old) →
         IsTrue (S.source_tells source.old) → IsTrue (K.sink_tells sink.old) →
-        (let setting = setting_of (⟦<Gear as GearTold>⟧.players (gear_in library.old)) delay in
+        (let setting = setting_in (seen library.old world.old) delay in
         Turns looked (step_at (answers setting)) (Fails setting) result frames.old frames.new
-        (state_of (⟦<Library as LibraryTold>⟧.slots library.old)
-        (⟦<World as WorldTold>⟧.plain world.old))
-        (state_of (⟦<Library as LibraryTold>⟧.slots library.new)
-        (⟦<World as WorldTold>⟧.plain world.new))
-        reader.old reader.new
-        (S.source_holds source.old) (S.source_holds source.new)
-        (K.sink_holds sink.old) (K.sink_holds sink.new)) }
+        (state (seen library.old world.old)) (state (seen library.new world.new)) reader.old
+        reader.new (S.source_holds source.old) (S.source_holds source.new) (K.sink_holds sink.old)
+        (K.sink_holds sink.new)) }
     ensures reads { IsTrue (S.source_tells source.old) →
         ReadsTurn result frames.old frames.new reader.old reader.new (S.source_holds source.old)
         (S.source_holds source.new) }
@@ -142,13 +112,9 @@ fn take_turn<S: Source, K: Sink>(
     ensures leads { result ≡ Ok None → IsTrue (S.source_tells source.old) →
         LeadsTo frames.old frames.new (reader.old ++ (S.source_holds source.old).left)
         (reader.new ++ (S.source_holds source.new).left) }
-    ensures proceeds { ProceedsFor (IsEndIn (S.source_tells source.old) frames.old
-        (reader.old ++ (S.source_holds source.old).left))
-        (⟦<Gear as GearTold>⟧.players (gear_in library.old))
-        world.old.process.ledger (⟦<Library as LibraryTold>⟧.slots library.old)
-        world.new.process.ledger (⟦<Library as LibraryTold>⟧.slots library.new) }
-    ensures sound { IsSoundFor (⟦<Gear as GearTold>⟧.players (gear_in library.new))
-        (⟦<Library as LibraryTold>⟧.slots library.new) world.new.process.ledger }
+    ensures went { let seen = ⟦<Session as Told>⟧.seen in Went (IsEndIn (S.source_tells source.old)
+        frames.old (reader.old ++ (S.source_holds source.old).left)) (seen library.old world.old)
+        (seen library.new world.new) }
     ensures source_faults { RisesIf (has_read_fault result) (S.source_faults source.old)
         (S.source_faults source.new) }
     ensures sink_faults { RisesIf (has_write_fault result) (K.sink_faults sink.old)

@@ -1,14 +1,10 @@
-ghost use Rattle.std.specs.Prelude.{◌≡◌, ◌&&◌, ◌<◌, ℕ, true, Ok, Some, IsTrue, IfOk, length};
+ghost use Rattle.std.specs.Prelude.{◌≡◌, ◌<◌, ℕ, true, Ok, Some, IsTrue, IfOk, length};
 ghost use Rattle.pam_base.specs.declared.code.Code.{Code as TheCode};
 ghost use Rattle.session_run.specs.data_cleanup.specs.Ledger.{is_filed};
 ghost use Rattle.pam_outside.specs.Counts.{RisesIf, Rose};
-ghost use Rattle.session_run.specs.pam_library.specs.Plain.{gear_in};
-ghost use Rattle.session_run.specs.pam_library.specs.Slots.{NoneIsOpen};
-ghost use Rattle.session_run.specs.pam_library.specs.Sound.{IsSoundFor};
 ghost use Rattle.item_stream.specs.Turns.{has_read_fault, has_write_fault};
-ghost use Rattle.session_run.specs.AnyWorld.{ProceedsFor};
 ghost use Rattle.session_run.specs.Reading.{WritesScript};
-ghost use Rattle.session_run.specs.State.{setting_of, state_of};
+ghost use Rattle.session_run.specs.Seen.{AllTell, IsSoundIn, NoneIsOpenIn, Went, setting_in, state};
 ghost use Rattle.session_wire.specs.Ends.{IsEndOfRun};
 ghost use Rattle.session_wire.specs.Reading.{ReadsFrames};
 ghost use Rattle.session_wire.specs.Whole.{Answers, Completes, RunsFrames, ending_status};
@@ -17,15 +13,13 @@ use crate::closing::close_answered;
 use crate::frames::serve_frames;
 use crate::meaning::Meaning;
 use crate::reading::reading_is_turns;
-use fail_delay::{DelayFn, DelayTold};
 use frame_stream::FrameFault;
 use item_stream::{Ending, Stop};
 use pam_base::Code;
 use pam_outside::{Sink, Source};
-use session_run::pam_handle::{Gear, GearTold};
-use session_run::pam_library::{Library, LibraryTold};
-use session_run::pam_room::{World, WorldTold};
-use session_run::{close_silently, stop_status};
+use session_run::pam_library::Library;
+use session_run::pam_room::World;
+use session_run::{Session, Told, close_silently, stop_status};
 use std::alloc::Global;
 
 /// Runs a stream of frames. Each call is made in its transaction and its answer written before the next frame is
@@ -48,36 +42,25 @@ pub fn run_frames<S: Source, K: Sink>(
     sink: &mut K,
     world: &mut World,
 ) -> Result<Ending<FrameFault>, Stop>
-    requires { IsSoundFor (⟦<Gear as GearTold>⟧.players (gear_in library.old))
-        (⟦<Library as LibraryTold>⟧.slots library.old) world.old.process.ledger }
+    requires { IsSoundIn (⟦<Session as Told>⟧.seen library.old world.old) }
     // If all objects are modelled: what was read and written, frame by frame, and the library and world afterwards.
-    ensures told { (delay : TheCode → ℕ → ℕ) →
-        ⟦<DelayFn as DelayTold>⟧.delay_is (gear_in library.old).delay delay →
-        IsTrue (⟦<Library as LibraryTold>⟧.tells library.old
-        && ⟦<World as WorldTold>⟧.tells world.old) →
+    ensures told { let seen = ⟦<Session as Told>⟧.seen in (delay : TheCode → ℕ → ℕ) →
+        (seen library.old world.old).gives delay → AllTell (seen library.old world.old) →
         IsTrue (S.source_tells source.old) → IsTrue (K.sink_tells sink.old) →
-        RunsFrames (setting_of (⟦<Gear as GearTold>⟧.players (gear_in library.old)) delay) result
-        (state_of (⟦<Library as LibraryTold>⟧.slots library.old)
-        (⟦<World as WorldTold>⟧.plain world.old))
-        (state_of (⟦<Library as LibraryTold>⟧.slots library.new)
-        (⟦<World as WorldTold>⟧.plain world.new))
-        (S.source_holds source.old) (S.source_holds source.new)
-        (K.sink_holds sink.old) (K.sink_holds sink.new) }
+        RunsFrames (setting_in (seen library.old world.old) delay) result
+        (state (seen library.old world.old)) (state (seen library.new world.new))
+        (S.source_holds source.old) (S.source_holds source.new) (K.sink_holds sink.old)
+        (K.sink_holds sink.new) }
 
     // The same by the steps in the bytes that were read: their answers are written, then those of the implicit
     // pam_end.
-    ensures answered { (delay : TheCode → ℕ → ℕ) →
-        ⟦<DelayFn as DelayTold>⟧.delay_is (gear_in library.old).delay delay →
-        IsTrue (⟦<Library as LibraryTold>⟧.tells library.old
-        && ⟦<World as WorldTold>⟧.tells world.old) →
+    ensures answered { let seen = ⟦<Session as Told>⟧.seen in (delay : TheCode → ℕ → ℕ) →
+        (seen library.old world.old).gives delay → AllTell (seen library.old world.old) →
         IsTrue (S.source_tells source.old) → IsTrue (K.sink_tells sink.old) →
-        Answers (setting_of (⟦<Gear as GearTold>⟧.players (gear_in library.old)) delay) result
-        (state_of (⟦<Library as LibraryTold>⟧.slots library.old)
-        (⟦<World as WorldTold>⟧.plain world.old))
-        (state_of (⟦<Library as LibraryTold>⟧.slots library.new)
-        (⟦<World as WorldTold>⟧.plain world.new))
-        (S.source_holds source.old) (S.source_holds source.new)
-        (K.sink_holds sink.old) (K.sink_holds sink.new) }
+        Answers (setting_in (seen library.old world.old) delay) result
+        (state (seen library.old world.old)) (state (seen library.new world.new))
+        (S.source_holds source.old) (S.source_holds source.new) (K.sink_holds sink.old)
+        (K.sink_holds sink.new) }
 
     // If only the source is modelled: how often it was read, and how the bytes that were read end the run. If only
     // the sink is: how often it was written.
@@ -93,16 +76,12 @@ pub fn run_frames<S: Source, K: Sink>(
         (Rose (K.sink_faults sink.old) (K.sink_faults sink.new)) }
 
     // With real objects too: all module data was cleaned up, and no transaction is open.
-    ensures none_open { NoneIsOpen (⟦<Library as LibraryTold>⟧.slots library.new) }
+    ensures none_open { NoneIsOpenIn (⟦<Session as Told>⟧.seen library.new world.new) }
     ensures filed { (id : ℕ) → id < length world.new.process.ledger.births →
         is_filed world.new.process.ledger id ≡ true }
-    ensures proceeds { ProceedsFor (IsEndOfRun (S.source_tells source.old)
-        (S.source_holds source.old).left) (⟦<Gear as GearTold>⟧.players (gear_in library.old))
-        world.old.process.ledger (⟦<Library as LibraryTold>⟧.slots library.old)
-        world.new.process.ledger (⟦<Library as LibraryTold>⟧.slots library.new) }
-    ensures sound { IsSoundFor (⟦<Gear as GearTold>⟧.players (gear_in library.new))
-        (⟦<Library as LibraryTold>⟧.slots library.new) world.new.process.ledger }
-    ensures gear { gear_in library.new ≡ gear_in library.old }
+    ensures went { let seen = ⟦<Session as Told>⟧.seen in Went (IsEndOfRun
+        (S.source_tells source.old) (S.source_holds source.old).left) (seen library.old world.old)
+        (seen library.new world.new) }
 
     // The causes, with real objects too.
     ensures source_faults { IfOk result (λ ending. RisesIf (has_read_fault (Ok (Some ending)))
@@ -111,10 +90,6 @@ pub fn run_frames<S: Source, K: Sink>(
         (K.sink_faults sink.new) }
 
     // What is modelled before the run is modelled after it.
-    ensures tells { ⟦<Library as LibraryTold>⟧.tells library.new
-        ≡ ⟦<Library as LibraryTold>⟧.tells library.old }
-    ensures world_tells { ⟦<World as WorldTold>⟧.tells world.new
-        ≡ ⟦<World as WorldTold>⟧.tells world.old }
     ensures source_tells { S.source_tells source.new ≡ S.source_tells source.old }
     ensures sink_tells { K.sink_tells sink.new ≡ K.sink_tells sink.old }
 {

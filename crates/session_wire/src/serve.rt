@@ -1,33 +1,29 @@
-ghost use Rattle.std.specs.Prelude.{◌≡◌, ◌&&◌, ◌<◌, ℕ, List, IsTrue, None, Some, Ok};
+ghost use Rattle.std.specs.Prelude.{◌≡◌, ◌<◌, ℕ, List, IsTrue, None, Some, Ok};
 ghost use Rattle.pam_base.specs.declared.call.Step.{Step as TheStep};
 ghost use Rattle.pam_base.specs.declared.code.Code.{Code};
 ghost use Rattle.pam_base.specs.Call.{is_fit};
 ghost use Rattle.pam_outside.specs.Counts.{RisesIf};
-ghost use Rattle.session_run.specs.pam_library.specs.Plain.{gear_in};
-ghost use Rattle.session_run.specs.pam_library.specs.Sound.{IsSoundFor};
 ghost use Rattle.pam_wire.specs.Frame.{IsFrame};
 ghost use Rattle.pam_wire.specs.Read.{step_of};
 ghost use Rattle.item_stream.specs.Turns.{ServesTold, has_write_fault};
 ghost use Rattle.frame_stream.specs.Run.{step_at};
-ghost use Rattle.session_run.specs.AnyWorld.{ProceedsFor};
 ghost use Rattle.session_run.specs.Ends.{IsEndStep};
 ghost use Rattle.session_run.specs.Reading.{WritesSome};
-ghost use Rattle.session_run.specs.State.{setting_of, state_of};
+ghost use Rattle.session_run.specs.Seen.{AllTell, IsSoundIn, Went, setting_in, state};
 ghost use Rattle.session_wire.specs.Ends.{AsksEndAt};
 ghost use Rattle.session_wire.specs.Reading.{ReadsFrame};
 ghost use Rattle.session_wire.specs.Step.{answers, served, Fails};
 
 use crate::meaning::Meaning;
-use fail_delay::{DelayFn, DelayTold};
 use frame_stream::{FrameFault, FramesOf, MAX_FRAMES};
 use item_stream::{Stop, laws};
 use pam_base::{Failed, NoMemory, Step};
 use pam_outside::{Sink, write_all};
 use pam_wire::{answer_of, step_of};
-use session_run::pam_handle::{Gear, GearTold};
-use session_run::pam_library::{Library, LibraryTold};
-use session_run::pam_room::{World, WorldTold};
+use session_run::pam_library::Library;
+use session_run::pam_room::World;
 use session_run::session_report::step_report;
+use session_run::{Session, Told};
 use std::alloc::Global;
 
 /// Makes the call of the frame after `frames` others, and writes its answer. Returns the fault if the frame is
@@ -40,31 +36,17 @@ pub(crate) fn serve_frame<K: Sink>(
     sink: &mut K,
     world: &mut World,
 ) -> Result<Option<FrameFault>, Stop>
-    requires { IsSoundFor (⟦<Gear as GearTold>⟧.players (gear_in library.old))
-        (⟦<Library as LibraryTold>⟧.slots library.old) world.old.process.ledger }
-    ensures gear { gear_in library.new ≡ gear_in library.old }
-    ensures tells { ⟦<Library as LibraryTold>⟧.tells library.new
-        ≡ ⟦<Library as LibraryTold>⟧.tells library.old }
-    ensures world_tells { ⟦<World as WorldTold>⟧.tells world.new
-        ≡ ⟦<World as WorldTold>⟧.tells world.old }
+    requires { IsSoundIn (⟦<Session as Told>⟧.seen library.old world.old) }
     ensures sink_tells { K.sink_tells sink.new ≡ K.sink_tells sink.old }
-    ensures told { (delay : Code → ℕ → ℕ) →
-        ⟦<DelayFn as DelayTold>⟧.delay_is (gear_in library.old).delay delay →
-        IsTrue (⟦<Library as LibraryTold>⟧.tells library.old
-        && ⟦<World as WorldTold>⟧.tells world.old) → IsTrue (K.sink_tells sink.old) →
-        (let setting = setting_of (⟦<Gear as GearTold>⟧.players (gear_in library.old)) delay in
+    ensures told { let seen = ⟦<Session as Told>⟧.seen in (delay : Code → ℕ → ℕ) →
+        (seen library.old world.old).gives delay → AllTell (seen library.old world.old) →
+        IsTrue (K.sink_tells sink.old) →
+        (let setting = setting_in (seen library.old world.old) delay in
         ServesTold (step_at (answers setting)) (Fails setting) result frames frame.now
-        (state_of (⟦<Library as LibraryTold>⟧.slots library.old)
-        (⟦<World as WorldTold>⟧.plain world.old))
-        (state_of (⟦<Library as LibraryTold>⟧.slots library.new)
-        (⟦<World as WorldTold>⟧.plain world.new))
+        (state (seen library.old world.old)) (state (seen library.new world.new))
         (K.sink_holds sink.old) (K.sink_holds sink.new)) }
-    ensures sound { IsSoundFor (⟦<Gear as GearTold>⟧.players (gear_in library.new))
-        (⟦<Library as LibraryTold>⟧.slots library.new) world.new.process.ledger }
-    ensures proceeds { ProceedsFor (AsksEndAt frames frame.now)
-        (⟦<Gear as GearTold>⟧.players (gear_in library.old))
-        world.old.process.ledger (⟦<Library as LibraryTold>⟧.slots library.old)
-        world.new.process.ledger (⟦<Library as LibraryTold>⟧.slots library.new) }
+    ensures went { let seen = ⟦<Session as Told>⟧.seen in Went (AsksEndAt frames frame.now)
+        (seen library.old world.old) (seen library.new world.new) }
     ensures few { result ≡ Ok None → frames < MAX_FRAMES }
     ensures framed { result ≡ Ok None → (step : TheStep) × IsFrame frame.now step }
     ensures reads { ReadsFrame result frames frame.now }
@@ -97,32 +79,18 @@ fn serve_call<K: Sink>(
     world: &mut World,
 ) -> Result<(), Stop>
     requires fit { IsTrue (is_fit step.now.call) }
-    requires sound { IsSoundFor (⟦<Gear as GearTold>⟧.players (gear_in library.old))
-        (⟦<Library as LibraryTold>⟧.slots library.old) world.old.process.ledger }
-    ensures gear { gear_in library.new ≡ gear_in library.old }
-    ensures tells { ⟦<Library as LibraryTold>⟧.tells library.new
-        ≡ ⟦<Library as LibraryTold>⟧.tells library.old }
-    ensures world_tells { ⟦<World as WorldTold>⟧.tells world.new
-        ≡ ⟦<World as WorldTold>⟧.tells world.old }
+    requires sound { IsSoundIn (⟦<Session as Told>⟧.seen library.old world.old) }
     ensures sink_tells { K.sink_tells sink.new ≡ K.sink_tells sink.old }
-    ensures told { (delay : Code → ℕ → ℕ) →
-        ⟦<DelayFn as DelayTold>⟧.delay_is (gear_in library.old).delay delay →
-        IsTrue (⟦<Library as LibraryTold>⟧.tells library.old
-        && ⟦<World as WorldTold>⟧.tells world.old) → IsTrue (K.sink_tells sink.old) →
-        (frames : ℕ) (frame : List ℕ) → frames < MAX_FRAMES → step_of frame ≡ Some step.now →
-        (let setting = setting_of (⟦<Gear as GearTold>⟧.players (gear_in library.old)) delay in
+    ensures told { let seen = ⟦<Session as Told>⟧.seen in (delay : Code → ℕ → ℕ) →
+        (seen library.old world.old).gives delay → AllTell (seen library.old world.old) →
+        IsTrue (K.sink_tells sink.old) → (frames : ℕ) (frame : List ℕ) → frames < MAX_FRAMES →
+        step_of frame ≡ Some step.now →
+        (let setting = setting_in (seen library.old world.old) delay in
         ServesTold (step_at (answers setting)) (Fails setting) (served result) frames frame
-        (state_of (⟦<Library as LibraryTold>⟧.slots library.old)
-        (⟦<World as WorldTold>⟧.plain world.old))
-        (state_of (⟦<Library as LibraryTold>⟧.slots library.new)
-        (⟦<World as WorldTold>⟧.plain world.new))
+        (state (seen library.old world.old)) (state (seen library.new world.new))
         (K.sink_holds sink.old) (K.sink_holds sink.new)) }
-    ensures sound { IsSoundFor (⟦<Gear as GearTold>⟧.players (gear_in library.new))
-        (⟦<Library as LibraryTold>⟧.slots library.new) world.new.process.ledger }
-    ensures proceeds { ProceedsFor (IsEndStep step.now)
-        (⟦<Gear as GearTold>⟧.players (gear_in library.old))
-        world.old.process.ledger (⟦<Library as LibraryTold>⟧.slots library.old)
-        world.new.process.ledger (⟦<Library as LibraryTold>⟧.slots library.new) }
+    ensures went { let seen = ⟦<Session as Told>⟧.seen in Went (IsEndStep step.now)
+        (seen library.old world.old) (seen library.new world.new) }
     ensures writes { IsTrue (K.sink_tells sink.old) →
         WritesSome result (K.sink_holds sink.old) (K.sink_holds sink.new) }
     ensures faults { RisesIf (has_write_fault result) (K.sink_faults sink.old)

@@ -4,20 +4,22 @@ use Rattle.session_run.specs.pam_room.specs.State.{PlainWorld}
 use Rattle.session_run.specs.State.{state_of}
 use Rattle.session_generate.proofs.Attempting.{all_placed, not_placed, vault_of}
 use Rattle.session_generate.proofs.Closing.{both_tell}
-use Rattle.session_generate.proofs.Proceeding.{nothing_done}
+use Rattle.session_run.proofs.Going.{went_on, went_quietly}
 use Rattle.session_generate.proofs.generating.attempt.Goals as goal
 
-pub returns-in_err-go_to_root-clause-proceeds : goal.returns-in_err-go_to_root-clause-proceeds
-returns-in_err-go_to_root-clause-proceeds g c = rw c.go_to_root.ensures.ledger (nothing_done _ _ _ _)
+pub returns-in_err-go_to_root-clause-went : goal.returns-in_err-go_to_root-clause-went
+returns-in_err-go_to_root-clause-went g c = went_quietly _ _ _ refl refl c.go_to_root.ensures.tells (λ number gives. gives) refl c.go_to_root.ensures.ledger c.requires.sound
 
-pub returns-in_err-files-clause-proceeds : goal.returns-in_err-files-clause-proceeds
-returns-in_err-files-clause-proceeds g c = rw c.go_to_root.ensures.ledger (nothing_done _ _ _ _)
+pub returns-in_err-files-clause-went : goal.returns-in_err-files-clause-went
+returns-in_err-files-clause-went g c = went_quietly _ _ _ refl refl c.go_to_root.ensures.tells (λ number gives. gives) refl c.go_to_root.ensures.ledger c.requires.sound
 
-pub returns-in-Err-clause-proceeds : goal.returns-in-Err-clause-proceeds
-returns-in-Err-clause-proceeds g c = rw (c.place_in_world.ensures.process, c.go_to_root.ensures.ledger) (nothing_done _ _ _ _)
+pub returns-in-Err-clause-went : goal.returns-in-Err-clause-went
+returns-in-Err-clause-went g c = went_quietly _ _ _ refl refl (c.place_in_world.ensures.tells ∙ c.go_to_root.ensures.tells) (λ number gives. gives) refl (rw (c.place_in_world.ensures.process, c.go_to_root.ensures.ledger) refl) c.requires.sound
 
-pub returns-clause-proceeds : goal.returns-clause-proceeds
-returns-clause-proceeds g c = rw (c.place_in_world.ensures.process, c.go_to_root.ensures.ledger) at c.log_in.ensures.proceeds
+pub returns-clause-went : goal.returns-clause-went
+returns-clause-went g c =
+    went_on _ _ _ _ (went_quietly _ _ _ refl refl (c.place_in_world.ensures.tells ∙ c.go_to_root.ensures.tells) (λ number gives. gives) refl (rw (c.place_in_world.ensures.process, c.go_to_root.ensures.ledger) refl) c.requires.sound)
+    c.log_in.ensures.went
 
 pub returns-in-Err-clause-told : goal.returns-in-Err-clause-told
 returns-in-Err-clause-told g c = λ delay is told.

@@ -1,5 +1,7 @@
+use Rattle.std.proofs.Common.{refl}
 use Rattle.session_generate.proofs.Closing.{end_is_free, end_stays_inside, ended_is_closed, state_is}
-use Rattle.session_generate.proofs.Proceeding.{end_ends, one_call}
+use Rattle.session_run.proofs.Going.{went_once}
+use Rattle.session_generate.proofs.Proceeding.{end_ends}
 use Rattle.session_generate.proofs.login.end.Goals as goal
 
 pub unwrap-outcome-requires : goal.unwrap-outcome-requires
@@ -11,5 +13,7 @@ returns-clause-ended g c = λ delay. state_is _ _ _ _ _ _ (rw c.unwrap-outcome.e
 pub returns-clause-closed : goal.returns-clause-closed
 returns-clause-closed g c = ended_is_closed _ _ _ _ (returns-clause-ended g c (λ code asked. 0))
 
-pub returns-clause-proceeds : goal.returns-clause-proceeds
-returns-clause-proceeds g c = one_call _ _ _ _ _ _ _ c.apply.ensures.moves (end_ends c.args.status _)
+pub returns-clause-went : goal.returns-clause-went
+returns-clause-went g c =
+    went_once _ _ _ (rw c.apply.ensures.gear refl) c.apply.ensures.tells c.apply.ensures.world_tells (λ number gives. rw c.apply.ensures.gear gives)
+    _ c.apply.ensures.moves (end_ends c.args.status _) c.apply.ensures.sound

@@ -1,6 +1,7 @@
 use Rattle.std.proofs.Common.{refl}
 use Rattle.session_generate.proofs.Closing.{starts_done, starts_refused}
-use Rattle.session_generate.proofs.Proceeding.{nothing_done, one_call, start_ends_none}
+use Rattle.session_run.proofs.Going.{went_nowhere, went_once}
+use Rattle.session_generate.proofs.Proceeding.{start_ends_none}
 use Rattle.session_generate.proofs.login.start.Goals as goal
 
 pub apply-requires-clause-fit : goal.apply-requires-clause-fit
@@ -14,17 +15,23 @@ pub returns-clause-told : goal.returns-clause-told
 returns-clause-told g c = λ delay is told.
     starts_done _ _ _ _ _ _ (rw c.in_ok-step.ensures at (c.in-Ok.ensures.told delay is told)) tt c.in-None.ensures
 
-pub returns-in_err-step-clause-proceeds : goal.returns-in_err-step-clause-proceeds
-returns-in_err-step-clause-proceeds g c = nothing_done _ _ _ _
+pub returns-in_err-step-clause-went : goal.returns-in_err-step-clause-went
+returns-in_err-step-clause-went g c = went_nowhere _ _ c.requires.sound
 
-pub returns-in-Err-clause-proceeds : goal.returns-in-Err-clause-proceeds
-returns-in-Err-clause-proceeds g c = one_call _ _ _ _ _ _ _ (rw c.in_ok-step.ensures at c.apply.ensures.moves) (start_ends_none _)
+pub returns-in-Err-clause-went : goal.returns-in-Err-clause-went
+returns-in-Err-clause-went g c =
+    went_once _ _ _ (rw c.apply.ensures.gear refl) c.apply.ensures.tells c.apply.ensures.world_tells (λ number gives. rw c.apply.ensures.gear gives)
+    _ (rw c.in_ok-step.ensures at c.apply.ensures.moves) (start_ends_none _) c.apply.ensures.sound
 
-pub returns-in-Some-clause-proceeds : goal.returns-in-Some-clause-proceeds
-returns-in-Some-clause-proceeds g c = one_call _ _ _ _ _ _ _ (rw c.in_ok-step.ensures at c.apply.ensures.moves) (start_ends_none _)
+pub returns-in-Some-clause-went : goal.returns-in-Some-clause-went
+returns-in-Some-clause-went g c =
+    went_once _ _ _ (rw c.apply.ensures.gear refl) c.apply.ensures.tells c.apply.ensures.world_tells (λ number gives. rw c.apply.ensures.gear gives)
+    _ (rw c.in_ok-step.ensures at c.apply.ensures.moves) (start_ends_none _) c.apply.ensures.sound
 
-pub returns-clause-proceeds : goal.returns-clause-proceeds
-returns-clause-proceeds g c = one_call _ _ _ _ _ _ _ (rw c.in_ok-step.ensures at c.apply.ensures.moves) (start_ends_none _)
+pub returns-clause-went : goal.returns-clause-went
+returns-clause-went g c =
+    went_once _ _ _ (rw c.apply.ensures.gear refl) c.apply.ensures.tells c.apply.ensures.world_tells (λ number gives. rw c.apply.ensures.gear gives)
+    _ (rw c.in_ok-step.ensures at c.apply.ensures.moves) (start_ends_none _) c.apply.ensures.sound
 
 pub returns-in-Err-clause-others : goal.returns-in-Err-clause-others
 returns-in-Err-clause-others g c = rw c.in_ok-step.ensures at c.apply.ensures.others

@@ -1,5 +1,11 @@
-use Rattle.session_login.proofs.Proceeding.{call_ends, end_ends_as, one_call, proceeds_so}
+use Rattle.std.proofs.Common.{refl}
+use Rattle.session_run.proofs.Going.{went_once, went_so}
+use Rattle.session_run.proofs.Proceeding.{call_ends}
+use Rattle.session_login.proofs.Proceeding.{end_ends_as}
 use Rattle.session_login.proofs.attempt.end_silently.Goals as goal
 
-pub returns-clause-proceeds : goal.returns-clause-proceeds
-returns-clause-proceeds g c = proceeds_so _ _ (end_ends_as c.args.code c.end_call.result c.end_call.ensures) _ _ _ _ _ (one_call _ _ _ _ _ _ _ c.apply.ensures.moves (call_ends _ _ _))
+pub returns-clause-went : goal.returns-clause-went
+returns-clause-went g c =
+    went_so _ _ (end_ends_as c.args.code c.end_call.result c.end_call.ensures) _ _
+    (went_once _ _ _ (rw c.apply.ensures.gear refl) c.apply.ensures.tells c.apply.ensures.world_tells (λ number gives. rw c.apply.ensures.gear gives)
+    _ c.apply.ensures.moves (call_ends _ _ _) c.apply.ensures.sound)

@@ -1,25 +1,25 @@
 use Rattle.std.proofs.Common.{Err, ◌∙◌, refl}
 use Rattle.session_login.proofs.Coming.{logs_on, logs_stopped}
-use Rattle.session_login.proofs.Coursing.{both_tell}
-use Rattle.session_login.proofs.Proceeding.{goes_on, no_end, own_end, proceeds_so}
+use Rattle.session_run.proofs.Going.{still_told, went_on, went_so}
+use Rattle.session_login.proofs.Proceeding.{no_end, own_end}
 use Rattle.session_login.proofs.Showing.{end_said, shows_then}
 use Rattle.session_login.proofs.attempt.log_in.Goals as goal
 
 pub returns-in-Err-clause-told : goal.returns-in-Err-clause-told
 returns-in-Err-clause-told g c = λ delay is told sink. logs_stopped _ _ _ _ _ _ _ (c.in-Err.ensures.told delay is told sink)
 
-pub returns-in-Err-clause-proceeds : goal.returns-in-Err-clause-proceeds
-returns-in-Err-clause-proceeds g c = proceeds_so _ _ (no_end (Err c.in-Err.stop)) _ _ _ _ _ c.go_through.ensures.proceeds
+pub returns-in-Err-clause-went : goal.returns-in-Err-clause-went
+returns-in-Err-clause-went g c = went_so _ _ (no_end (Err c.in-Err.stop)) _ _ c.go_through.ensures.went
 
 pub returns-in-Ok-clause-told : goal.returns-in-Ok-clause-told
 returns-in-Ok-clause-told g c = λ delay is told sink.
-    let next = c.settle.ensures.told delay (rw (← c.go_through.ensures.gear) at is) (both_tell _ _ _ _ c.go_through.ensures.tells c.go_through.ensures.world_tells told) (c.go_through.ensures.sink_tells ∙ sink) in
-    logs_on _ _ _ _ _ c.in-Ok.denied _ _ _ _ (c.in-Ok.ensures.told delay is told sink) (rw c.go_through.ensures.gear at next)
+    let next = c.settle.ensures.told delay (c.go_through.ensures.went.gives delay is) (still_told _ _ _ c.go_through.ensures.went told) (c.go_through.ensures.sink_tells ∙ sink) in
+    logs_on _ _ _ _ _ c.in-Ok.denied _ _ _ _ (c.in-Ok.ensures.told delay is told sink) (rw c.go_through.ensures.went.players at next)
 
-pub returns-in-Ok-clause-proceeds : goal.returns-in-Ok-clause-proceeds
-returns-in-Ok-clause-proceeds g c =
-    goes_on _ _ _ _ _ _ _ _ (proceeds_so _ _ (no_end c.settle.result) _ _ _ _ _ c.go_through.ensures.proceeds)
-    (proceeds_so _ _ (own_end c.in-Ok.denied c.settle.result (λ code e. c.in-Ok.ensures.denies code (rw e refl)) c.settle.ensures.verdict) _ _ _ _ _ (rw c.go_through.ensures.gear at c.settle.ensures.proceeds))
+pub returns-in-Ok-clause-went : goal.returns-in-Ok-clause-went
+returns-in-Ok-clause-went g c =
+    went_on _ _ _ _ (went_so _ _ (no_end c.settle.result) _ _ c.go_through.ensures.went)
+    (went_so _ _ (own_end c.in-Ok.denied c.settle.result (λ code e. c.in-Ok.ensures.denies code (rw e refl)) c.settle.ensures.verdict) _ _ c.settle.ensures.went)
 
 pub returns-in-Ok-clause-shows : goal.returns-in-Ok-clause-shows
 returns-in-Ok-clause-shows g c = λ sink. shows_then _ _ c.in-Ok.denied _ _ _ _ (c.in-Ok.ensures.shows sink) (c.settle.ensures.shows (c.go_through.ensures.sink_tells ∙ sink)) end_said

@@ -1,19 +1,20 @@
 use Rattle.std.proofs.Common.{◌∙◌}
 use Rattle.session_login.proofs.Closing.{closed_if_ended, none_left}
 use Rattle.session_login.proofs.Coming.{logs_in}
-use Rattle.session_login.proofs.Proceeding.{closing_end_as, goes_on, proceeds_so}
+use Rattle.session_run.proofs.Going.{went_on, went_so}
+use Rattle.session_login.proofs.Proceeding.{closing_end_as}
 use Rattle.session_login.proofs.attempt.login.Goals as goal
 
 pub returns-clause-told : goal.returns-clause-told
 returns-clause-told g c = λ delay is told sink.
-    logs_in _ _ _ _ _ _ _ _ _ (c.try_login-result.ensures.told delay is told sink) c.requires.none_open (rw (c.try_login-result.ensures.gear, c.closing_code.ensures) at (c.end_silently.ensures.ended delay))
+    logs_in _ _ _ _ _ _ _ _ _ (c.try_login-result.ensures.told delay is told sink) c.requires.none_open (rw (c.try_login-result.ensures.went.players, c.closing_code.ensures) at (c.end_silently.ensures.ended delay))
 
 pub returns-clause-none_open : goal.returns-clause-none_open
 returns-clause-none_open g c =
     none_left _ _ c.requires.none_open (λ number other. c.end_silently.ensures.others number other ∙ c.try_login-result.ensures.others number other)
     (closed_if_ended _ _ _ _ (c.end_silently.ensures.ended (λ code asked. 0)))
 
-pub returns-clause-proceeds : goal.returns-clause-proceeds
-returns-clause-proceeds g c =
-    goes_on _ _ _ _ _ _ _ _ c.try_login-result.ensures.proceeds
-    (proceeds_so _ _ (closing_end_as c.try_login-result.result c.closing_code.result c.closing_code.ensures) _ _ _ _ _ (rw c.try_login-result.ensures.gear at c.end_silently.ensures.proceeds))
+pub returns-clause-went : goal.returns-clause-went
+returns-clause-went g c =
+    went_on _ _ _ _ c.try_login-result.ensures.went
+    (went_so _ _ (closing_end_as c.try_login-result.result c.closing_code.result c.closing_code.ensures) _ _ c.end_silently.ensures.went)

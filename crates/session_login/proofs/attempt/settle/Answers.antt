@@ -2,7 +2,8 @@ use Rattle.std.proofs.Common.{ap, ◌∙◌}
 use Rattle.session_run.specs.pam_library.specs.declared.outcome.Answer.{Answer}
 use Rattle.session_login.specs.Login.{end_call}
 use Rattle.session_login.proofs.Coming.{comes_stopped, made_as, settles_denied}
-use Rattle.session_login.proofs.Proceeding.{end_ends_as, proceeds_so}
+use Rattle.session_run.proofs.Going.{went_so}
+use Rattle.session_login.proofs.Proceeding.{end_ends_as}
 use Rattle.session_login.proofs.Showing.{end_said, shows_then}
 use Rattle.session_login.proofs.attempt.settle.Goals as goal
 
@@ -15,14 +16,14 @@ returns-clause-told g c = λ delay is told sink.
     settles_denied _ c.args.denied c.in-Ok.field-0 _ _ _ _ (made_as _ _ _ (c.end_call.ensures ∙ ap end_call c.end_code.ensures) _ _ _ _ _ (c.in-Ok.ensures.told delay is told sink)).goes
     c.in-Some.code c.in-Some.is _ _ c.deny.ensures.verdict (c.deny.ensures.told (c.make.ensures.sink_tells ∙ sink))
 
-pub returns-in-Err-clause-proceeds : goal.returns-in-Err-clause-proceeds
-returns-in-Err-clause-proceeds g c = proceeds_so _ _ (end_ends_as _ c.end_call.result (c.end_call.ensures ∙ ap end_call c.end_code.ensures)) _ _ _ _ _ c.make.ensures.proceeds
+pub returns-in-Err-clause-went : goal.returns-in-Err-clause-went
+returns-in-Err-clause-went g c = went_so _ _ (end_ends_as _ c.end_call.result (c.end_call.ensures ∙ ap end_call c.end_code.ensures)) _ _ c.make.ensures.went
 
-pub returns-in-None-clause-proceeds : goal.returns-in-None-clause-proceeds
-returns-in-None-clause-proceeds g c = proceeds_so _ _ (end_ends_as _ c.end_call.result (c.end_call.ensures ∙ ap end_call c.end_code.ensures)) _ _ _ _ _ c.make.ensures.proceeds
+pub returns-in-None-clause-went : goal.returns-in-None-clause-went
+returns-in-None-clause-went g c = went_so _ _ (end_ends_as _ c.end_call.result (c.end_call.ensures ∙ ap end_call c.end_code.ensures)) _ _ c.make.ensures.went
 
-pub returns-clause-proceeds : goal.returns-clause-proceeds
-returns-clause-proceeds g c = proceeds_so _ _ (end_ends_as _ c.end_call.result (c.end_call.ensures ∙ ap end_call c.end_code.ensures)) _ _ _ _ _ c.make.ensures.proceeds
+pub returns-clause-went : goal.returns-clause-went
+returns-clause-went g c = went_so _ _ (end_ends_as _ c.end_call.result (c.end_call.ensures ∙ ap end_call c.end_code.ensures)) _ _ c.make.ensures.went
 
 pub returns-clause-shows : goal.returns-clause-shows
 returns-clause-shows g c = λ sink. shows_then _ _ c.in-Ok.field-0 _ _ _ _ (c.in-Ok.ensures.shows sink) (c.deny.ensures.shows (c.make.ensures.sink_tells ∙ sink)) end_said

@@ -1,42 +1,42 @@
 use Rattle.std.proofs.Common.{Ok, Err, sym, ◌∙◌}
 use Rattle.session_login.specs.declared.attempt.Verdict.TheVariants.{Refused}
 use Rattle.session_login.proofs.Coming.{comes_on, comes_refused, comes_start_stopped, comes_unbegun, made_as}
-use Rattle.session_login.proofs.Coursing.{both_tell}
-use Rattle.session_login.proofs.Proceeding.{goes_on, nothing_done, proceeds_so, start_no_end}
+use Rattle.session_run.proofs.Going.{still_told, went_nowhere, went_on, went_so}
+use Rattle.session_login.proofs.Proceeding.{start_no_end}
 use Rattle.session_login.proofs.Showing.{end_said, shows_then, shows_verdict}
 use Rattle.session_login.proofs.attempt.try_login.Goals as goal
 
 pub returns-in-Err-clause-told : goal.returns-in-Err-clause-told
 returns-in-Err-clause-told g c = λ delay is told sink. comes_unbegun _ _ _ _ _
 
-pub returns-in-Err-clause-proceeds : goal.returns-in-Err-clause-proceeds
-returns-in-Err-clause-proceeds g c = nothing_done _ _ _ _
+pub returns-in-Err-clause-went : goal.returns-in-Err-clause-went
+returns-in-Err-clause-went g c = went_nowhere _ _ c.requires.sound
 
 pub returns-in-Err-make-clause-told : goal.returns-in-Err-make-clause-told
 returns-in-Err-make-clause-told g c = λ delay is told sink.
     comes_start_stopped _ _ _ _ _ _ _ _ (made_as _ _ _ c.in-Ok.ensures _ _ _ _ _ (c.in-Err-make.ensures.told delay is told sink)).goes
 
-pub returns-in-Err-make-clause-proceeds : goal.returns-in-Err-make-clause-proceeds
-returns-in-Err-make-clause-proceeds g c = proceeds_so _ _ (start_no_end _ _ c.in-Ok.start c.in-Ok.ensures (Err c.in-Err-make.stop)) _ _ _ _ _ c.make.ensures.proceeds
+pub returns-in-Err-make-clause-went : goal.returns-in-Err-make-clause-went
+returns-in-Err-make-clause-went g c = went_so _ _ (start_no_end _ _ c.in-Ok.start c.in-Ok.ensures (Err c.in-Err-make.stop)) _ _ c.make.ensures.went
 
 pub returns-then-is_refused-clause-told : goal.returns-then-is_refused-clause-told
 returns-then-is_refused-clause-told g c = λ delay is told sink.
     comes_refused _ _ _ _ c.in-Ok-make.answer _ _ _ (made_as _ _ _ c.in-Ok.ensures _ _ _ _ _ (c.in-Ok-make.ensures.told delay is told sink)).answers
     (made_as _ _ _ c.in-Ok.ensures _ _ _ _ _ (c.in-Ok-make.ensures.told delay is told sink)).goes (sym c.is_refused.ensures ∙ c.if-is_refused.true)
 
-pub returns-then-is_refused-clause-proceeds : goal.returns-then-is_refused-clause-proceeds
-returns-then-is_refused-clause-proceeds g c = proceeds_so _ _ (start_no_end _ _ c.in-Ok.start c.in-Ok.ensures (Ok Refused)) _ _ _ _ _ c.make.ensures.proceeds
+pub returns-then-is_refused-clause-went : goal.returns-then-is_refused-clause-went
+returns-then-is_refused-clause-went g c = went_so _ _ (start_no_end _ _ c.in-Ok.start c.in-Ok.ensures (Ok Refused)) _ _ c.make.ensures.went
 
 pub returns-clause-told : goal.returns-clause-told
 returns-clause-told g c = λ delay is told sink.
-    let next = c.log_in.ensures.told delay (rw (← c.make.ensures.gear) at is) (both_tell _ _ _ _ c.make.ensures.tells c.make.ensures.world_tells told) (c.make.ensures.sink_tells ∙ sink) in
+    let next = c.log_in.ensures.told delay (c.make.ensures.went.gives delay is) (still_told _ _ _ c.make.ensures.went told) (c.make.ensures.sink_tells ∙ sink) in
     comes_on _ _ _ _ c.in-Ok-make.answer _ _ _ (made_as _ _ _ c.in-Ok.ensures _ _ _ _ _ (c.in-Ok-make.ensures.told delay is told sink)).answers
-    (made_as _ _ _ c.in-Ok.ensures _ _ _ _ _ (c.in-Ok-make.ensures.told delay is told sink)).goes (sym c.is_refused.ensures ∙ c.if-is_refused.false) _ _ _ (rw c.make.ensures.gear at next)
+    (made_as _ _ _ c.in-Ok.ensures _ _ _ _ _ (c.in-Ok-make.ensures.told delay is told sink)).goes (sym c.is_refused.ensures ∙ c.if-is_refused.false) _ _ _ (rw c.make.ensures.went.players at next)
 
-pub returns-clause-proceeds : goal.returns-clause-proceeds
-returns-clause-proceeds g c =
-    goes_on _ _ _ _ _ _ _ _ (proceeds_so _ _ (start_no_end _ _ c.in-Ok.start c.in-Ok.ensures c.log_in.result) _ _ _ _ _ c.make.ensures.proceeds)
-    (rw c.make.ensures.gear at c.log_in.ensures.proceeds)
+pub returns-clause-went : goal.returns-clause-went
+returns-clause-went g c =
+    went_on _ _ _ _ (went_so _ _ (start_no_end _ _ c.in-Ok.start c.in-Ok.ensures c.log_in.result) _ _ c.make.ensures.went)
+    c.log_in.ensures.went
 
 pub returns-clause-shows : goal.returns-clause-shows
 returns-clause-shows g c = λ sink.

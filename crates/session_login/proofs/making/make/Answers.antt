@@ -1,6 +1,8 @@
 use Rattle.std.proofs.Common.{refl}
-use Rattle.session_login.proofs.Answering.{call_cut, call_failed, call_unwritten, call_written, failed_place}
-use Rattle.session_login.proofs.Proceeding.{call_ends, one_call}
+use Rattle.session_run.proofs.Serving.{failed_place}
+use Rattle.session_login.proofs.Answering.{call_cut, call_failed, call_unwritten, call_written}
+use Rattle.session_run.proofs.Going.{went_once}
+use Rattle.session_run.proofs.Proceeding.{call_ends}
 use Rattle.session_login.proofs.Showing.{shows_front, shows_none, shows_whole}
 use Rattle.session_login.proofs.making.make.Goals as goal
 
@@ -26,17 +28,25 @@ pub returns-clause-told : goal.returns-clause-told
 returns-clause-told g c = λ delay is told sink.
     call_cut _ _ _ _ _ _ (c.in-Ok.ensures.told delay is told) _ _ _ _ refl c.in-Ok-line_of.ensures c.in-Err-write_all.field-0 (rw c.as_bytes.ensures.value at (c.in-Err-write_all.ensures.told sink))
 
-pub returns-in-Err-clause-proceeds : goal.returns-in-Err-clause-proceeds
-returns-in-Err-clause-proceeds g c = one_call _ _ _ _ _ _ _ c.apply.ensures.moves (call_ends _ _ _)
+pub returns-in-Err-clause-went : goal.returns-in-Err-clause-went
+returns-in-Err-clause-went g c =
+    went_once _ _ _ (rw c.apply.ensures.gear refl) c.apply.ensures.tells c.apply.ensures.world_tells (λ number gives. rw c.apply.ensures.gear gives)
+    _ c.apply.ensures.moves (call_ends _ _ _) c.apply.ensures.sound
 
-pub returns-in-Err-line_of-clause-proceeds : goal.returns-in-Err-line_of-clause-proceeds
-returns-in-Err-line_of-clause-proceeds g c = one_call _ _ _ _ _ _ _ c.apply.ensures.moves (call_ends _ _ _)
+pub returns-in-Err-line_of-clause-went : goal.returns-in-Err-line_of-clause-went
+returns-in-Err-line_of-clause-went g c =
+    went_once _ _ _ (rw c.apply.ensures.gear refl) c.apply.ensures.tells c.apply.ensures.world_tells (λ number gives. rw c.apply.ensures.gear gives)
+    _ c.apply.ensures.moves (call_ends _ _ _) c.apply.ensures.sound
 
-pub returns-in-Ok-write_all-clause-proceeds : goal.returns-in-Ok-write_all-clause-proceeds
-returns-in-Ok-write_all-clause-proceeds g c = one_call _ _ _ _ _ _ _ c.apply.ensures.moves (call_ends _ _ _)
+pub returns-in-Ok-write_all-clause-went : goal.returns-in-Ok-write_all-clause-went
+returns-in-Ok-write_all-clause-went g c =
+    went_once _ _ _ (rw c.apply.ensures.gear refl) c.apply.ensures.tells c.apply.ensures.world_tells (λ number gives. rw c.apply.ensures.gear gives)
+    _ c.apply.ensures.moves (call_ends _ _ _) c.apply.ensures.sound
 
-pub returns-clause-proceeds : goal.returns-clause-proceeds
-returns-clause-proceeds g c = one_call _ _ _ _ _ _ _ c.apply.ensures.moves (call_ends _ _ _)
+pub returns-clause-went : goal.returns-clause-went
+returns-clause-went g c =
+    went_once _ _ _ (rw c.apply.ensures.gear refl) c.apply.ensures.tells c.apply.ensures.world_tells (λ number gives. rw c.apply.ensures.gear gives)
+    _ c.apply.ensures.moves (call_ends _ _ _) c.apply.ensures.sound
 
 pub returns-in-Err-clause-shows : goal.returns-in-Err-clause-shows
 returns-in-Err-clause-shows g c = λ sink. shows_none _ _ _

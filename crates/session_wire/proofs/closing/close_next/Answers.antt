@@ -1,4 +1,5 @@
-use Rattle.std.proofs.Common.{ap, length, refl}
+use Rattle.std.proofs.Common.{ap, length}
+use Rattle.session_run.specs.dispatch_core.specs.Lines.{names_of}
 use Rattle.session_wire.proofs.Answering.{one_written, one_cut, one_unwritten, none_left}
 use Rattle.session_wire.proofs.closing.close_next.Goals as goal
 
@@ -13,10 +14,10 @@ returns-in-Err-answer_of-clause-told g c = λ sink. one_unwritten _ _ _ _ _ _ c.
 
 pub returns-in-Ok-write_all-clause-told : goal.returns-in-Ok-write_all-clause-told
 returns-in-Ok-write_all-clause-told g c = λ sink.
-    one_written _ _ c.in-Some.number _ _ _ _ _ _ _ _ c.in-Some.ensures.some c.in-Ok.ensures (rw c.end_next.ensures.gear refl) (ap length c.filed.ensures) (rw c.as_bytes.ensures.value at c.in-Ok-answer_of.ensures)
+    one_written _ _ c.in-Some.number _ _ _ _ _ _ _ _ c.in-Some.ensures.some c.in-Ok.ensures (ap names_of c.end_next.ensures.went.players) (ap length c.filed.ensures) (rw c.as_bytes.ensures.value at c.in-Ok-answer_of.ensures)
     c.in-Ok-write_all.field-0 (rw c.bytes.ensures at (c.in-Ok-write_all.ensures.told sink))
 
 pub returns-clause-told : goal.returns-clause-told
 returns-clause-told g c = λ sink.
-    one_cut _ _ c.in-Some.number _ _ _ _ _ _ _ _ c.in-Some.ensures.some c.in-Ok.ensures (rw c.end_next.ensures.gear refl) (ap length c.filed.ensures) (rw c.as_bytes.ensures.value at c.in-Ok-answer_of.ensures)
+    one_cut _ _ c.in-Some.number _ _ _ _ _ _ _ _ c.in-Some.ensures.some c.in-Ok.ensures (ap names_of c.end_next.ensures.went.players) (ap length c.filed.ensures) (rw c.as_bytes.ensures.value at c.in-Ok-answer_of.ensures)
     c.in-Err-write_all.field-0 (rw c.bytes.ensures at (c.in-Err-write_all.ensures.told sink))

@@ -2,9 +2,9 @@ use Rattle.std.proofs.Common.{◌∙◌, Some, None, Ok, Err, refl, ap, arith}
 use Rattle.item_stream.specs.declared.ending.Stop.TheVariants.{NoMemory}
 use Rattle.item_stream.specs.Turns.{has_read_fault}
 use Rattle.session_wire.proofs.Asking.{asks_before, leads_nowhere, leads_on}
-use Rattle.session_wire.proofs.Proceeding.{goes_on, nothing_done, proceeds_so}
-use Rattle.session_wire.proofs.Consuming.{err_then, err_unwritten, ok_then, ok_unwritten, takes_none, takes_on}
-use Rattle.session_wire.proofs.Telling.{both_tell}
+use Rattle.session_run.proofs.Going.{still_told, went_nowhere, went_on, went_so}
+use Rattle.session_run.proofs.Consuming.{err_then, err_unwritten, ok_then, ok_unwritten}
+use Rattle.session_wire.proofs.Consuming.{takes_none, takes_on}
 use Rattle.session_wire.proofs.frames.serve_frames.Goals as goal
 
 pub returns-in-Err-clause-told : goal.returns-in-Err-clause-told
@@ -13,9 +13,7 @@ returns-in-Err-clause-told g c = λ delay is told source sink.
 
 pub loop-ending-init : goal.loop-ending-init
 loop-ending-init g c = record {
-  gear = refl;
-  tells = refl;
-  world_tells = refl;
+  went = went_nowhere _ _ c.requires.sound;
   sink_tells = refl;
   source_tells = refl;
   told = λ delay is told source sink. rw (c.requires.first, c.in-Ok.ensures) (c.first_turn.ensures.none_yet _ _ _ _);
@@ -26,8 +24,6 @@ loop-ending-init g c = record {
   source_faults = refl;
   sink_faults = refl;
   leads = λ source. rw (c.requires.first, c.in-Ok.ensures) (leads_nowhere _ _);
-  proceeds = nothing_done _ _ _ _ _ _ refl refl;
-  sound = c.requires.sound;
 }
 
 pub loop-ending-preserved : goal.loop-ending-preserved
@@ -36,14 +32,11 @@ loop-ending-preserved g c =
     let read = rw (c.in-Ok-None.field-0-is, has_read_fault) at c.in-Ok-None.ensures.source_faults in
     let was = c.loop-ending.invariant in
     record {
-      gear = c.take_turn.ensures.gear ∙ was.gear;
-      tells = c.take_turn.ensures.tells ∙ was.tells;
-      world_tells = c.take_turn.ensures.world_tells ∙ was.world_tells;
       sink_tells = c.take_turn.ensures.sink_tells ∙ was.sink_tells;
       source_tells = c.take_turn.ensures.source_tells ∙ was.source_tells;
       told = λ delay is told source sink.
-          let next = turn delay (rw (← was.gear) at is) (both_tell _ _ _ _ was.tells was.world_tells told) (was.source_tells ∙ source) (was.sink_tells ∙ sink) in
-          c.turns_go_on.ensures _ (Ok None) _ _ _ _ _ _ _ _ _ _ _ _ _ _ (was.told delay is told source sink) (rw was.gear at next);
+          let next = turn delay (was.went.gives delay is) (still_told _ _ _ was.went told) (was.source_tells ∙ source) (was.sink_tells ∙ sink) in
+          c.turns_go_on.ensures _ (Ok None) _ _ _ _ _ _ _ _ _ _ _ _ _ _ (was.told delay is told source sink) (rw was.went.players at next);
       reads = λ source.
           let next = (rw c.in-Ok-None.field-0-is at c.in-Ok-None.ensures.reads) (was.source_tells ∙ source) in
           c.reading_is_turns.ensures.on (Ok None) _ _ _ _ _ _ _ _ _ _ _ _ _ _ (was.reads source) next;
@@ -53,42 +46,41 @@ loop-ending-preserved g c =
       source_faults = read ∙ was.source_faults;
       sink_faults = c.in-Ok-None.ensures.sink_faults ∙ was.sink_faults;
       leads = λ source. leads_on _ _ _ _ _ _ (was.leads source) (c.take_turn.ensures.leads (c.in-Ok-None.is ∙ ap Ok c.in-Ok-None.field-0-is) (was.source_tells ∙ source));
-      proceeds = goes_on _ _ _ _ _ _ _ _ was.proceeds (proceeds_so _ _ (λ number status has source. asks_before _ _ _ _ (was.leads source) number status (has (was.source_tells ∙ source))) _ _ _ _ _ (rw was.gear at c.take_turn.ensures.proceeds));
-      sound = c.take_turn.ensures.sound;
+      went = went_on _ _ _ _ was.went (went_so _ _ (λ number status has source. asks_before _ _ _ _ (was.leads source) number status (has (was.source_tells ∙ source))) _ _ c.take_turn.ensures.went);
     }
 
 pub returns-in-Ok-Some-clause-told : goal.returns-in-Ok-Some-clause-told
 returns-in-Ok-Some-clause-told g c = λ delay is told source sink.
     let turn = rw c.in-Ok-Some.field-0-is at c.in-Ok-Some.ensures.told in
     let was = c.loop-ending.invariant in
-    let next = turn delay (rw (← was.gear) at is) (both_tell _ _ _ _ was.tells was.world_tells told) (was.source_tells ∙ source) (was.sink_tells ∙ sink) in
+    let next = turn delay (was.went.gives delay is) (still_told _ _ _ was.went told) (was.source_tells ∙ source) (was.sink_tells ∙ sink) in
     c.turns_are_a_run.ensures _ (Ok c.in-Ok-Some.ending) _ _ _ _ _ _ _ _
-    (c.turns_go_on.ensures _ (Ok (Some c.in-Ok-Some.ending)) _ _ _ _ _ _ _ _ _ _ _ _ _ _ (was.told delay is told source sink) (rw was.gear at next))
+    (c.turns_go_on.ensures _ (Ok (Some c.in-Ok-Some.ending)) _ _ _ _ _ _ _ _ _ _ _ _ _ _ (was.told delay is told source sink) (rw was.went.players at next))
 
 pub returns-in-Err-take_turn-clause-told : goal.returns-in-Err-take_turn-clause-told
 returns-in-Err-take_turn-clause-told g c = λ delay is told source sink.
     let was = c.loop-ending.invariant in
-    let next = c.in-Err-take_turn.ensures.told delay (rw (← was.gear) at is) (both_tell _ _ _ _ was.tells was.world_tells told) (was.source_tells ∙ source) (was.sink_tells ∙ sink) in
+    let next = c.in-Err-take_turn.ensures.told delay (was.went.gives delay is) (still_told _ _ _ was.went told) (was.source_tells ∙ source) (was.sink_tells ∙ sink) in
     c.turns_are_a_run.ensures _ (Err c.in-Err-take_turn.stop) _ _ _ _ _ _ _ _
-    (c.turns_go_on.ensures _ (Err c.in-Err-take_turn.stop) _ _ _ _ _ _ _ _ _ _ _ _ _ _ (was.told delay is told source sink) (rw was.gear at next))
+    (c.turns_go_on.ensures _ (Err c.in-Err-take_turn.stop) _ _ _ _ _ _ _ _ _ _ _ _ _ _ (was.told delay is told source sink) (rw was.went.players at next))
 
-pub returns-in-Err-clause-proceeds : goal.returns-in-Err-clause-proceeds
-returns-in-Err-clause-proceeds g c = nothing_done _ _ _ _ _ _ refl refl
+pub returns-in-Err-clause-went : goal.returns-in-Err-clause-went
+returns-in-Err-clause-went g c = went_nowhere _ _ c.requires.sound
 
-pub returns-in-Ok-Some-clause-proceeds : goal.returns-in-Ok-Some-clause-proceeds
-returns-in-Ok-Some-clause-proceeds g c =
+pub returns-in-Ok-Some-clause-went : goal.returns-in-Ok-Some-clause-went
+returns-in-Ok-Some-clause-went g c =
     let was = c.loop-ending.invariant in
-    goes_on _ _ _ _ _ _ _ _ was.proceeds (proceeds_so _ _ (λ number status has source. asks_before _ _ _ _ (was.leads source) number status (has (was.source_tells ∙ source))) _ _ _ _ _ (rw was.gear at c.take_turn.ensures.proceeds))
+    went_on _ _ _ _ was.went (went_so _ _ (λ number status has source. asks_before _ _ _ _ (was.leads source) number status (has (was.source_tells ∙ source))) _ _ c.take_turn.ensures.went)
 
 pub returns-in-Ok-Some-clause-takes : goal.returns-in-Ok-Some-clause-takes
 returns-in-Ok-Some-clause-takes g c = λ source.
     let was = c.loop-ending.invariant in
     takes_on _ _ _ _ (was.takes source) (c.take_turn.ensures.takes (was.source_tells ∙ source))
 
-pub returns-in-Err-take_turn-clause-proceeds : goal.returns-in-Err-take_turn-clause-proceeds
-returns-in-Err-take_turn-clause-proceeds g c =
+pub returns-in-Err-take_turn-clause-went : goal.returns-in-Err-take_turn-clause-went
+returns-in-Err-take_turn-clause-went g c =
     let was = c.loop-ending.invariant in
-    goes_on _ _ _ _ _ _ _ _ was.proceeds (proceeds_so _ _ (λ number status has source. asks_before _ _ _ _ (was.leads source) number status (has (was.source_tells ∙ source))) _ _ _ _ _ (rw was.gear at c.take_turn.ensures.proceeds))
+    went_on _ _ _ _ was.went (went_so _ _ (λ number status has source. asks_before _ _ _ _ (was.leads source) number status (has (was.source_tells ∙ source))) _ _ c.take_turn.ensures.went)
 
 pub returns-in-Err-take_turn-clause-takes : goal.returns-in-Err-take_turn-clause-takes
 returns-in-Err-take_turn-clause-takes g c = λ source.

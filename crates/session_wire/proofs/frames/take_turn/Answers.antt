@@ -1,7 +1,7 @@
 use Rattle.std.proofs.Common.{Some, None, Ok, Err, refl, ap, ◌∙◌}
 use Rattle.session_wire.proofs.Asking.{frame_asks, frame_leads, rest_asks, takes}
-use Rattle.session_wire.proofs.Proceeding.{nothing_done, proceeds_so}
-use Rattle.session_wire.proofs.Consuming.{err_as, ok_as, ok_unwritten}
+use Rattle.session_run.proofs.Going.{went_nowhere, went_so}
+use Rattle.session_run.proofs.Consuming.{err_as, ok_as, ok_unwritten}
 use Rattle.session_wire.proofs.frames.take_turn.Goals as goal
 
 pub returns-in-Err-clause-told : goal.returns-in-Err-clause-told
@@ -59,56 +59,56 @@ returns-in-Ok-None-serve_frame-clause-told g c = λ delay is told source sink.
     let served = rw (c.bytes-in-Ok-Rest.ensures, c.in-Ok-None-serve_frame.field-0-is) at c.in-Ok-None-serve_frame.ensures.told in
     c.found_item_is_a_turn.ensures.rest _ _ _ _ _ _ _ _ _ _ (Ok None) found (finds source) (served delay is told sink)
 
-pub returns-in-Err-clause-proceeds : goal.returns-in-Err-clause-proceeds
-returns-in-Err-clause-proceeds g c = nothing_done _ _ _ _ _ _ refl refl
+pub returns-in-Err-clause-went : goal.returns-in-Err-clause-went
+returns-in-Err-clause-went g c = went_nowhere _ _ c.requires.sound
 
 pub returns-in-Err-clause-writes : goal.returns-in-Err-clause-writes
 returns-in-Err-clause-writes g c = λ sink. ok_unwritten _ _
 
-pub returns-in-Ok-End-clause-proceeds : goal.returns-in-Ok-End-clause-proceeds
-returns-in-Ok-End-clause-proceeds g c = nothing_done _ _ _ _ _ _ refl refl
+pub returns-in-Ok-End-clause-went : goal.returns-in-Ok-End-clause-went
+returns-in-Ok-End-clause-went g c = went_nowhere _ _ c.requires.sound
 
 pub returns-in-Ok-End-clause-writes : goal.returns-in-Ok-End-clause-writes
 returns-in-Ok-End-clause-writes g c = λ sink. ok_unwritten _ _
 
-pub returns-in-Err-serve_frame-clause-proceeds : goal.returns-in-Err-serve_frame-clause-proceeds
-returns-in-Err-serve_frame-clause-proceeds g c =
+pub returns-in-Err-serve_frame-clause-went : goal.returns-in-Err-serve_frame-clause-went
+returns-in-Err-serve_frame-clause-went g c =
     let found = rw c.in-Ok-Item.field-0-is at c.in-Ok-Item.ensures.found in
     let finds = rw c.in-Ok-Item.field-0-is at c.in-Ok-Item.ensures.told in
-    let served = rw c.bytes.ensures at c.serve_frame.ensures.proceeds in
-    proceeds_so _ _ (λ number status asks source. frame_asks c.all_are_looked_at.ensures _ _ _ _ _ _ _ found (finds source) number status asks) _ _ _ _ _ served
+    let served = rw c.bytes.ensures at c.serve_frame.ensures.went in
+    went_so _ _ (λ number status asks source. frame_asks c.all_are_looked_at.ensures _ _ _ _ _ _ _ found (finds source) number status asks) _ _ served
 
-pub returns-in-Ok-Some-clause-proceeds : goal.returns-in-Ok-Some-clause-proceeds
-returns-in-Ok-Some-clause-proceeds g c =
+pub returns-in-Ok-Some-clause-went : goal.returns-in-Ok-Some-clause-went
+returns-in-Ok-Some-clause-went g c =
     let found = rw c.in-Ok-Item.field-0-is at c.in-Ok-Item.ensures.found in
     let finds = rw c.in-Ok-Item.field-0-is at c.in-Ok-Item.ensures.told in
-    let served = rw c.bytes.ensures at c.serve_frame.ensures.proceeds in
-    proceeds_so _ _ (λ number status asks source. frame_asks c.all_are_looked_at.ensures _ _ _ _ _ _ _ found (finds source) number status asks) _ _ _ _ _ served
+    let served = rw c.bytes.ensures at c.serve_frame.ensures.went in
+    went_so _ _ (λ number status asks source. frame_asks c.all_are_looked_at.ensures _ _ _ _ _ _ _ found (finds source) number status asks) _ _ served
 
-pub returns-in-Ok-None-clause-proceeds : goal.returns-in-Ok-None-clause-proceeds
-returns-in-Ok-None-clause-proceeds g c =
+pub returns-in-Ok-None-clause-went : goal.returns-in-Ok-None-clause-went
+returns-in-Ok-None-clause-went g c =
     let found = rw c.in-Ok-Item.field-0-is at c.in-Ok-Item.ensures.found in
     let finds = rw c.in-Ok-Item.field-0-is at c.in-Ok-Item.ensures.told in
-    let served = rw c.bytes.ensures at c.serve_frame.ensures.proceeds in
-    proceeds_so _ _ (λ number status asks source. frame_asks c.all_are_looked_at.ensures _ _ _ _ _ _ _ found (finds source) number status asks) _ _ _ _ _ served
+    let served = rw c.bytes.ensures at c.serve_frame.ensures.went in
+    went_so _ _ (λ number status asks source. frame_asks c.all_are_looked_at.ensures _ _ _ _ _ _ _ found (finds source) number status asks) _ _ served
 
-pub returns-in-Err-serve_frame-2-clause-proceeds : goal.returns-in-Err-serve_frame-2-clause-proceeds
-returns-in-Err-serve_frame-2-clause-proceeds g c =
+pub returns-in-Err-serve_frame-2-clause-went : goal.returns-in-Err-serve_frame-2-clause-went
+returns-in-Err-serve_frame-2-clause-went g c =
     let finds = rw c.in-Ok-Rest.field-0-is at c.in-Ok-Rest.ensures.told in
-    let served = rw c.bytes-in-Ok-Rest.ensures at c.serve_frame-in-Ok-Rest.ensures.proceeds in
-    proceeds_so _ _ (λ number status asks source. rest_asks _ _ _ _ _ _ (finds source) number status asks) _ _ _ _ _ served
+    let served = rw c.bytes-in-Ok-Rest.ensures at c.serve_frame-in-Ok-Rest.ensures.went in
+    went_so _ _ (λ number status asks source. rest_asks _ _ _ _ _ _ (finds source) number status asks) _ _ served
 
-pub returns-in-Ok-Some-serve_frame-clause-proceeds : goal.returns-in-Ok-Some-serve_frame-clause-proceeds
-returns-in-Ok-Some-serve_frame-clause-proceeds g c =
+pub returns-in-Ok-Some-serve_frame-clause-went : goal.returns-in-Ok-Some-serve_frame-clause-went
+returns-in-Ok-Some-serve_frame-clause-went g c =
     let finds = rw c.in-Ok-Rest.field-0-is at c.in-Ok-Rest.ensures.told in
-    let served = rw c.bytes-in-Ok-Rest.ensures at c.serve_frame-in-Ok-Rest.ensures.proceeds in
-    proceeds_so _ _ (λ number status asks source. rest_asks _ _ _ _ _ _ (finds source) number status asks) _ _ _ _ _ served
+    let served = rw c.bytes-in-Ok-Rest.ensures at c.serve_frame-in-Ok-Rest.ensures.went in
+    went_so _ _ (λ number status asks source. rest_asks _ _ _ _ _ _ (finds source) number status asks) _ _ served
 
-pub returns-in-Ok-None-serve_frame-clause-proceeds : goal.returns-in-Ok-None-serve_frame-clause-proceeds
-returns-in-Ok-None-serve_frame-clause-proceeds g c =
+pub returns-in-Ok-None-serve_frame-clause-went : goal.returns-in-Ok-None-serve_frame-clause-went
+returns-in-Ok-None-serve_frame-clause-went g c =
     let finds = rw c.in-Ok-Rest.field-0-is at c.in-Ok-Rest.ensures.told in
-    let served = rw c.bytes-in-Ok-Rest.ensures at c.serve_frame-in-Ok-Rest.ensures.proceeds in
-    proceeds_so _ _ (λ number status asks source. rest_asks _ _ _ _ _ _ (finds source) number status asks) _ _ _ _ _ served
+    let served = rw c.bytes-in-Ok-Rest.ensures at c.serve_frame-in-Ok-Rest.ensures.went in
+    went_so _ _ (λ number status asks source. rest_asks _ _ _ _ _ _ (finds source) number status asks) _ _ served
 
 pub returns-in-Ok-None-clause-leads : goal.returns-in-Ok-None-clause-leads
 returns-in-Ok-None-clause-leads g c = λ none source.

@@ -3,46 +3,46 @@ use Rattle.item_stream.specs.declared.ending.Ending.{Ending}
 use Rattle.frame_stream.specs.declared.fault.FrameFault.{FrameFault}
 use Rattle.session_wire.proofs.Asking.{by_ending, by_frame, by_stop}
 use Rattle.session_wire.proofs.Consuming.{run_stopped, run_written}
-use Rattle.session_wire.proofs.Filed.{no_data}
-use Rattle.session_wire.proofs.Proceeding.{goes_on, proceeds_so}
+use Rattle.session_run.proofs.Filed.{no_data}
+use Rattle.session_run.proofs.Going.{went_on, went_so}
 use Rattle.session_wire.proofs.Wholly.{stopped, ended, broken}
 use Rattle.session_wire.proofs.Wording.{answers_all, completes, completes_not, frames_left, frames_read, stops_among, stops_behind}
 use Rattle.session_wire.proofs.run.run_frames.Goals as goal
 
 pub returns-in-Err-clause-told : goal.returns-in-Err-clause-told
 returns-in-Err-clause-told g c = λ delay is told source sink.
-    stopped _ _ _ _ _ c.in-Err.stop _ _ _ _ (c.in-Err.ensures.told delay is told source sink) (rw (c.serve_frames.ensures.gear, c.stop_status.ensures) at c.close_silently.ensures.closed)
+    stopped _ _ _ _ _ c.in-Err.stop _ _ _ _ (c.in-Err.ensures.told delay is told source sink) (rw (c.serve_frames.ensures.went.players, c.stop_status.ensures) at c.close_silently.ensures.closed)
 
 pub returns-in-Ok-close_answered-clause-told : goal.returns-in-Ok-close_answered-clause-told
 returns-in-Ok-close_answered-clause-told g c = λ delay is told source sink.
     ended _ _ _ _ _ c.in-Ok.ending _ _ _ _ _ (c.in-Ok.ensures.told delay is told source sink) c.in-Ok-close_answered.field-0
-    (rw (c.serve_frames.ensures.gear, c.ending_status.ensures) at (c.in-Ok-close_answered.ensures.told (c.serve_frames.ensures.sink_tells ∙ sink)))
+    (rw (c.serve_frames.ensures.went.players, c.ending_status.ensures) at (c.in-Ok-close_answered.ensures.told (c.serve_frames.ensures.sink_tells ∙ sink)))
 
 pub returns-in-Err-close_answered-clause-told : goal.returns-in-Err-close_answered-clause-told
 returns-in-Err-close_answered-clause-told g c = λ delay is told source sink.
     broken _ _ _ _ _ c.in-Ok.ending _ _ _ _ _ _ (c.in-Ok.ensures.told delay is told source sink) c.in-Err-close_answered.stop
-    (rw (c.serve_frames.ensures.gear, c.ending_status.ensures) at (c.in-Err-close_answered.ensures.told (c.serve_frames.ensures.sink_tells ∙ sink)))
-    (rw (c.close_answered.ensures.gear, c.serve_frames.ensures.gear, c.stop_status-in-Err-close_answered.ensures) at c.close_silently-in-Err-close_answered.ensures.closed)
+    (rw (c.serve_frames.ensures.went.players, c.ending_status.ensures) at (c.in-Err-close_answered.ensures.told (c.serve_frames.ensures.sink_tells ∙ sink)))
+    (rw (c.close_answered.ensures.went.players, c.serve_frames.ensures.went.players, c.stop_status-in-Err-close_answered.ensures) at c.close_silently-in-Err-close_answered.ensures.closed)
 
-pub returns-in-Err-clause-proceeds : goal.returns-in-Err-clause-proceeds
-returns-in-Err-clause-proceeds g c = goes_on _ _ _ _ _ _ _ _ (proceeds_so _ _ (by_frame _ _) _ _ _ _ _ c.serve_frames.ensures.proceeds) (proceeds_so _ _ (by_stop _ _ c.in-Err.stop _ c.stop_status.ensures) _ _ _ _ _ (rw c.serve_frames.ensures.gear at c.close_silently.ensures.proceeds))
+pub returns-in-Err-clause-went : goal.returns-in-Err-clause-went
+returns-in-Err-clause-went g c = went_on _ _ _ _ (went_so _ _ (by_frame _ _) _ _ c.serve_frames.ensures.went) (went_so _ _ (by_stop _ _ c.in-Err.stop _ c.stop_status.ensures) _ _ c.close_silently.ensures.went)
 
-pub returns-in-Ok-close_answered-clause-proceeds : goal.returns-in-Ok-close_answered-clause-proceeds
-returns-in-Ok-close_answered-clause-proceeds g c = goes_on _ _ _ _ _ _ _ _ (proceeds_so _ _ (by_frame _ _) _ _ _ _ _ c.serve_frames.ensures.proceeds) (proceeds_so _ _ (by_ending _ _ c.in-Ok.ending _ c.ending_status.ensures) _ _ _ _ _ (rw c.serve_frames.ensures.gear at c.close_answered.ensures.proceeds))
+pub returns-in-Ok-close_answered-clause-went : goal.returns-in-Ok-close_answered-clause-went
+returns-in-Ok-close_answered-clause-went g c = went_on _ _ _ _ (went_so _ _ (by_frame _ _) _ _ c.serve_frames.ensures.went) (went_so _ _ (by_ending _ _ c.in-Ok.ending _ c.ending_status.ensures) _ _ c.close_answered.ensures.went)
 
-pub returns-in-Err-close_answered-clause-proceeds : goal.returns-in-Err-close_answered-clause-proceeds
-returns-in-Err-close_answered-clause-proceeds g c =
-    goes_on _ _ _ _ _ _ _ _ (goes_on _ _ _ _ _ _ _ _ (proceeds_so _ _ (by_frame _ _) _ _ _ _ _ c.serve_frames.ensures.proceeds) (proceeds_so _ _ (by_ending _ _ c.in-Ok.ending _ c.ending_status.ensures) _ _ _ _ _ (rw c.serve_frames.ensures.gear at c.close_answered.ensures.proceeds)))
-    (proceeds_so _ _ (by_stop _ _ c.in-Err-close_answered.stop _ c.stop_status-in-Err-close_answered.ensures) _ _ _ _ _ (rw (c.close_answered.ensures.gear, c.serve_frames.ensures.gear) at c.close_silently-in-Err-close_answered.ensures.proceeds))
+pub returns-in-Err-close_answered-clause-went : goal.returns-in-Err-close_answered-clause-went
+returns-in-Err-close_answered-clause-went g c =
+    went_on _ _ _ _ (went_on _ _ _ _ (went_so _ _ (by_frame _ _) _ _ c.serve_frames.ensures.went) (went_so _ _ (by_ending _ _ c.in-Ok.ending _ c.ending_status.ensures) _ _ c.close_answered.ensures.went))
+    (went_so _ _ (by_stop _ _ c.in-Err-close_answered.stop _ c.stop_status-in-Err-close_answered.ensures) _ _ c.close_silently-in-Err-close_answered.ensures.went)
 
 pub returns-in-Err-clause-filed : goal.returns-in-Err-clause-filed
-returns-in-Err-clause-filed g c = c.all_are_filed.ensures 17 _ _ c.close_silently.ensures.sound.held.once (λ h lt. no_data _ c.close_silently.ensures.none_open h)
+returns-in-Err-clause-filed g c = c.all_are_filed.ensures 17 _ _ c.close_silently.ensures.went.sound.held.once (λ h lt. no_data _ c.close_silently.ensures.none_open h)
 
 pub returns-in-Ok-close_answered-clause-filed : goal.returns-in-Ok-close_answered-clause-filed
-returns-in-Ok-close_answered-clause-filed g c = c.all_are_filed.ensures 17 _ _ c.close_answered.ensures.sound.held.once (λ h lt. no_data _ c.in-Ok-close_answered.ensures.none_open h)
+returns-in-Ok-close_answered-clause-filed g c = c.all_are_filed.ensures 17 _ _ c.close_answered.ensures.went.sound.held.once (λ h lt. no_data _ c.in-Ok-close_answered.ensures.none_open h)
 
 pub returns-in-Err-close_answered-clause-filed : goal.returns-in-Err-close_answered-clause-filed
-returns-in-Err-close_answered-clause-filed g c = c.all_are_filed.ensures 17 _ _ c.close_silently-in-Err-close_answered.ensures.sound.held.once (λ h lt. no_data _ c.close_silently-in-Err-close_answered.ensures.none_open h)
+returns-in-Err-close_answered-clause-filed g c = c.all_are_filed.ensures 17 _ _ c.close_silently-in-Err-close_answered.ensures.went.sound.held.once (λ h lt. no_data _ c.close_silently-in-Err-close_answered.ensures.none_open h)
 
 pub returns-in-Err-clause-complete : goal.returns-in-Err-clause-complete
 returns-in-Err-clause-complete g c = λ source. completes_not (Ending FrameFault) c.in-Err.stop _ _ _ _ c.in-Err.ensures.sink_faults
@@ -76,15 +76,15 @@ returns-in-Err-close_answered-clause-writes g c = λ sink.
 
 pub returns-in-Err-clause-answered : goal.returns-in-Err-clause-answered
 returns-in-Err-clause-answered g c = λ delay is told source sink.
-    inl (stops_among _ (c.runs_are_of_steps.ensures.served _) _ _ _ _ _ _ _ c.in-Err.stop _ (c.in-Err.ensures.told delay is told source sink) (c.serve_frames.ensures.takes source) (rw (c.serve_frames.ensures.gear, c.stop_status.ensures) at c.close_silently.ensures.closed))
+    inl (stops_among _ (c.runs_are_of_steps.ensures.served _) _ _ _ _ _ _ _ c.in-Err.stop _ (c.in-Err.ensures.told delay is told source sink) (c.serve_frames.ensures.takes source) (rw (c.serve_frames.ensures.went.players, c.stop_status.ensures) at c.close_silently.ensures.closed))
 
 pub returns-in-Ok-close_answered-clause-answered : goal.returns-in-Ok-close_answered-clause-answered
 returns-in-Ok-close_answered-clause-answered g c = λ delay is told source sink.
     answers_all _ c.bytes_spell_steps.ensures (c.runs_are_of_steps.ensures.run _) _ _ _ _ c.in-Ok.ending _ _ _ _ _ (c.in-Ok.ensures.told delay is told source sink) (c.serve_frames.ensures.takes source) c.in-Ok-close_answered.field-0
-    (rw (c.serve_frames.ensures.gear, c.ending_status.ensures) at (c.in-Ok-close_answered.ensures.told (c.serve_frames.ensures.sink_tells ∙ sink)))
+    (rw (c.serve_frames.ensures.went.players, c.ending_status.ensures) at (c.in-Ok-close_answered.ensures.told (c.serve_frames.ensures.sink_tells ∙ sink)))
 
 pub returns-in-Err-close_answered-clause-answered : goal.returns-in-Err-close_answered-clause-answered
 returns-in-Err-close_answered-clause-answered g c = λ delay is told source sink.
     inr (stops_behind _ c.bytes_spell_steps.ensures (c.runs_are_of_steps.ensures.run _) _ _ _ _ c.in-Ok.ending _ _ _ _ _ (c.in-Ok.ensures.told delay is told source sink) (c.serve_frames.ensures.takes source) c.in-Err-close_answered.stop _
-    (rw (c.serve_frames.ensures.gear, c.ending_status.ensures) at (c.in-Err-close_answered.ensures.told (c.serve_frames.ensures.sink_tells ∙ sink)))
-    (rw (c.close_answered.ensures.gear, c.serve_frames.ensures.gear, c.stop_status-in-Err-close_answered.ensures) at c.close_silently-in-Err-close_answered.ensures.closed))
+    (rw (c.serve_frames.ensures.went.players, c.ending_status.ensures) at (c.in-Err-close_answered.ensures.told (c.serve_frames.ensures.sink_tells ∙ sink)))
+    (rw (c.close_answered.ensures.went.players, c.serve_frames.ensures.went.players, c.stop_status-in-Err-close_answered.ensures) at c.close_silently-in-Err-close_answered.ensures.closed))

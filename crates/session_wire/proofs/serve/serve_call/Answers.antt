@@ -1,7 +1,9 @@
 use Rattle.std.proofs.Common.{Ok, Err, refl}
-use Rattle.session_wire.proofs.Serving.{failed_place, called_frame, applied_only, failed_call}
-use Rattle.session_wire.proofs.Proceeding.{call_ends, one_call, receipts_stay}
-use Rattle.session_wire.proofs.Consuming.{all_written, err_unwritten, front_written}
+use Rattle.session_run.proofs.Serving.{failed_place}
+use Rattle.session_wire.proofs.Serving.{called_frame, applied_only, failed_call}
+use Rattle.session_run.proofs.Going.{went_once}
+use Rattle.session_run.proofs.Proceeding.{call_ends, receipts_stay}
+use Rattle.session_run.proofs.Consuming.{all_written, err_unwritten, front_written}
 use Rattle.session_wire.proofs.serve.serve_call.Goals as goal
 
 pub returns-in-Err-clause-told : goal.returns-in-Err-clause-told
@@ -39,20 +41,30 @@ returns-clause-told g c = λ delay is told sink frames frame few asked.
 pub step_report-requires-clause-from : goal.step_report-requires-clause-from
 step_report-requires-clause-from g c = rw c.in-Ok.ensures.filed_from (receipts_stay _ _ _ _ _ _ _ _ c.apply.ensures.spends)
 
-pub returns-in-Err-clause-proceeds : goal.returns-in-Err-clause-proceeds
-returns-in-Err-clause-proceeds g c = one_call _ _ _ _ _ _ _ c.apply.ensures.moves (call_ends _ _ _)
+pub returns-in-Err-clause-went : goal.returns-in-Err-clause-went
+returns-in-Err-clause-went g c =
+    went_once _ _ _ (rw c.apply.ensures.gear refl) c.apply.ensures.tells c.apply.ensures.world_tells (λ number gives. rw c.apply.ensures.gear gives)
+    _ c.apply.ensures.moves (call_ends _ _ _) c.apply.ensures.sound
 
-pub returns-in-Err-step_report-clause-proceeds : goal.returns-in-Err-step_report-clause-proceeds
-returns-in-Err-step_report-clause-proceeds g c = one_call _ _ _ _ _ _ _ c.apply.ensures.moves (call_ends _ _ _)
+pub returns-in-Err-step_report-clause-went : goal.returns-in-Err-step_report-clause-went
+returns-in-Err-step_report-clause-went g c =
+    went_once _ _ _ (rw c.apply.ensures.gear refl) c.apply.ensures.tells c.apply.ensures.world_tells (λ number gives. rw c.apply.ensures.gear gives)
+    _ c.apply.ensures.moves (call_ends _ _ _) c.apply.ensures.sound
 
-pub returns-in-Err-answer_of-clause-proceeds : goal.returns-in-Err-answer_of-clause-proceeds
-returns-in-Err-answer_of-clause-proceeds g c = one_call _ _ _ _ _ _ _ c.apply.ensures.moves (call_ends _ _ _)
+pub returns-in-Err-answer_of-clause-went : goal.returns-in-Err-answer_of-clause-went
+returns-in-Err-answer_of-clause-went g c =
+    went_once _ _ _ (rw c.apply.ensures.gear refl) c.apply.ensures.tells c.apply.ensures.world_tells (λ number gives. rw c.apply.ensures.gear gives)
+    _ c.apply.ensures.moves (call_ends _ _ _) c.apply.ensures.sound
 
-pub returns-in-Ok-write_all-clause-proceeds : goal.returns-in-Ok-write_all-clause-proceeds
-returns-in-Ok-write_all-clause-proceeds g c = one_call _ _ _ _ _ _ _ c.apply.ensures.moves (call_ends _ _ _)
+pub returns-in-Ok-write_all-clause-went : goal.returns-in-Ok-write_all-clause-went
+returns-in-Ok-write_all-clause-went g c =
+    went_once _ _ _ (rw c.apply.ensures.gear refl) c.apply.ensures.tells c.apply.ensures.world_tells (λ number gives. rw c.apply.ensures.gear gives)
+    _ c.apply.ensures.moves (call_ends _ _ _) c.apply.ensures.sound
 
-pub returns-clause-proceeds : goal.returns-clause-proceeds
-returns-clause-proceeds g c = one_call _ _ _ _ _ _ _ c.apply.ensures.moves (call_ends _ _ _)
+pub returns-clause-went : goal.returns-clause-went
+returns-clause-went g c =
+    went_once _ _ _ (rw c.apply.ensures.gear refl) c.apply.ensures.tells c.apply.ensures.world_tells (λ number gives. rw c.apply.ensures.gear gives)
+    _ c.apply.ensures.moves (call_ends _ _ _) c.apply.ensures.sound
 
 pub returns-in-Err-clause-writes : goal.returns-in-Err-clause-writes
 returns-in-Err-clause-writes g c = λ sink. err_unwritten _ _

@@ -2,8 +2,9 @@ use Rattle.std.proofs.Common.{◌<◌, sym, refl, subst}
 use Rattle.std.proofs.lemmas.List.Elements.{All-from_get_or}
 use Rattle.pam_base.specs.declared.call.Step.{Step}
 use Rattle.pam_wire.specs.Frame.{IsFrame}
-use Rattle.session_wire.proofs.Proceeding.{nothing_done, proceeds_so}
-use Rattle.session_wire.proofs.Consuming.{err_as, err_unwritten, ok_as, ok_unwritten, reads_accepted, reads_refused, reads_stopped, reads_too_many, reads_unbegun}
+use Rattle.session_run.proofs.Going.{went_nowhere, went_so}
+use Rattle.session_run.proofs.Consuming.{err_as, err_unwritten, ok_as, ok_unwritten}
+use Rattle.session_wire.proofs.Consuming.{reads_accepted, reads_refused, reads_stopped, reads_too_many, reads_unbegun}
 use Rattle.session_wire.proofs.Serving.{too_many, refused}
 use Rattle.session_wire.proofs.serve.serve_frame.Goals as goal
 
@@ -26,26 +27,26 @@ returns-clause-told g c = λ delay is told sink.
     let e = rw c.in-Ok-Some.field-0-is at c.in-Ok-Some.ensures.step in
     c.in-Err-serve_call.ensures.told delay is told sink _ _ c.if-frames-ge-MAX_FRAMES.false (sym e)
 
-pub returns-then-frames-ge-MAX_FRAMES-clause-proceeds : goal.returns-then-frames-ge-MAX_FRAMES-clause-proceeds
-returns-then-frames-ge-MAX_FRAMES-clause-proceeds g c = nothing_done _ _ _ _ _ _ refl refl
+pub returns-then-frames-ge-MAX_FRAMES-clause-went : goal.returns-then-frames-ge-MAX_FRAMES-clause-went
+returns-then-frames-ge-MAX_FRAMES-clause-went g c = went_nowhere _ _ c.requires
 
-pub returns-in-Err-clause-proceeds : goal.returns-in-Err-clause-proceeds
-returns-in-Err-clause-proceeds g c = nothing_done _ _ _ _ _ _ refl refl
+pub returns-in-Err-clause-went : goal.returns-in-Err-clause-went
+returns-in-Err-clause-went g c = went_nowhere _ _ c.requires
 
-pub returns-in-Ok-None-clause-proceeds : goal.returns-in-Ok-None-clause-proceeds
-returns-in-Ok-None-clause-proceeds g c = nothing_done _ _ _ _ _ _ refl refl
+pub returns-in-Ok-None-clause-went : goal.returns-in-Ok-None-clause-went
+returns-in-Ok-None-clause-went g c = went_nowhere _ _ c.requires
 
-pub returns-in-Ok-clause-proceeds : goal.returns-in-Ok-clause-proceeds
-returns-in-Ok-clause-proceeds g c =
+pub returns-in-Ok-clause-went : goal.returns-in-Ok-clause-went
+returns-in-Ok-clause-went g c =
     let e = rw c.in-Ok-Some.field-0-is at c.in-Ok-Some.ensures.step in
     let framed = (c.frame_is_read.ensures _ _).1 (All-from_get_or (λ b. b < 256) c.args.frame.now 0 (λ i lt. (c.type_inv.frame i).fits)) (sym e) in
-    proceeds_so _ _ (λ number status is. (c.if-frames-ge-MAX_FRAMES.false, subst (λ (s : Step). IsFrame c.args.frame.now s) is framed)) _ _ _ _ _ c.serve_call.ensures.proceeds
+    went_so _ _ (λ number status is. (c.if-frames-ge-MAX_FRAMES.false, subst (λ (s : Step). IsFrame c.args.frame.now s) is framed)) _ _ c.serve_call.ensures.went
 
-pub returns-clause-proceeds : goal.returns-clause-proceeds
-returns-clause-proceeds g c =
+pub returns-clause-went : goal.returns-clause-went
+returns-clause-went g c =
     let e = rw c.in-Ok-Some.field-0-is at c.in-Ok-Some.ensures.step in
     let framed = (c.frame_is_read.ensures _ _).1 (All-from_get_or (λ b. b < 256) c.args.frame.now 0 (λ i lt. (c.type_inv.frame i).fits)) (sym e) in
-    proceeds_so _ _ (λ number status is. (c.if-frames-ge-MAX_FRAMES.false, subst (λ (s : Step). IsFrame c.args.frame.now s) is framed)) _ _ _ _ _ c.serve_call.ensures.proceeds
+    went_so _ _ (λ number status is. (c.if-frames-ge-MAX_FRAMES.false, subst (λ (s : Step). IsFrame c.args.frame.now s) is framed)) _ _ c.serve_call.ensures.went
 
 pub returns-in-Ok-clause-framed : goal.returns-in-Ok-clause-framed
 returns-in-Ok-clause-framed g c = λ none.
