@@ -21,10 +21,11 @@ use Rattle.session_run.specs.Whole.{ending_status, last_line}
 use Rattle.stack_walk.specs.Retell.{Seen}
 use Rattle.report_lines.specs.Line.{Block, closed_by_program, block_text, blocks_text, last_text, AreBlocks, IsLast}
 use Rattle.session_audit.specs.Fits.{Place, shut, running, with_place, all_shut, fold_on, fold, behind_block, behind_at, behind_result, with_behind}
-use Rattle.session_audit.specs.Sound.{AreSound}
+use Rattle.session_audit.specs.Sound.{ArePrintable, AreSound}
 use Rattle.pam_handle.specs.StackCalls.{held_in}
 use Rattle.audit_laws.specs.Report.{closing_reported}
 use Rattle.audit_laws.specs.Step.{place_of, places_of, HaveStacks}
+use Rattle.audit_laws.specs.Loaded.{LoadedArePrintable}
 use Rattle.audit_laws.specs.Run.{run_blocks, lines_looked, closing_blocks, last_of, RunsFit, ScriptsFit}
 use Rattle.audit_laws.proofs.Printing.{closings_print}
 use Rattle.audit_laws.proofs.Stepping.{place_at-of, with_place-of, filed_visits}
@@ -135,8 +136,9 @@ comes setting Done n start last input taken left body reports = record { refused
 comes setting ReadFault n start last input taken left body reports = record { refused = _; is = reports }
 comes setting (Refused kind) n start last input taken left body reports = record { refused = _; is = reports.0 }
 
-pub runs_fit : RunsFit
-runs_fit setting stacks ending start end input taken left text e printable shuts finds =
+pub runs_fit : LoadedArePrintable → RunsFit
+runs_fit prints setting stacks ending start end input taken left text e loaded shuts finds =
+    let printable : ArePrintable stacks = prints stacks loaded in
     let by : ByRemainders = by_remainders in
     let ls : List (List ℕ) = lines_looked setting ending input taken in
     let c : Comes setting ls start e.last e.lines e.body = comes setting ending e.lines start e.last input taken left e.body e.comes in
@@ -166,6 +168,6 @@ runs_fit setting stacks ending start end input taken left text e printable shuts
       fits = whole;
     }
 
-pub scripts_fit : ScriptsFit
-scripts_fit setting stacks ending start end x y p q r printable shuts finds =
-    (r.sink, runs_fit setting stacks ending start end x.left r.taken y.left r.text r.outcome printable shuts finds)
+pub scripts_fit : LoadedArePrintable → ScriptsFit
+scripts_fit prints setting stacks ending start end x y p q r loaded shuts finds =
+    (r.sink, runs_fit prints setting stacks ending start end x.left r.taken y.left r.text r.outcome loaded shuts finds)

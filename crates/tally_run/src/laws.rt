@@ -1,31 +1,35 @@
 ghost use Rattle.std.specs.Prelude.{ℕ, List};
 ghost use Rattle.pam_base.specs.declared.code.Code.{Code};
+ghost use Rattle.pam_library.specs.Plays.{AskedLine};
 ghost use Rattle.script_stream.specs.Run.{run_lines};
 ghost use Rattle.session_run.specs.Closings.{all_closed};
 ghost use Rattle.session_run.specs.State.{RunState, Setting};
 ghost use Rattle.session_run.specs.Step.{line_step};
-ghost use Rattle.session_run.specs.Visits.{visits_in};
+ghost use Rattle.session_run.specs.Visits.{ScriptAsks};
 ghost use Rattle.tally_run.specs.Tallied.{FaillockAloneWrites, Tallies};
 
-/// If pam_faillock(8) alone writes a user's file, then whatever the steps of a run are, the file is
-/// explained by one call of the module for each of its lines that the run runs, in order, with the
-/// time of the step and the code that was returned (`script`): a recorded failure is dropped only
-/// when a later one is recorded and it doesn't count any more, or when the failures are cleared.
-/// The implicit ends of the run change nothing of the file (`closings`). This is a law about the
-/// definitions: its contract states it.
+/// If pam_faillock(8) alone writes a user's file, then whatever the steps of a run are, the file has
+/// what the calls of its lines that the run runs make of it, in order: each with the arguments of
+/// its rule, and with the room, the files and the time as the line before left them (`script`). A
+/// recorded failure is dropped only when a later one is recorded and it doesn't count any more, or
+/// when the failures are cleared. The implicit ends of the run change nothing of the file
+/// (`closings`). This is a law about the definitions: its contract states it.
 pub fn runs_keep_recorded_failures()
     ensures script { (path : List ℕ) (setting : Setting) (n : ℕ) (s : RunState) (script : List
         (List ℕ)) →
         FaillockAloneWrites path setting.players →
-        Tallies path setting.players s.world.vault.files (visits_in setting n s script)
+        (asked : List AskedLine) × ScriptAsks setting n s script asked
+        × Tallies path setting.players s.world.vault.files asked
         (run_lines (line_step setting) n s script).last.world.vault.files }
     ensures closings { (path : List ℕ) (setting : Setting) (n : ℕ) (s : RunState) (script : List
         (List ℕ)) (status : Code) →
         FaillockAloneWrites path setting.players →
-        Tallies path setting.players s.world.vault.files (visits_in setting n s script)
+        (asked : List AskedLine) × ScriptAsks setting n s script asked
+        × Tallies path setting.players s.world.vault.files asked
         (all_closed setting.players status (run_lines
         (line_step setting) n s script).last).world.vault.files }
 {
     mod_tally::laws::recorded_failures_stand();
+    mod_tally::laws::written_tallies_are_read();
     session_run::laws::runs_change_files_by_plays();
 }
