@@ -1,5 +1,5 @@
 -- The rows of a walk over a list, node by node.
-use Rattle.std.proofs.Common.{◌≡◌, ℕ, zero, suc, ◌+◌, ◌-◌, ◌<◌, Bool, true, false, if◌then◌else◌, List, [], ◌∷◌, ◌++◌, Option, Some, None, refl, sym, ◌∙◌, ap, arith, add-zero, append_assoc, append-nil}
+use Rattle.std.proofs.Common.{◌≡◌, ℕ, zero, suc, ◌+◌, ◌-◌, ◌<◌, Bool, true, false, if◌then◌else◌, ◌≤◌, List, [], ◌∷◌, ◌++◌, length, drop, length-drop, None, refl, sym, ◌∙◌, ap, arith, add-zero, append_assoc, append-nil}
 use Rattle.pam_base.specs.declared.code.Code.{Code}
 use Rattle.control_words.specs.declared.control.Action.{Action}
 use Rattle.control_words.specs.declared.nodes.Node.{Node, Line, Sub, Sub'}
@@ -10,15 +10,31 @@ use Rattle.control_words.specs.Stack.{Stack, none, line, sub, count, lines_in, n
 use Rattle.stack_walk.specs.declared.opinion.Opinion.{Opinion}
 use Rattle.stack_walk.specs.declared.pass_kind.PassKind.{PassKind}
 use Rattle.stack_walk.specs.Opinion.{acted}
-use Rattle.stack_walk.specs.Walk.{Serving, Served, ServedAs, Walked, walk, walked, halted, next_of, settled}
+use Rattle.stack_walk.specs.Walk.{Serving, Served, ServedAs, Walked, walk, walked, next_of, settled}
 use Rattle.pass_replay.specs.Walk.{skip_of, Comes}
 use Rattle.explain_lines.specs.declared.row.Fate.{Fate}
-use Rattle.explain_lines.specs.declared.row.Fate.TheVariants.{Ran, Waits}
+use Rattle.explain_lines.specs.declared.row.Fate.TheVariants.{Ran, Waits, Unreached}
 use Rattle.explain_lines.specs.declared.row.Row.{Row}
 use Rattle.explain_lines.specs.Rows.{row_of}
-use Rattle.pass_replay.proofs.Peeling.{node_on-Sub}
+use Rattle.pass_replay.proofs.Peeling.{count_node, node_on-Sub}
 use Rattle.explain_calls.specs.declared.turn.Turn.{Turn}
-use Rattle.explain_calls.specs.Rows.{rows, rows_over, rows_behind, why_by}
+use Rattle.explain_calls.specs.Rows.{last_of, rows, rows_over, why_by}
+
+-- ---- the last nodes of a list
+
+count_length : (nodes : List Node) → count (stack_of nodes) ≡ length nodes
+count_length [] = refl
+count_length (node ∷ nodes) = omega (arith, count_node node (stack_of nodes), count_length nodes)
+
+-- those after a node
+pub last_are : (nodes : List Node) (i left : ℕ) → i < length nodes → left ≡ count (stack_of (drop (i + 1) nodes))
+    → last_of left nodes ≡ drop (i + 1) nodes
+last_are nodes i left within counted =
+    let place : length nodes - left ≡ i + 1 = omega (arith, within, counted, count_length (drop (i + 1) nodes), length-drop (i + 1) nodes) in
+    ap (λ n. drop n nodes) place
+
+pub few_left : (nodes : List Node) (i left : ℕ) → i < length nodes → left ≡ count (stack_of (drop (i + 1) nodes)) → left ≤ length nodes
+few_left nodes i left within counted = omega (arith, counted, count_length (drop (i + 1) nodes), length-drop (i + 1) nodes)
 
 -- ---- lines that are passed over
 
@@ -85,15 +101,17 @@ module _ {State : Type 0} (kind : PassKind) (serve : Serving State) where
   -- ---- a line
 
   line_waits : (rule : Rule) (rest : Stack) (at : ℕ) (entry opinion : Opinion) (old : State) (why : Fate) → (serve rule at old).stopped ≡ true
-      → rows kind serve 0 why (line rule rest) at entry opinion old ≡ row_of at rule Waits ∷ []
+      → rows kind serve 0 why (line rule rest) at entry opinion old ≡ row_of at rule Waits ∷ rows_over Unreached (at + 1) rest
   line_waits rule rest at entry opinion old why is = rw is refl
 
   pub waits : (rule : Rule) (rest : Stack) (at : ℕ) (entry opinion : Opinion) (old : State) (why : Fate) (row : Row) (shown new : List Row)
       → (serve rule at old).stopped ≡ true → row ≡ row_of at rule Waits → new ≡ shown ++ row ∷ []
-      → shown ++ rows kind serve 0 why (line rule rest) at entry opinion old ≡ new ++ []
+      → shown ++ rows kind serve 0 why (line rule rest) at entry opinion old ≡ new ++ rows_over Unreached (at + 1) rest
   waits rule rest at entry opinion old why row shown new is made adds =
       ap (λ (xs : List Row). shown ++ xs) (line_waits rule rest at entry opinion old why is)
-      ∙ ap (λ (r : Row). shown ++ r ∷ []) (sym made) ∙ sym adds ∙ sym (append-nil new)
+      ∙ sym (append_assoc shown (row_of at rule Waits ∷ []) (rows_over Unreached (at + 1) rest))
+      ∙ ap (λ (r : Row). (shown ++ r ∷ []) ++ rows_over Unreached (at + 1) rest) (sym made)
+      ∙ ap (λ (xs : List Row). xs ++ rows_over Unreached (at + 1) rest) (sym adds)
 
   line_runs : (rule : Rule) (rest : Stack) (at : ℕ) (entry opinion : Opinion) (old : State) (why : Fate) → (serve rule at old).stopped ≡ false
       → let served : Served State = serve rule at old in
@@ -140,13 +158,15 @@ module _ {State : Type 0} (kind : PassKind) (serve : Serving State) where
         ∙ ap (λ n. shown ++ rows kind serve n why here (at + 1) entry opinion state) (sym none_over) ∙ was.shows;
   }
 
-  -- a line at which the walk waits
-  pub showing_waits : (all : Stack) (first : ℕ) (entry : Opinion) (start : State) (reason : Fate) (before : List Row) (here rest : Stack) (rule : Rule) (skip at left' : ℕ) (opinion : Opinion) (state : State) (why : Fate) (shown after : List Row)
-      → IsShowing all first entry start reason before here skip at opinion state why shown → here ≡ line rule rest → skip ≡ 0 → count rest ≡ left'
-      → (count rest ≡ left' → shown ++ rows kind serve 0 why (line rule rest) (at + 1) entry opinion state ≡ after ++ [])
-      → after ≡ before ++ rows kind serve 0 reason all (first + 1) entry entry start
-  showing_waits all first entry start reason before here rest rule skip at left' opinion state why shown after was is none_over counted goes =
-      sym (append-nil after) ∙ sym (goes counted)
+  -- a line at which the walk waits, and the lines that weren't reached
+  pub showing_waits : (all : Stack) (first : ℕ) (entry : Opinion) (start : State) (reason : Fate) (before : List Row) (here rest left : Stack) (rule : Rule) (skip at at' left' : ℕ) (opinion : Opinion) (state : State) (why : Fate) (shown after final : List Row)
+      → IsShowing all first entry start reason before here skip at opinion state why shown → here ≡ line rule rest → skip ≡ 0 → count rest ≡ left' → at' ≡ at + 1 → left ≡ rest
+      → (count rest ≡ left' → shown ++ rows kind serve 0 why (line rule rest) (at + 1) entry opinion state ≡ after ++ rows_over Unreached (at + 1 + 1) rest)
+      → final ≡ after ++ rows_over Unreached (at' + 1) left
+      → final ≡ before ++ rows kind serve 0 reason all (first + 1) entry entry start
+  showing_waits all first entry start reason before here rest left rule skip at at' left' opinion state why shown after final was is none_over counted further left_is goes adds =
+      adds ∙ ap (λ n. after ++ rows_over Unreached (n + 1) left) further
+      ∙ ap (λ (s : Stack). after ++ rows_over Unreached (at + 1 + 1) s) left_is ∙ sym (goes counted)
       ∙ ap (λ (s : Stack). shown ++ rows kind serve 0 why s (at + 1) entry opinion state) (sym is)
       ∙ ap (λ n. shown ++ rows kind serve n why here (at + 1) entry opinion state) (sym none_over) ∙ was.shows
 
@@ -174,18 +194,24 @@ module _ {State : Type 0} (kind : PassKind) (serve : Serving State) where
             ∙ ap (λ n. shown ++ rows kind serve n why here (at + 1) entry opinion state) (sym none_over) ∙ was.shows;
       }
 
-  on_halt : (inside : Walked State) (own behind : List Row) → inside.stopped ≡ true → own ++ (if inside.stopped then [] else behind) ≡ own
-  on_halt inside own behind is = ap (λ (b : Bool). own ++ (if b then [] else behind)) is ∙ append-nil own
+  on_halt : (inside : Walked State) (own over behind : List Row) → inside.stopped ≡ true → own ++ (if inside.stopped then over else behind) ≡ own ++ over
+  on_halt inside own over behind is = ap (λ (b : Bool). own ++ (if b then over else behind)) is
 
-  pub sub_waits : (all : Stack) (first : ℕ) (entry : Opinion) (start : State) (reason : Fate) (before : List Row) (here inner rest : Stack) (skip at : ℕ) (opinion : Opinion) (state new : State) (why : Fate) (shown after : List Row)
-      → IsShowing all first entry start reason before here skip at opinion state why shown → here ≡ sub inner rest → skip ≡ 0
+  pub sub_waits : (all : Stack) (first : ℕ) (entry : Opinion) (start : State) (reason : Fate) (before : List Row) (here inner rest left : Stack) (skip at at' : ℕ) (opinion : Opinion) (state new : State) (why : Fate) (shown after final : List Row)
+      → IsShowing all first entry start reason before here skip at opinion state why shown → here ≡ sub inner rest → skip ≡ 0 → at' ≡ at + lines_in inner → left ≡ rest
       → Comes (walk kind serve 0 inner (at + 1) opinion opinion state) None new
       → after ≡ shown ++ rows kind serve 0 why inner (at + 1) opinion opinion state
-      → after ≡ before ++ rows kind serve 0 reason all (first + 1) entry entry start
-  sub_waits all first entry start reason before here inner rest skip at opinion state new why shown after was is none_over comes adds =
+      → final ≡ after ++ rows_over Unreached (at' + 1) left
+      → final ≡ before ++ rows kind serve 0 reason all (first + 1) entry entry start
+  sub_waits all first entry start reason before here inner rest left skip at at' opinion state new why shown after final was is none_over further left_is comes adds all_added =
+      let place : at' + 1 ≡ at + 1 + lines_in inner = omega (arith, further) in
       let inside : Walked State = walk kind serve 0 inner (at + 1) opinion opinion state in
       let own : List Row = rows kind serve 0 why inner (at + 1) opinion opinion state in
-      adds ∙ ap (λ (xs : List Row). shown ++ xs) (sym (on_halt inside own (rows kind serve 0 why rest (at + 1 + lines_in inner) entry inside.opinion inside.state) (ap (λ (v : Walked State). v.stopped) comes)))
+      let over : List Row = rows_over Unreached (at + 1 + lines_in inner) rest in
+      all_added ∙ ap (λ n. after ++ rows_over Unreached n left) place
+      ∙ ap (λ (s : Stack). after ++ rows_over Unreached (at + 1 + lines_in inner) s) left_is
+      ∙ ap (λ (xs : List Row). xs ++ over) adds ∙ append_assoc shown own over
+      ∙ ap (λ (xs : List Row). shown ++ xs) (sym (on_halt inside own over (rows kind serve 0 why rest (at + 1 + lines_in inner) entry inside.opinion inside.state) (ap (λ (v : Walked State). v.stopped) comes)))
       ∙ ap (λ (s : Stack). shown ++ rows kind serve 0 why s (at + 1) entry opinion state) (sym is)
       ∙ ap (λ n. shown ++ rows kind serve n why here (at + 1) entry opinion state) (sym none_over) ∙ was.shows
 

@@ -10,7 +10,7 @@ use Rattle.service_load.specs.declared.rule_type.RuleType.TheVariants.{Auth, Acc
 use Rattle.service_load.specs.Stacks.{Stacks}
 use Rattle.control_words.specs.Stack.{Stack}
 use Rattle.stack_walk.specs.declared.pass_kind.PassKind.{PassKind}
-use Rattle.stack_walk.specs.declared.pass_kind.PassKind.TheVariants.{Keep, Follow, Loose}
+use Rattle.stack_walk.specs.declared.pass_kind.PassKind.TheVariants.{Keep, Follow}
 use Rattle.stack_walk.specs.Retell.{Telling}
 use Rattle.stack_walk.specs.Route.{KeptAnswers}
 use Rattle.pass_replay.specs.dispatch_core.specs.Calls.{Held, answers_held, following, first_pass}

@@ -1,8 +1,6 @@
 -- The rows of a run of a stack: what became of each of its lines (this project's own).
-use Rattle.std.specs.Prelude.{ℕ, zero, suc, ◌+◌, if◌then◌else◌, List, [], ◌∷◌, ◌++◌, Option, Some, None}
+use Rattle.std.specs.Prelude.{ℕ, zero, suc, ◌+◌, ◌-◌, drop, length, if◌then◌else◌, List, [], ◌∷◌, ◌++◌, Option, Some, None}
 use Rattle.pam_base.specs.declared.code.Code.{Code}
-use Rattle.control_words.specs.declared.control.Action.{Action}
-use Rattle.control_words.specs.declared.nodes.Rule.{Rule}
 use Rattle.control_words.specs.Control.{action_at}
 use Rattle.control_words.specs.Stack.{Stack, none, line, sub, count, lines_in}
 use Rattle.stack_walk.specs.declared.opinion.Opinion.{Opinion}
@@ -14,10 +12,14 @@ use Rattle.stack_walk.specs.Retell.{Telling, replaying}
 use Rattle.stack_walk.specs.Route.{KeptAnswers}
 use Rattle.pass_replay.specs.Walk.{skip_of}
 use Rattle.explain_lines.specs.declared.row.Fate.{Fate}
-use Rattle.explain_lines.specs.declared.row.Fate.TheVariants.{Ran, Waits, Jumped, Ended}
+use Rattle.explain_lines.specs.declared.row.Fate.TheVariants.{Ran, Waits, Jumped, Ended, Unreached}
 use Rattle.explain_lines.specs.declared.row.Row.{Row}
 use Rattle.explain_lines.specs.Rows.{row_of}
 use Rattle.explain_calls.specs.declared.turn.Turn.{Turn}
+
+-- the last n of some items
+abbrev pub last_of : {A : Type 0} → ℕ → List A → List A
+last_of n items = drop (length items - n) items
 
 -- the rows of lines that weren't run, all for one reason
 abbrev pub rows_over : Fate → ℕ → Stack → List Row
@@ -32,7 +34,7 @@ why_by stop at = Ended at
 
 module _ {State : Type 0} (kind : PassKind) (serve : Serving State) where
   -- The rows of a walk over a stack whose first line has the rule number `at`, with its first n
-  -- nodes passed over for this reason. A line that waits is the last row.
+  -- nodes passed over for this reason. Lines after one that waits weren't reached.
   abbrev pub rows : ℕ → Fate → Stack → ℕ → Opinion → Opinion → State → List Row
   rows skip why none at entry opinion state = []
   rows (suc skip) why (line rule rest) at entry opinion state =
@@ -45,17 +47,18 @@ module _ {State : Type 0} (kind : PassKind) (serve : Serving State) where
       let new = acted kind action served.answer served.deciding entry opinion in
       let last = settled action (count rest) new in
       let next = next_of action (count rest) new in
-      if served.stopped then row_of at rule Waits ∷ []
+      if served.stopped then row_of at rule Waits ∷ rows_over Unreached (at + 1) rest
       else row_of at rule (Ran served.answer served.deciding action last)
       ∷ rows (skip_of next (count rest)) (why_by next at) rest (at + 1) entry last served.state
   rows zero why (sub inner rest) at entry opinion state =
       let inside = walk kind serve zero inner at opinion opinion state in
-      rows zero why inner at opinion opinion state ++ (if inside.stopped then []
+      rows zero why inner at opinion opinion state
+      ++ (if inside.stopped then rows_over Unreached (at + lines_in inner) rest
       else rows zero why rest (at + lines_in inner) entry inside.opinion inside.state)
 
-  -- what is left of the rows after a line: none if the walk waits there
+  -- what is left of the rows after a line: none of them was reached if the walk waits there
   abbrev pub rows_behind : Stack → ℕ → Opinion → Option Turn → State → List Row
-  rows_behind rest at entry None state = []
+  rows_behind rest at entry None state = rows_over Unreached at rest
   rows_behind rest at entry (Some turn) state =
       rows turn.skip turn.why rest at entry turn.opinion state
 

@@ -1,4 +1,4 @@
-ghost use Rattle.std.specs.Prelude.{◌≡◌, ◌<◌, ◌≤◌, ◌+◌, ◌++◌, IfOk, IfSome, OnOk};
+ghost use Rattle.std.specs.Prelude.{◌≡◌, ◌<◌, ◌≤◌, ◌+◌, ◌++◌, IfOk, OnOk, length};
 ghost use Rattle.control_words.specs.Stack.{Stack, count, line, lines_in, node_on, none, stack_of};
 ghost use Rattle.pass_replay.specs.dispatch_core.specs.Calls.{answers_held};
 ghost use Rattle.stack_walk.specs.Pass.{decides, serving};
@@ -6,7 +6,7 @@ ghost use Rattle.stack_walk.specs.Retell.{replaying};
 ghost use Rattle.stack_walk.specs.Walk.{walk};
 ghost use Rattle.pass_replay.specs.Kept.{kept_answers};
 ghost use Rattle.pass_replay.specs.Walk.{Comes, state_in};
-ghost use Rattle.explain_calls.specs.Rows.{rows, rows_behind, rows_over};
+ghost use Rattle.explain_calls.specs.Rows.{last_of, rows, rows_behind, rows_over};
 ghost use Rattle.explain_calls.specs.Walk.{after_turn};
 
 use crate::turn::{Turn, why_after};
@@ -20,20 +20,20 @@ use stack_walk::{Opinion, PassKind, Seen};
 
 // Adds the rows of lines that weren't run, the first of which has the rule number `at` + 1. Returns
 // the rule number of the last one.
-fn pass_over(nodes: &Nodes, why: Fate, at: usize, shown: &mut Rows) -> Result<usize, NoMemory>
-    requires few { at + lines_in (stack_of nodes.now.vec.items) ≤ 4096 }
+fn pass_over(nodes: &[Node], why: Fate, at: usize, shown: &mut Rows) -> Result<usize, NoMemory>
+    requires few { at + lines_in (stack_of nodes.now) ≤ 4096 }
     ensures shows { OnOk result (shown.new ≡ shown.old
-        ++ rows_over why (at + 1) (stack_of nodes.now.vec.items)) }
-    ensures at { IfOk result (λ last. last ≡ at + lines_in (stack_of nodes.now.vec.items)) }
+        ++ rows_over why (at + 1) (stack_of nodes.now)) }
+    ensures at { IfOk result (λ last. last ≡ at + lines_in (stack_of nodes.now)) }
 {
     let mut last = at;
-    for node in &nodes.vec {
+    for node in nodes {
         match node {
             Node::Line(rule) => {
                 last += 1;
                 shown.push(Row::of(rule, last, why)?)?;
             }
-            Node::Sub(inner) => last = pass_over(inner, why, last, shown)?,
+            Node::Sub(inner) => last = pass_over(inner.items(), why, last, shown)?,
         }
     }
     Ok(last)
@@ -50,8 +50,25 @@ fn pass_over_node(node: &Node, why: Fate, at: usize, shown: &mut Rows) -> Result
             shown.push(Row::of(rule, at + 1, why)?)?;
             Ok(at + 1)
         }
-        Node::Sub(inner) => pass_over(inner, why, at, shown),
+        Node::Sub(inner) => pass_over(inner.items(), why, at, shown),
     }
+}
+
+// Adds the rows of the last nodes of a list, which weren't reached.
+fn pass_over_last(
+    nodes: &[Node],
+    left: usize,
+    at: usize,
+    shown: &mut Rows,
+) -> Result<usize, NoMemory>
+    requires left { left ≤ length nodes.now }
+    requires few { at + lines_in (stack_of (last_of left nodes.now)) ≤ 4096 }
+    ensures shows { OnOk result (shown.new ≡ shown.old ++ rows_over Fate.Unreached (at + 1)
+        (stack_of (last_of left nodes.now))) }
+    ensures at { IfOk result (λ last. last
+        ≡ at + lines_in (stack_of (last_of left nodes.now))) }
+{
+    pass_over(&nodes[nodes.len() - left..], Fate::Unreached, at, shown)
 }
 
 // The code that decides the action of the line with this rule number.
@@ -105,10 +122,11 @@ fn walk_line(
         (serving kind (answers_held (kept_answers follows.now)) replaying)
         rest (replay.old.at + 1 + 1) entry turn
         (state_in past.now told.now replay.new)) }
-    ensures at { IfOk result (λ turn. IfSome turn (λ _. replay.new.at ≡ replay.old.at + 1)) }
+    ensures at { OnOk result (replay.new.at ≡ replay.old.at + 1) }
 {
     let Some(answer) = next_answer(rule, past, told, replay)? else {
-        shown.push(Row::of(rule, replay.at + 1, Fate::Waits)?)?;
+        replay.at += 1;
+        shown.push(Row::of(rule, replay.at, Fate::Waits)?)?;
         return Ok(None);
     };
     replay.at += 1;
@@ -132,7 +150,7 @@ fn walk_line(
 }
 
 /// Walks a list from a state, which is also that at its entry, and adds the rows of its lines; None
-/// if the walk waits at one of them, which is then the last row.
+/// if the walk waits at one of them.
 pub fn walk_nodes(
     nodes: &Nodes,
     kind: PassKind,
@@ -154,14 +172,15 @@ pub fn walk_nodes(
         (serving kind (answers_held (kept_answers follows.now)) replaying)
         0 reason (stack_of nodes.now.vec.items) (replay.old.at + 1) entry entry
         (state_in past.now told.now replay.old)) }
-    ensures at { IfOk result (λ end. IfSome end (λ _. replay.new.at
-        ≡ replay.old.at + lines_in (stack_of nodes.now.vec.items))) }
+    ensures at { OnOk result (replay.new.at
+        ≡ replay.old.at + lines_in (stack_of nodes.now.vec.items)) }
 {
     let mut opinion = entry;
     let mut why = reason;
     let mut skip = 0;
+    let all = nodes.items();
     let mut left = nodes.len();
-    for node in &nodes.vec {
+    for node in all {
         left -= 1;
         if skip > 0 {
             skip -= 1;
@@ -173,6 +192,7 @@ pub fn walk_nodes(
                         rule, left, kind, follows, entry, opinion, past, told, why, replay, shown,
                     )?
                     else {
+                        replay.at = pass_over_last(all, left, replay.at, shown)?;
                         return Ok(None);
                     };
                     opinion = turn.opinion;
@@ -184,6 +204,7 @@ pub fn walk_nodes(
                         inner, kind, follows, opinion, past, told, why, replay, shown,
                     )?
                     else {
+                        replay.at = pass_over_last(all, left, replay.at, shown)?;
                         return Ok(None);
                     };
                     opinion = inside;

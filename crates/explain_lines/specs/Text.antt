@@ -22,7 +22,7 @@ use Rattle.stack_walk.specs.declared.pass_kind.PassKind.TheVariants.{Keep, Follo
 use Rattle.stack_walk.specs.Opinion.{opening, verdict}
 use Rattle.explain_lines.specs.declared.origin.Origin.{Origin}
 use Rattle.explain_lines.specs.declared.row.Fate.{Fate}
-use Rattle.explain_lines.specs.declared.row.Fate.TheVariants.{Ran, Waits, Jumped, Ended}
+use Rattle.explain_lines.specs.declared.row.Fate.TheVariants.{Ran, Waits, Jumped, Ended, Unreached}
 use Rattle.explain_lines.specs.declared.row.Row.{Row}
 
 -- ---- where a rule is written
@@ -75,6 +75,7 @@ fate_words (Ran answer deciding action state) = ran_words answer deciding action
 fate_words Waits = codes " INCOMPLETE: the call waits here"
 fate_words (Jumped by) = codes ": not run, rule " ++ (decimal by ++ codes " jumps over it")
 fate_words (Ended by) = codes ": not run, rule " ++ (decimal by ++ codes " ends the list")
+fate_words Unreached = codes ": not run, the call waits"
 
 -- PLACE FILE:LINE MODULE
 abbrev pub row_head : List Origin → Row → List ℕ
@@ -121,6 +122,7 @@ end_with (Ran answer deciding action state) at o by next =
 end_with Waits at o by next = waits_text at
 end_with (Jumped rule) at o by next = next o by
 end_with (Ended rule) at o by next = next o by
+end_with Unreached at o by next = next o by
 
 abbrev pub end_from : Opinion → Option ℕ → List Row → List ℕ
 end_from o by [] = decided_text o by

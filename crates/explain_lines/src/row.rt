@@ -28,6 +28,8 @@ pub enum Fate {
     Ended {
         by: usize,
     },
+    /// The call waits at a rule before it.
+    Unreached,
 }
 
 /// A line of a stack, and what became of it.

@@ -70,6 +70,7 @@ fn write_fate(text: &mut String, fate: Fate) -> Result<(), NoMemory>
         Fate::Waits => text.push_str(" INCOMPLETE: the call waits here")?,
         Fate::Jumped { by } => write!(text, ": not run, rule {by} jumps over it")?,
         Fate::Ended { by } => write!(text, ": not run, rule {by} ends the list")?,
+        Fate::Unreached => text.push_str(": not run, the call waits")?,
     }
     Ok(())
 }

@@ -102,7 +102,9 @@ fn write_end_from(
             write_end_from(text, state, decided, rest)
         }
         Fate::Waits => write_waits(text, row.place),
-        Fate::Jumped { .. } | Fate::Ended { .. } => write_end_from(text, now, decided, rest),
+        Fate::Jumped { .. } | Fate::Ended { .. } | Fate::Unreached => {
+            write_end_from(text, now, decided, rest)
+        }
     }
 }
 

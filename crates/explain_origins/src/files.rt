@@ -1,12 +1,15 @@
-ghost use Rattle.std.specs.Prelude.{◌≡◌, ◌≤◌, IsTrue};
-ghost use Rattle.service_load.specs.Loading.{OnlyCalls};
+ghost use Rattle.std.specs.Prelude.{◌≡◌, ◌≤◌, ◌||◌, IsTrue, IfOk, option_copied};
+ghost use Rattle.explain_origins.specs.Reading.{Adds, CountsReads, ReadsRules, Takes, placed_at, step_of_rules};
+ghost use Rattle.service_load.specs.Checking.{GivesFields};
+ghost use Rattle.service_load.specs.Files.{held, is_in_folder, own_rule, rules_held, service_file};
+ghost use Rattle.service_load.specs.Loading.{OnlyCalls, texts_of};
 
-use crate::step::{Step, is_word, step_of};
+use crate::step::{Step, is_word, joined, step_of};
 use control_words::conf_lex::{RawRule, RawRules, Token, rules};
 use explain_lines::{Origin, Origins};
-use pam_base::{Failed, Refuse, Text};
+use pam_base::{Failed, NoMemory, Refuse, Text, lowercase};
 use pam_outside::{Vault, VaultFault, path_of, read_file};
-use service_load::RuleType;
+use service_load::{RuleFile, RuleType};
 use std::alloc::Global;
 
 // The maximum length of a file in bytes.
@@ -15,14 +18,38 @@ const MAX_FILE: u32 = 65_536;
 // The maximum level of a file.
 const MAX_LEVEL: u32 = 16;
 
-/// A file of rules.
+/// A file that a rule includes.
 #[derive(Drop)]
-pub struct RuleFile {
-    /// Its name, without the root.
-    pub name: Text,
-    /// If it has the form of `pam.conf(5)`, whose rules begin with their service, the service asked
-    /// for.
-    pub service: Option<Text>,
+pub struct Inclusion {
+    pub file: RuleFile,
+    /// Whether its nodes are a substack.
+    pub as_substack: bool,
+}
+
+impl Inclusion {
+    // Whether something was added, once the file was: it adds something, or is a substack.
+    fn is_any(self, any: bool, found: bool) -> bool
+        ensures { result ≡ (any || (self.as_substack || found)) }
+    {
+        any || self.as_substack || found
+    }
+}
+
+/// The file of a service: one in `/etc/pam.d` if that is a directory, else `/etc/pam.conf`.
+pub fn file_of(alloc: Global, is_folder: bool, service: &[u8]) -> Result<RuleFile, NoMemory>
+    ensures { IfOk result (λ file. file ≡ service_file is_folder service.now) }
+{
+    let service = lowercase(alloc, service)?;
+    if is_folder {
+        return Ok(RuleFile {
+            name: joined(alloc, b"/etc/pam.d/", service.bytes())?,
+            service: None,
+        });
+    }
+    Ok(RuleFile {
+        name: Text::from_bytes(alloc, b"/etc/pam.conf")?,
+        service: Some(service),
+    })
 }
 
 /// Adds where the lines of a file for a type are written, at a level of at most 17. Returns whether
@@ -38,8 +65,12 @@ pub fn add_file(
 ) -> Result<bool, Refuse<Failed>>
     requires { level ≤ 17 }
     ensures tells { vault_tells vault.new ≡ vault_tells vault.old }
+    ensures told { IsTrue (vault_tells vault.old) → IfOk result (λ any.
+        Adds any origins.old origins.new (placed_at (texts_of root.now
+        (vault_holds vault.old)) level rule_type file.now)) }
     ensures stays { IsTrue (vault_tells vault.old) →
         OnlyCalls (vault_holds vault.old) (vault_holds vault.new) }
+    ensures faults { CountsReads result (vault_faults vault.old) (vault_faults vault.new) }
 {
     if level > MAX_LEVEL {
         return Ok(false);
@@ -49,34 +80,45 @@ pub fn add_file(
     };
     let mut any = false;
     for rule in rules.items() {
-        match step_in(alloc, rule_type, file, rule)? {
-            Step::Nothing => {}
-            Step::Line => {
-                origins.push(Origin {
-                    file: Text::from_bytes(alloc, file.name.bytes())?,
-                    line: rule.line,
-                })?;
-                any = true;
-            }
-            Step::Include(name) => {
-                let inner = RuleFile {
-                    name,
-                    service: None,
-                };
-                let found = add_file(alloc, vault, root, rule_type, level + 1, &inner, origins)?;
-                any = any || found;
-            }
-            Step::Substack(name) => {
-                let inner = RuleFile {
-                    name,
-                    service: None,
-                };
-                add_file(alloc, vault, root, rule_type, level + 1, &inner, origins)?;
-                any = true;
-            }
-        }
+        let step = step_in(alloc, rule_type, file, rule)?;
+        let Some(inclusion) = take_step(alloc, file, step, origins, &mut any)? else {
+            continue;
+        };
+        let inner = &inclusion.file;
+        let found = add_file(alloc, vault, root, rule_type, level + 1, inner, origins)?;
+        any = inclusion.is_any(any, found);
     }
     Ok(any)
+}
+
+// Takes what a rule of a file adds: adds the place of its line, or returns the file that it includes.
+fn take_step(
+    alloc: Global,
+    file: &RuleFile,
+    step: Step,
+    origins: &mut Origins,
+    any: &mut bool,
+) -> Result<Option<Inclusion>, NoMemory>
+    ensures { Takes result step file.now.name origins.old origins.new any.old any.new }
+{
+    match step {
+        Step::Nothing => Ok(None),
+        Step::Line(line) => {
+            origins.push(Origin {
+                file: Text::from_bytes(alloc, file.name.bytes())?,
+                line,
+            })?;
+            *any = true;
+            Ok(None)
+        }
+        Step::File { name, as_substack } => Ok(Some(Inclusion {
+            file: RuleFile {
+                name,
+                service: None,
+            },
+            as_substack,
+        })),
+    }
 }
 
 // The rules of a file; None if it doesn't exist or its text has a fault.
@@ -87,10 +129,14 @@ fn read_rules(
     file: &RuleFile,
 ) -> Result<Option<RawRules>, Refuse<Failed>>
     ensures tells { vault_tells vault.new ≡ vault_tells vault.old }
+    ensures told { IsTrue (vault_tells vault.old) → ReadsRules result file.now.service
+        (rules_held (held (texts_of root.now (vault_holds vault.old)) file.now)) }
     ensures stays { IsTrue (vault_tells vault.old) →
         OnlyCalls (vault_holds vault.old) (vault_holds vault.new) }
+    ensures faults { CountsReads result (vault_faults vault.old) (vault_faults vault.new) }
 {
-    let path = path_of(alloc, root, file.name.bytes())?;
+    let name = file.name.bytes();
+    let path = path_of(alloc, root, name)?;
     match read_file(vault, alloc, path.bytes(), MAX_FILE) {
         Ok(text) => match rules(alloc, text.bytes()) {
             Ok(rules) => Ok(Some(rules)),
@@ -98,7 +144,8 @@ fn read_rules(
             Err(Refuse::Named(_)) => Ok(None),
         },
         Err(VaultFault::NoMemory) => Err(Refuse::NoMemory),
-        Err(VaultFault::Absent | VaultFault::TooLong) => Ok(None),
+        Err(VaultFault::Absent) => Ok(None),
+        Err(VaultFault::TooLong) => Ok(None),
         Err(VaultFault::Failed) => Err(Refuse::Named(Failed)),
     }
 }
@@ -109,15 +156,34 @@ fn step_in(
     rule_type: RuleType,
     file: &RuleFile,
     rule: &RawRule,
-) -> Result<Step, Refuse<Failed>> {
+) -> Result<Step, NoMemory>
+    ensures { IfOk result (λ step. step ≡ step_of_rules rule_type
+        (is_in_folder file.now) (own_rule file.now.service rule.now)) }
+{
+    match fields_of(file, rule) {
+        Some(fields) => step_of(alloc, rule_type, rule.line, is_in_folder(file), fields),
+        None => Ok(Step::Nothing),
+    }
+}
+
+// Whether it has the form of the files in `/etc/pam.d`.
+fn is_in_folder(file: &RuleFile) -> bool
+    ensures { result ≡ is_in_folder file.now }
+{
+    file.service.is_none()
+}
+
+// The fields of a rule without its service, if it is one of those asked for.
+fn fields_of<'a>(file: &RuleFile, rule: &'a RawRule) -> Option<&'a [Token]>
+    ensures { GivesFields (option_copied result) rule.now.line
+        (own_rule file.now.service rule.now) }
+{
     let tokens = rule.tokens.items();
     match &file.service {
-        None => Ok(step_of(alloc, rule_type, true, tokens)?),
+        None => Some(tokens),
         Some(service) => match tokens {
-            [first, fields @ ..] if is_word(service.bytes(), first) => {
-                Ok(step_of(alloc, rule_type, false, fields)?)
-            }
-            _ => Ok(Step::Nothing),
+            [first, fields @ ..] if is_word(service.bytes(), first) => Some(fields),
+            _ => None,
         },
     }
 }

@@ -1,16 +1,18 @@
-ghost use Rattle.std.specs.Prelude.{◌≡◌, IsTrue};
-ghost use Rattle.service_load.specs.Loading.{OnlyCalls};
+ghost use Rattle.std.specs.Prelude.{◌≡◌, IsTrue, IfOk};
+ghost use Rattle.explain_origins.specs.Placed.{placed_from, places, sources_at};
+ghost use Rattle.explain_origins.specs.Reading.{CountsReads};
+ghost use Rattle.service_load.specs.Load.{has_folder};
+ghost use Rattle.service_load.specs.Loading.{OnlyCalls, texts_of};
 
-use crate::files::{RuleFile, add_file};
-use crate::step::joined;
+use crate::files::{add_file, file_of};
 use explain_lines::{Origins, Sources};
-use pam_base::{Failed, NoMemory, Refuse, Text, lowercase};
+use pam_base::{Failed, Refuse};
 use pam_outside::{ReplaceFault, Vault, is_folder, path_of};
-use service_load::RuleType;
+use service_load::{RuleFile, RuleType};
 use std::alloc::Global;
 
-/// Where the rules of a service's stacks are written, below a root, as `load` finds them. `Failed`
-/// if a file couldn't be read.
+/// Where the rules of a service's stacks are written, below a root: the file and line of each rule
+/// of the stacks that `load` returns. `Failed` if a file couldn't be read.
 pub fn sources_of(
     alloc: Global,
     vault: &mut dyn Vault,
@@ -18,23 +20,43 @@ pub fn sources_of(
     service: &[u8],
 ) -> Result<Sources, Refuse<Failed>>
     ensures tells { vault_tells vault.new ≡ vault_tells vault.old }
+    ensures told { IsTrue (vault_tells vault.old) → IfOk result (λ found.
+        found ≡ sources_at (texts_of root.now (vault_holds vault.old))
+        (has_folder (vault_holds vault.old) root.now) service.now) }
     ensures stays { IsTrue (vault_tells vault.old) →
         OnlyCalls (vault_holds vault.old) (vault_holds vault.new) }
+    ensures faults { CountsReads result (vault_faults vault.old) (vault_faults vault.new) }
 {
-    let folder = path_of(alloc, root, b"/etc/pam.d")?;
-    let is_folder = match is_folder(vault, alloc, folder.bytes()) {
-        Ok(found) => found,
-        Err(ReplaceFault::NoMemory) => return Err(Refuse::NoMemory),
-        Err(ReplaceFault::Failed) => return Err(Refuse::Named(Failed)),
-    };
+    let is_folder = has_folder(alloc, vault, root)?;
     let own = file_of(alloc, is_folder, service)?;
     let other = file_of(alloc, is_folder, b"other")?;
+    let auth = origins_of(alloc, vault, root, RuleType::Auth, &own, &other)?;
+    let account = origins_of(alloc, vault, root, RuleType::Account, &own, &other)?;
+    let password = origins_of(alloc, vault, root, RuleType::Password, &own, &other)?;
+    let session = origins_of(alloc, vault, root, RuleType::Session, &own, &other)?;
     Ok(Sources {
-        auth: origins_of(alloc, vault, root, RuleType::Auth, &own, &other)?,
-        account: origins_of(alloc, vault, root, RuleType::Account, &own, &other)?,
-        password: origins_of(alloc, vault, root, RuleType::Password, &own, &other)?,
-        session: origins_of(alloc, vault, root, RuleType::Session, &own, &other)?,
+        auth,
+        account,
+        password,
+        session,
     })
+}
+
+// Whether the directory of the service files exists.
+fn has_folder(alloc: Global, vault: &mut dyn Vault, root: &[u8]) -> Result<bool, Refuse<Failed>>
+    ensures tells { vault_tells vault.new ≡ vault_tells vault.old }
+    ensures told { IsTrue (vault_tells vault.old) → IfOk result (λ found.
+        found ≡ has_folder (vault_holds vault.old) root.now) }
+    ensures stays { IsTrue (vault_tells vault.old) →
+        OnlyCalls (vault_holds vault.old) (vault_holds vault.new) }
+    ensures faults { CountsReads result (vault_faults vault.old) (vault_faults vault.new) }
+{
+    let folder = path_of(alloc, root, b"/etc/pam.d")?;
+    match is_folder(vault, alloc, folder.bytes()) {
+        Ok(found) => Ok(found),
+        Err(ReplaceFault::NoMemory) => Err(Refuse::NoMemory),
+        Err(ReplaceFault::Failed) => Err(Refuse::Named(Failed)),
+    }
 }
 
 // Those of one type: of the service's own file or, if that adds neither line nor substack, of the
@@ -48,27 +70,18 @@ fn origins_of(
     other: &RuleFile,
 ) -> Result<Origins, Refuse<Failed>>
     ensures tells { vault_tells vault.new ≡ vault_tells vault.old }
+    ensures told { IsTrue (vault_tells vault.old) → IfOk result (λ found.
+        found ≡ places (placed_from (texts_of root.now (vault_holds vault.old))
+        own.now other.now rule_type)) }
     ensures stays { IsTrue (vault_tells vault.old) →
         OnlyCalls (vault_holds vault.old) (vault_holds vault.new) }
+    ensures faults { CountsReads result (vault_faults vault.old) (vault_faults vault.new) }
 {
     let mut origins = Origins::new(alloc);
-    if !add_file(alloc, vault, root, rule_type, 0, own, &mut origins)? {
-        add_file(alloc, vault, root, rule_type, 0, other, &mut origins)?;
+    let any = add_file(alloc, vault, root, rule_type, 0, own, &mut origins)?;
+    if any {
+        return Ok(origins);
     }
+    add_file(alloc, vault, root, rule_type, 0, other, &mut origins)?;
     Ok(origins)
-}
-
-// The file of a service: one in `/etc/pam.d` if that is a directory, else `/etc/pam.conf`.
-fn file_of(alloc: Global, is_folder: bool, service: &[u8]) -> Result<RuleFile, NoMemory> {
-    let service = lowercase(alloc, service)?;
-    if is_folder {
-        return Ok(RuleFile {
-            name: joined(alloc, b"/etc/pam.d/", service.bytes())?,
-            service: None,
-        });
-    }
-    Ok(RuleFile {
-        name: Text::from_bytes(alloc, b"/etc/pam.conf")?,
-        service: Some(service),
-    })
 }

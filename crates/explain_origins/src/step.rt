@@ -1,6 +1,7 @@
-ghost use Rattle.std.specs.Prelude.{◌≡◌, ◌++◌, IfOk};
-ghost use Rattle.service_load.specs.Entry.{named_file};
-ghost use Rattle.service_load.specs.RuleType.{is_word};
+ghost use Rattle.std.specs.Prelude.{◌≡◌, ◌∷◌, ◌++◌, ◌&&◌, Bool, IfOk, codes};
+ghost use Rattle.explain_origins.specs.Reading.{is_type, step_by, step_from, step_to};
+ghost use Rattle.service_load.specs.Entry.{behind_type, entry_of_tokens, file_field, named_file};
+ghost use Rattle.service_load.specs.RuleType.{is_word, type_field_of, type_field_of_word};
 
 use control_words::conf_lex::Token;
 use control_words::control_of;
@@ -12,70 +13,87 @@ use std::alloc::Global;
 #[derive(Drop)]
 pub enum Step {
     Nothing,
-    /// A line of its own.
-    Line,
-    /// The nodes of the file with this name.
-    Include(Text),
-    /// The nodes of the file with this name, as a substack.
-    Substack(Text),
+    /// A line of its own, for the rule that begins in this line of its file.
+    Line(u32),
+    /// The nodes of the file with this name, or a substack of them.
+    File { name: Text, as_substack: bool },
 }
 
-/// What the tokens of a rule add to the stack of a type, in a file of `/etc/pam.d` or, after its
-/// service, in `pam.conf(5)`.
+/// What the tokens of a rule in this line add to the stack of a type, in a file of `/etc/pam.d` or,
+/// after its service, in `pam.conf(5)`.
 pub fn step_of(
     alloc: Global,
     rule_type: RuleType,
+    line: u32,
     in_folder: bool,
     tokens: &[Token],
-) -> Result<Step, NoMemory> {
-    let [first, rest @ ..] = tokens else {
-        return Ok(Step::Nothing);
-    };
-    if in_folder && is_word(b"@include", first) {
-        return included(alloc, rest);
+) -> Result<Step, NoMemory>
+    ensures { IfOk result (λ step.
+        step ≡ step_by rule_type (entry_of_tokens line in_folder tokens.now)) }
+{
+    match tokens {
+        [] => Ok(Step::Nothing),
+        [first, rest @ ..] => step_by_type(alloc, rule_type, line, in_folder, first, rest),
+    }
+}
+
+// By the first of the tokens.
+fn step_by_type(
+    alloc: Global,
+    rule_type: RuleType,
+    line: u32,
+    in_folder: bool,
+    first: &Token,
+    rest: &[Token],
+) -> Result<Step, NoMemory>
+    ensures { IfOk result (λ step. step
+        ≡ step_by rule_type (entry_of_tokens line in_folder (first.now ∷ rest.now))) }
+{
+    if is_include(in_folder, first) {
+        return step_to(alloc, rest, false);
     }
     if is_field_of(rule_type, first) {
-        return step_behind_type(alloc, rest);
+        return step_behind_type(alloc, line, rest);
     }
     Ok(Step::Nothing)
 }
 
+fn is_include(in_folder: bool, token: &Token) -> bool
+    ensures { result ≡ (in_folder && is_word (codes "@include") token.now) }
+{
+    in_folder && is_word(b"@include", token)
+}
+
 // What follows the type.
-fn step_behind_type(alloc: Global, tokens: &[Token]) -> Result<Step, NoMemory> {
+fn step_behind_type(alloc: Global, line: u32, tokens: &[Token]) -> Result<Step, NoMemory>
+    ensures { IfOk result (λ step. (silent : Bool) →
+        step ≡ step_from line (behind_type silent tokens.now)) }
+{
     let [first, rest @ ..] = tokens else {
         return Ok(Step::Nothing);
     };
     if is_word(b"include", first) {
-        return included(alloc, rest);
+        return step_to(alloc, rest, false);
     }
     if is_word(b"substack", first) {
-        return substacked(alloc, rest);
+        return step_to(alloc, rest, true);
     }
-    match control_of(first) {
-        Ok(_) => Ok(line_of(rest)),
-        Err(_) => Ok(Step::Nothing),
-    }
-}
-
-// After a control: the module's path is wanted.
-fn line_of(tokens: &[Token]) -> Step {
-    match tokens {
-        [] => Step::Nothing,
-        _ => Step::Line,
+    match (control_of(first), rest) {
+        (Ok(_), [_, ..]) => Ok(Step::Line(line)),
+        _ => Ok(Step::Nothing),
     }
 }
 
-fn included(alloc: Global, tokens: &[Token]) -> Result<Step, NoMemory> {
+// The field that names a file.
+fn step_to(alloc: Global, tokens: &[Token], as_substack: bool) -> Result<Step, NoMemory>
+    ensures { IfOk result (λ step. step ≡ step_to as_substack (file_field tokens.now)) }
+{
     match tokens {
         [] => Ok(Step::Nothing),
-        [name, ..] => Ok(Step::Include(named_file(alloc, name.text.bytes())?)),
-    }
-}
-
-fn substacked(alloc: Global, tokens: &[Token]) -> Result<Step, NoMemory> {
-    match tokens {
-        [] => Ok(Step::Nothing),
-        [name, ..] => Ok(Step::Substack(named_file(alloc, name.text.bytes())?)),
+        [name, ..] => Ok(Step::File {
+            name: named_file(alloc, name.text.bytes())?,
+            as_substack,
+        }),
     }
 }
 
@@ -106,18 +124,23 @@ pub fn is_word(word: &[u8], token: &Token) -> bool
 }
 
 // Whether a token is the field of this type.
-fn is_field_of(rule_type: RuleType, token: &Token) -> bool {
+fn is_field_of(rule_type: RuleType, token: &Token) -> bool
+    ensures { result ≡ is_type rule_type (type_field_of token.now) }
+{
     if token.bracketed {
         return false;
     }
-    match token.text.bytes() {
-        [b'-', name @ ..] => is_type(rule_type, name),
-        word => is_type(rule_type, word),
-    }
+    is_type_field(rule_type, token.text.bytes())
 }
 
-fn is_type(rule_type: RuleType, word: &[u8]) -> bool {
-    match RuleType::named(word) {
+fn is_type_field(rule_type: RuleType, word: &[u8]) -> bool
+    ensures { result ≡ is_type rule_type (type_field_of_word word.now) }
+{
+    let own = match word {
+        [b'-', name @ ..] => RuleType::named(name),
+        _ => RuleType::named(word),
+    };
+    match own {
         Some(own) => own == rule_type,
         None => false,
     }

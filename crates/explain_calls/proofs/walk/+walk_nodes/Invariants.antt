@@ -16,8 +16,8 @@ abbrev pub invariant-loop-node : goal.invariant-loop-node
 invariant-loop-node l = record {
   walking : IsWalking l.kind (serving l.kind (answers_held (kept_answers l.follows)) replaying) (stack_of l.nodes.vec.items)
       l.fn.replay.at l.entry (state_in l.past l.told l.fn.replay)
-      (stack_of (drop l.node-index l.node-items)) l.skip l.replay.at l.left l.opinion (state_in l.past l.told l.replay);
+      (stack_of (drop l.node-index l.all)) l.skip l.replay.at l.left l.opinion (state_in l.past l.told l.replay);
   showing : IsShowing l.kind (serving l.kind (answers_held (kept_answers l.follows)) replaying) (stack_of l.nodes.vec.items)
       l.fn.replay.at l.entry (state_in l.past l.told l.fn.replay) l.fn.reason l.fn.shown
-      (stack_of (drop l.node-index l.node-items)) l.skip l.replay.at l.opinion (state_in l.past l.told l.replay) l.why l.shown;
+      (stack_of (drop l.node-index l.all)) l.skip l.replay.at l.opinion (state_in l.past l.told l.replay) l.why l.shown;
 }

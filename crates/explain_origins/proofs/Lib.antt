@@ -1,0 +1,5 @@
+pub mod Forgetting
+pub mod Going
+pub mod Stepping
+pub mod Since
+pub mod Texts
