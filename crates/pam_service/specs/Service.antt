@@ -1,6 +1,8 @@
 -- What `pam_service` is asked for, and how it ends (this project's own).
-use Rattle.std.specs.Prelude.{◌≡◌, ◌⊎◌, ℕ, Bool, if◌then◌else◌, List, [], ◌∷◌, Option, Some, None, String, codes}
+use Rattle.std.specs.Prelude.{◌≡◌, ◌⊎◌, ℕ, min, Bool, if◌then◌else◌, List, [], ◌∷◌, Option, Some, None, String, codes}
 use Rattle.std.specs.declared.alloc.Global.{Global}
+use Rattle.pam_base.specs.declared.code.Code.{Code}
+use Rattle.pam_base.specs.declared.code.Code.TheVariants as results
 use Rattle.session_program.specs.Command.{Request, runs, checks, logs_in, generates, tallies, audits, wires, wire_request}
 use Rattle.session_program.specs.Wire.{IsWireStatus}
 
@@ -26,3 +28,8 @@ IsOfFrames (Some (audits root service)) = ⊥
 abbrev pub StatusOf : Option Request → ℕ → Type 0
 StatusOf None status = (status ≡ 2) ⊎ (status ≡ 6)
 StatusOf (Some request) status = IsWireStatus status
+
+-- the wait after an authentication, in microseconds, by its return code and the requested delay: at most 60 seconds
+abbrev pub served_wait : Code → ℕ → ℕ
+served_wait results.Success asked = 0
+served_wait code asked = min asked 60000000

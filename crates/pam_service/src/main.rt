@@ -6,14 +6,13 @@
 //! Begin at `run`; `answer_frames` has the contract.
 #![tactic(auto)]
 
-ghost use Rattle.std.specs.Prelude.{◌≡◌, ◌≢◌, ◌≤◌, ◌<◌, ◌^◌, ℕ, nat_eq, [], IfOk, OnErr, length};
+ghost use Rattle.std.specs.Prelude.{◌≡◌, ◌≤◌, ◌<◌, ◌^◌, ◌&&◌, ℕ, nat_eq, List, [], IfOk, OnErr, length};
 ghost use Rattle.pam_base.specs.declared.code.Code.{Code};
-ghost use Rattle.pam_outside.specs.Counts.{Rose};
-ghost use Rattle.fail_delay.specs.DelayFn.{GivesOneNumber};
-ghost use Rattle.data_cleanup.specs.Cleanup.{Notes};
+ghost use Rattle.pam_room.specs.Module.{Player};
+ghost use Rattle.fail_delay.specs.DelayFn.{GivesOneNumber, IsNumberGiven};
 ghost use Rattle.session_program.specs.Command.{request_of};
-ghost use Rattle.session_program.specs.CleanedUp.{IsCleanedUp, MayEnd};
-ghost use Rattle.pam_service.specs.Service.{IsOfFrames, StatusOf, service_request};
+ghost use Rattle.pam_service.specs.Service.{IsOfFrames, StatusOf, served_wait, service_request};
+ghost use Rattle.pam_service.specs.Serving.{ServesFrames, stream_of};
 
 use data_cleanup::Ledger;
 use fail_delay::{DelayRule, LONGEST_ASKED};
@@ -26,9 +25,9 @@ use mod_history::{Pwhistory, Securetty, Wheel};
 use mod_lists::{Listfile, Nologin, Shells, SucceedIf};
 use pam_base::{Code, Text};
 use pam_outside::{FolderVault, NapSum, ReaderSource, RealClock, Sink, Source, Vault, WriterSink};
-use pam_room::{Module, Process, World};
+use pam_room::{Module, Process, World, WorldTold};
 use session_program::mod_tally::Faillock;
-use session_program::{Desk, pamsess};
+use session_program::{Desk, DeskTold, pamsess};
 use std::alloc::Global;
 use std::io::ErrorKind;
 use std::process::ExitCode;
@@ -53,11 +52,33 @@ const MAX_STATUS: u32 = 65_536;
 /// The caller if the system doesn't say: nobody.
 const NOBODY: u32 = 65_534;
 
-// What the program brings: its modules, a conversation for each transaction, and one that is never used.
-struct Brought {
-    mods: Vec<Box<dyn Module>>,
+// A conversation for each transaction, and one that is never used.
+#[derive(Drop)]
+struct Conversations {
     convs: Vec<Box<dyn Conv>>,
     term: Box<dyn Conv>,
+}
+
+// What contracts see of `Conversations`.
+trait ConversationsTold {
+    ghost use Rattle.std.specs.Prelude.{Bool, List};
+    ghost use Rattle.session_check.specs.pam_library.specs.Slots.{PlainSlot};
+
+    // Whether all conversations of the transactions are modelled.
+    ghost tells: { Self → Bool };
+
+    // The closed slots that they make.
+    ghost slots: { Self → List PlainSlot };
+}
+
+impl ConversationsTold for Conversations {
+    ghost use Rattle.std.specs.Prelude.{map};
+    ghost use Rattle.std.specs.List.{list_all};
+    ghost use Rattle.session_check.specs.pam_library.specs.Slots.{closed};
+
+    ghost tells = { λ c. list_all (λ b. (Conv-box b).conv_tells b.value) c.convs.items };
+
+    ghost slots = { λ c. map (λ b. closed ((Conv-box b).conv_holds b.value)) c.convs.items };
 }
 
 // The real and the effective ID.
@@ -112,15 +133,8 @@ fn run(rt: HostRuntime) -> io::Result<u8> {
         nap: Box::new(alloc, NapSum::new())?,
         process: process_of(alloc, caller_of(&user)),
     };
-    serve(
-        alloc,
-        &words,
-        convs,
-        term,
-        &mut script,
-        &mut out,
-        &mut world,
-    )
+    let talks = Conversations { convs, term };
+    serve(alloc, &words, talks, &mut script, &mut out, &mut world)
 }
 
 // A process of a caller, with an empty cleanup log.
@@ -192,22 +206,29 @@ fn words_for(alloc: Global, words: &[String], has_own_ids: bool) -> io::Result<V
     Ok(asked)
 }
 
-// Serves the calls of a front end with the shipped modules, and with a delay function that returns the requested delay, at
-// most 60 seconds, and 0 after SUCCESS.
+// Serves the calls of a front end with the shipped modules, with these conversations and with the waits of
+// `served_wait`.
 fn serve<S: Source, K: Sink>(
     alloc: Global,
     words: &[String],
-    convs: Vec<Box<dyn Conv>>,
-    term: Box<dyn Conv>,
+    talks: Conversations,
     script: &mut S,
     out: &mut K,
     world: &mut World,
 ) -> io::Result<u8>
     requires frames { IsOfFrames (request_of words.now) }
-    requires sixteen { length convs.items ≡ TRANSACTIONS }
+    requires sixteen { length talks.convs.items ≡ TRANSACTIONS }
     requires no_births { world.old.process.ledger.births ≡ [] }
     requires no_receipts { world.old.process.ledger.filed ≡ [] }
     ensures status { IfOk result (λ status. StatusOf (request_of words.now) status) }
+    ensures served { IfOk result (λ status. (players : List Player)
+        × ServesFrames (request_of words.now) players
+        (⟦<Conversations as ConversationsTold>⟧.slots talks) (λ number. number ≡ served_wait)
+        (⟦<World as WorldTold>⟧.tells world.old
+        && ⟦<Conversations as ConversationsTold>⟧.tells talks) status
+        (⟦<World as WorldTold>⟧.plain world.old) (⟦<World as WorldTold>⟧.plain world.new)
+        (stream_of S.source_tells S.source_holds S.source_faults script.old script.new)
+        (stream_of K.sink_tells K.sink_holds K.sink_faults out.old out.new)) }
 {
     let mut mods: Vec<Box<dyn Module>> = Vec::new(alloc);
     mods.push(Box::new(alloc, Permit::new())?)?;
@@ -225,55 +246,69 @@ fn serve<S: Source, K: Sink>(
     mods.push(Box::new(alloc, Wheel::new())?)?;
     mods.push(Box::new(alloc, Securetty::new())?)?;
     mods.push(Box::new(alloc, Pwhistory::new())?)?;
-    let delay = |code: Code, asked: u32| -> u32 {
-        if code == Code::Success {
-            0
-        } else {
-            asked.min(LONGEST_WAIT)
-        }
-    };
+    let delay = |code: Code, asked: u32| -> u32
+        ensures { result ≡ served_wait code asked }
+    { served_wait(code, asked) };
     let delay: DelayRule = Box::new(alloc, delay)?;
-    let brought = Brought { mods, convs, term };
-    Ok(answer_frames(alloc, words, script, out, world, brought, delay))
-}
-
-// `pamsess` over frames, whatever the objects are. It returns the exit status: 0 at the end of the input, 4 out of memory, 5
-// and 6 if input or output failed, 13 at a bad frame, 14 at one frame too many; 2 without a command, or 6 if the usage line
-// couldn't be written. On every way out all transactions are ended, and each module data is cleaned up once, with the
-// status that is due.
-fn answer_frames<S: Source, K: Sink>(
-    alloc: Global,
-    words: &[String],
-    script: &mut S,
-    out: &mut K,
-    world: &mut World,
-    brought: Brought,
-    delay: DelayRule,
-) -> u8
-    requires frames { IsOfFrames (request_of words.now) }
-    requires sixteen { length brought.convs.items ≡ 16 }
-    requires few { length brought.mods.items < 2 ^ 32 }
-    requires callable { (code : Code) (asked : ℕ) → asked ≤ LONGEST_ASKED →
-        DelayRule.pre delay code asked }
-    requires one_number { GivesOneNumber (DelayRule.post delay) }
-    requires no_births { world.old.process.ledger.births ≡ [] }
-    requires no_receipts { world.old.process.ledger.filed ≡ [] }
-    ensures status { StatusOf (request_of words.now) result }
-    ensures read_fault { result ≡ 5 → Rose (S.source_faults script.old)
-        (S.source_faults script.new) }
-    ensures write_fault { result ≡ 6 → Rose (K.sink_faults out.old) (K.sink_faults out.new) }
-    ensures no_write_fault { result ≢ 6 → K.sink_faults out.new ≡ K.sink_faults out.old }
-    ensures cleaned_up { (notes : Notes) × IsCleanedUp (MayEnd (request_of words.now)
-        (S.source_tells script.old) (S.source_holds script.old).left result) notes
-        world.new.process.ledger }
-{
-    let Brought { mods, convs, term } = brought;
+    returns_served_wait(&delay);
+    let Conversations { convs, term } = talks;
     let desk = Desk {
         mods,
         convs,
         term,
         delay,
     };
+    Ok(answer_frames(alloc, words, script, out, world, desk))
+}
+
+// How long the front end waits after an authentication: the requested delay, at most 60 seconds, and not at all after
+// SUCCESS.
+fn served_wait(code: Code, asked: u32) -> u32
+    ensures { result ≡ served_wait code asked }
+{
+    match code {
+        Code::Success => 0,
+        _ => asked.min(LONGEST_WAIT),
+    }
+}
+
+// Hands on which numbers a delay function returns.
+fn returns_served_wait(_delay: &DelayRule)
+    requires { IsNumberGiven (⟦<DelayRule as Fn(Code, u32) -> u32>⟧.post _delay.now)
+        served_wait }
+    ensures { IsNumberGiven (⟦<DelayRule as Fn(Code, u32) -> u32>⟧.post _delay.now)
+        served_wait }
+{}
+
+// `pamsess` over frames, whatever the objects are. It returns the exit status: 0 at the end of the input, 4 out of memory, 5
+// and 6 if input or output failed, 13 at a bad frame, 14 at one frame too many; 2 without a command, or 6 if the usage line
+// couldn't be written.
+fn answer_frames<S: Source, K: Sink>(
+    alloc: Global,
+    words: &[String],
+    script: &mut S,
+    out: &mut K,
+    world: &mut World,
+    desk: Desk,
+) -> u8
+    requires frames { IsOfFrames (request_of words.now) }
+    requires sixteen { length desk.convs.items ≡ 16 }
+    requires few { length desk.mods.items < 2 ^ 32 }
+    requires callable { (code : Code) (asked : ℕ) → asked ≤ LONGEST_ASKED →
+        ⟦<DelayRule as Fn(Code, u32) -> u32>⟧.pre desk.delay code asked }
+    requires one_number { GivesOneNumber
+        (⟦<DelayRule as Fn(Code, u32) -> u32>⟧.post desk.delay) }
+    requires no_births { world.old.process.ledger.births ≡ [] }
+    requires no_receipts { world.old.process.ledger.filed ≡ [] }
+    ensures status { StatusOf (request_of words.now) result }
+    ensures served { ServesFrames (request_of words.now) (⟦<Desk as DeskTold>⟧.players desk)
+        (⟦<Desk as DeskTold>⟧.slots desk)
+        (IsNumberGiven (⟦<DelayRule as Fn(Code, u32) -> u32>⟧.post desk.delay))
+        (⟦<World as WorldTold>⟧.tells world.old && ⟦<Desk as DeskTold>⟧.tells desk) result
+        (⟦<World as WorldTold>⟧.plain world.old) (⟦<World as WorldTold>⟧.plain world.new)
+        (stream_of S.source_tells S.source_holds S.source_faults script.old script.new)
+        (stream_of K.sink_tells K.sink_holds K.sink_faults out.old out.new) }
+{
     pamsess(alloc, words, script, out, world, desk)
 }
 

@@ -4,7 +4,7 @@ ghost use Rattle.pam_session_cli.specs.Objects.{objects_of};
 /// The clock and the sleep of a run.
 #[derive(Clone, Copy, Debug)]
 pub enum Time {
-    /// The machine's clock; a wait really rests.
+    /// The system's clock; a wait really sleeps.
     Real,
     /// A clock at 0 until a script sets it; waits are only added up.
     Fixed,

@@ -24,7 +24,7 @@ use Rattle.pam_wire.specs.Read.{call_of_kind, step_with, step_in, front_by, fron
 use Rattle.pam_wire.specs.Stream.{next_in, next_by, next_of, IsBody}
 use Rattle.pam_wire.proofs.Rests.{mapped, call-written, call-read, kind-read, kind_number-read}
 
--- ---- what stands after a length
+-- ---- what follows a length
 
 pub step-read : (step : Step) → has_frame step ≡ true → step_in (body_of step) ≡ Some step
 step-read step e =

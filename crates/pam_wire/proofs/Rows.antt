@@ -136,7 +136,7 @@ items_of_none : AreNone ((0 ∷ 3 ∷ 1 ∷ 10 ∷ 0 ∷ [])
     ∷ (0 ∷ 5 ∷ 1 ∷ 9 ∷ 14 ∷ 1 ∷ 97 ∷ []) ∷ [])
 items_of_none = (refl, refl)
 
--- after the item stands 0 and nothing, or 1 and the text
+-- after the item there is 0 and nothing, or 1 and the text
 settings_of_none : AreNone ((0 ∷ 2 ∷ 1 ∷ 9 ∷ [])
     ∷ (0 ∷ 3 ∷ 1 ∷ 9 ∷ 3 ∷ [])
     ∷ (0 ∷ 5 ∷ 1 ∷ 9 ∷ 3 ∷ 0 ∷ 97 ∷ [])
@@ -230,7 +230,7 @@ two_may_go_on = refl
 three_may_not : front_of (3 ∷ []) ≡ OutOfRange
 three_may_not = refl
 
--- a frame that is cut off, and one with a byte behind it
+-- a frame that is cut off, and one with a byte after it
 cut_frame_is_open : front_of (0 ∷ 6 ∷ 1 ∷ 3 ∷ 0 ∷ []) ≡ Open
 cut_frame_is_open = refl
 

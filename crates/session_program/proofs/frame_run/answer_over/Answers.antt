@@ -11,7 +11,7 @@ returns-clause-told g c number given source sink both =
 
 pub returns-clause-cleaned_up : goal.returns-clause-cleaned_up
 returns-clause-cleaned_up g c =
-    cleaned_up _ _ _ _ _ _ _ (c.proceeding_stands.ensures _) c.requires.first c.go_under.ensures.ledger c.run_frames-result.ensures.proceeds c.run_frames-result.ensures.none_open
+    cleaned_up _ _ _ _ _ _ _ (c.proceeding_stands.ensures _) c.requires.first c.go_under.ensures.ledger c.run_frames-result.ensures.went.proceeds c.run_frames-result.ensures.none_open
 
 pub returns-clause-reads : goal.returns-clause-reads
 returns-clause-reads g c = λ source. read_by _ _ c.status_of_frames.ensures _ _ (c.run_frames-result.ensures.reads source)
@@ -21,3 +21,6 @@ returns-clause-complete g c = λ source. completes_by _ _ c.status_of_frames.ens
 
 pub returns-clause-writes : goal.returns-clause-writes
 returns-clause-writes g c = λ sink. c.run_frames-result.ensures.writes sink
+
+pub returns-clause-world_tells : goal.returns-clause-world_tells
+returns-clause-world_tells g c = c.run_frames-result.ensures.went.world_tells ∙ c.go_under.ensures.tells

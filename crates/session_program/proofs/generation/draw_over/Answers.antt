@@ -16,4 +16,7 @@ returns-clause-told g c number given sink both =
 pub returns-clause-cleaned_up : goal.returns-clause-cleaned_up
 returns-clause-cleaned_up g c =
     cleaned_up _ _ _ _ _ _ _ (c.proceeding_stands.ensures _) c.requires.first refl
-    (proceeds_too _ _ (λ number ended e. (c.generate-generated.result, c.status_of_generate.ensures, e)) _ _ _ _ _ c.generate-generated.ensures.proceeds) c.generate-generated.ensures.none_open
+    (proceeds_too _ _ (λ number ended e. (c.generate-generated.result, c.status_of_generate.ensures, e)) _ _ _ _ _ c.generate-generated.ensures.went.proceeds) c.generate-generated.ensures.none_open
+
+pub returns-clause-world_tells : goal.returns-clause-world_tells
+returns-clause-world_tells g c = c.generate-generated.ensures.went.world_tells

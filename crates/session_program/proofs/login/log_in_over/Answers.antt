@@ -15,4 +15,7 @@ returns-clause-shows g c = λ sink. record { result = c.login-verdict.result; is
 pub returns-clause-cleaned_up : goal.returns-clause-cleaned_up
 returns-clause-cleaned_up g c =
     cleaned_up _ _ _ _ _ _ _ (c.proceeding_stands.ensures _) c.requires.first c.set_root.ensures.ledger
-    (proceeds_too _ _ (λ number ended e. (c.login-verdict.result, c.status_of_login.ensures, e)) _ _ _ _ _ c.login-verdict.ensures.proceeds) c.login-verdict.ensures.none_open
+    (proceeds_too _ _ (λ number ended e. (c.login-verdict.result, c.status_of_login.ensures, e)) _ _ _ _ _ c.login-verdict.ensures.went.proceeds) c.login-verdict.ensures.none_open
+
+pub returns-clause-world_tells : goal.returns-clause-world_tells
+returns-clause-world_tells g c = c.login-verdict.ensures.went.world_tells ∙ c.set_root.ensures.tells
