@@ -1,4 +1,4 @@
--- A stack with a substack behind it.
+-- A stack followed by a substack.
 use Rattle.std.proofs.Common.{◌≡◌, ℕ, ◌+◌, max, refl, ap, ◌∙◌, arith}
 use mathlib.Core.Former.{Count}
 use Rattle.control_words.specs.declared.nodes.Node.{Node, Sub, Sub', Row_of-Node, end_of-Node, more_of-Node, items-the_row-Node, items_hidden-the_row-Node-0}

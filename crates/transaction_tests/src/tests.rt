@@ -41,7 +41,7 @@ fn login(alloc: Global) -> Result<Messages, NoMemory>
     Ok(messages)
 }
 
-// The replies, each with a `|` behind it, or the fault's name.
+// The replies, each with a `|` after it, or the fault's name.
 fn told(alloc: Global, answer: &Result<Replies, ConvFault>) -> Result<Vec<u8>, AllocError> {
     let mut text = Vec::new(alloc);
     match answer {

@@ -54,7 +54,7 @@ fn add_substack(alloc: Global, nodes: &mut Nodes) -> Result<(), NoMemory>
     Ok(())
 }
 
-// A line that denies, and a thousand substacks behind it.
+// A line that denies, and a thousand substacks after it.
 fn deny_stack(alloc: Global) -> Result<Nodes, NoMemory>
     ensures few { IfOk result (λ nodes. lines_in (stack_of nodes.vec.items) ≤ 4096) }
     ensures shallow { IfOk result (λ nodes. depth (stack_of nodes.vec.items) ≤ 16) }
