@@ -39,7 +39,7 @@ def shadow(password, change=19000):
 
 
 class Case:
-    """A run: its name, the files and folders of its tree, the words, the script, and what must come of it."""
+    """A run: its name, the files and directories of its tree, the arguments, the script, and the expected results."""
 
     def __init__(self, name, files, script, output, status=0, after=(), words=("run", "ROOT")):
         self.name = name
@@ -49,7 +49,7 @@ class Case:
         self.words = words
 
     def lay(self, root):
-        """Writes the tree, and the folder of the tallies."""
+        """Writes the tree, and the directory of the tallies."""
         os.makedirs(f"{root}/var/run/faillock", exist_ok=True)
         for path, text in self.files.items():
             os.makedirs(os.path.dirname(f"{root}/{path}"), exist_ok=True)
@@ -174,7 +174,7 @@ def read(path, missing=b""):
 
 
 def read_part(path):
-    """The bytes that a stored part stands for: its own; or those that it spells, where its name ends in .hex."""
+    """The bytes that a stored part means: its own; or if its name ends in .hex, those that it spells."""
     text = read(path)
     if not path.endswith(".hex"):
         return text
@@ -201,7 +201,7 @@ def files_below(folder, left_out=()):
 
 
 def stored_case(name, folders):
-    """The case that the files of these folders tell, the last one first, and their trees over one another."""
+    """The case in the files of these directories, which the last one overrides, and their merged trees."""
 
     def part(*names, missing=b""):
         return next((read_part(f"{it}/{one}") for it in folders[::-1] for one in names if os.path.isfile(f"{it}/{one}")), missing)
@@ -263,7 +263,7 @@ class Ran:
 
 
 def tree_of(root):
-    """What stands below a folder: kind, mode, owner and group of each, and a file's bytes or a link's text. Lock files as they should
+    """What a directory contains: kind, mode, owner and group of each, and a file's bytes or a link's text. Lock files as they should
     be, empty and their owner's alone, are left out."""
     found = {}
     for at, folders, names in os.walk(root):
@@ -282,7 +282,7 @@ def tree_of(root):
 
 
 def run(case, room, **environment):
-    """Runs a case in a fresh copy of its tree, below a folder that is there."""
+    """Runs a case in a fresh copy of its tree, below an existing directory."""
     root = tempfile.mkdtemp(dir=room)
     try:
         case.lay(root)
@@ -337,7 +337,7 @@ def wrong_tree(case, tree):
 
 
 def build_shim(name, room):
-    """Builds a shim of this folder, which the program is run with."""
+    """Builds a library of this directory, which is preloaded into the program."""
     made = f"{room}/{name}.so"
     if not shutil.which("gcc"):
         sys.exit(f"{sys.argv[0]}: there is no gcc")
@@ -347,4 +347,4 @@ def build_shim(name, room):
 
 def need_program():
     if not os.access(PROGRAM, os.X_OK):
-        sys.exit(f"{sys.argv[0]}: no program is built: ./build builds it, or PAMSESS names one")
+        sys.exit(f"{sys.argv[0]}: the program isn't built: run ./build, or name one by PAMSESS")

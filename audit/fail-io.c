@@ -129,7 +129,7 @@ OPENING(open)
 OPENING(open64)
 OPENING_AT(openat)
 OPENING_AT(openat64)
-CALL(statx, (int folder, const char *path, int flags, unsigned mask, struct statx *told), (folder, path, flags, mask, told), folder, path)
+CALL(statx, (int folder, const char *path, int flags, unsigned mask, struct statx *told), (folder, path, flags, mask, told), folder, *path ? path : path_of(folder))
 CALL(stat, (const char *path, struct stat *told), (path, told), 0, path)
 CALL(lstat, (const char *path, struct stat *told), (path, told), 0, path)
 CALL(fstat, (int file, struct stat *told), (file, told), file, path_of(file))
@@ -206,6 +206,18 @@ ssize_t read(int file, void *into, size_t count)
 {
     ssize_t (*reads)(int, void *, size_t) = own("read");
     return fails("read", file, path_of(file)) ? -1 : reads(file, into, is_short && count ? 1 : count);
+}
+
+ssize_t pread(int file, void *into, size_t count, off_t at_byte)
+{
+    ssize_t (*reads)(int, void *, size_t, off_t) = own("pread");
+    return fails("read", file, path_of(file)) ? -1 : reads(file, into, is_short && count ? 1 : count, at_byte);
+}
+
+ssize_t pread64(int file, void *into, size_t count, off64_t at_byte)
+{
+    ssize_t (*reads)(int, void *, size_t, off64_t) = own("pread64");
+    return fails("read", file, path_of(file)) ? -1 : reads(file, into, is_short && count ? 1 : count, at_byte);
 }
 
 ssize_t write(int file, const void *bytes, size_t count)
