@@ -2,7 +2,9 @@
 """Measures the built program beside the installed libpam, which a small driver calls in the same order (libpam.c) and whose report it
 prints, and beside pamtester. Prints the tables of docs/speed.md.
 
-  bench/beside-libpam.py [--rounds N] [TABLE..]    all tables, or those named: transactions, processes, memory, counts, calls
+  bench/beside-libpam.py [--page] [--rounds N] [TABLE..]    all tables, or those named: transactions, processes, memory, counts, calls
+
+With --page the tables also take the place of those in docs/speed.md; its sentences have to be read again then.
 
 The two sides run in turns, N rounds of each (10 without it); each figure is the least processor time (user and system) of a run. What
 a run without transactions takes is subtracted. libpam is measured twice: as a program uses it that opens modules with each transaction
@@ -12,7 +14,9 @@ keeps it from clearing memory by `rep stosb`, of which callgrind counts each byt
 PAMSESS names another program than ./build's, PAMTESTER another pamtester than that on the PATH, CFLAGS where libpam's headers are. The
 table of processes wants root, for a mount namespace in which /etc is a copy.
 """
+import contextlib
 import glob
+import io
 import os
 import re
 import shutil
@@ -23,6 +27,7 @@ import tempfile
 TOP = os.path.dirname(os.path.dirname(os.path.abspath(__file__)))
 PROGRAM = os.path.abspath(os.environ.get("PAMSESS") or f"{TOP}/crates/pam_session_cli/out/pam_session_cli")
 PLACES = ("/lib/*/security", "/usr/lib/*/security", "/lib64/security", "/usr/lib64/security", "/lib/security", "/usr/lib/security")
+PAGE = f"{TOP}/docs/speed.md"
 TABLES = ("transactions", "processes", "memory", "counts", "calls")
 TUNABLES = "glibc.cpu.x86_rep_stosb_threshold=100000000:glibc.cpu.x86_rep_movsb_threshold=100000000"
 TYPES = ("auth", "account", "password", "session")
@@ -283,12 +288,30 @@ def calls(bench):
             cells.append(", ".join(f"{call} {count:g}" for call, count in sorted(each.items(), key=lambda it: -it[1]) if count >= 0.5))
         print(f"| {name} | {cells[0]} | {cells[1]} |", flush=True)
     bench.compile("reads")
-    alone = subprocess.run([f"{bench.room}/reads", bench.room, "1", str(bench.rounds)], stdout=subprocess.PIPE, text=True, check=True).stdout.strip()
-    print(f"\nThe calls on files that a start on 1 line makes, alone in a C program: {alone} microseconds.")
+    alone = subprocess.run([f"{bench.room}/reads", bench.room, "1", str(bench.rounds)], stdout=subprocess.PIPE, text=True, check=True)
+    held, opened = alone.stdout.split()
+    print("\n| Microseconds of the calls on files that a start on 1 line makes, alone in a C program | |")
+    print("|---|--:|")
+    print(f"| files that stay open | {held} |")
+    print(f"| each file opened and closed | {opened} |", flush=True)
+
+
+def into_page(printed):
+    """Each table takes the place of the one in docs/speed.md that has the same first line."""
+    with open(PAGE, encoding="utf-8") as file:
+        page = file.read()
+    for table in re.findall(r"(?m)(?:^\|.*\n)+", printed):
+        head = table.split("\n", 1)[0]
+        page, found = re.subn(rf"(?m)^{re.escape(head)}\n(?:^\|.*\n)*", lambda _, table=table: table, page)
+        if found != 1:
+            stop(f"docs/speed.md has {found} tables that begin with {head}")
+    with open(PAGE, "w", encoding="utf-8") as file:
+        file.write(page)
 
 
 def main(words):
-    rounds = 10
+    rounds, to_page = 10, words[:1] == ["--page"]
+    words = words[to_page:]
     if words[:1] == ["--rounds"] and len(words) > 1 and words[1].isdigit():
         rounds, words = int(words[1]), words[2:]
     if not set(words) <= set(TABLES):
@@ -297,8 +320,13 @@ def main(words):
         os.chmod(room, 0o755)
         bench = Bench(room, rounds)
         for number, name in enumerate(words or TABLES):
-            print("\n" if number else "", end="")
-            globals()[name](bench)
+            print("\n" if number else "", end="", flush=True)
+            printed = io.StringIO()
+            with contextlib.redirect_stdout(printed if to_page else sys.stdout):
+                globals()[name](bench)
+            if to_page:
+                print(printed.getvalue(), end="", flush=True)
+                into_page(printed.getvalue())
 
 
 main(sys.argv[1:])

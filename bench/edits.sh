@@ -1,7 +1,7 @@
 #!/bin/sh
-# Tries every edit that must fail, those of the gate (crates/NAME/must-fail) and those beyond it (audit/edits/NAME), of the crates
-# named or of all, in a copy of this checkout. Prints what became of each and how many were refused, and fails if one wasn't. The
-# crates below have to be proved first; those that ./build has proved of the same sources are taken as they are.
+# Tries every mutant of the crates named, or of all crates, in a copy of this checkout: those of CI (crates/NAME/must-fail) and the
+# others (audit/edits/NAME). Prints the result of each and how many were refused, and fails if one wasn't. The crates below have to be
+# proved first; those that ./build has proved from the same sources are used as they are.
 set -u
 cd "$(dirname "$0")/.." || exit 1
 top=$PWD
@@ -10,7 +10,7 @@ for crate; do
 done
 [ $# -gt 0 ] || set -- $(ls crates)
 
-# (below .git, where the copy's links to what is proved are on the same file system)
+# (below .git, so that the links to what is proved are on the same file system)
 room=$(mktemp -d -p "$(git rev-parse --absolute-git-dir)")
 trap 'rm -rf "$room"' EXIT
 trap 'exit 1' HUP INT TERM
@@ -22,12 +22,12 @@ cd "$room" || exit 1
 
 wanted=0
 for crate; do
-    # The toolchain takes edits that stand right in must-fail/ alone.
+    # The toolchain tries only the mutants directly in must-fail/.
     for edit in audit/edits/"$crate"/*.edit; do
         [ -f "$edit" ] || continue
         mkdir -p "crates/$crate/must-fail"
         if [ -e "crates/$crate/must-fail/${edit##*/}" ]; then
-            echo "edits: $crate/${edit##*/} stands in $top twice" >&2
+            echo "edits: $crate/${edit##*/} is in $top twice" >&2
             exit 2
         fi
         mv "$edit" "crates/$crate/must-fail/"

@@ -1,11 +1,16 @@
 #!/usr/bin/env python3
-"""Runs the gate, `rt ci`, which proves all from nothing, and prints what it cost: for each crate the processor seconds (user and
-system) of its proof, its tests and its edits that must fail. It looks at the processes of that run twice a second, so what ends
-sooner is left out.
+"""Runs the gate, `rt ci`, and prints what it cost: for each crate the processor seconds (user and system) of its proof, its tests and
+its mutants, and the minutes of all by the clock. It looks at the processes of that run twice a second, so what ends sooner is left
+out.
 
-  bench/gate.py [--beyond] [--save FILE]     with --beyond the edits of audit/edits are tried beside those of the gate, in a copy
-                                             of the checkout, and counted apart
-  bench/gate.py --load FILE..                the table of runs that were saved; of a share that several have, the largest counts
+  bench/gate.py [--anew] [--beyond] [--save FILE]
+      --anew     nothing is taken from earlier runs on this machine; without it only what this run proves and tries is counted
+      --beyond   the mutants of audit/edits are tried beside those of the gate, in a copy of the checkout, and counted apart
+      --save     keeps the figures
+  bench/gate.py --watch PROCESS [--save FILE]
+      measures an `rt ci` that was begun elsewhere, or what runs it (.ci/run), from now to its end
+  bench/gate.py --load FILE..
+      the table of figures that were kept; of a share that several have, the largest counts
 """
 import json
 import os
@@ -19,6 +24,8 @@ TOP = os.path.dirname(os.path.dirname(os.path.abspath(__file__)))
 TICKS = os.sysconf("SC_CLK_TCK")
 SHARES = ("proof", "tests", "edits")
 BEYOND = "beyond"
+# The processor minutes that all crates may take, and those by the clock on two processors.
+BUDGET, CLOCK = 230, 100
 
 
 def processes():
@@ -101,11 +108,23 @@ def keep(costs, save):
             json.dump(costs, file)
 
 
-def measure(top, save):
-    """Runs the gate there; the seconds of each crate's shares, and the status. What was measured is saved twice a minute, for a run
+class Watched:
+    """A process that was begun elsewhere, until it ends. With which exit status isn't known here."""
+
+    def __init__(self, pid):
+        self.pid, self.returncode, self.begun = pid, 0, processes().get(pid, (0, 0, None))[2]
+        if self.begun is None:
+            sys.exit(f"gate: there is no process {pid}")
+
+    def poll(self):
+        return None if processes().get(self.pid, (0, 0, None))[2] == self.begun else 0
+
+
+def measure(run, top, save):
+    """The seconds of each crate's shares in a run of the gate, when it has ended. What was measured is saved twice a minute, for a run
     that is cut off."""
-    shares, seconds, kept = {}, {}, time.monotonic()
-    run = subprocess.Popen(["rt", "ci"], cwd=top)
+    shares, seconds, began = {}, {}, time.monotonic()
+    kept = began
     while run.poll() is None:
         found = processes()
         for process, (_, used, begun) in found.items():
@@ -122,7 +141,9 @@ def measure(top, save):
         time.sleep(0.5)
     costs = costs_of(shares, seconds)
     keep(costs, save)
-    return costs, run.returncode
+    print("\n".join(table(costs)))
+    print(f"By the clock: {(time.monotonic() - began) / 60:.0f} minutes, on {len(os.sched_getaffinity(0))} processors; on two it has {CLOCK}.")
+    return run.returncode
 
 
 def in_order(costs):
@@ -133,17 +154,18 @@ def in_order(costs):
 
 
 def table(costs):
-    """The lines of the table. The column of edits beyond the gate is there if some were tried, and no sum counts it."""
+    """The lines of the table. The column of mutants beyond the gate is there if some were tried, and no sum counts it."""
     kinds = [*SHARES, *([BEYOND] if any(it.get(BEYOND) for it in costs.values()) else [])]
     total = {kind: sum(it.get(kind, 0) for it in costs.values()) for kind in (*SHARES, BEYOND)}
-    yield "| Crate | Proof | Tests | Edits | Sum |" + (" Beyond |" if BEYOND in kinds else "")
+    yield "| Crate | Proof | Tests | Mutants | Sum |" + (" Beyond |" if BEYOND in kinds else "")
     yield "|---|--:|--:|--:|--:|" + ("--:|" if BEYOND in kinds else "")
     for name, shares in [*((name, costs[name]) for name in in_order(costs)), ("all", total)]:
         cells = [*(shares[kind] for kind in SHARES), sum(shares[kind] for kind in SHARES), *(shares.get(kind, 0) for kind in kinds[len(SHARES) :])]
         yield f"| {name} | " + " | ".join(f"{it:.0f}" for it in cells) + " |"
-    yield f"\nIn processor minutes: {sum(total[kind] for kind in SHARES) / 60:.0f} of 300."
+    parts = ", ".join(f"{total[kind] / 60:.0f} of {name}" for kind, name in zip(SHARES, ("proofs", "tests", "mutants")))
+    yield f"\nIn processor minutes: {sum(total[kind] for kind in SHARES) / 60:.0f} of {BUDGET} ({parts})."
     if BEYOND in kinds:
-        yield f"Edits beyond the gate: {total[BEYOND] / 60:.0f} more."
+        yield f"Mutants beyond the gate: {total[BEYOND] / 60:.0f} more."
 
 
 def load(files):
@@ -161,19 +183,28 @@ def main(words):
     if words[:1] == ["--load"]:
         print("\n".join(table(load(words[1:]))))
         return 0
-    has_beyond = words[:1] == ["--beyond"]
-    words = words[has_beyond:]
-    save = words[1] if words[:1] == ["--save"] and len(words) == 2 else None
-    if words and not save:
-        sys.exit(__doc__.strip())
-    if has_beyond:
-        with tempfile.TemporaryDirectory(prefix="gate-") as room:
-            lay_beside(room)
-            costs, status = measure(room, save)
-    else:
-        costs, status = measure(TOP, save)
-    print("\n".join(table(costs)))
-    return status
+    begins, save, watched = set(), None, None
+    while words:
+        word, words = words[0], words[1:]
+        if word in ("--anew", "--beyond"):
+            begins.add(word)
+        elif word == "--save" and words:
+            save, words = os.path.abspath(words[0]), words[1:]
+        elif word == "--watch" and words and words[0].isdigit():
+            watched, words = int(words[0]), words[1:]
+        else:
+            sys.exit(__doc__.strip())
+    if watched is not None:
+        if begins:
+            sys.exit(__doc__.strip())
+        return measure(Watched(watched), TOP, save)
+    ci = ["rt", "ci", *(["--anew"] if "--anew" in begins else [])]
+    if "--beyond" not in begins:
+        return measure(subprocess.Popen(ci, cwd=TOP), TOP, save)
+    with tempfile.TemporaryDirectory(prefix="gate-") as room:
+        lay_beside(room)
+        return measure(subprocess.Popen(ci, cwd=room), room, save)
 
 
-sys.exit(main(sys.argv[1:]))
+if __name__ == "__main__":
+    sys.exit(main(sys.argv[1:]))
