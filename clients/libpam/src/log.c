@@ -1,5 +1,6 @@
 /* What libpam's modules write to the system's log and administrators look for, from the lines of an answer. */
 #define _GNU_SOURCE
+#include <pwd.h>
 #include <stdarg.h>
 #include <stdio.h>
 #include <string.h>
@@ -29,6 +30,12 @@ static const char *item(pam_handle_t *handle, int number)
     return pam_get_item(handle, number, &value) == PAM_SUCCESS && value != NULL ? value : "";
 }
 
+/* Who has logged in at the terminal; empty if that isn't known. */
+static const char *login_name(char *room, size_t size)
+{
+    return getlogin_r(room, size) == 0 ? room : "";
+}
+
 /* The line by which fail2ban and administrators find a guessed password. A name that is no user's may be a password that was
    typed in the wrong place, so it isn't written. */
 static void log_failure(pam_handle_t *handle, bool is_known)
@@ -38,12 +45,22 @@ static void log_failure(pam_handle_t *handle, bool is_known)
 
     if (!is_known)
         log_say(handle, LOG_NOTICE, "pam_unix", "auth", "check pass; user unknown");
-    if (getlogin_r(login, sizeof login) != 0)
-        login[0] = '\0';
     const char *tty = item(handle, PAM_TTY), *ruser = item(handle, PAM_RUSER), *rhost = item(handle, PAM_RHOST);
     log_say(handle, LOG_NOTICE, "pam_unix", "auth",
-        "authentication failure; logname=%s uid=%u euid=%u tty=%s ruser=%s rhost=%s %s%s", login, (unsigned)getuid(),
-        (unsigned)geteuid(), tty, ruser, rhost, user[0] != '\0' ? " user=" : "", user);
+        "authentication failure; logname=%s uid=%u euid=%u tty=%s ruser=%s rhost=%s %s%s", login_name(login, sizeof login),
+        (unsigned)getuid(), (unsigned)geteuid(), tty, ruser, rhost, user[0] != '\0' ? " user=" : "", user);
+}
+
+static void log_opened(pam_handle_t *handle)
+{
+    char login[64], id[16] = "getpwnam error", room[4096];
+    const char *user = item(handle, PAM_USER);
+    struct passwd entry, *found = NULL;
+
+    if (getpwnam_r(user, &entry, room, sizeof room, &found) == 0 && found != NULL)
+        (void)snprintf(id, sizeof id, "%u", (unsigned)entry.pw_uid);
+    log_say(handle, LOG_INFO, "pam_unix", "session", "session opened for user %s(uid=%s) by %s(uid=%u)", user, id,
+        login_name(login, sizeof login), (unsigned)getuid());
 }
 
 /* What is no answer to the user, but a fault of the machine or of the configuration. */
@@ -53,7 +70,7 @@ static bool is_fault(unsigned code)
         || code == PAM_ABORT || code == PAM_AUTHTOK_LOCK_BUSY;
 }
 
-/* `line PLACE MODULE NAME NUMBER`: one line that was run. */
+/* A line of the answer; `line PLACE MODULE NAME NUMBER` is one of the stack that was run. */
 static void log_line(pam_handle_t *handle, enum kind kind, const char *line)
 {
     static const char *const types[] = {
@@ -69,8 +86,7 @@ static void log_line(pam_handle_t *handle, enum kind kind, const char *line)
     if (kind == AUTHENTICATE && is_unix && (code == PAM_AUTH_ERR || code == PAM_USER_UNKNOWN))
         log_failure(handle, code == PAM_AUTH_ERR);
     else if (kind == OPEN_SESSION && is_unix && code == PAM_SUCCESS)
-        log_say(handle, LOG_INFO, module, types[kind], "session opened for user %s by (uid=%u)", item(handle, PAM_USER),
-            (unsigned)getuid());
+        log_opened(handle);
     else if (kind == CLOSE_SESSION && is_unix && code == PAM_SUCCESS)
         log_say(handle, LOG_INFO, module, types[kind], "session closed for user %s", item(handle, PAM_USER));
     else if (is_fault(code))
@@ -82,6 +98,5 @@ void log_call(pam_handle_t *handle, enum kind kind, const struct answer *answer)
     const char *line = NULL;
 
     while ((line = next_line(answer, line)) != NULL)
-        if (after(line, "line ") != NULL)
-            log_line(handle, kind, line);
+        log_line(handle, kind, line);
 }

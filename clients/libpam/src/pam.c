@@ -8,11 +8,7 @@
 
 #include "handle.h"
 
-/* <security/pam_modules.h> declares these for modules. */
-extern int pam_get_user(pam_handle_t *handle, const char **user, const char *prompt);
-extern int pam_get_data(const pam_handle_t *handle, const char *name, const void **data);
-extern int pam_set_data(pam_handle_t *handle, const char *name, void *data,
-    void (*cleanup)(pam_handle_t *handle, void *data, int status));
+#include <security/pam_modules.h> /* pam_get_user, pam_get_data and pam_set_data, which applications call too */
 
 static bool is_service(const char *name)
 {
@@ -194,8 +190,7 @@ static int get_text(const pam_handle_t *handle, enum kind kind, const void *rest
             code = strcmp(result, "unset") == 0 ? PAM_SUCCESS : code_of(result);
     }
     answer_free(&answer);
-    if (code < 0)
-        wire->broken = true;
+    wire->broken |= code < 0;
     if (code == PAM_SUCCESS && (text == NULL || *kept == NULL || strcmp(text, *kept) != 0)) {
         char *before = *kept;
         *kept = text;

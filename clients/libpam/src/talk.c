@@ -86,7 +86,6 @@ int stack_call(pam_handle_t *handle, enum kind kind, int flags)
             code = finish(handle, kind, &answer);
         answer_free(&answer);
     }
-    if (code < 0)
-        handle->wire.broken = true;
+    handle->wire.broken |= code < 0;
     return code < 0 ? PAM_ABORT : code;
 }

@@ -154,8 +154,7 @@ int wire_code(struct wire *wire, enum kind kind, const void *rest, size_t size)
     int code = wire_call(wire, kind, rest, size, &answer) ? code_of(result_of(&answer, kind)) : -1;
 
     answer_free(&answer);
-    if (code < 0)
-        wire->broken = true;
+    wire->broken |= code < 0;
     return code < 0 ? PAM_ABORT : code;
 }
 
