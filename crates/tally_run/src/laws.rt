@@ -1,4 +1,5 @@
-ghost use Rattle.std.specs.Prelude.{ℕ, List};
+ghost use Rattle.std.specs.Prelude.{◌≡◌, ℕ, false, List, codes};
+ghost use Rattle.std.specs.List.{AllByRecursion};
 ghost use Rattle.pam_base.specs.declared.code.Code.{Code};
 ghost use Rattle.pam_library.specs.Plays.{AskedLine};
 ghost use Rattle.script_stream.specs.Run.{run_lines};
@@ -6,7 +7,10 @@ ghost use Rattle.session_run.specs.Closings.{all_closed};
 ghost use Rattle.session_run.specs.State.{RunState, Setting};
 ghost use Rattle.session_run.specs.Step.{line_step};
 ghost use Rattle.session_run.specs.Visits.{ScriptAsks};
-ghost use Rattle.tally_run.specs.Tallied.{FaillockAloneWrites, Tallies};
+ghost use Rattle.pam_room.specs.Module.{Player};
+ghost use Rattle.mod_tally.specs.Faillock.{is_no_file};
+ghost use Rattle.tally_run.specs.Others.{AreKnown, IsApart, other_plays, tally_path};
+ghost use Rattle.tally_run.specs.Tallied.{FaillockAloneWrites, LeavesFile, Tallies};
 
 /// If pam_faillock(8) alone writes a user's file, then whatever the steps of a run are, the file has
 /// what the calls of its lines that the run runs make of it, in order: each with the arguments of
@@ -33,3 +37,17 @@ pub fn runs_keep_recorded_failures()
     mod_tally::laws::written_tallies_are_read();
     session_run::laws::runs_change_files_by_plays();
 }
+
+/// The fourteen other modules leave the file of each user in the directory of pam_faillock(8), under
+/// any root: that of its argument `dir=` if its last part is neither `etc` nor `security`, and
+/// `/var/run/faillock`, which holds without that argument. So pam_faillock alone writes it if a
+/// library has no other modules than these fifteen. This is a law about the definitions: its
+/// contract states it.
+pub fn other_modules_leave_tallies()
+    ensures others { (root folder user : List ℕ) → IsApart folder → is_no_file user ≡ false →
+        AllByRecursion (LeavesFile (tally_path root folder user)) other_plays }
+    ensures usual { IsApart (codes "/var/run/faillock") }
+    ensures alone { (root folder user : List ℕ) → IsApart folder → is_no_file user ≡ false →
+        (players : List Player) → AreKnown players →
+        FaillockAloneWrites (tally_path root folder user) players }
+{}
