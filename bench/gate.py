@@ -1,11 +1,11 @@
 #!/usr/bin/env python3
-"""Runs the gate, `rt ci`, and prints what it cost: for each crate the processor seconds (user and system) of its proof, its tests and
-its mutants, and the minutes of all by the clock. It looks at the processes of that run twice a second, so what ends sooner is left
+"""Runs CI, `rt ci`, and prints what it cost: for each crate the processor seconds (user and system) of its proof, its tests and its
+mutants, and the minutes of all by the clock. It looks at the processes of that run twice a second, so what ends sooner is left
 out.
 
   bench/gate.py [--anew] [--beyond] [--save FILE]
       --anew     nothing is taken from earlier runs on this machine; without it only what this run proves and tries is counted
-      --beyond   the mutants of audit/edits are tried beside those of the gate, in a copy of the checkout, and counted apart
+      --beyond   the mutants of audit/edits are tried beside those of CI, in a copy of the checkout, and counted apart
       --save     keeps the figures
   bench/gate.py --watch PROCESS [--save FILE]
       measures an `rt ci` that was begun elsewhere, or what runs it (.ci/run), from now to its end
@@ -81,7 +81,7 @@ def share_of(process, top):
 
 
 def lay_beside(room):
-    """A copy of the checkout, in which the edits of audit/edits stand beside those of the gate."""
+    """A copy of the checkout, in which the mutants of audit/edits are put beside those of CI."""
     shutil.copytree(TOP, room, ignore=lambda at, names: {"out"} & set(names) | ({".git"} if at == TOP else set()), dirs_exist_ok=True)
     subprocess.run(["git", "init", "-q", room], check=True)
     for at, _, names in os.walk(f"{TOP}/audit/edits"):
@@ -121,7 +121,7 @@ class Watched:
 
 
 def measure(run, top, save):
-    """The seconds of each crate's shares in a run of the gate, when it has ended. What was measured is saved twice a minute, for a run
+    """The seconds of each crate's shares in a run of CI, when it has ended. What was measured is saved twice a minute, for a run
     that is cut off."""
     shares, seconds, began = {}, {}, time.monotonic()
     kept = began
@@ -154,7 +154,7 @@ def in_order(costs):
 
 
 def table(costs):
-    """The lines of the table. The column of mutants beyond the gate is there if some were tried, and no sum counts it."""
+    """The lines of the table. The column of mutants beyond CI is there if some were tried, and no sum counts it."""
     kinds = [*SHARES, *([BEYOND] if any(it.get(BEYOND) for it in costs.values()) else [])]
     total = {kind: sum(it.get(kind, 0) for it in costs.values()) for kind in (*SHARES, BEYOND)}
     yield "| Crate | Proof | Tests | Mutants | Sum |" + (" Beyond |" if BEYOND in kinds else "")

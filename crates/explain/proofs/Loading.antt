@@ -1,6 +1,7 @@
--- What is written of a report, by the result of the load.
-use Rattle.std.proofs.Common.{◌≡◌, ℕ, List, Result, Ok, Err, inl, refl, sym, subst}
-use Rattle.std.specs.Prelude.{IfOk}
+-- What is written of a report, by the results of the load and of the second reading.
+use Rattle.std.proofs.Common.{◌≡◌, ℕ, List, Result, Ok, Err, inl, inr, refl, sym, ap, subst}
+use Rattle.std.specs.Prelude.{IfOk, IsTrue}
+use Rattle.pam_base.specs.declared.fault.Failed.{Failed}
 use Rattle.pam_base.specs.declared.fault.Refuse.{Refuse}
 use Rattle.pam_base.specs.declared.fault.Refuse.TheVariants.{NoMemory, Named}
 use Rattle.pam_outside.specs.Files.{VaultState}
@@ -9,30 +10,87 @@ use Rattle.session_audit.specs.service_load.specs.declared.load_fault.LoadFault.
 use Rattle.session_audit.specs.service_load.specs.declared.rule_type.RuleType.{RuleType}
 use Rattle.session_audit.specs.service_load.specs.declared.trees.Trees.{Trees}
 use Rattle.session_audit.specs.service_load.specs.FirstFault.{Counts, Stop}
-use Rattle.session_audit.specs.service_load.specs.Load.{AreTrees, LoadsBy, LoadsTrees}
+use Rattle.session_audit.specs.service_load.specs.Kinds.{IfNamed}
+use Rattle.session_audit.specs.service_load.specs.Load.{AreTrees, LoadsBy, LoadsTrees, has_folder, loaded}
+use Rattle.session_audit.specs.service_load.specs.Loading.{CountsFaults, OnlyCalls, texts_of}
 use Rattle.session_audit.specs.service_load.specs.Stacks.{Stacks, stacks_of}
+use Rattle.session_audit.specs.service_load.specs.Tree.{tree}
 use Rattle.session_audit.specs.pass_replay.specs.Retold.{stacks_in}
+use Rattle.explain_origins.specs.Placed.{sources_at}
+use Rattle.explain_origins.specs.Reading.{CountsReads, ends_failing}
 use Rattle.explain_report.specs.explain_lines.specs.declared.origin.Sources.{Sources}
-use Rattle.explain.specs.declared.Output.{Output}
-use Rattle.explain.specs.Program.{Explains, IsExplained, IsExplainedBy, IsRefused, explained_of}
+use Rattle.explain.specs.declared.explaining.Output.{Output}
+use Rattle.explain.specs.Explained.{Explains, ExplainsBy, IsExplained, IsExplainedWith, IsRefused, OrUnread, Shows, ShowsBy, explained_of}
 
-pub by_sources : {E : Type 0} (r : Result Output E) (stacks : Stacks) (sources : Sources) (report : List ℕ)
-    → IfOk r (λ e. IsExplained e (explained_of stacks sources report)) → IfOk r (λ e. IsExplainedBy e stacks report)
-by_sources (Ok e) stacks sources report is = inl (sources, is)
-by_sources (Err x) stacks sources report is = tt
+-- ---- the second reading
+
+pub told_with : {E : Type 0} (r : Result Output E) (found : Result Sources (Refuse Failed)) (stacks : Stacks) (sources : Sources) (report : List ℕ) (vault : VaultState)
+    → IfOk found (λ s. s ≡ sources) → IfNamed found (λ f. IsTrue (ends_failing vault))
+    → IfOk r (λ e. IsExplainedWith e stacks found report) → IfOk r (λ e. OrUnread (λ w. IsExplained e w) (explained_of stacks sources report) vault)
+told_with (Ok e) (Ok s) stacks sources report vault same planned is =
+    inl (subst (λ (x : Sources). IsExplained e (explained_of stacks x report)) same is)
+told_with (Ok e) (Err (Named f)) stacks sources report vault same planned is = inr (is, planned)
+told_with (Ok e) (Err NoMemory) stacks sources report vault same planned is = absurd is
+told_with (Err x) found stacks sources report vault same planned is = tt
+
+pub shows_with : {E : Type 0} (r : Result Output E) (found : Result Sources (Refuse Failed)) (stacks : Stacks) (report : List ℕ) (before now : ℕ)
+    → CountsReads found before now → IfOk r (λ e. IsExplainedWith e stacks found report) → IfOk r (λ e. ShowsBy e stacks report before now)
+shows_with (Ok e) (Ok s) stacks report before now counts is = inl (record { sources = s; explained = is; no_fault = counts })
+shows_with (Ok e) (Err (Named f)) stacks report before now counts is = inr (record { nothing = is; failed = counts })
+shows_with (Ok e) (Err NoMemory) stacks report before now counts is = absurd is
+shows_with (Err x) found stacks report before now counts is = tt
+
+-- ---- the load
 
 stacks_are : (trees : Trees) (stack : RuleType → Stack) → AreTrees trees stack → stacks_in trees ≡ stacks_of stack
 stacks_are trees stack are = rw (are.auth, are.account, are.password, are.session) refl
 
-pub loaded_so : {E : Type 0} (r : Result Output E) (trees : Trees) (looked : Result Counts Stop) (new : VaultState) (stack : RuleType → Stack) (report : List ℕ)
-    → LoadsTrees trees looked new stack → IfOk r (λ e. IsExplainedBy e (stacks_in trees) report) → IfOk r (λ e. Explains e looked stack report)
-loaded_so (Ok e) trees looked new stack report loads is =
-    subst (λ (l : Result Counts Stop). Explains e l stack report) (sym loads.no_fault)
-    (subst (λ (s : Stacks). IsExplainedBy e s report) (stacks_are trees stack loads.trees_are) is)
-loaded_so (Err x) trees looked new stack report loads is = tt
+-- the rules are where they were before the load
+sources_stay : (root service : List ℕ) (first mid : VaultState) → OnlyCalls first mid
+    → sources_at (texts_of root mid) (has_folder mid root) service ≡ sources_at (texts_of root first) (has_folder first root) service
+sources_stay root service first mid only = ap (λ (v : VaultState). sources_at (texts_of root v) (has_folder v root) service) only
 
-pub refused_so : {E : Type 0} (r : Result Output E) (looked : Result Counts Stop) (new : VaultState) (x : Refuse LoadFault) (stack : RuleType → Stack) (report : List ℕ)
-    → LoadsBy (Err x) looked new stack → IfOk r (λ e. IsRefused e x) → IfOk r (λ e. Explains e looked stack report)
-refused_so (Ok e) looked new (Named fault) stack report fails is = subst (λ (l : Result Counts Stop). Explains e l stack report) (sym fails) is
-refused_so (Ok e) looked new NoMemory stack report fails is = absurd is
-refused_so (Err y) looked new x stack report fails is = tt
+by_load : {E : Type 0} (r : Result Output E) (trees : Trees) (looked : Result Counts Stop) (mid new : VaultState) (stack : RuleType → Stack) (found sources : Sources) (report : List ℕ)
+    → LoadsTrees trees looked mid stack → found ≡ sources → IfOk r (λ e. OrUnread (λ w. IsExplained e w) (explained_of (stacks_in trees) found report) new)
+    → IfOk r (λ e. ExplainsBy (λ w. IsExplained e w) looked stack sources report new)
+by_load (Ok e) trees looked mid new stack found sources report loads same is =
+    subst (λ (l : Result Counts Stop). ExplainsBy (λ w. IsExplained e w) l stack sources report new) (sym loads.no_fault)
+    (subst (λ (s : Stacks). OrUnread (λ w. IsExplained e w) (explained_of s sources report) new) (stacks_are trees stack loads.trees_are)
+    (subst (λ (s : Sources). OrUnread (λ w. IsExplained e w) (explained_of (stacks_in trees) s report) new) same is))
+by_load (Err x) trees looked mid new stack found sources report loads same is = tt
+
+pub loaded_so : {E : Type 0} (r : Result Output E) (trees : Trees) (first mid new : VaultState) (root service report : List ℕ)
+    → LoadsTrees trees (loaded first root service) mid (tree (texts_of root first) (has_folder first root) service) → OnlyCalls first mid
+    → IfOk r (λ e. OrUnread (λ w. IsExplained e w) (explained_of (stacks_in trees) (sources_at (texts_of root mid) (has_folder mid root) service) report) new)
+    → IfOk r (λ e. Explains (λ w. IsExplained e w) first root service report new)
+loaded_so r trees first mid new root service report loads stays is =
+    by_load r trees (loaded first root service) mid new (tree (texts_of root first) (has_folder first root) service)
+    (sources_at (texts_of root mid) (has_folder mid root) service) (sources_at (texts_of root first) (has_folder first root) service) report
+    loads (sources_stay root service first mid stays) is
+
+refused_by_load : {E : Type 0} (r : Result Output E) (stop : Refuse LoadFault) (looked : Result Counts Stop) (mid : VaultState) (stack : RuleType → Stack) (sources : Sources) (report : List ℕ)
+    → LoadsBy (Err stop) looked mid stack → IfOk r (λ e. IsRefused e stop) → IfOk r (λ e. ExplainsBy (λ w. IsExplained e w) looked stack sources report mid)
+refused_by_load (Ok e) (Named fault) looked mid stack sources report fails is =
+    subst (λ (l : Result Counts Stop). ExplainsBy (λ w. IsExplained e w) l stack sources report mid) (sym fails) is
+refused_by_load (Ok e) NoMemory looked mid stack sources report fails is = absurd is
+refused_by_load (Err x) stop looked mid stack sources report fails is = tt
+
+pub refused_so : {E : Type 0} (r : Result Output E) (stop : Refuse LoadFault) (first mid : VaultState) (root service report : List ℕ)
+    → LoadsBy (Err stop) (loaded first root service) mid (tree (texts_of root first) (has_folder first root) service) → IfOk r (λ e. IsRefused e stop)
+    → IfOk r (λ e. Explains (λ w. IsExplained e w) first root service report mid)
+refused_so r stop first mid root service report fails is =
+    refused_by_load r stop (loaded first root service) mid (tree (texts_of root first) (has_folder first root) service)
+    (sources_at (texts_of root first) (has_folder first root) service) report fails is
+
+-- ---- the same with any files
+
+pub loaded_shows : {E : Type 0} (r : Result Output E) (stacks : Stacks) (report : List ℕ) (before mid now : ℕ) → mid ≡ before
+    → IfOk r (λ e. ShowsBy e stacks report mid now) → IfOk r (λ e. Shows e report before now)
+loaded_shows (Ok e) stacks report before mid now same shows = inl (stacks, subst (λ (b : ℕ). ShowsBy e stacks report b now) same shows)
+loaded_shows (Err x) stacks report before mid now same shows = tt
+
+pub refused_shows : {E : Type 0} (r : Result Output E) (stop : Refuse LoadFault) (report : List ℕ) (before now : ℕ) → CountsFaults {A = Trees} (Err stop) before now
+    → IfOk r (λ e. IsRefused e stop) → IfOk r (λ e. Shows e report before now)
+refused_shows (Ok e) (Named fault) report before now counts is = inr (record { fault = fault; refused = is; counts = counts })
+refused_shows (Ok e) NoMemory report before now counts is = absurd is
+refused_shows (Err x) stop report before now counts is = tt

@@ -1,71 +1,109 @@
--- What `explain` writes of a report, and its exit status (this project's own).
-use Rattle.std.specs.Prelude.{◌≡◌, ◌⊎◌, ℕ, ◌≤◌, List, [], ◌++◌, codes, decimal, length, vec_len, string_bytes, Option, Some, None, Result, Ok, Err}
-use Rattle.pam_base.specs.declared.fault.Refuse.{Refuse}
-use Rattle.pam_base.specs.declared.fault.Refuse.TheVariants.{NoMemory, Named}
-use Rattle.session_audit.specs.control_words.specs.Stack.{Stack}
-use Rattle.session_audit.specs.service_load.specs.declared.load_fault.LoadFault.{LoadFault}
-use Rattle.session_audit.specs.service_load.specs.declared.rule_type.RuleType.{RuleType}
-use Rattle.session_audit.specs.service_load.specs.FirstFault.{Counts, Stop}
-use Rattle.session_audit.specs.service_load.specs.Stacks.{Stacks, stacks_of}
-use Rattle.session_audit.specs.report_lines.specs.Line.{refused_words}
-use Rattle.session_audit.specs.report_reader.specs.Guess.{read_line}
-use Rattle.session_audit.specs.Checked.{bare_lines}
-use Rattle.session_audit.specs.Differs.{differs}
-use Rattle.session_audit.specs.Fits.{all_shut}
-use Rattle.session_audit.specs.Whole.{lines_read}
-use Rattle.explain_report.specs.explain_lines.specs.declared.origin.Sources.{Sources}
-use Rattle.explain_report.specs.Report.{explained_from}
-use Rattle.explain.specs.declared.Output.{Output}
-use Rattle.explain.specs.declared.Report.{Report}
-use Rattle.explain.specs.declared.Report.TheVariants.{Whole, TooLong, Unread}
+-- The program: its arguments, what it writes, and its exit status (this project's own).
+use Rattle.std.specs.Prelude.{◌≡◌, ◌≢◌, ◌⊎◌, ℕ, nat_lt, Bool, true, false, List, [], ◌∷◌, ◌++◌, length, codes, string_bytes, String, Option, Some, None}
+use Rattle.std.specs.declared.alloc.Global.{Global}
+use Rattle.pam_outside.specs.Counts.{Rose, RisesIf}
+use Rattle.pam_outside.specs.Files.{VaultState}
+use Rattle.pam_outside.specs.Streams.{SinkState}
+use Rattle.explain.specs.declared.explaining.Output.{Output}
+use Rattle.explain.specs.declared.input.Report.{Report}
+use Rattle.explain.specs.declared.input.Report.TheVariants.{Whole, TooLong, Unread}
+use Rattle.explain.specs.declared.program.Place.{Place}
+use Rattle.explain.specs.Explained.{Written, written, IsExplained, Explains, Shows, unread_explained}
+use Rattle.explain.specs.Input.{is_unread}
 
-abbrev pub IsShort : Report → Type 0
-IsShort (Whole text) = vec_len text ≤ 1048576
-IsShort TooLong = Unit {0}
-IsShort Unread = Unit {0}
+-- ---- the arguments
 
--- an exit status and what is written
-pub record Written : Type 0 where
-  pub status : ℕ
-  pub text : List ℕ
+pub record Asked : Type 0 where
+  pub root : List ℕ
+  pub service : List ℕ
 
-abbrev pub written : ℕ → List ℕ → Written
-written status text = record { status = status; text = text }
+-- ROOT SERVICE
+abbrev pub asked_of : List (String Global) → Option Asked
+asked_of (root ∷ service ∷ []) =
+    Some (record { root = string_bytes root; service = string_bytes service })
+asked_of words = None
 
-pub record IsExplained (e : Output) (w : Written) : Type 0 where
-  pub status : e.status ≡ w.status
-  pub text : string_bytes e.text ≡ w.text
+-- what was found in them
+abbrev pub asked : Option Place → Option Asked
+asked None = None
+asked (Some place) = Some (record { root = place.root.now; service = place.service.now })
 
--- by the first line that doesn't fit, if there is one
-abbrev pub explained_by : Option ℕ → List ℕ → Written
-explained_by None text = written 0 text
-explained_by (Some line) text = written 11 (codes "differs " ++ (decimal line ++ codes "\n"))
+-- ---- what is written
 
--- of a report, with the rules of the stacks at these sources
-abbrev pub explained_of : Stacks → Sources → List ℕ → Written
-explained_of stacks sources report =
-    explained_by (differs stacks (lines_read read_line report))
-    (explained_from stacks sources all_shut [] (bare_lines report))
+abbrev pub usage_written : Written
+usage_written = written 2 (codes "usage: explain ROOT SERVICE < REPORT\n")
 
-abbrev pub refused_explained : LoadFault → Written
-refused_explained fault = written 3 (refused_words fault ++ codes "\n")
+abbrev pub too_long_written : Written
+too_long_written = written 12 (codes "transcript too long\n")
 
--- by why there are no stacks; if an allocation failed, nothing is written
-abbrev pub IsRefused : Output → Refuse LoadFault → Type 0
-IsRefused e (Named fault) = IsExplained e (refused_explained fault)
-IsRefused e NoMemory = ⊥
+-- ---- with modelled objects: what is written has this property
 
--- a file couldn't be read when it was read once more
-abbrev pub unread_explained : Written
-unread_explained = written 5 []
+-- of what was read
+abbrev pub ExplainsRead : (Written → Type 0) → Report → VaultState → List ℕ → List ℕ → VaultState
+    → Type 0
+ExplainsRead P (Whole text) old root service new = Explains P old root service text new
+ExplainsRead P TooLong old root service new = P too_long_written
+ExplainsRead P Unread old root service new = P unread_explained
 
--- of a report, with the rules at the sources that are found, or a file couldn't be read once more
-abbrev pub IsExplainedBy : Output → Stacks → List ℕ → Type 0
-IsExplainedBy e stacks report =
-    ((sources : Sources) × IsExplained e (explained_of stacks sources report))
-    ⊎ IsExplained e unread_explained
+-- by whether the input is too long
+abbrev pub ExplainsIf : Bool → (Written → Type 0) → VaultState → List ℕ → List ℕ → List ℕ
+    → VaultState → Type 0
+ExplainsIf true P old root service input new = P too_long_written
+ExplainsIf false P old root service input new = Explains P old root service input new
 
--- by the result of the load
-abbrev pub Explains : Output → Result Counts Stop → (RuleType → Stack) → List ℕ → Type 0
-Explains e (Ok counts) stack report = IsExplainedBy e (stacks_of stack) report
-Explains e (Err stop) stack report = IsExplained e (refused_explained stop.fault)
+-- of an input of these bytes; or nothing, if reading it failed
+abbrev pub ExplainsInput : (Written → Type 0) → VaultState → List ℕ → List ℕ → List ℕ → VaultState
+    → ℕ → ℕ → Type 0
+ExplainsInput P old root service input new before now =
+    ExplainsIf (nat_lt 1048576 (length input)) P old root service input new
+    ⊎ (P unread_explained × Rose before now)
+
+-- for these arguments
+abbrev pub Answers : (Written → Type 0) → Option Asked → VaultState → List ℕ → VaultState → ℕ → ℕ
+    → Type 0
+Answers P None old input new before now = P usage_written
+Answers P (Some words) old input new before now =
+    ExplainsInput P old words.root words.service input new before now
+
+-- the text is written, or a prefix of it by status 6
+pub record Exits (status : ℕ) (w : Written) (old new : SinkState) : Type 0 where
+  pub front : List ℕ
+  pub back : List ℕ
+  pub parts : w.text ≡ front ++ back
+  pub adds : new.written ≡ old.written ++ front
+  pub ends : ((status ≡ w.status) × (front ≡ w.text)) ⊎ (status ≡ 6)
+
+-- nothing is written by status 4, if an allocation failed
+abbrev pub Ends : ℕ → Option Asked → VaultState → List ℕ → VaultState → ℕ → ℕ → SinkState
+    → SinkState → Type 0
+Ends status words old input new before now out_old out_new =
+    ((status ≡ 4) × (out_new ≡ out_old))
+    ⊎ Answers (λ w. Exits status w out_old out_new) words old input new before now
+
+-- ---- with any objects
+
+-- of what was read, with the failures of the files before and after it
+abbrev pub ShowsRead : Output → Report → ℕ → ℕ → Type 0
+ShowsRead e (Whole text) before now = Shows e text before now
+ShowsRead e TooLong before now = IsExplained e too_long_written × (now ≡ before)
+ShowsRead e Unread before now = IsExplained e unread_explained × (now ≡ before)
+
+-- of some report, with the failures of the input and of the files
+pub record ShowsInput (e : Output) (input_before input_now before now : ℕ) : Type 0 where
+  pub report : Report
+  pub read : RisesIf (is_unread report) input_before input_now
+  pub shown : ShowsRead e report before now
+
+-- what the status of an output says of the arguments and of failures
+pub record Causes (status : ℕ) (words : Option Asked) (input_before input_now before now : ℕ) :
+    Type 0 where
+  pub usage : words ≡ None → status ≡ 2
+  pub no_usage : status ≡ 2 → words ≡ None
+  pub unread : status ≡ 5 → Rose input_before input_now ⊎ Rose before now
+  pub memory : status ≢ 4
+  pub unwritten : status ≢ 6
+
+-- the status of an output, unless a write failed
+abbrev pub Leaves : ℕ → ℕ → ℕ → ℕ → Type 0
+Leaves status given before now =
+    ((status ≡ given) × (now ≡ before)) ⊎ ((status ≡ 6) × Rose before now)

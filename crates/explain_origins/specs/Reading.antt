@@ -1,10 +1,12 @@
 -- What the parts of a second reading give (this project's own).
-use Rattle.std.specs.Prelude.{◌≡◌, ℕ, ◌-◌, Bool, true, false, not, List, [], ◌∷◌, ◌++◌, Option, Some, None, Result, Ok, Err, if◌then◌else◌}
+use Rattle.std.specs.Prelude.{◌≡◌, ℕ, ◌-◌, nat_eq, Bool, true, false, not, List, [], ◌∷◌, ◌++◌, Option, Some, None, Result, Ok, Err, if◌then◌else◌}
+use Rattle.std.specs.List.{list_any}
 use Rattle.pam_base.specs.declared.fault.Failed.{Failed}
 use Rattle.pam_base.specs.declared.fault.FaultKind.{FaultKind}
 use Rattle.pam_base.specs.declared.fault.Refuse.{Refuse}
 use Rattle.pam_base.specs.declared.fault.Refuse.TheVariants.{NoMemory, Named}
 use Rattle.pam_outside.specs.Counts.{Rose}
+use Rattle.pam_outside.specs.Files.{VaultState}
 use Rattle.control_words.specs.conf_lex.specs.declared.token.RawRule.{RawRule}
 use Rattle.explain_lines.specs.declared.origin.Origin.{Origin}
 use Rattle.explain_origins.specs.declared.files.Inclusion.{Inclusion}
@@ -27,6 +29,10 @@ abbrev pub CountsReads : {A : Type 0} → Result A (Refuse Failed) → ℕ → �
 CountsReads (Ok x) before now = now ≡ before
 CountsReads (Err (Named f)) before now = Rose before now
 CountsReads (Err NoMemory) before now = now ≡ before
+
+-- whether the last access to modelled files is planned to fail
+unfoldable pub ends_failing : VaultState → Bool
+ends_failing vault = list_any (λ n. nat_eq n vault.calls) vault.fails
 
 -- the rules of a text were read, if it is there and has no fault; `meant` are those of the service
 abbrev pub ReadsRules : Result (Option (List RawRule)) (Refuse Failed) → Option (List ℕ)

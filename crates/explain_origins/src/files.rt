@@ -1,7 +1,8 @@
 ghost use Rattle.std.specs.Prelude.{◌≡◌, ◌≤◌, ◌||◌, IsTrue, IfOk, option_copied};
-ghost use Rattle.explain_origins.specs.Reading.{Adds, CountsReads, ReadsRules, Takes, placed_at, step_of_rules};
+ghost use Rattle.explain_origins.specs.Reading.{Adds, CountsReads, ReadsRules, Takes, ends_failing, placed_at, step_of_rules};
 ghost use Rattle.service_load.specs.Checking.{GivesFields};
 ghost use Rattle.service_load.specs.Files.{held, is_in_folder, own_rule, rules_held, service_file};
+ghost use Rattle.service_load.specs.Kinds.{IfNamed};
 ghost use Rattle.service_load.specs.Loading.{OnlyCalls, texts_of};
 
 use crate::step::{Step, is_word, joined, step_of};
@@ -70,6 +71,8 @@ pub fn add_file(
         (vault_holds vault.old)) level rule_type file.now)) }
     ensures stays { IsTrue (vault_tells vault.old) →
         OnlyCalls (vault_holds vault.old) (vault_holds vault.new) }
+    ensures planned { IsTrue (vault_tells vault.old) →
+        IfNamed result (λ failed. IsTrue (ends_failing (vault_holds vault.new))) }
     ensures faults { CountsReads result (vault_faults vault.old) (vault_faults vault.new) }
 {
     if level > MAX_LEVEL {
@@ -133,6 +136,8 @@ fn read_rules(
         (rules_held (held (texts_of root.now (vault_holds vault.old)) file.now)) }
     ensures stays { IsTrue (vault_tells vault.old) →
         OnlyCalls (vault_holds vault.old) (vault_holds vault.new) }
+    ensures planned { IsTrue (vault_tells vault.old) →
+        IfNamed result (λ failed. IsTrue (ends_failing (vault_holds vault.new))) }
     ensures faults { CountsReads result (vault_faults vault.old) (vault_faults vault.new) }
 {
     let name = file.name.bytes();

@@ -1,6 +1,7 @@
 ghost use Rattle.std.specs.Prelude.{◌≡◌, IsTrue, IfOk};
 ghost use Rattle.explain_origins.specs.Placed.{placed_from, places, sources_at};
-ghost use Rattle.explain_origins.specs.Reading.{CountsReads};
+ghost use Rattle.explain_origins.specs.Reading.{CountsReads, ends_failing};
+ghost use Rattle.service_load.specs.Kinds.{IfNamed};
 ghost use Rattle.service_load.specs.Load.{has_folder};
 ghost use Rattle.service_load.specs.Loading.{OnlyCalls, texts_of};
 
@@ -12,7 +13,8 @@ use service_load::{RuleFile, RuleType};
 use std::alloc::Global;
 
 /// Where the rules of a service's stacks are written, below a root: the file and line of each rule
-/// of the stacks that `load` returns. `Failed` if a file couldn't be read.
+/// of the stacks that `load` returns. Failed is returned only if a file access failed; it is the
+/// last one.
 pub fn sources_of(
     alloc: Global,
     vault: &mut dyn Vault,
@@ -25,6 +27,8 @@ pub fn sources_of(
         (has_folder (vault_holds vault.old) root.now) service.now) }
     ensures stays { IsTrue (vault_tells vault.old) →
         OnlyCalls (vault_holds vault.old) (vault_holds vault.new) }
+    ensures planned { IsTrue (vault_tells vault.old) →
+        IfNamed result (λ failed. IsTrue (ends_failing (vault_holds vault.new))) }
     ensures faults { CountsReads result (vault_faults vault.old) (vault_faults vault.new) }
 {
     let is_folder = has_folder(alloc, vault, root)?;
@@ -49,6 +53,8 @@ fn has_folder(alloc: Global, vault: &mut dyn Vault, root: &[u8]) -> Result<bool,
         found ≡ has_folder (vault_holds vault.old) root.now) }
     ensures stays { IsTrue (vault_tells vault.old) →
         OnlyCalls (vault_holds vault.old) (vault_holds vault.new) }
+    ensures planned { IsTrue (vault_tells vault.old) →
+        IfNamed result (λ failed. IsTrue (ends_failing (vault_holds vault.new))) }
     ensures faults { CountsReads result (vault_faults vault.old) (vault_faults vault.new) }
 {
     let folder = path_of(alloc, root, b"/etc/pam.d")?;
@@ -75,6 +81,8 @@ fn origins_of(
         own.now other.now rule_type)) }
     ensures stays { IsTrue (vault_tells vault.old) →
         OnlyCalls (vault_holds vault.old) (vault_holds vault.new) }
+    ensures planned { IsTrue (vault_tells vault.old) →
+        IfNamed result (λ failed. IsTrue (ends_failing (vault_holds vault.new))) }
     ensures faults { CountsReads result (vault_faults vault.old) (vault_faults vault.new) }
 {
     let mut origins = Origins::new(alloc);

@@ -1,79 +1,80 @@
--- What a script alone says of a run, and what was written.
-use Rattle.std.proofs.Common.{◌≡◌, ℕ, ◌≤◌, ◌<◌, inl, inr, Bool, true, false, cond, ltb, List, [], ◌++◌, length, Some, None, Result, Ok, Err, refl, sym, ap, ◌∙◌, append_assoc, append-nil, length-append, arith}
-use Rattle.std.proofs.lemmas.Bool.{le-leb, lt-leb, ltb-true}
+-- What the bytes of a stream alone say of a run, and what was written.
+use Rattle.std.proofs.Common.{◌≡◌, ℕ, ◌≤◌, ◌<◌, inl, inr, List, [], ◌++◌, length, drop, Some, None, Result, Ok, Err, refl, sym, ap, ◌∙◌, append_assoc, append-nil, length-append, arith}
+use Rattle.std.specs.Prelude.{All}
+use Rattle.std.proofs.lemmas.List.Elements.{All-append, All-drop, All-same}
+use Rattle.std.proofs.Math.Seq.{drop-append_seam}
 use Rattle.pam_base.specs.declared.fault.Failed.{Failed}
-use Rattle.pam_base.specs.declared.fault.ScriptKind.{ScriptKind}
-use Rattle.pam_base.specs.declared.fault.ScriptKind.TheVariants.{LineTooLong, TooManyLines}
 use Rattle.pam_outside.specs.Streams.{SourceState, SinkState, WritesWhole}
 use Rattle.session_report.specs.pam_room.specs.Module.{Player}
 use Rattle.script_lang.specs.declared.line.Line.{Line}
-use Rattle.script_lang.specs.Line.{parsed}
+use Rattle.script_stream.specs.Looked.{looked}
 use Rattle.script_stream.specs.Turns.{Ending}
 use Rattle.item_stream.specs.declared.ending.Ending.TheVariants.{Done, ReadFault, Refused}
 use Rattle.item_stream.specs.declared.ending.Stop.{Stop}
 use Rattle.item_stream.specs.declared.ending.Stop.TheVariants.{NoMemory, WriteFault}
+use Rattle.item_stream.specs.declared.reader.Found.{Found}
+use Rattle.item_stream.specs.Run.{ItemStep, Looks, Refuses}
+use Rattle.item_stream.specs.Taking.{Finds}
 use Rattle.script_stream.specs.Run.{Run, step_at}
+use Rattle.session_run.specs.Asked.{Asking}
 use Rattle.session_run.specs.Closings.{closings_text}
-use Rattle.session_run.specs.State.{RunState}
+use Rattle.session_run.specs.Serve.{Does}
+use Rattle.session_run.specs.State.{RunState, Setting}
 use Rattle.session_run.specs.Whole.{EndsWith}
-use Rattle.session_run.specs.Reading.{ReadsAll, ReadsLine, ReadsScript, WritesScript, WritesSome, line_read, read_as}
-use Rattle.session_run.proofs.Serving.{long_line}
+use Rattle.session_run.specs.Reading.{ReadsAll, ReadsItem, ReadsScript, TakesBytes, WritesScript, WritesSome, line_read, read_as}
 
--- ---- one line
+-- ---- one item
 
-by_length : (b : Bool) (line : List ℕ) → ltb 513 (length line) ≡ b → cond b (Err LineTooLong) (line_read tt line) ≡ line_read tt line
-unfolding line_read
-by_length true line e = sym (ap read_as (long_line line (ltb-true 513 (length line) e)))
-by_length false line e = refl
+module _ {Kind : Type 0} (asked : Asking Kind) (wrapped : List ℕ → List ℕ) (step : Setting → ItemStep RunState Kind) (fails : Setting → RunState → List ℕ → RunState → Type 0) (read_step : ItemStep (Unit {0}) Kind) (does : Does asked wrapped step fails read_step) (n : ℕ) (item : List ℕ) where
+  as_asked : (r : Result Line Kind) → asked n item ≡ r → read_step n tt item ≡ read_as r
+  as_asked r e = does.reads n item ∙ ap (λ (r : Result Line Kind). read_as r) e
 
-at_read : (n : ℕ) (line : List ℕ) → n < 65536 → step_at line_read n tt line ≡ line_read tt line
-unfolding step_at
-at_read n line lt = rw (lt-leb 65536 n lt) (by_length (ltb 513 (length line)) line refl)
+  pub reads_accepted : (line : Line) → asked n item ≡ Ok line → ReadsItem read_step (Ok None) n item
+  reads_accepted line e = record { text = []; written = refl; served = as_asked (Ok line) e; calls = omega arith; calls_ok = omega arith }
 
-accepted : (n : ℕ) (line : List ℕ) (l : Line) → n < 65536 → parsed line ≡ Ok l → step_at line_read n tt line ≡ Ok (tt, [])
-unfolding line_read
-accepted n line l lt e = at_read n line lt ∙ ap read_as e
+  pub reads_refused : (kind : Kind) → asked n item ≡ Err kind → ReadsItem read_step (Ok (Some kind)) n item
+  reads_refused kind e = record { text = []; written = refl; served = (as_asked (Err kind) e, refl, refl); calls = omega arith; calls_ok = omega arith }
 
-refused : (n : ℕ) (line : List ℕ) (kind : ScriptKind) → n < 65536 → parsed line ≡ Err kind → step_at line_read n tt line ≡ Err kind
-unfolding line_read
-refused n line kind lt e = at_read n line lt ∙ ap read_as e
+  pub reads_unbegun : ReadsItem read_step (Err NoMemory) n item
+  reads_unbegun = record { text = []; written = refl; served = inr (refl, refl); calls = omega arith; calls_ok = tt }
 
-too_many : (n : ℕ) (line : List ℕ) → 65536 ≤ n → step_at line_read n tt line ≡ Err TooManyLines
-unfolding step_at
-too_many n line le = rw (le-leb 65536 n le) refl
+  pub reads_stopped : (stop : Stop) (line : Line) → asked n item ≡ Ok line → ReadsItem read_step (Err stop) n item
+  reads_stopped NoMemory line e = reads_unbegun
+  reads_stopped WriteFault line e = record {
+    text = [];
+    written = refl;
+    served = inl (record { text = []; applied = as_asked (Ok line) e; more = []; parts = refl });
+    calls = omega arith;
+    calls_ok = tt;
+  }
 
-pub reads_accepted : (n : ℕ) (line : List ℕ) (l : Line) → n < 65536 → parsed line ≡ Ok l → ReadsLine (Ok None) n line
-reads_accepted n line l lt e = record { text = []; written = refl; served = accepted n line l lt e; calls = omega arith; calls_ok = omega arith }
+-- ---- bytes that were taken
 
-pub reads_refused : (n : ℕ) (line : List ℕ) (kind : ScriptKind) → n < 65536 → parsed line ≡ Err kind → ReadsLine (Ok (Some kind)) n line
-reads_refused n line kind lt e = record { text = []; written = refl; served = (refused n line kind lt e, refl, refl); calls = omega arith; calls_ok = omega arith }
+pub takes : (seen : Looks) (refuses : Refuses) (found : Result Found Failed) (n : ℕ) (before held : List ℕ) (x y : SourceState) → Finds seen refuses found n before held x y
+    → All (λ b. b < 256) held → TakesBytes before x y
+takes seen refuses found n before held x y f all = record { got = f.got; source = f.source; bytes = All-same (λ b. b < 256) (before ++ f.got) held (sym f.held_is) all }
 
-pub reads_too_many : (n : ℕ) (line : List ℕ) → 65536 ≤ n → ReadsLine (Ok (Some TooManyLines)) n line
-reads_too_many n line le = record { text = []; written = refl; served = (too_many n line le, refl, refl); calls = omega arith; calls_ok = omega arith }
+pub takes_none : (x : SourceState) → TakesBytes [] x x
+takes_none x = record { got = []; source = refl; bytes = λ k d lt. absurd (omega (arith, lt)) }
 
-pub reads_unbegun : (n : ℕ) (line : List ℕ) → ReadsLine (Err NoMemory) n line
-reads_unbegun n line = record { text = []; written = refl; served = inr (refl, refl); calls = omega arith; calls_ok = tt }
-
-pub reads_stopped : (stop : Stop) (n : ℕ) (line : List ℕ) (l : Line) → n < 65536 → parsed line ≡ Ok l → ReadsLine (Err stop) n line
-reads_stopped NoMemory n line l lt e = reads_unbegun n line
-reads_stopped WriteFault n line l lt e = record {
-  text = [];
-  written = refl;
-  served = inl (record { text = []; applied = accepted n line l lt e; more = []; parts = refl });
-  calls = omega arith;
-  calls_ok = tt;
+pub takes_on : (held : List ℕ) (x y z : SourceState) → TakesBytes [] x y → TakesBytes held y z → TakesBytes [] x z
+takes_on held x y z a b = record {
+  got = a.got ++ b.got;
+  source = a.source ∙ ap (λ (l : List ℕ). a.got ++ l) b.source ∙ sym (append_assoc a.got b.got z.left);
+  bytes = All-append (λ n. n < 256) a.got b.got a.bytes
+      (All-same (λ n. n < 256) b.got (drop (length held) (held ++ b.got)) (sym (drop-append_seam held b.got)) (All-drop (λ n. n < 256) (length held) (held ++ b.got) b.bytes));
 }
 
 -- ---- a run
 
-pub script_read : (result : Result Ending Stop) (m : ℕ) (x y : SourceState) → ReadsAll result m x y → ReadsScript result x y
-script_read (Ok Done) m x y r = record { taken = r.taken; source = r.source; reads = r.reads; ends = r.ends; by = (ap (λ (z : Run (Unit {0})). z.refused) r.report.1, r.report.0) }
-script_read (Ok ReadFault) m x y r = record { taken = r.taken; source = r.source; reads = r.reads; ends = r.ends; by = ap (λ (z : Run (Unit {0})). z.refused) r.report }
-script_read (Ok (Refused kind)) m x y r = record { taken = r.taken; source = r.source; reads = r.reads; ends = r.ends; by = ap (λ (z : Run (Unit {0})). z.refused) r.report.0 }
-script_read (Err stop) m x y r = record { taken = r.taken; source = r.source; reads = r.reads; ends = r.ends; by = tt }
+pub script_read : (result : Result Ending Stop) (m : ℕ) (x y : SourceState) → ReadsAll looked (step_at line_read) result m x y → ReadsScript result x y
+script_read (Ok Done) m x y r = record { taken = r.runs.taken; source = r.runs.source; reads = r.runs.reads; ends = r.runs.ends; by = (ap (λ (z : Run (Unit {0})). z.refused) r.runs.report.1, r.runs.report.0) }
+script_read (Ok ReadFault) m x y r = record { taken = r.runs.taken; source = r.runs.source; reads = r.runs.reads; ends = r.runs.ends; by = ap (λ (z : Run (Unit {0})). z.refused) r.runs.report }
+script_read (Ok (Refused kind)) m x y r = record { taken = r.runs.taken; source = r.runs.source; reads = r.runs.reads; ends = r.runs.ends; by = ap (λ (z : Run (Unit {0})). z.refused) r.runs.report.0 }
+script_read (Err stop) m x y r = record { taken = r.runs.taken; source = r.runs.source; reads = r.runs.reads; ends = r.runs.ends; by = tt }
 
-pub script_left : (ending : Ending) (stop : Stop) (m : ℕ) (x y : SourceState) → ReadsAll (Ok ending) m x y → ReadsScript (Err stop) x y
-script_left ending stop m x y r = record { taken = r.taken; source = r.source; reads = r.reads; ends = r.ends; by = tt }
+pub script_left : (ending : Ending) (stop : Stop) (m : ℕ) (x y : SourceState) → ReadsAll looked (step_at line_read) (Ok ending) m x y → ReadsScript (Err stop) x y
+script_left ending stop m x y r = record { taken = r.runs.taken; source = r.runs.source; reads = r.runs.reads; ends = r.runs.ends; by = tt }
 
 -- ---- what is written
 
@@ -115,7 +116,7 @@ err_then t stop p q r a b = record {
   calls_ok = tt;
 }
 
-pub script_stopped : (stop : Stop) (p q : SinkState) → WritesSome {T = Ending} (Err stop) p q → WritesScript p q
+pub script_stopped : {T : Type 0} (stop : Stop) (p q : SinkState) → WritesSome {T = T} (Err stop) p q → WritesScript p q
 script_stopped stop p q w = record { text = w.text; written = w.written; calls = w.calls }
 
 pub script_written : (players : List Player) (ending : Ending) (n : ℕ) (result : Result (Unit {0}) Stop) (s t : RunState) (p q r : SinkState)

@@ -12,14 +12,22 @@ use Rattle.session_report.specs.pam_library.specs.Calls.{Moved, births_added, ev
 use Rattle.session_report.specs.pam_library.specs.Slots.{lists_of}
 use Rattle.session_run.specs.AnyWorld.{AllEndsAre, ProceedsBy}
 use Rattle.session_run.specs.Ends.{EndsAre, HasStatus}
-use Rattle.session_run.specs.Events.{Broken, IsAskedBy, IsLaterEnd, Served, StandOn, StandsBehind, StandsCut, line_events}
+use Rattle.script_stream.specs.Looked.{looked}
+use Rattle.session_run.specs.Asked.{FirstAsks}
+use Rattle.session_run.specs.Script.{line_asked, script_step}
+use Rattle.session_run.specs.Events.{Broken, IsAskedBy, IsLaterEnd, StandOn, StandsBehind, StandsCut, line_events}
 use Rattle.session_run.specs.State.{Setting, RunState}
-use Rattle.session_run.proofs.Happening.{CallsStand, first_lines, last_lines, lead_runs, lines_stand}
+use Rattle.session_run.proofs.Asking.{AllLooked, as_parsed}
+use Rattle.session_run.proofs.Happening.{CallsStand, LinesServed, first_lines, last_lines, lead_runs, lines_stand}
 use Rattle.session_run.proofs.Proceeding.{goes_on, proceeds_so}
 
 same_behind : (xs ys zs : List ℕ) → xs ++ ys ≡ xs ++ zs → ys ≡ zs
 same_behind [] ys zs e = e
 same_behind (x ∷ xs) ys zs e = same_behind xs ys zs (cc)
+
+first_asks : (n : ℕ) (others : List (List ℕ)) (number status : ℕ) → FirstAsks line_asked n others number status → IsAskedBy others number status
+first_asks n [] number status a = a
+first_asks n (line ∷ rest) number status a = as_parsed n line _ a
 
 -- ---- the ends among the events of calls
 
@@ -39,26 +47,26 @@ module _ (Is : ℕ → ℕ → Type 0) where
       both_are (map birth (births_added ledger m.ledger) ++ m.ended) (events_of m.ledger calls)
       (both_are (map birth (births_added ledger m.ledger)) m.ended (births_end_nothing (births_added ledger m.ledger)) a.0) (events_are m.ledger calls a.1)
 
-module _ (setting : Setting) (law : CallsStand setting) where
+module _ (setting : Setting) (all_looked : AllLooked) (law : CallsStand setting) where
   abbrev Goes : (ℕ → ℕ → Type 0) → RunState → RunState → Type 0
   Goes Is s t = ProceedsBy Is (notes_of setting.players) s.world.process.ledger (lists_of s.slots) t.world.process.ledger (lists_of t.slots)
 
   -- lines, and then calls
   lines_then : (Is : ℕ → ℕ → Type 0) (m : ℕ) (s t u : RunState) (input : List ℕ) (others : List (List ℕ)) (p q : SinkState)
-      → Served setting 0 m s t input others p q → (g : Goes Is t u)
+      → LinesServed setting 0 m s t input others p q → (g : Goes Is t u)
       → StandOn (notes_of setting.players) (line_events setting s (take m (lines_of input)) ++ events_of t.world.process.ledger g.went.calls) s u
   lines_then Is m s t u input others p q w g = λ events stand.
       let front = lines_stand setting law w.served m s t w.text w.lead events stand in
       let whole = law (notes_of setting.players) 17 g.went.calls t.world.process.ledger (lists_of t.slots) (events ++ line_events setting s w.served) front g.went.moves in
-      rw (first_lines setting m s t input others p q w, ← append_assoc events (line_events setting s w.served) (events_of t.world.process.ledger g.went.calls))
+      rw (first_lines setting m s t input others p q all_looked w, ← append_assoc events (line_events setting s w.served) (events_of t.world.process.ledger g.went.calls))
       (rw (g.went.ledger, g.went.lists_are) at whole)
 
-  pub cut_short : (status : Code) (m : ℕ) (s t u : RunState) (input text : List ℕ) (p q : SinkState) → Broken setting 0 m s t input p q
+  pub cut_short : (status : Code) (m : ℕ) (s t u : RunState) (input text : List ℕ) (p q : SinkState) → Broken looked line_asked script_step setting 0 m s t input p q
       → Goes (HasStatus status) t u → q.written ≡ p.written ++ text → StandsCut setting status m s u input text
   cut_short status m s t u input text p q b closing written =
       let others : List (List ℕ) = drop m (lines_of input) in
-      let behind : others ≡ b.others = last_lines setting m s b.middle input b.others p b.sink b.served in
-      let line : Goes (IsLaterEnd status others) b.middle t = proceeds_so (IsAskedBy b.others) (IsLaterEnd status others) (λ number ended a. inl (rw behind a)) _ _ _ _ _ b.later in
+      let behind : others ≡ b.others = last_lines setting m s b.middle input b.others p b.sink all_looked b.served in
+      let line : Goes (IsLaterEnd status others) b.middle t = proceeds_so (FirstAsks line_asked m b.others) (IsLaterEnd status others) (λ number ended a. inl (rw behind (first_asks m b.others number ended a))) _ _ _ _ _ b.later in
       let last : Goes (IsLaterEnd status others) t u = proceeds_so (HasStatus status) (IsLaterEnd status others) (λ number ended h. inr h) _ _ _ _ _ closing in
       let all : Goes (IsLaterEnd status others) b.middle u = goes_on (IsLaterEnd status others) (notes_of setting.players) _ _ _ _ _ _ line last in
       let w = b.served in
@@ -66,7 +74,7 @@ module _ (setting : Setting) (law : CallsStand setting) where
         middle = b.middle;
         whole = w.text;
         part = b.part;
-        run = rw (first_lines setting m s b.middle input b.others p b.sink w) (lead_runs setting w.served 0 m s b.middle w.text w.lead);
+        run = rw (first_lines setting m s b.middle input b.others p b.sink all_looked w) (lead_runs setting w.served 0 m s b.middle w.text w.lead);
         parts = same_behind p.written text (w.text ++ b.part) (sym written ∙ b.written ∙ ap (λ (x : List ℕ). x ++ b.part) w.written ∙ append_assoc p.written w.text b.part);
         later = events_of b.middle.world.process.ledger all.went.calls;
         ends_are = events_are (IsLaterEnd status others) b.middle.world.process.ledger all.went.calls all.ends_are;
@@ -74,7 +82,7 @@ module _ (setting : Setting) (law : CallsStand setting) where
       }
 
   pub cut_behind : (status stopped : Code) (m : ℕ) (s t v : RunState) (ledger : PlainLedger) (lists : Lists) (input : List ℕ) (p q : SinkState)
-      → (others : List (List ℕ)) × Served setting 0 m s t input others p q
+      → (others : List (List ℕ)) × LinesServed setting 0 m s t input others p q
       → ProceedsBy (HasStatus status) (notes_of setting.players) t.world.process.ledger (lists_of t.slots) ledger lists
       → ProceedsBy (HasStatus stopped) (notes_of setting.players) ledger lists v.world.process.ledger (lists_of v.slots)
       → StandsBehind setting status stopped m s v input

@@ -18,9 +18,13 @@ use Rattle.pam_outside.specs.Streams.{SinkState}
 use Rattle.item_stream.specs.Run.{come_to, run_items}
 use Rattle.script_stream.specs.Run.{run_lines}
 use Rattle.session_run.specs.State.{Setting, RunState, state_of}
+use Rattle.script_stream.specs.Looked.{looked}
+use Rattle.session_run.specs.Script.{line_asked, script_step}
 use Rattle.session_run.specs.Step.{line_step}
 use Rattle.session_run.specs.Closings.{all_closed, closings_behind, last_state, world_behind}
 use Rattle.session_run.specs.Events.{LeadOn, Served, StandOn, closing_events, line_calls, line_events, run_events}
+use Rattle.session_run.proofs.Asking.{AllLooked}
+use Rattle.session_run.proofs.Scripting.{asked_for}
 
 -- ---- lines
 
@@ -28,32 +32,32 @@ module _ (setting : Setting) where
   abbrev note : Notes
   note = notes_of setting.players
 
-  pub lead-append : (xs ys : List (List ℕ)) (n m k : ℕ) (s t u : RunState) (ta tb : List ℕ) → LeadOn setting n s xs m t ta
-      → LeadOn setting m t ys k u tb → LeadOn setting n s (xs ++ ys) k u (ta ++ tb)
-  lead-append [] ys n m k s t u ta tb a b = rw (a.2, ← a.0, ← a.1) b
-  lead-append (x ∷ xs) ys n m k s t u ta tb a b =
-      (a.0, a.1, a.2 ++ tb, ap (λ (l : List ℕ). l ++ tb) a.3 ∙ append_assoc a.1 a.2 tb, a.4, a.5, lead-append xs ys (n + 1) m k a.0 t u a.2 tb a.6 b)
+  abbrev pub LinesLead : ℕ → RunState → List (List ℕ) → ℕ → RunState → List ℕ → Type 0
+  LinesLead = LeadOn looked line_asked script_step setting
 
-  calls_move : (ls : List (List ℕ)) (n m : ℕ) (s t : RunState) (text : List ℕ) → LeadOn setting n s ls m t text
+  abbrev pub LinesServed : ℕ → ℕ → RunState → RunState → List ℕ → List (List ℕ) → SinkState → SinkState → Type 0
+  LinesServed = Served looked line_asked script_step setting
+
+  calls_move : (ls : List (List ℕ)) (n m : ℕ) (s t : RunState) (text : List ℕ) → LinesLead n s ls m t text
       → MoveOn note 17 s.world.process.ledger (lists_of s.slots) (line_calls setting n s ls)
   unfolding line_calls
   calls_move [] n m s t text a = tt
-  calls_move (l ∷ ls) n m s t text a = rw a.4 (a.5, calls_move ls (n + 1) m a.0 t a.2 a.6)
+  calls_move (l ∷ ls) n m s t text a = rw a.4 (rw (asked_for setting n s l _ a.4) at a.5, calls_move ls (n + 1) m a.0 t a.2 a.6)
 
-  ledger_is : (ls : List (List ℕ)) (n m : ℕ) (s t : RunState) (text : List ℕ) → LeadOn setting n s ls m t text
+  ledger_is : (ls : List (List ℕ)) (n m : ℕ) (s t : RunState) (text : List ℕ) → LinesLead n s ls m t text
       → last_ledger s.world.process.ledger (line_calls setting n s ls) ≡ t.world.process.ledger
   unfolding line_calls
   ledger_is [] n m s t text a = ap (λ (x : RunState). x.world.process.ledger) (sym a.1)
   ledger_is (l ∷ ls) n m s t text a = rw a.4 (ledger_is ls (n + 1) m a.0 t a.2 a.6)
 
-  lists_are : (ls : List (List ℕ)) (n m : ℕ) (s t : RunState) (text : List ℕ) → LeadOn setting n s ls m t text
+  lists_are : (ls : List (List ℕ)) (n m : ℕ) (s t : RunState) (text : List ℕ) → LinesLead n s ls m t text
       → last_lists (lists_of s.slots) (line_calls setting n s ls) ≡ lists_of t.slots
   unfolding line_calls
   lists_are [] n m s t text a = ap (λ (x : RunState). lists_of x.slots) (sym a.1)
   lists_are (l ∷ ls) n m s t text a = rw a.4 (lists_are ls (n + 1) m a.0 t a.2 a.6)
 
   -- they give that
-  pub lead_runs : (ls : List (List ℕ)) (n m : ℕ) (s t : RunState) (text : List ℕ) → LeadOn setting n s ls m t text
+  pub lead_runs : (ls : List (List ℕ)) (n m : ℕ) (s t : RunState) (text : List ℕ) → LinesLead n s ls m t text
       → run_lines (line_step setting) n s ls ≡ come_to text t m None
   unfolding run_items
   lead_runs [] n m s t text a = rw (a.0, a.1, a.2) refl
@@ -63,7 +67,7 @@ module _ (setting : Setting) where
   CallsStand = (note : Notes) (limit : ℕ) (calls : List Moved) (ledger : PlainLedger) (lists : Lists) (events : List Event) → StandFor note limit ledger lists events → MoveOn note limit ledger lists calls
       → StandFor note limit (last_ledger ledger calls) (last_lists lists calls) (events ++ events_of ledger calls)
 
-  pub lines_stand : CallsStand → (ls : List (List ℕ)) (m : ℕ) (s t : RunState) (text : List ℕ) → LeadOn setting 0 s ls m t text
+  pub lines_stand : CallsStand → (ls : List (List ℕ)) (m : ℕ) (s t : RunState) (text : List ℕ) → LinesLead 0 s ls m t text
       → StandOn note (line_events setting s ls) s t
   lines_stand law ls m s t text a = λ events stand.
       rw (ledger_is ls 0 m s t text a, lists_are ls 0 m s t text a) at
@@ -77,16 +81,19 @@ drop-front : (xs ys : List (List ℕ)) → drop (length xs) (xs ++ ys) ≡ ys
 drop-front [] ys = refl
 drop-front (x ∷ xs) ys = drop-front xs ys
 
-module _ (setting : Setting) (m : ℕ) (s t : RunState) (input : List ℕ) (others : List (List ℕ)) (p q : SinkState) (w : Served setting 0 m s t input others p q) where
+module _ (setting : Setting) (m : ℕ) (s t : RunState) (input : List ℕ) (others : List (List ℕ)) (p q : SinkState) (all : AllLooked) (w : LinesServed setting 0 m s t input others p q) where
+  lines_are_served : lines_of input ≡ w.served ++ others
+  lines_are_served = sym (all 0 input) ∙ w.among
+
   pub first_lines : take m (lines_of input) ≡ w.served
   first_lines =
       let e : m ≡ length w.served = omega (arith, w.number) in
-      rw (e, w.among) (take-front w.served others)
+      rw (e, lines_are_served) (take-front w.served others)
 
   pub last_lines : drop m (lines_of input) ≡ others
   last_lines =
       let e : m ≡ length w.served = omega (arith, w.number) in
-      rw (e, w.among) (drop-front w.served others)
+      rw (e, lines_are_served) (drop-front w.served others)
 
 -- ---- one slot among others
 
@@ -164,11 +171,11 @@ module _ (players : List Player) (code : Code) where
 
 -- ---- a whole run
 
-pub run_stands : (setting : Setting) (code : Code) → CallsStand setting → EndStands setting.players code
-    → (m : ℕ) (s t end : RunState) (input : List ℕ) (others : List (List ℕ)) (p q : SinkState) → Served setting 0 m s t input others p q
+pub run_stands : AllLooked → (setting : Setting) (code : Code) → CallsStand setting → EndStands setting.players code
+    → (m : ℕ) (s t end : RunState) (input : List ℕ) (others : List (List ℕ)) (p q : SinkState) → LinesServed setting 0 m s t input others p q
     → length t.slots ≤ 16
     → end ≡ all_closed setting.players code t → StandOn (notes_of setting.players) (run_events setting code s input m t) s end
-run_stands setting code calls law m s t end input others p q w few e = λ events stand.
+run_stands all setting code calls law m s t end input others p q w few e = λ events stand.
     let front = lines_stand setting calls w.served m s t w.text w.lead events stand in
     let whole = closings_stand setting.players code law t few (events ++ line_events setting s w.served) front in
-    rw (e, first_lines setting m s t input others p q w, ← append_assoc events (line_events setting s w.served) (closing_events 1 (number_of code) t.slots)) whole
+    rw (e, first_lines setting m s t input others p q all w, ← append_assoc events (line_events setting s w.served) (closing_events 1 (number_of code) t.slots)) whole

@@ -1,6 +1,7 @@
 mod Rows
 pub mod Lowest
 pub mod Serving
+pub mod Scripting
 pub mod Asking
 pub mod Reporting
 pub mod Parting

@@ -1,5 +1,5 @@
 -- A whole run: its lines, and what is ended and written after them.
-use Rattle.std.proofs.Common.{◌≡◌, ℕ, ◌+◌, ◌≤◌, inl, inr, true, List, [], ◌∷◌, ◌++◌, length, take, Ok, Err, refl, sym, ap, ◌∙◌, append_assoc, append-nil, length-append, arith}
+use Rattle.std.proofs.Common.{◌≡◌, ℕ, ◌+◌, ◌≤◌, inl, inr, true, List, [], ◌∷◌, ◌++◌, length, map, take, Ok, Err, refl, sym, ap, ◌∙◌, append_assoc, append-nil, length-append, arith}
 use Rattle.std.proofs.Math.Seq.{take-append_seam}
 use Rattle.pam_base.specs.Lines.{lines_of}
 use Rattle.pam_base.specs.declared.fault.Failed.{Failed}
@@ -16,26 +16,35 @@ use Rattle.session_run.specs.State.{Setting, RunState}
 use Rattle.session_run.specs.Step.{line_step, Fails}
 use Rattle.session_run.specs.Events.{StandOn, StandsBehind, StandsCut, run_events}
 use Rattle.session_run.specs.Closings.{Closing, closings, closings_text, last_state, all_closed}
-use Rattle.session_run.specs.Reported.{Closes, ClosesTo}
+use Rattle.session_run.specs.Reported.{Closes, ClosesTo, wrapped_closing, wrapped_closings}
+use Rattle.session_run.specs.Script.{as_it_is}
 use Rattle.session_run.specs.Whole.{ending_status, stop_status, last_line, last_words, EndsTo, EndsWith, StopsIn, StopsClosing, RunsScript}
 use Rattle.session_run.proofs.Asking.{AllLooked}
 use Rattle.session_run.proofs.Lowest.{none_left}
 
+-- lines that are written as they are
+as_they_are : (cs : List Closing) → map (wrapped_closing as_it_is) cs ≡ cs
+as_they_are [] = refl
+as_they_are (c ∷ cs) = ap (λ (x : List Closing). c ∷ x) (as_they_are cs)
+
 module _ (players : List Player) (ending : Ending) (n : ℕ) where
+  ended_as : (s : RunState) (whole others : List Closing) → wrapped_closings as_it_is players (ending_status ending) s ≡ whole ++ others → closings players (ending_status ending) s ≡ whole ++ others
+  ended_as s whole others among = sym (as_they_are (closings players (ending_status ending) s)) ∙ among
+
   -- ---- what is ended and written after the lines
 
   -- the implicit ends stopped
   cut_short : (stop : Stop) (s t : RunState) (whole others : List Closing) (part : List ℕ)
-      → ClosesTo players (ending_status ending) (Err stop) s t whole others part → EndsTo players ending n (Err stop) s t whole others part
+      → ClosesTo as_it_is players (ending_status ending) (Err stop) s t whole others part → EndsTo players ending n (Err stop) s t whole others part
   cut_short stop s t whole [] part h = absurd h
   cut_short stop s t whole (c ∷ cs) part h = h
 
-  pub stopped_closing : (stop : Stop) (s t : RunState) (p q : SinkState) → Closes players (ending_status ending) (Err stop) s t p q
+  pub stopped_closing : (stop : Stop) (s t : RunState) (p q : SinkState) → Closes as_it_is players (ending_status ending) (Err stop) s t p q
       → EndsWith players ending n (Err stop) s t p q
-  stopped_closing stop s t p q c = record { whole = c.whole; others = c.others; among = c.among; part = c.part; written = c.written; to = cut_short stop s t c.whole c.others c.part c.to; calls = c.calls }
+  stopped_closing stop s t p q c = record { whole = c.whole; others = c.others; among = ended_as s c.whole c.others c.among; part = c.part; written = c.written; to = cut_short stop s t c.whole c.others c.part c.to; calls = c.calls }
 
   -- all are ended, and then comes the last line
-  module _ (s t : RunState) (p q r : SinkState) (done : Unit {0}) (c : Closes players (ending_status ending) (Ok done) s t p q) where
+  module _ (s t : RunState) (p q r : SinkState) (done : Unit {0}) (c : Closes as_it_is players (ending_status ending) (Ok done) s t p q) where
     closed_text : closings_text c.whole ++ c.part ≡ closings_text c.whole
     closed_text = ap (λ (x : List ℕ). closings_text c.whole ++ x) c.to.1 ∙ append-nil (closings_text c.whole)
 
@@ -52,7 +61,7 @@ module _ (players : List Player) (ending : Ending) (n : ℕ) where
     line_written u text is w = record {
       whole = c.whole;
       others = c.others;
-      among = c.among;
+      among = ended_as s c.whole c.others c.among;
       part = w.front;
       written = behind w.front w.written;
       to = (c.to.0, w.all ∙ is, c.to.2);
@@ -64,7 +73,7 @@ module _ (players : List Player) (ending : Ending) (n : ℕ) where
     line_cut failed text none is w = record {
       whole = c.whole;
       others = [];
-      among = rw c.to.0 at c.among;
+      among = ended_as s c.whole [] (rw c.to.0 at c.among);
       part = w.front;
       written = behind w.front w.written;
       to = ((w.back, sym is ∙ w.parts), c.to.2, none);
@@ -72,12 +81,12 @@ module _ (players : List Player) (ending : Ending) (n : ℕ) where
     }
 
   -- an allocation for it failed
-  pub line_unwritten : (s t : RunState) (p q : SinkState) (done : Unit {0}) → Closes players (ending_status ending) (Ok done) s t p q
+  pub line_unwritten : (s t : RunState) (p q : SinkState) (done : Unit {0}) → Closes as_it_is players (ending_status ending) (Ok done) s t p q
       → NoneIsOpen t.slots → EndsWith players ending n (Err NoMemory) s t p q
   line_unwritten s t p q done c none = record {
     whole = c.whole;
     others = [];
-    among = rw c.to.0 at c.among;
+    among = ended_as s c.whole [] (rw c.to.0 at c.among);
     part = [];
     written = rw c.to.1 at c.written;
     to = (refl, c.to.2, none);

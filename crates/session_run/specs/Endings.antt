@@ -1,12 +1,12 @@
--- With which status open transactions are ended after the lines of a script (this project's own).
+-- With which status open transactions are ended after the items of a run (this project's own).
 use Rattle.pam_base.specs.declared.code.Code.{Code}
 use Rattle.pam_base.specs.declared.code.Code.TheVariants.{Success, SystemErr, BufErr, Abort}
-use Rattle.script_stream.specs.Turns.{Ending}
+use Rattle.item_stream.specs.declared.ending.Ending.{Ending}
 use Rattle.item_stream.specs.declared.ending.Ending.TheVariants.{Done, ReadFault, Refused}
 use Rattle.item_stream.specs.declared.ending.Stop.{Stop}
 use Rattle.item_stream.specs.declared.ending.Stop.TheVariants.{NoMemory, WriteFault}
 
-abbrev pub ending_status : Ending → Code
+abbrev pub ending_status : {Kind : Type 0} → Ending Kind → Code
 ending_status Done = Success
 ending_status ReadFault = SystemErr
 ending_status (Refused kind) = Abort

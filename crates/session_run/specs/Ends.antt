@@ -22,10 +22,6 @@ IsEndStep step number status = step ≡ record { number = number; call = End sta
 abbrev pub AsksEnd : List ℕ → ℕ → ℕ → Type 0
 AsksEnd line number status = parsed line ≡ Ok (Step (record { number = number; call = End status }))
 
--- so does this line, after n others, and it isn't one too many
-abbrev pub AsksEndAt : ℕ → List ℕ → ℕ → ℕ → Type 0
-AsksEndAt lines line number status = (lines < 65536) × AsksEnd line number status
-
 -- one of the lines of a text does
 pub record HasEnd (text : List ℕ) (number status : ℕ) : Type 0 where
   pub line : List ℕ
@@ -33,14 +29,6 @@ pub record HasEnd (text : List ℕ) (number status : ℕ) : Type 0 where
   pub behind : List (List ℕ)
   pub among : lines_of text ≡ before ++ line ∷ behind
   pub asks : AsksEnd line number status
-
--- if the text is modelled
-abbrev pub IsEndIn : Bool → List ℕ → ℕ → ℕ → Type 0
-IsEndIn tells text number status = IsTrue tells → HasEnd text number status
-
--- after some lines of a text, which are whole, another one begins
-abbrev pub LeadsTo : List ℕ → List ℕ → Type 0
-LeadsTo text rest = (served : List (List ℕ)) × (lines_of text ≡ served ++ lines_of rest)
 
 -- ---- after the lines
 

@@ -1,6 +1,6 @@
 -- The data sets and ends of a run (pam_set_data(3), pam_end(3); that a run's lines and implicit ends are their fold is
 -- this project's own).
-use Rattle.std.specs.Prelude.{◌≡◌, ◌⊎◌, ℕ, ◌+◌, List, [], ◌∷◌, ◌++◌, length, take, drop, Option, Some, None, Result, Ok, Err}
+use Rattle.std.specs.Prelude.{◌≡◌, ◌⊎◌, ℕ, ◌+◌, true, List, [], ◌∷◌, ◌++◌, length, take, drop, Option, Some, None, Result, Ok, Err}
 use Rattle.pam_base.specs.Code.{number_of}
 use Rattle.pam_base.specs.Lines.{lines_of}
 use Rattle.pam_base.specs.declared.code.Code.{Code}
@@ -17,12 +17,15 @@ use Rattle.session_report.specs.pam_library.specs.Slots.{PlainSlot, closed, hand
 use Rattle.script_lang.specs.declared.line.Line.{Line}
 use Rattle.script_lang.specs.declared.line.Line.TheVariants as lines
 use Rattle.script_lang.specs.Line.{parsed}
-use Rattle.script_stream.specs.Turns.{Ending}
+use Rattle.item_stream.specs.declared.ending.Ending.{Ending}
 use Rattle.item_stream.specs.declared.ending.Stop.{Stop}
-use Rattle.item_stream.specs.Run.{come_to}
+use Rattle.item_stream.specs.Run.{ItemStep, Looks, come_to}
+use Rattle.item_stream.specs.Turns.{Turns}
+use Rattle.item_stream.specs.Whole.{Runs}
 use Rattle.script_stream.specs.Run.{run_lines, step_at}
-use Rattle.pam_outside.specs.Streams.{SinkState}
+use Rattle.pam_outside.specs.Streams.{SinkState, SourceState}
 use Rattle.session_run.specs.AnyWorld.{ProceedsBy}
+use Rattle.session_run.specs.Asked.{Asking, FirstAsks}
 use Rattle.session_run.specs.Ends.{AsksEnd, EndsAre, HasStatus}
 use Rattle.session_run.specs.State.{Setting, RunState}
 use Rattle.session_run.specs.Step.{line_step}
@@ -30,7 +33,7 @@ use Rattle.session_run.specs.Step.{line_step}
 -- ---- the lines
 
 -- the end that a line is, if it asks for one of an open transaction
-abbrev pub end_by : List PlainSlot → Result Line ScriptKind → List Event
+abbrev pub end_by : {Kind : Type 0} → List PlainSlot → Result Line Kind → List Event
 end_by slots (Ok (lines.Step step)) = end_at (slot_at slots step.number) step.number step.call
 end_by slots (Ok lines.Blank) = []
 end_by slots (Ok (lines.At moment)) = []
@@ -87,67 +90,84 @@ StandOn note added s t = (events : List Event)
 
 -- ---- while it goes on
 
--- Some lines lead from one state to another: each was applied, and its sets and its end were added to cleanup log and
--- data. This is their text.
-abbrev pub LeadOn : Setting → ℕ → RunState → List (List ℕ) → ℕ → RunState → List ℕ → Type 0
-LeadOn setting n s [] m t text = (m ≡ n) × (t ≡ s) × (text ≡ [])
-LeadOn setting n s (line ∷ rest) m t text =
-    (u : RunState) × (first : List ℕ) × (others : List ℕ) × (text ≡ first ++ others)
-    × (step_at (line_step setting) n s line ≡ Ok (u, first))
-    × Moves (notes_of setting.players) handle_limit (end_by s.slots (parsed line))
-    s.world.process.ledger (lists_of s.slots) u.world.process.ledger (lists_of u.slots)
-    × LeadOn setting (n + 1) u rest m t others
-
--- the first lines of a text were served, and their text is written; which lines come after them
-pub record Served (setting : Setting) (n m : ℕ) (s t : RunState) (input : List ℕ)
-    (others : List (List ℕ)) (p q : SinkState) : Type 0 where
-  pub served : List (List ℕ)
-  pub among : lines_of input ≡ served ++ others
-  pub number : m ≡ n + length served
-  pub text : List ℕ
-  pub written : q.written ≡ p.written ++ text
-  pub lead : LeadOn setting n s served m t text
-
 -- one of these lines is the next, and asks for this end
 abbrev pub IsAskedBy : List (List ℕ) → ℕ → ℕ → Type 0
 IsAskedBy [] number status = ⊥
 IsAskedBy (line ∷ rest) number status = AsksEnd line number status
 
--- A run stopped after m lines: the first lines of a text were served, and at most the next one was begun. What was done
--- to data after them is a set, or the end that this line asks for.
-pub record Broken (setting : Setting) (n m : ℕ) (s t : RunState) (input : List ℕ)
-    (p q : SinkState) : Type 0 where
-  pub middle : RunState
-  pub sink : SinkState
-  pub others : List (List ℕ)
-  pub served : Served setting n m s middle input others p sink
-  pub part : List ℕ
-  pub written : q.written ≡ sink.written ++ part
-  pub later : ProceedsBy (IsAskedBy others) (notes_of setting.players) middle.world.process.ledger
-      (lists_of middle.slots) t.world.process.ledger (lists_of t.slots)
+-- one item that was applied, whatever the slots before it
+abbrev pub MovesBy : {Kind : Type 0} → Notes → List PlainSlot → Result Line Kind → PlainLedger
+    → PlainLedger → List PlainSlot → Type 0
+MovesBy note slots asked before after next =
+    Moves note handle_limit (end_by slots asked) before (lists_of slots) after (lists_of next)
 
--- one line that was applied, whatever the slots before it
-abbrev pub MovesBy : Notes → List PlainSlot → List ℕ → PlainLedger → PlainLedger → List PlainSlot
-    → Type 0
-MovesBy note slots line before after next =
-    Moves note handle_limit (end_by slots (parsed line)) before (lists_of slots) after
-    (lists_of next)
+module _ {Kind : Type 0} (looked : Looks) (asked : Asking Kind)
+    (step : Setting → ItemStep RunState Kind) (setting : Setting) where
+  -- Some items lead from one state to another: each was applied, and its sets and its end were added to cleanup log
+  -- and data. This is their text.
+  abbrev pub LeadOn : ℕ → RunState → List (List ℕ) → ℕ → RunState → List ℕ → Type 0
+  LeadOn n s [] m t text = (m ≡ n) × (t ≡ s) × (text ≡ [])
+  LeadOn n s (item ∷ rest) m t text =
+      (u : RunState) × (first : List ℕ) × (others : List ℕ) × (text ≡ first ++ others)
+      × (step setting n s item ≡ Ok (u, first))
+      × MovesBy (notes_of setting.players) s.slots (asked n item) s.world.process.ledger
+      u.world.process.ledger u.slots
+      × LeadOn (n + 1) u rest m t others
 
--- what one turn served, by its result
-abbrev pub ServesTurn : Setting → Result (Option Ending) Stop → ℕ → ℕ → RunState → RunState → List ℕ
-    → List ℕ → SinkState → SinkState → Type 0
-ServesTurn setting (Ok None) n m s t input rest p q =
-    Served setting n m s t input (lines_of rest) p q
-ServesTurn setting (Ok (Some ending)) n m s t input rest p q = (others : List (List ℕ))
-    × Served setting n m s t input others p q
-ServesTurn setting (Err stop) n m s t input rest p q = Broken setting n m s t input p q
+  -- the first items of a text were served, and their text is written; which items come after them
+  pub record Served (n m : ℕ) (s t : RunState) (input : List ℕ) (others : List (List ℕ))
+      (p q : SinkState) : Type 0 where
+    pub served : List (List ℕ)
+    pub among : looked n input true ≡ served ++ others
+    pub number : m ≡ n + length served
+    pub text : List ℕ
+    pub written : q.written ≡ p.written ++ text
+    pub lead : LeadOn n s served m t text
 
--- what many served from the first line on
-abbrev pub ServesAll : Setting → Result Ending Stop → ℕ → RunState → RunState → List ℕ → SinkState
-    → SinkState → Type 0
-ServesAll setting (Ok ending) m s t input p q = (others : List (List ℕ))
-    × Served setting 0 m s t input others p q
-ServesAll setting (Err stop) m s t input p q = Broken setting 0 m s t input p q
+  -- A run stopped after m items: the first items of a text were served, and at most the next one was begun. What was
+  -- done to data after them is a set, or the end that this item asks for.
+  pub record Broken (n m : ℕ) (s t : RunState) (input : List ℕ) (p q : SinkState) : Type 0 where
+    pub middle : RunState
+    pub sink : SinkState
+    pub others : List (List ℕ)
+    pub served : Served n m s middle input others p sink
+    pub part : List ℕ
+    pub written : q.written ≡ sink.written ++ part
+    pub later : ProceedsBy (FirstAsks asked m others) (notes_of setting.players)
+        middle.world.process.ledger (lists_of middle.slots) t.world.process.ledger
+        (lists_of t.slots)
+
+  -- what one turn served, by its result
+  abbrev pub ServesTurn : Result (Option (Ending Kind)) Stop → ℕ → ℕ → RunState → RunState
+      → List ℕ → List ℕ → SinkState → SinkState → Type 0
+  ServesTurn (Ok None) n m s t input rest p q =
+      Served n m s t input (looked m rest true) p q
+  ServesTurn (Ok (Some ending)) n m s t input rest p q =
+      (others : List (List ℕ)) × Served n m s t input others p q
+  ServesTurn (Err stop) n m s t input rest p q = Broken n m s t input p q
+
+  -- what many served from the first item on
+  abbrev pub ServesAll : Result (Ending Kind) Stop → ℕ → RunState → RunState → List ℕ → SinkState
+      → SinkState → Type 0
+  ServesAll (Ok ending) m s t input p q =
+      (others : List (List ℕ)) × Served 0 m s t input others p q
+  ServesAll (Err stop) m s t input p q = Broken 0 m s t input p q
+
+module _ {Kind : Type 0} (looked : Looks) (asked : Asking Kind)
+    (step : Setting → ItemStep RunState Kind)
+    (fails : Setting → RunState → List ℕ → RunState → Type 0) (setting : Setting) where
+  -- one turn or many with modelled objects: what was taken and written, and which items were served
+  pub record TellsTurn (result : Result (Option (Ending Kind)) Stop) (n m : ℕ) (s t : RunState)
+      (before held : List ℕ) (x y : SourceState) (p q : SinkState) : Type 0 where
+    pub turns : Turns looked (step setting) (fails setting) result n m s t before held x y p q
+    pub served : ServesTurn looked asked step setting result n m s t (before ++ x.left)
+        (held ++ y.left) p q
+
+  -- the same from the first byte on
+  pub record TellsAll (result : Result (Ending Kind) Stop) (m : ℕ) (s t : RunState)
+      (x y : SourceState) (p q : SinkState) : Type 0 where
+    pub runs : Runs looked (step setting) (fails setting) result m s t x y p q
+    pub served : ServesAll looked asked step setting result m s t x.left p q
 
 -- ---- a run that stops
 

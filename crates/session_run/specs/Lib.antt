@@ -15,6 +15,10 @@ pub use Rattle.session_report
 pub mod Endings
 pub mod State
 pub mod Step
+pub mod Asked
+pub mod Serve
+pub mod Read
+pub mod Script
 pub mod Closings
 pub mod Reported
 pub mod Whole

@@ -1,19 +1,23 @@
 -- What the bytes of a script alone say of a run of it, whatever its lines do; and what was written (this project's
 -- own).
-use Rattle.std.specs.Prelude.{◌≡◌, ℕ, ◌+◌, ◌≤◌, Bool, true, false, List, [], ◌++◌, length, Option, Some, None, Result, Ok, Err, OnOk}
+use Rattle.std.specs.Prelude.{◌≡◌, ℕ, ◌+◌, ◌≤◌, ◌<◌, All, Bool, true, false, List, [], ◌++◌, length, Option, Some, None, Result, Ok, Err, OnOk}
 use Rattle.pam_base.specs.declared.fault.ScriptKind.{ScriptKind}
 use Rattle.pam_outside.specs.Streams.{SourceState, SinkState}
 use Rattle.script_lang.specs.declared.line.Line.{Line}
 use Rattle.script_lang.specs.Line.{parsed}
+use Rattle.item_stream.specs.declared.ending.Ending.{Ending as StreamEnding}
 use Rattle.item_stream.specs.declared.ending.Ending.TheVariants.{Done, ReadFault, Refused}
 use Rattle.item_stream.specs.declared.ending.Stop.{Stop}
+use Rattle.item_stream.specs.Run.{ItemStep, Looks}
+use Rattle.item_stream.specs.Turns.{ServesTold, Turns}
+use Rattle.item_stream.specs.Whole.{Runs}
 use Rattle.script_stream.specs.Run.{LineStep, run_of}
-use Rattle.script_stream.specs.Turns.{Ending, Runs, ServesTold, Turns}
+use Rattle.script_stream.specs.Turns.{Ending}
 
 -- ---- what is read
 
--- a line is refused, or it isn't
-abbrev pub read_as : Result Line ScriptKind → Result (Unit {0} × List ℕ) ScriptKind
+-- an item is refused, or it isn't
+abbrev pub read_as : {Kind : Type 0} → Result Line Kind → Result (Unit {0} × List ℕ) Kind
 read_as (Ok line) = Ok (tt, [])
 read_as (Err kind) = Err kind
 
@@ -32,17 +36,27 @@ Whatever before line after = Unit {0}
 abbrev pub nowhere : SinkState
 nowhere = record { written = []; calls = 0 }
 
--- one line, one turn and many, for a sink to which nothing is written
-abbrev pub ReadsLine : Result (Option ScriptKind) Stop → ℕ → List ℕ → Type 0
-ReadsLine result n line = ServesTold line_read Whatever result n line tt tt nowhere nowhere
+-- what was taken after these is bytes, as they are
+pub record TakesBytes (before : List ℕ) (x y : SourceState) : Type 0 where
+  pub got : List ℕ
+  pub source : x.left ≡ got ++ y.left
+  pub bytes : All (λ b. b < 256) (before ++ got)
 
-abbrev pub ReadsTurn : Result (Option Ending) Stop → ℕ → ℕ → List ℕ → List ℕ → SourceState
-    → SourceState → Type 0
-ReadsTurn result n m before held x y =
-    Turns line_read Whatever result n m tt tt before held x y nowhere nowhere
+-- one item, one turn and many, for a sink to which nothing is written
+abbrev pub ReadsItem : {Kind : Type 0} → ItemStep (Unit {0}) Kind → Result (Option Kind) Stop → ℕ
+    → List ℕ → Type 0
+ReadsItem step result n item = ServesTold step Whatever result n item tt tt nowhere nowhere
 
-abbrev pub ReadsAll : Result Ending Stop → ℕ → SourceState → SourceState → Type 0
-ReadsAll result m x y = Runs line_read Whatever result m tt tt x y nowhere nowhere
+pub record ReadsTurn {Kind : Type 0} (looked : Looks) (step : ItemStep (Unit {0}) Kind)
+    (result : Result (Option (StreamEnding Kind)) Stop) (n m : ℕ) (before held : List ℕ)
+    (x y : SourceState) : Type 0 where
+  pub turns : Turns looked step Whatever result n m tt tt before held x y nowhere nowhere
+  pub takes : TakesBytes before x y
+
+pub record ReadsAll {Kind : Type 0} (looked : Looks) (step : ItemStep (Unit {0}) Kind)
+    (result : Result (StreamEnding Kind) Stop) (m : ℕ) (x y : SourceState) : Type 0 where
+  pub runs : Runs looked step Whatever result m tt tt x y nowhere nowhere
+  pub takes : TakesBytes [] x y
 
 -- how a run ends, by the bytes: at the end of a script of which no line is refused; at the first line that is; or
 -- after lines that aren't

@@ -1,5 +1,5 @@
 -- Transactions that are ended and reported, and where that stops (this project's own).
-use Rattle.std.specs.Prelude.{◌≡◌, ℕ, ◌+◌, ◌≤◌, Bool, true, false, List, [], ◌∷◌, ◌++◌, length, Result, Ok, Err, OnOk}
+use Rattle.std.specs.Prelude.{◌≡◌, ℕ, ◌+◌, ◌≤◌, Bool, true, false, List, [], ◌∷◌, ◌++◌, length, map, Result, Ok, Err, OnOk}
 use Rattle.pam_base.specs.declared.code.Code.{Code}
 use Rattle.pam_outside.specs.Streams.{SinkState}
 use Rattle.session_report.specs.pam_room.specs.Module.{Player}
@@ -13,20 +13,28 @@ abbrev pub CutBy : Stop → List ℕ → List ℕ → Type 0
 CutBy WriteFault part text = (more : List ℕ) × (text ≡ part ++ more)
 CutBy NoMemory part text = part ≡ []
 
-module _ (players : List Player) (status : Code) where
+-- a transaction that was ended, with its lines in the form in which they are written
+abbrev pub wrapped_closing : (List ℕ → List ℕ) → Closing → Closing
+wrapped_closing wrapped c = record { text = wrapped c.text; state = c.state }
+
+abbrev pub wrapped_closings : (List ℕ → List ℕ) → List Player → Code → RunState → List Closing
+wrapped_closings wrapped players status s = map (wrapped_closing wrapped)
+    (closings players status s)
+
+module _ (wrapped : List ℕ → List ℕ) (players : List Player) (status : Code) where
   -- ---- one of them
 
   -- the lowest one was ended: its lines, and how much of them is written
   pub record ClosesOne (s t : RunState) (part : List ℕ) (old new : SinkState) : Type 0 where
     pub text : List ℕ
-    pub first : closings players status s ≡ record { text = text; state = t }
-        ∷ closings players status t
+    pub first : wrapped_closings wrapped players status s ≡ record { text = text; state = t }
+        ∷ wrapped_closings wrapped players status t
     pub written : new.written ≡ old.written ++ part
     pub calls : new.calls ≤ old.calls + length part + 1
 
   -- whether one was open
   abbrev pub ClosesNext : Result Bool Stop → RunState → RunState → SinkState → SinkState → Type 0
-  ClosesNext (Ok false) s t old new = (closings players status s ≡ []) × (t ≡ s) × (new ≡ old)
+  ClosesNext (Ok false) s t old new = (wrapped_closings wrapped players status s ≡ []) × (t ≡ s) × (new ≡ old)
   ClosesNext (Ok true) s t old new = (part : List ℕ) × (c : ClosesOne s t part old new)
       × (c.text ≡ part) × (new.calls ≤ old.calls + length part)
   ClosesNext (Err stop) s t old new = (part : List ℕ) × (c : ClosesOne s t part old new)
@@ -45,7 +53,7 @@ module _ (players : List Player) (status : Code) where
       0 where
     pub whole : List Closing
     pub others : List Closing
-    pub among : closings players status s ≡ whole ++ others
+    pub among : wrapped_closings wrapped players status s ≡ whole ++ others
     pub part : List ℕ
     pub written : new.written ≡ old.written ++ (closings_text whole ++ part)
     pub to : ClosesTo result s t whole others part

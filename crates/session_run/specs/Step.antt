@@ -52,11 +52,9 @@ module _ (setting : Setting) where
   unfoldable pub line_step : LineStep RunState
   line_step s line = applied_or_refused s (parsed line)
 
--- The states that a line may leave if its call runs out of memory: what the call says of its transaction, with every
--- other as it was, and of the data and the world. There was no sleep.
-pub record Fails (setting : Setting) (s : RunState) (line : List ℕ) (t : RunState) : Type 0 where
-  pub step : Step
-  pub asked : parsed line ≡ Ok (lines.Step step)
+-- The states that a call may leave if it runs out of memory: what it says of its transaction, with every other as it
+-- was, and of the data and the world. There was no sleep.
+pub record CallFails (setting : Setting) (step : Step) (s t : RunState) : Type 0 where
   pub place : FailsAt true step.call (slot_at s.slots step.number) (slot_at t.slots step.number)
   pub others : (number : ℕ) → (number ≡ step.number → ⊥)
       → slot_at t.slots number ≡ slot_at s.slots number
@@ -69,7 +67,13 @@ pub record Fails (setting : Setting) (s : RunState) (line : List ℕ) (t : RunSt
   pub world : leaves_world (slot_at s.slots step.number) step.call ≡ true → t.world ≡ s.world
   pub nap : t.world.nap ≡ s.world.nap
 
--- a line that was not refused
-abbrev pub unrefused : {T : Type 0} → Result T Stop → Result (Option ScriptKind) Stop
+-- the states that a line may leave that asks for such a call
+pub record Fails (setting : Setting) (s : RunState) (line : List ℕ) (t : RunState) : Type 0 where
+  pub step : Step
+  pub asked : parsed line ≡ Ok (lines.Step step)
+  pub fails : CallFails setting step s t
+
+-- an item that was not refused
+abbrev pub unrefused : {T Kind : Type 0} → Result T Stop → Result (Option Kind) Stop
 unrefused (Ok done) = Ok None
 unrefused (Err stop) = Err stop

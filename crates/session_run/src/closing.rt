@@ -6,6 +6,7 @@ ghost use Rattle.session_run.specs.Seen.{IsSoundIn, NoneIsOpenIn, Went, state};
 ghost use Rattle.session_run.specs.Closings.{EndsNext, all_closed, open_count};
 ghost use Rattle.session_run.specs.Reported.{Closes, ClosesNext};
 
+use crate::protocol::Protocol;
 use crate::session::{Session, Told};
 use item_stream::Stop;
 use pam_base::{Code, Failed, NoMemory, code_number};
@@ -17,7 +18,7 @@ use std::alloc::Global;
 
 /// Ends every open transaction with this status, the lowest number first, and writes the report of each before it
 /// ends the next. After an Err the last report may be incomplete, and the transactions after it are open.
-pub(crate) fn close_reported<K: Sink>(
+pub fn close_open<P: Protocol, K: Sink>(
     alloc: Global,
     library: &mut Library,
     status: Code,
@@ -27,7 +28,7 @@ pub(crate) fn close_reported<K: Sink>(
     requires { IsSoundIn (⟦<Session as Told>⟧.seen library.old world.old) }
     ensures sink_tells { K.sink_tells sink.new ≡ K.sink_tells sink.old }
     ensures told { let seen = ⟦<Session as Told>⟧.seen in IsTrue (K.sink_tells sink.old) →
-        Closes (seen library.old world.old).players status result
+        Closes P.wrapped (seen library.old world.old).players status result
         (state (seen library.old world.old)) (state (seen library.new world.new))
         (K.sink_holds sink.old) (K.sink_holds sink.new) }
     ensures none_open { OnOk result (NoneIsOpenIn
@@ -38,7 +39,7 @@ pub(crate) fn close_reported<K: Sink>(
         (K.sink_faults sink.new) }
 {
     loop {
-        match close_next(alloc, library, status, sink, world) {
+        match close_next::<P, K>(alloc, library, status, sink, world) {
             Ok(true) => {}
             Ok(false) => return Ok(()),
             Err(stop) => return Err(stop),
@@ -47,7 +48,7 @@ pub(crate) fn close_reported<K: Sink>(
 }
 
 // Ends the open transaction with the lowest number and writes its report. Returns whether one was open.
-fn close_next<K: Sink>(
+fn close_next<P: Protocol, K: Sink>(
     alloc: Global,
     library: &mut Library,
     status: Code,
@@ -57,7 +58,7 @@ fn close_next<K: Sink>(
     requires { IsSoundIn (⟦<Session as Told>⟧.seen library.old world.old) }
     ensures sink_tells { K.sink_tells sink.new ≡ K.sink_tells sink.old }
     ensures told { let seen = ⟦<Session as Told>⟧.seen in IsTrue (K.sink_tells sink.old) →
-        ClosesNext (seen library.old world.old).players status result
+        ClosesNext P.wrapped (seen library.old world.old).players status result
         (state (seen library.old world.old)) (state (seen library.new world.new))
         (K.sink_holds sink.old) (K.sink_holds sink.new) }
     ensures fewer { let seen = ⟦<Session as Told>⟧.seen in result ≡ Ok true →
@@ -74,7 +75,7 @@ fn close_next<K: Sink>(
     let Some(number) = end_next(library, status, world) else {
         return Ok(false);
     };
-    let text = match closing_report(
+    let report = match closing_report(
         alloc,
         library,
         &world.process.ledger,
@@ -82,10 +83,14 @@ fn close_next<K: Sink>(
         before,
         status,
     ) {
+        Ok(report) => report,
+        Err(NoMemory) => return Err(Stop::NoMemory),
+    };
+    let text = match P::wrap(alloc, report) {
         Ok(text) => text,
         Err(NoMemory) => return Err(Stop::NoMemory),
     };
-    match write_all(sink, text.as_bytes()) {
+    match write_all(sink, text.bytes()) {
         Ok(()) => Ok(true),
         Err(Failed) => Err(Stop::WriteFault),
     }

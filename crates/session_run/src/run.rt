@@ -8,8 +8,9 @@ ghost use Rattle.session_run.specs.Reading.{ReadsScript, WritesScript};
 ghost use Rattle.session_run.specs.Seen.{AllTell, IsSoundIn, NoneIsOpenIn, Went, setting_in, state};
 ghost use Rattle.session_run.specs.Whole.{Completes, EndsWith, RunsScript, ending_status, last_line};
 
-use crate::closing::{close_reported, close_silently};
-use crate::lines::serve_lines;
+use crate::closing::{close_open, close_silently};
+use crate::items::serve_items;
+use crate::script::Script;
 use crate::session::{Session, Told};
 use crate::status::{ending_status, stop_status};
 use item_stream::{Ending, Stop};
@@ -90,7 +91,7 @@ pub fn run_script<S: Source, K: Sink>(
     session_report::data_due::laws::end_stands();
     script_stream::laws::whole_input_is_looked_at();
     let mut lines = 0;
-    match serve_lines(alloc, library, &mut lines, source, sink, world) {
+    match serve_items::<Script, S, K>(alloc, library, &mut lines, source, sink, world) {
         Err(stop) => {
             close_silently(library, stop_status(stop), world);
             Err(stop)
@@ -129,7 +130,7 @@ fn finish<K: Sink>(
     ensures faults { RisesIf (has_write_fault result) (K.sink_faults sink.old)
         (K.sink_faults sink.new) }
 {
-    match close_reported(alloc, library, ending_status(ending), sink, world) {
+    match close_open::<Script, K>(alloc, library, ending_status(ending), sink, world) {
         Err(stop) => Err(stop),
         Ok(()) => match last_report(alloc, ending, lines) {
             Err(NoMemory) => Err(Stop::NoMemory),

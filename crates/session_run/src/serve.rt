@@ -1,6 +1,6 @@
 ghost use Rattle.std.specs.Prelude.{◌≡◌, ◌<◌, ℕ, List, IsTrue, None, Ok};
+ghost use Rattle.script_lang.specs.declared.line.Line.{Line as PlainLine};
 ghost use Rattle.script_lang.specs.declared.line.Line.TheVariants as script_lines;
-ghost use Rattle.script_lang.specs.Line.{parsed};
 ghost use Rattle.pam_base.specs.declared.code.Code.{Code};
 ghost use Rattle.pam_outside.specs.Counts.{RisesIf};
 ghost use Rattle.session_report.specs.data_due.specs.Moves.{Moves};
@@ -8,65 +8,63 @@ ghost use Rattle.session_report.specs.pam_room.specs.Module.{notes_of};
 ghost use Rattle.session_report.specs.pam_library.specs.AnyWorld.{end_at};
 ghost use Rattle.session_report.specs.pam_library.specs.Slots.{handle_limit, lists_of, slot_at};
 ghost use Rattle.pam_base.specs.Call.{is_fit};
-ghost use Rattle.session_run.specs.Ends.{AsksEndAt, IsEndStep};
-ghost use Rattle.item_stream.specs.Turns.{has_write_fault};
-ghost use Rattle.script_stream.specs.Turns.{ServesTold};
+ghost use Rattle.item_stream.specs.Turns.{ServesTold, has_write_fault};
+ghost use Rattle.session_run.specs.Asked.{IsEnd};
+ghost use Rattle.session_run.specs.Ends.{IsEndStep};
 ghost use Rattle.session_run.specs.Events.{MovesBy};
-ghost use Rattle.session_run.specs.Reading.{ReadsLine, WritesSome};
+ghost use Rattle.session_run.specs.Reading.{ReadsItem, WritesSome};
 ghost use Rattle.session_run.specs.Seen.{AllTell, IsSoundIn, Went, setting_in, state};
-ghost use Rattle.session_run.specs.Step.{line_step, unrefused, Fails};
+ghost use Rattle.session_run.specs.Step.{unrefused};
 
-use crate::meaning::Meaning;
+use crate::protocol::{Items, Protocol};
 use crate::session::{Session, Told};
 use crate::world::{set_caller, set_world_moment, set_world_word};
-use item_stream::Stop;
-use pam_base::{Failed, NoMemory, Refuse, ScriptKind, Step};
+use item_stream::{Stop, laws};
+use pam_base::{Failed, NoMemory, Refuse, Step};
 use pam_outside::{Sink, write_all};
-use script_lang::{Line, parse};
-use script_stream::{Lines, MAX_LINES};
+use script_lang::Line;
 use session_report::pam_library::Library;
 use session_report::pam_room::World;
 use session_report::step_report;
 use std::alloc::Global;
 
-/// Applies the line after `lines` others, and writes its report. Returns the fault if the line is refused; a refused
-/// line changes nothing.
-pub(crate) fn answer_line<K: Sink>(
+/// Applies the item after `taken` others, and writes its report. Returns the fault if the item is refused; a refused
+/// item changes nothing.
+pub(crate) fn serve<P: Protocol, K: Sink>(
     alloc: Global,
     library: &mut Library,
-    lines: u32,
-    line: &[u8],
+    taken: u32,
+    item: &[u8],
     sink: &mut K,
     world: &mut World,
-) -> Result<Option<ScriptKind>, Stop>
+) -> Result<Option<P::Kind>, Stop>
     requires { IsSoundIn (⟦<Session as Told>⟧.seen library.old world.old) }
     ensures sink_tells { K.sink_tells sink.new ≡ K.sink_tells sink.old }
     ensures told { let seen = ⟦<Session as Told>⟧.seen in (delay : Code → ℕ → ℕ) →
         (seen library.old world.old).gives delay → AllTell (seen library.old world.old) →
         IsTrue (K.sink_tells sink.old) →
         (let setting = setting_in (seen library.old world.old) delay in
-        ServesTold (line_step setting) (Fails setting) result lines line.now
+        ServesTold (P.step setting) (P.fails setting) result taken item.now
         (state (seen library.old world.old)) (state (seen library.new world.new))
         (K.sink_holds sink.old) (K.sink_holds sink.new)) }
-    ensures went { let seen = ⟦<Session as Told>⟧.seen in Went (AsksEndAt lines line.now)
+    ensures went { let seen = ⟦<Session as Told>⟧.seen in Went (IsEnd (P.asked taken item.now))
         (seen library.old world.old) (seen library.new world.new) }
     ensures moves { let seen = ⟦<Session as Told>⟧.seen in result ≡ Ok None →
         MovesBy (notes_of (seen library.old world.old).players) (seen library.old world.old).slots
-        line.now world.old.process.ledger world.new.process.ledger
+        (P.asked taken item.now) world.old.process.ledger world.new.process.ledger
         (seen library.new world.new).slots }
-    ensures few { result ≡ Ok None → lines < MAX_LINES }
-    ensures reads { ReadsLine result lines line.now }
+    ensures few { result ≡ Ok None → taken < 65536 }
+    ensures accepted { result ≡ Ok None → (line : PlainLine) × (P.asked taken item.now ≡ Ok line) }
+    ensures reads { ReadsItem P.read_step result taken item.now }
     ensures writes { IsTrue (K.sink_tells sink.old) →
         WritesSome result (K.sink_holds sink.old) (K.sink_holds sink.new) }
     ensures faults { RisesIf (has_write_fault result) (K.sink_faults sink.old)
         (K.sink_faults sink.new) }
 {
-    item_stream::laws::item_is_served::<Lines<Meaning>>();
+    laws::item_is_served::<Items<P>>();
     session_report::data_due::laws::nothing_moves();
-    if lines >= MAX_LINES {
-        return Ok(Some(ScriptKind::TooManyLines));
-    }
-    match parse(alloc, line) {
+    P::does();
+    match P::read(alloc, taken, item) {
         Err(Refuse::NoMemory) => Err(Stop::NoMemory),
         Err(Refuse::Named(kind)) => Ok(Some(kind)),
         Ok(Line::Blank) => Ok(None),
@@ -82,7 +80,7 @@ pub(crate) fn answer_line<K: Sink>(
             set_caller(world, caller);
             Ok(None)
         }
-        Ok(Line::Step(step)) => match serve_step(alloc, library, &step, sink, world) {
+        Ok(Line::Step(step)) => match serve_step::<P, K>(alloc, library, &step, sink, world) {
             Ok(()) => Ok(None),
             Err(stop) => Err(stop),
         },
@@ -90,7 +88,7 @@ pub(crate) fn answer_line<K: Sink>(
 }
 
 // Makes the call of a step and writes its report.
-fn serve_step<K: Sink>(
+fn serve_step<P: Protocol, K: Sink>(
     alloc: Global,
     library: &mut Library,
     step: &Step,
@@ -102,10 +100,10 @@ fn serve_step<K: Sink>(
     ensures sink_tells { K.sink_tells sink.new ≡ K.sink_tells sink.old }
     ensures told { let seen = ⟦<Session as Told>⟧.seen in (delay : Code → ℕ → ℕ) →
         (seen library.old world.old).gives delay → AllTell (seen library.old world.old) →
-        IsTrue (K.sink_tells sink.old) → (lines : ℕ) (line : List ℕ) → lines < MAX_LINES →
-        parsed line ≡ Ok (script_lines.Step step.now) →
+        IsTrue (K.sink_tells sink.old) → (taken : ℕ) (item : List ℕ) →
+        P.asked taken item ≡ Ok (script_lines.Step step.now) →
         (let setting = setting_in (seen library.old world.old) delay in
-        ServesTold (line_step setting) (Fails setting) (unrefused result) lines line
+        ServesTold (P.step setting) (P.fails setting) (unrefused result) taken item
         (state (seen library.old world.old)) (state (seen library.new world.new))
         (K.sink_holds sink.old) (K.sink_holds sink.new)) }
     ensures moves { let seen = ⟦<Session as Told>⟧.seen in Moves
@@ -120,16 +118,21 @@ fn serve_step<K: Sink>(
     ensures faults { RisesIf (has_write_fault result) (K.sink_faults sink.old)
         (K.sink_faults sink.new) }
 {
-    item_stream::laws::item_is_served::<Lines<Meaning>>();
+    laws::item_is_served::<Items<P>>();
+    P::does();
     let outcome = match library.apply(alloc, world, step) {
         Ok(outcome) => outcome,
         Err(NoMemory) => return Err(Stop::NoMemory),
     };
-    let text = match step_report(alloc, library, &world.process.ledger, step, &outcome) {
+    let report = match step_report(alloc, library, &world.process.ledger, step, &outcome) {
+        Ok(report) => report,
+        Err(NoMemory) => return Err(Stop::NoMemory),
+    };
+    let text = match P::wrap(alloc, report) {
         Ok(text) => text,
         Err(NoMemory) => return Err(Stop::NoMemory),
     };
-    match write_all(sink, text.as_bytes()) {
+    match write_all(sink, text.bytes()) {
         Ok(()) => Ok(()),
         Err(Failed) => Err(Stop::WriteFault),
     }

@@ -2,10 +2,10 @@ ghost use Rattle.std.specs.Prelude.{◌≡◌};
 ghost use Rattle.session_run.specs.Whole.{ending_status, stop_status};
 
 use item_stream::{Ending, Stop};
-use pam_base::{Code, ScriptKind};
+use pam_base::Code;
 
 /// The status passed to pam_end for the transactions that are open when the input ends so.
-pub(crate) fn ending_status(ending: Ending<ScriptKind>) -> Code
+pub fn ending_status<F: Copy + Drop>(ending: Ending<F>) -> Code
     ensures { result ≡ ending_status ending }
 {
     match ending {

@@ -1,26 +1,27 @@
 -- Which frames of a modelled input the frames are that were found in it, and what they ask for.
-use Rattle.std.proofs.Common.{◌≡◌, ◌+◌, ◌<◌, inl, inr, ℕ, Bool, true, List, [], ◌∷◌, ◌++◌, take, drop, Result, Ok, refl, sym, ◌∙◌, ap, append_assoc, length-append, subst, arith}
+use Rattle.std.proofs.Common.{◌≡◌, ◌+◌, ◌<◌, inl, inr, ℕ, suc, Bool, true, false, cond, leb, List, [], ◌∷◌, ◌++◌, length, Option, Some, None, Result, Ok, Err, refl, sym, ◌∙◌, ap, append_assoc, arith}
 use Rattle.std.specs.List.{AllByRecursion, concat}
-use Rattle.std.proofs.lemmas.List.Elements.{All-same}
+use Rattle.std.proofs.lemmas.Bool.{leb-false}
 use Rattle.pam_base.specs.Code.{number_of}
 use Rattle.pam_base.specs.declared.code.Code.{Code}
 use Rattle.pam_base.specs.declared.call.Step.{Step}
-use Rattle.pam_base.specs.declared.fault.Failed.{Failed}
-use Rattle.pam_outside.specs.Streams.{SourceState}
-use Rattle.pam_wire.specs.Frame.{AreBytes, IsFrame, has_frame, frame_of, frames_of}
+use Rattle.pam_wire.specs.Frame.{IsFrame, has_frame, frame_of, frames_of}
+use Rattle.pam_wire.specs.Laws.{ReadsTable}
+use Rattle.pam_wire.specs.Read.{step_of}
 use Rattle.pam_wire.specs.Stream.{AreFramesOf}
 use Rattle.item_stream.specs.declared.ending.Ending.{Ending}
 use Rattle.item_stream.specs.declared.ending.Stop.{Stop}
-use Rattle.item_stream.specs.declared.reader.Found.{Found}
-use Rattle.item_stream.specs.declared.reader.Found.TheVariants.{Item}
-use Rattle.item_stream.specs.Taking.{Finds, IsFound}
 use Rattle.frame_stream.specs.declared.fault.FrameFault.{FrameFault}
+use Rattle.frame_stream.specs.declared.fault.FrameFault.TheVariants.{TooManyFrames}
 use Rattle.frame_stream.specs.Laws.{AllAreLookedAt}
-use Rattle.frame_stream.specs.Looked.{looked, refuses}
+use Rattle.frame_stream.specs.Looked.{looked}
+use Rattle.session_run.specs.script_lang.specs.declared.line.Line.{Line}
+use Rattle.session_run.specs.script_lang.specs.declared.line.Line.TheVariants as lines
+use Rattle.session_run.specs.Asked.{AreAccepted, HasEndAmong, IsEndAmong}
 use Rattle.session_run.specs.Ends.{HasStatus}
 use Rattle.session_wire.specs.Endings.{ending_status, stop_status}
-use Rattle.session_wire.specs.Ends.{AsksEndAt, HasEndFrom, IsEndOfRun, LeadsTo, end_call}
-use Rattle.session_wire.specs.Reading.{TakesBytes}
+use Rattle.session_wire.specs.Ends.{HasEndFrom, IsEndOfRun, end_call}
+use Rattle.session_wire.specs.Step.{frame_asked, framed}
 
 -- ---- frames after one another
 
@@ -47,64 +48,65 @@ one_framed bytes frame rest step parts f = record {
   parts = parts ∙ ap (λ (z : List ℕ). z ++ rest) f.bytes_are ∙ sym (append_assoc (frame_of step) [] rest);
 }
 
--- ---- what was found
+-- ---- items of a stream that are accepted
 
--- what is left of the input, before and after bytes were taken
-all_left : (found : Result Found Failed) (n : ℕ) (before held : List ℕ) (x y : SourceState) → Finds looked refuses found n before held x y → before ++ x.left ≡ held ++ y.left
-all_left found n before held x y f =
-    ap (λ (l : List ℕ). before ++ l) f.source ∙ sym (append_assoc before f.got y.left) ∙ ap (λ (h : List ℕ). h ++ y.left) (sym f.held_is)
+asked_some : (many : Bool) (found : Option Step) (line : Line) → cond many (Err TooManyFrames) (framed found) ≡ Ok line → (step : Step) × (found ≡ Some step)
+asked_some true found line e = absurd cc
+asked_some false None line e = absurd cc
+asked_some false (Some step) line e = (step, refl)
 
-pub takes : (found : Result Found Failed) (n : ℕ) (before held : List ℕ) (x y : SourceState) → Finds looked refuses found n before held x y → AreBytes held → TakesBytes before x y
-takes found n before held x y f all = record { got = f.got; source = f.source; bytes = All-same (λ b. b < 256) (before ++ f.got) held (sym f.held_is) all }
+asked_step : (many : Bool) (found : Option Step) (step : Step) → cond many (Err TooManyFrames) (framed found) ≡ Ok (lines.Step step) → found ≡ Some step
+asked_step true found step e = absurd cc
+asked_step false None step e = absurd cc
+asked_step false (Some other) step e =
+    let same : other ≡ step = cc in
+    ap Some same
 
-asks : (n number status : ℕ) (bytes frame rest : List ℕ) → bytes ≡ frame ++ rest → AsksEndAt n frame number status → HasEndFrom n bytes number status
-asks n number status bytes frame rest parts a = record {
-  before = [];
-  rest = rest;
-  among = one_framed bytes frame rest (end_call number status) parts a.1;
-  few = omega (arith, a.0);
-}
+pub as_step : (n : ℕ) (frame : List ℕ) (step : Step) → frame_asked n frame ≡ Ok (lines.Step step) → step_of frame ≡ Some step
+as_step n frame step e = asked_step (leb 65536 n) (step_of frame) step e
 
-module _ (all : AllAreLookedAt) (n item size : ℕ) (before held : List ℕ) (x y : SourceState) (found : IsFound looked (Ok (Item item size)) n held) (finds : Finds looked refuses (Ok (Item item size)) n before held x y) where
-  frame_first : before ++ x.left ≡ take item held ++ (drop size held ++ y.left)
-  frame_first =
-      all_left (Ok (Item item size)) n before held x y finds ∙ sym (all n (held ++ y.left)) ∙ ap concat (found.seen y.left true)
-      ∙ ap (λ (z : List ℕ). take item held ++ z) (all (n + 1) (drop size held ++ y.left))
+few_by : (many : Bool) (found : Option Step) (line : Line) → cond many (Err TooManyFrames) (framed found) ≡ Ok line → many ≡ false
+few_by true found line e = absurd cc
+few_by false found line e = refl
 
-  pub frame_leads : (m : ℕ) → m ≡ n + 1 → (step : Step) × IsFrame (take item held) step → LeadsTo n m (before ++ x.left) (drop size held ++ y.left)
-  frame_leads m e f = record {
-    steps = f.0 ∷ [];
-    frames = one_framed (before ++ x.left) (take item held) (drop size held ++ y.left) f.0 frame_first f.1;
-    number = e;
-  }
+-- the frames of steps, joined
+record AreFrames (items : List (List ℕ)) : Type 0 where
+  steps : List Step
+  framed_all : Framed steps
+  bytes : concat items ≡ frames_of steps
+  count : length steps ≡ length items
 
-  pub frame_asks : (number status : ℕ) → AsksEndAt n (take item held) number status → HasEndFrom n (before ++ x.left) number status
-  frame_asks number status a = asks n number status (before ++ x.left) (take item held) (drop size held ++ y.left) frame_first a
-
-pub rest_asks : (found : Result Found Failed) (n : ℕ) (before held : List ℕ) (x y : SourceState) → Finds looked refuses found n before held x y
-    → (number status : ℕ) → AsksEndAt n held number status → HasEndFrom n (before ++ x.left) number status
-rest_asks found n before held x y finds number status a = asks n number status (before ++ x.left) held y.left (all_left found n before held x y finds) a
-
--- ---- many frames
-
-pub leads_nowhere : (n : ℕ) (bytes : List ℕ) → LeadsTo n n bytes bytes
-leads_nowhere n bytes = record { steps = []; frames = record { framed = tt; parts = refl }; number = omega arith }
-
-pub leads_on : (n m k : ℕ) (a b c : List ℕ) → LeadsTo n m a b → LeadsTo m k b c → LeadsTo n k a c
-leads_on n m k a b c p q = record {
-  steps = p.steps ++ q.steps;
-  frames = joined a b c p.steps q.steps p.frames q.frames;
-  number = omega (arith, p.number, q.number, length-append p.steps q.steps);
-}
-
-pub asks_before : (n m : ℕ) (a b : List ℕ) → LeadsTo n m a b → (number status : ℕ) → HasEndFrom m b number status → HasEndFrom n a number status
-asks_before n m a b p number status h =
-    let same : (p.steps ++ h.before) ++ end_call number status ∷ [] ≡ p.steps ++ (h.before ++ end_call number status ∷ []) = append_assoc p.steps h.before (end_call number status ∷ []) in
+are_frames : ReadsTable → (n : ℕ) (items : List (List ℕ)) → AreAccepted frame_asked n items → AreFrames items
+are_frames law n [] a = record { steps = []; framed_all = tt; bytes = refl; count = refl }
+are_frames law n (item ∷ items) a =
+    let one : (step : Step) × (step_of item ≡ Some step) = asked_some (leb 65536 n) (step_of item) a.0.line a.0.asks in
+    let f : IsFrame item one.0 = (law item one.0).1 a.0.bytes one.1 in
+    let rest : AreFrames items = are_frames law (n + 1) items a.1 in
     record {
-      before = p.steps ++ h.before;
-      rest = h.rest;
-      among = subst (λ (steps : List Step). AreFramesOf a steps h.rest) (sym same) (joined a b h.rest p.steps (h.before ++ end_call number status ∷ []) p.frames h.among);
-      few = omega (arith, h.few, p.number, length-append p.steps h.before);
+      steps = one.0 ∷ rest.steps;
+      framed_all = (f.within, rest.framed_all);
+      bytes = ap (λ (z : List ℕ). z ++ concat items) f.bytes_are ∙ ap (λ (z : List ℕ). frame_of one.0 ++ z) rest.bytes;
+      count = ap suc rest.count;
+    }
+
+concat-append : (xs ys : List (List ℕ)) → concat (xs ++ ys) ≡ concat xs ++ concat ys
+concat-append [] ys = refl
+concat-append (x ∷ xs) ys = ap (λ (z : List ℕ). x ++ z) (concat-append xs ys) ∙ sym (append_assoc x (concat xs) (concat ys))
+
+-- an item that asks for an end, among items that are accepted before it, is a frame among frames
+has_end : AllAreLookedAt → ReadsTable → (input : List ℕ) (number status : ℕ) → HasEndAmong looked frame_asked 0 input number status → HasEndFrom 0 input number status
+has_end all law input number status h =
+    let before : AreFrames h.before = are_frames law 0 h.before h.accepted in
+    let f : IsFrame h.item (end_call number status) = (law h.item (end_call number status)).1 h.bytes (as_step _ h.item (end_call number status) h.asks) in
+    let behind : List ℕ = concat h.behind in
+    let parts : input ≡ frames_of before.steps ++ (h.item ++ behind) =
+    sym (all 0 input) ∙ ap concat h.among ∙ concat-append h.before (h.item ∷ h.behind) ∙ ap (λ (z : List ℕ). z ++ (h.item ++ behind)) before.bytes in
+    let front : AreFramesOf input before.steps (h.item ++ behind) = record { framed = before.framed_all; parts = parts } in
+    record {
+      before = before.steps;
+      rest = behind;
+      among = joined input (h.item ++ behind) behind before.steps (end_call number status ∷ []) front (one_framed (h.item ++ behind) h.item behind (end_call number status) refl f);
+      few = omega (arith, leb-false 65536 (0 + length h.before) (few_by (leb 65536 (0 + length h.before)) (step_of h.item) _ h.asks), before.count);
     }
 
 -- ---- after the frames
@@ -115,5 +117,5 @@ by_ending tells input ending code e number status is told = inl (inl (ending, is
 pub by_stop : (tells : Bool) (input : List ℕ) (stop : Stop) (code : Code) → code ≡ stop_status stop → (number status : ℕ) → HasStatus code number status → IsEndOfRun tells input number status
 by_stop tells input stop code e number status is told = inl (inr (stop, is ∙ ap number_of e))
 
-pub by_frame : (tells : Bool) (input : List ℕ) → (number status : ℕ) → (tells ≡ true → HasEndFrom 0 input number status) → IsEndOfRun tells input number status
-by_frame tells input number status has told = inr (has told)
+pub by_frame : AllAreLookedAt → ReadsTable → (tells : Bool) (input : List ℕ) (number status : ℕ) → IsEndAmong looked frame_asked tells 0 input number status → IsEndOfRun tells input number status
+by_frame all law tells input number status has told = inr (has_end all law input number status (has told))

@@ -1,6 +1,5 @@
-pub mod Serving
+pub mod Framing
 pub mod Consuming
 pub mod Asking
 pub mod Wording
-pub mod Answering
 pub mod Wholly

@@ -21,11 +21,11 @@ use Rattle.frame_stream.specs.Looked.{looked}
 use Rattle.frame_stream.specs.Run.{CallStep, step_at}
 use Rattle.frame_stream.specs.Spelled.{Spells, answers_to, state_behind}
 use Rattle.session_run.specs.Closings.{Closing, all_closed, closings as reported, closings_text, last_state}
-use Rattle.session_run.specs.Reading.{Whatever, nowhere}
+use Rattle.session_run.specs.Reading.{TakesBytes, Whatever, nowhere}
 use Rattle.session_run.specs.State.{Setting, RunState}
 use Rattle.session_wire.specs.Answered.{Closes, answered_closing, closings}
 use Rattle.session_wire.specs.Endings.{ending_status, stop_status}
-use Rattle.session_wire.specs.Reading.{LooksBefore, ReadsAll, ReadsFrames, SpellsTo, TakesBytes, call_read}
+use Rattle.session_wire.specs.Reading.{LooksBefore, ReadsAll, ReadsFrames, SpellsTo, call_read}
 use Rattle.session_wire.specs.Step.{answers, Fails}
 use Rattle.session_wire.specs.Whole.{AnswersAll, Completes, IsCutIn, IsNextStep, StopsAmong, StopsBehind, ending_by}
 

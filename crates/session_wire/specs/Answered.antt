@@ -1,57 +1,27 @@
 -- Transactions that are ended and answered, and where that stops (this project's own).
-use Rattle.std.specs.Prelude.{◌≡◌, ℕ, ◌+◌, ◌≤◌, Bool, true, false, List, [], ◌∷◌, ◌++◌, length, map, Result, Ok, Err, OnOk}
+use Rattle.std.specs.Prelude.{ℕ, List, Result}
 use Rattle.pam_base.specs.declared.code.Code.{Code}
 use Rattle.pam_outside.specs.Streams.{SinkState}
 use Rattle.session_run.specs.pam_room.specs.Module.{Player}
 use Rattle.pam_wire.specs.Frame.{answer_of}
 use Rattle.item_stream.specs.declared.ending.Stop.{Stop}
 use Rattle.session_run.specs.State.{RunState}
-use Rattle.session_run.specs.Closings.{Closing, closings as reported, closings_text, last_state}
-use Rattle.session_run.specs.Reported.{CutBy}
+use Rattle.session_run.specs.Closings.{Closing}
+use Rattle.session_run.specs.Reported.{Closes as ClosesAs, ClosesTo as ClosesAsTo, wrapped_closing, wrapped_closings}
 
 -- a transaction that was ended, with its lines as an answer
 abbrev pub answered_closing : Closing → Closing
-answered_closing c = record { text = answer_of c.text; state = c.state }
+answered_closing = wrapped_closing answer_of
 
 abbrev pub closings : List Player → Code → RunState → List Closing
-closings players status s = map answered_closing (reported players status s)
+closings = wrapped_closings answer_of
 
-module _ (players : List Player) (status : Code) where
-  -- ---- one of them
+-- all of them; or up to one that was ended and whose lines aren't whole
+abbrev pub ClosesTo : List Player → Code → Result (Unit {0}) Stop → RunState → RunState
+    → List Closing → List Closing → List ℕ → Type 0
+ClosesTo = ClosesAsTo answer_of
 
-  -- the lowest one was ended: its lines, and how much of them is written
-  pub record ClosesOne (s t : RunState) (part : List ℕ) (old new : SinkState) : Type 0 where
-    pub text : List ℕ
-    pub first : closings players status s
-        ≡ record { text = text; state = t } ∷ closings players status t
-    pub written : new.written ≡ old.written ++ part
-    pub calls : new.calls ≤ old.calls + length part + 1
-
-  -- whether one was open
-  abbrev pub ClosesNext : Result Bool Stop → RunState → RunState → SinkState → SinkState → Type 0
-  ClosesNext (Ok false) s t old new = (closings players status s ≡ []) × (t ≡ s) × (new ≡ old)
-  ClosesNext (Ok true) s t old new =
-      (part : List ℕ) × (c : ClosesOne s t part old new) × (c.text ≡ part)
-      × (new.calls ≤ old.calls + length part)
-  ClosesNext (Err stop) s t old new =
-      (part : List ℕ) × (c : ClosesOne s t part old new) × CutBy stop part c.text
-
-  -- ---- all of them; or up to one that was ended and whose lines aren't whole
-
-  abbrev pub ClosesTo : Result (Unit {0}) Stop → RunState → RunState → List Closing → List Closing
-      → List ℕ → Type 0
-  ClosesTo (Ok done) s t whole others part = (others ≡ []) × (part ≡ []) × (t ≡ last_state s whole)
-  ClosesTo (Err stop) s t whole [] part = ⊥
-  ClosesTo (Err stop) s t whole (c ∷ cs) part = CutBy stop part c.text × (t ≡ c.state)
-
-  -- what a modelled output shows of it
-  pub record Closes (result : Result (Unit {0}) Stop) (s t : RunState) (old new : SinkState)
-      : Type 0 where
-    pub whole : List Closing
-    pub others : List Closing
-    pub among : closings players status s ≡ whole ++ others
-    pub part : List ℕ
-    pub written : new.written ≡ old.written ++ (closings_text whole ++ part)
-    pub to : ClosesTo result s t whole others part
-    pub calls : new.calls ≤ old.calls + length (closings_text whole ++ part) + 1
-    pub calls_ok : OnOk result (new.calls ≤ old.calls + length (closings_text whole ++ part))
+-- what a modelled output shows of it
+abbrev pub Closes : List Player → Code → Result (Unit {0}) Stop → RunState → RunState → SinkState
+    → SinkState → Type 0
+Closes = ClosesAs answer_of

@@ -16,10 +16,6 @@ use Rattle.session_wire.specs.Endings.{ending_status, stop_status}
 abbrev pub end_call : ℕ → ℕ → Step
 end_call number status = record { number = number; call = End status }
 
--- this frame asks for it, after n others, and it isn't one too many
-abbrev pub AsksEndAt : ℕ → List ℕ → ℕ → ℕ → Type 0
-AsksEndAt n frame number status = (n < 65536) × IsFrame frame (end_call number status)
-
 -- Some bytes, after n frames, are the frames of steps, then that of this call, and others; with it there are at most
 -- 65,536.
 pub record HasEndFrom (n : ℕ) (bytes : List ℕ) (number status : ℕ) : Type 0 where
@@ -27,16 +23,6 @@ pub record HasEndFrom (n : ℕ) (bytes : List ℕ) (number status : ℕ) : Type 
   pub rest : List ℕ
   pub among : AreFramesOf bytes (before ++ end_call number status ∷ []) rest
   pub few : n + length before < 65536
-
--- if the bytes are modelled
-abbrev pub IsEndIn : Bool → ℕ → List ℕ → ℕ → ℕ → Type 0
-IsEndIn tells n bytes number status = IsTrue tells → HasEndFrom n bytes number status
-
--- after the frames of steps, n before them and m after them, others begin
-pub record LeadsTo (n m : ℕ) (bytes rest : List ℕ) : Type 0 where
-  pub steps : List Step
-  pub frames : AreFramesOf bytes steps rest
-  pub number : m ≡ n + length steps
 
 -- ---- all ends
 

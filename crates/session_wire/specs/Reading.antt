@@ -1,12 +1,11 @@
 -- What the bytes of a stream of frames alone say of a run of it, whatever its calls do (this
 -- project's own).
-use Rattle.std.specs.Prelude.{◌≡◌, ℕ, ◌+◌, ◌≤◌, Bool, true, false, List, [], ◌++◌, length, Option, None, Result, Ok, Err}
+use Rattle.std.specs.Prelude.{◌≡◌, ℕ, ◌+◌, ◌≤◌, Bool, true, false, List, [], ◌++◌, length, None, Result, Ok, Err}
 use Rattle.pam_base.specs.declared.call.Step.{Step}
 use Rattle.pam_outside.specs.Streams.{SourceState}
-use Rattle.pam_wire.specs.Frame.{AreBytes}
 use Rattle.item_stream.specs.declared.ending.Ending.{Ending}
 use Rattle.item_stream.specs.declared.ending.Stop.{Stop}
-use Rattle.item_stream.specs.Turns.{IsEndedBy, ServesTold, Turns, refusal_of}
+use Rattle.item_stream.specs.Turns.{IsEndedBy, refusal_of}
 use Rattle.item_stream.specs.Whole.{Runs}
 use Rattle.frame_stream.specs.declared.fault.FrameFault.{FrameFault}
 use Rattle.frame_stream.specs.Looked.{looked}
@@ -14,28 +13,13 @@ use Rattle.frame_stream.specs.Run.{CallStep, step_at}
 use Rattle.frame_stream.specs.Spelled.{Spells}
 use Rattle.session_run.specs.Reading.{Whatever, nowhere}
 
--- ---- one frame, one turn and many, for calls that do nothing and an unwritten sink
+-- ---- all frames, for calls that do nothing and a sink to which nothing is written
 
 abbrev pub call_read : CallStep (Unit {0})
 call_read done step = (tt, [])
 
-abbrev pub ReadsFrame : Result (Option FrameFault) Stop → ℕ → List ℕ → Type 0
-ReadsFrame result n frame =
-    ServesTold (step_at call_read) Whatever result n frame tt tt nowhere nowhere
-
-abbrev pub ReadsTurn : Result (Option (Ending FrameFault)) Stop → ℕ → ℕ → List ℕ → List ℕ
-    → SourceState → SourceState → Type 0
-ReadsTurn result n m before held x y =
-    Turns looked (step_at call_read) Whatever result n m tt tt before held x y nowhere nowhere
-
 abbrev pub ReadsAll : Result (Ending FrameFault) Stop → ℕ → SourceState → SourceState → Type 0
 ReadsAll result m x y = Runs looked (step_at call_read) Whatever result m tt tt x y nowhere nowhere
-
--- what was taken after these is bytes, as they are
-pub record TakesBytes (before : List ℕ) (x y : SourceState) : Type 0 where
-  pub got : List ℕ
-  pub source : x.left ≡ got ++ y.left
-  pub bytes : AreBytes (before ++ got)
 
 -- ---- the whole run
 

@@ -1,15 +1,13 @@
 //! A run of a front end's calls over sixteen transactions: each frame is applied and its answer written before the
 //! next is read, and after the last one every open transaction is ended.
 //!
-//! Begin at run.rt; frames.rt reads frame by frame, serve.rt applies one, and closing.rt ends what is open.
+//! Begin at run.rt; frames.rt says how a frame is read and its report written, and session_run does the rest.
 #![tactic(auto)]
 
-mod closing;
 mod frames;
-mod meaning;
-mod reading;
+mod laws;
 mod run;
-mod serve;
 
 pub use frame_stream;
+pub use frames::Frames;
 pub use run::run_frames;

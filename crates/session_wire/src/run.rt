@@ -9,17 +9,16 @@ ghost use Rattle.session_wire.specs.Ends.{IsEndOfRun};
 ghost use Rattle.session_wire.specs.Reading.{ReadsFrames};
 ghost use Rattle.session_wire.specs.Whole.{Answers, Completes, RunsFrames, ending_status};
 
-use crate::closing::close_answered;
-use crate::frames::serve_frames;
-use crate::meaning::Meaning;
-use crate::reading::reading_is_turns;
+use crate::frames::{Frames, Meaning};
+use crate::laws::reading_is_of_steps;
 use frame_stream::FrameFault;
 use item_stream::{Ending, Stop};
-use pam_base::Code;
 use pam_outside::{Sink, Source};
 use session_run::pam_library::Library;
 use session_run::pam_room::World;
-use session_run::{Session, Told, close_silently, stop_status};
+use session_run::{
+    Session, Told, close_open, close_silently, ending_status, serve_items, stop_status,
+};
 use std::alloc::Global;
 
 /// Runs a stream of frames. Each call is made in its transaction and its answer written before the next frame is
@@ -96,29 +95,27 @@ pub fn run_frames<S: Source, K: Sink>(
     session_run::data_due::laws::all_are_filed();
     frame_stream::laws::bytes_spell_steps();
     frame_stream::laws::runs_are_of_steps::<Meaning>();
-    reading_is_turns();
+    frame_stream::laws::all_are_looked_at();
+    pam_wire::laws::frame_is_read();
+    reading_is_of_steps();
     let mut frames = 0;
-    match serve_frames(alloc, library, &mut frames, source, sink, world) {
+    match serve_items::<Frames, S, K>(alloc, library, &mut frames, source, sink, world) {
         Err(stop) => {
             close_silently(library, stop_status(stop), world);
             Err(stop)
         }
-        Ok(ending) => match close_answered(alloc, library, ending_status(ending), sink, world) {
+        Ok(ending) => match close_open::<Frames, K>(
+            alloc,
+            library,
+            ending_status(ending),
+            sink,
+            world,
+        ) {
             Ok(()) => Ok(ending),
             Err(stop) => {
                 close_silently(library, stop_status(stop), world);
                 Err(stop)
             }
         },
-    }
-}
-
-fn ending_status(ending: Ending<FrameFault>) -> Code
-    ensures { result ≡ ending_status ending }
-{
-    match ending {
-        Ending::Done => Code::Success,
-        Ending::ReadFault => Code::SystemErr,
-        Ending::Refused(_) => Code::Abort,
     }
 }

@@ -21,3 +21,7 @@ returns-in_default-library_of-clause-shows g c = λ sink. nothing_shown _ _ c.st
 
 pub returns-in_default-library_of-clause-cleaned_up : goal.returns-in_default-library_of-clause-cleaned_up
 returns-in_default-library_of-clause-cleaned_up g c = nothing_to_clean _ _ _ c.requires.no_births c.requires.no_receipts
+
+pub returns-clause-cleaned_up : goal.returns-clause-cleaned_up
+returns-clause-cleaned_up g c =
+    rw (c.in-Ok-library_of.ensures.players, c.seat_at_terminal-desk.ensures.mods) at c.log_in_over.ensures.cleaned_up

@@ -1,0 +1,107 @@
+-- What an exit status says of the arguments and of failures.
+use Rattle.std.proofs.Common.{◌≡◌, ◌≢◌, ◌⊎◌, ℕ, List, [], Option, Some, None, Result, Ok, Err, inl, inr, refl, sym, ◌∙◌, subst, arith}
+use Rattle.std.specs.Prelude.{IfOk}
+use Rattle.pam_outside.specs.Counts.{Rose, RisesIf}
+use Rattle.session_audit.specs.service_load.specs.Stacks.{Stacks}
+use Rattle.session_audit.specs.report_reader.specs.Guess.{read_line}
+use Rattle.session_audit.specs.Checked.{bare_lines}
+use Rattle.session_audit.specs.Differs.{differs}
+use Rattle.session_audit.specs.Fits.{all_shut}
+use Rattle.session_audit.specs.Whole.{lines_read}
+use Rattle.explain_report.specs.Report.{explained_from}
+use Rattle.explain.specs.declared.explaining.Output.{Output}
+use Rattle.explain.specs.declared.input.Report.{Report}
+use Rattle.explain.specs.declared.input.Report.TheVariants.{Whole, TooLong, Unread}
+use Rattle.explain.specs.Explained.{IsExplained, Shows, ShowsBy, explained_by}
+use Rattle.explain.specs.Input.{is_unread}
+use Rattle.explain.specs.Program.{Asked, Causes, Leaves, ShowsInput, ShowsRead, usage_written}
+
+module _ (input_before input_now before now : ℕ) where
+  -- ---- of an output
+
+  other_status : (place : Asked) (k status : ℕ) → status ≡ k → k ≢ 2 → k ≢ 4 → k ≢ 5 → k ≢ 6 → Causes status (Some place) input_before input_now before now
+  other_status place k status is not2 not4 not5 not6 = record {
+    usage = λ none. absurd cc;
+    no_usage = λ two. absurd (not2 (sym is ∙ two));
+    unread = λ five. absurd (not5 (sym is ∙ five));
+    memory = λ four. not4 (sym is ∙ four);
+    unwritten = λ six. not6 (sym is ∙ six);
+  }
+
+  unread_status : (place : Asked) (status : ℕ) → status ≡ 5 → Rose input_before input_now ⊎ Rose before now → Causes status (Some place) input_before input_now before now
+  unread_status place status is cause = record {
+    usage = λ none. absurd cc;
+    no_usage = λ two. absurd (omega (arith, is, two));
+    unread = λ five. cause;
+    memory = λ four. omega (arith, is, four);
+    unwritten = λ six. omega (arith, is, six);
+  }
+
+  usage_status : (status : ℕ) → status ≡ 2 → Causes status None input_before input_now before now
+  usage_status status is = record {
+    usage = λ none. is;
+    no_usage = λ two. refl;
+    unread = λ five. absurd (omega (arith, is, five));
+    memory = λ four. omega (arith, is, four);
+    unwritten = λ six. omega (arith, is, six);
+  }
+
+  explained_status : (place : Asked) (status : ℕ) (line : Option ℕ) (text : List ℕ) → status ≡ (explained_by line text).status
+      → Causes status (Some place) input_before input_now before now
+  explained_status place status None text is = other_status place 0 status is (λ e. omega (arith, e)) (λ e. omega (arith, e)) (λ e. omega (arith, e)) (λ e. omega (arith, e))
+  explained_status place status (Some line) text is = other_status place 11 status is (λ e. omega (arith, e)) (λ e. omega (arith, e)) (λ e. omega (arith, e)) (λ e. omega (arith, e))
+
+  stacks_status : (place : Asked) (e : Output) (text : List ℕ) (stacks : Stacks) → ShowsBy e stacks text before now
+      → Causes e.status (Some place) input_before input_now before now
+  stacks_status place e text stacks (inl by) =
+      explained_status place e.status (differs stacks (lines_read read_line text)) (explained_from stacks by.sources all_shut [] (bare_lines text)) by.explained.status
+  stacks_status place e text stacks (inr failure) = unread_status place e.status failure.nothing.status (inr failure.failed)
+
+  shown_status : (place : Asked) (e : Output) (text : List ℕ) → Shows e text before now → Causes e.status (Some place) input_before input_now before now
+  shown_status place e text (inl by) = stacks_status place e text by.0 by.1
+  shown_status place e text (inr fault) =
+      other_status place 3 e.status fault.refused.status (λ e. omega (arith, e)) (λ e. omega (arith, e)) (λ e. omega (arith, e)) (λ e. omega (arith, e))
+
+  read_status : (place : Asked) (e : Output) (report : Report) → RisesIf (is_unread report) input_before input_now → ShowsRead e report before now
+      → Causes e.status (Some place) input_before input_now before now
+  read_status place e (Whole text) rises shown = shown_status place e text shown
+  read_status place e TooLong rises shown =
+      other_status place 12 e.status shown.0.status (λ e. omega (arith, e)) (λ e. omega (arith, e)) (λ e. omega (arith, e)) (λ e. omega (arith, e))
+  read_status place e Unread rises shown = unread_status place e.status shown.0.status (inl rises)
+
+  pub asked_causes : {E : Type 0} (r : Result Output E) (words : Option Asked) (place : Asked) → Some place ≡ words
+      → IfOk r (λ e. ShowsInput e input_before input_now before now) → IfOk r (λ e. Causes e.status words input_before input_now before now)
+  asked_causes (Ok e) words place is shows =
+      subst (λ (o : Option Asked). Causes e.status o input_before input_now before now) is (read_status place e shows.report shows.read shows.shown)
+  asked_causes (Err x) words place is shows = tt
+
+  pub usage_causes : {E : Type 0} (r : Result Output E) (words : Option Asked) → None ≡ words → IfOk r (λ e. IsExplained e usage_written)
+      → IfOk r (λ e. Causes e.status words input_before input_now before now)
+  usage_causes (Ok e) words none is =
+      subst (λ (o : Option Asked). Causes e.status o input_before input_now before now) none (usage_status e.status is.status)
+  usage_causes (Err x) words none is = tt
+
+  -- ---- of the program, whose output has this status
+
+  module _ (result given : ℕ) (words : Option Asked) (out_before out_now : ℕ) where
+    pub by_usage : Leaves result given out_before out_now → Causes given words input_before input_now before now → words ≡ None
+        → (result ≡ 2) ⊎ ((result ≡ 4) ⊎ (result ≡ 6))
+    by_usage (inl same) causes none = inl (same.0 ∙ causes.usage none)
+    by_usage (inr failed) causes none = inr (inr failed.0)
+
+    pub by_no_usage : Leaves result given out_before out_now → Causes given words input_before input_now before now → result ≡ 2 → words ≡ None
+    by_no_usage (inl same) causes two = causes.no_usage (sym same.0 ∙ two)
+    by_no_usage (inr failed) causes two = absurd (omega (arith, failed.0, two))
+
+    pub by_unread : Leaves result given out_before out_now → Causes given words input_before input_now before now → result ≡ 5
+        → Rose input_before input_now ⊎ Rose before now
+    by_unread (inl same) causes five = causes.unread (sym same.0 ∙ five)
+    by_unread (inr failed) causes five = absurd (omega (arith, failed.0, five))
+
+    pub by_write_fault : Leaves result given out_before out_now → Causes given words input_before input_now before now → result ≡ 6 → Rose out_before out_now
+    by_write_fault (inl same) causes six = absurd (causes.unwritten (sym same.0 ∙ six))
+    by_write_fault (inr failed) causes six = failed.1
+
+pub by_no_write_fault : (result given out_before out_now : ℕ) → Leaves result given out_before out_now → result ≢ 6 → out_now ≡ out_before
+by_no_write_fault result given out_before out_now (inl same) not6 = same.1
+by_no_write_fault result given out_before out_now (inr failed) not6 = absurd (not6 failed.0)

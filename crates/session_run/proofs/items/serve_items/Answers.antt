@@ -1,0 +1,135 @@
+use Rattle.std.proofs.Common.{append-nil, sym, [], ◌∙◌, Some, None, Ok, Err, refl, ap, arith}
+use Rattle.item_stream.specs.declared.ending.Stop.TheVariants.{NoMemory}
+use Rattle.item_stream.specs.Turns.{has_read_fault}
+use Rattle.session_run.proofs.Asking.{asks_before, leads_nowhere, leads_on}
+use Rattle.session_run.proofs.Going.{still_told, went_nowhere, went_on, went_so}
+use Rattle.session_run.proofs.Proceeding.{nothing_done}
+use Rattle.session_run.proofs.Walking.{broken_off, broken_on, nothing_served, served_on, served_to}
+use Rattle.session_run.proofs.Consuming.{err_then, err_unwritten, ok_then, ok_unwritten, takes_none, takes_on}
+use Rattle.session_run.proofs.items.serve_items.Goals as goal
+
+pub returns-in-Err-clause-told : goal.returns-in-Err-clause-told
+returns-in-Err-clause-told g c = λ delay is told source sink. record {
+  runs = rw c.requires.first (c.turns_are_a_run.ensures _ (Err NoMemory) _ _ _ _ _ _ _ _ (c.first_turn.ensures.no_memory _ _ _ _));
+  served = rw c.requires.first (broken_off _ _ _ _ _ _ _ _ [] _ _ (sym (append-nil _)) (nothing_done _ _ _ _ _ _ refl refl));
+}
+
+pub returns-in-Err-clause-went : goal.returns-in-Err-clause-went
+returns-in-Err-clause-went g c = went_nowhere _ _ c.requires.sound
+
+pub returns-in-Err-clause-reads : goal.returns-in-Err-clause-reads
+returns-in-Err-clause-reads g c = λ source. record {
+  runs = rw c.requires.first (c.reading_is_turns.ensures.run (Err NoMemory) _ _ _ _ _ _ _ _ (c.reading_is_turns.ensures.no_memory _ _ _));
+  takes = takes_none _;
+}
+
+pub returns-in-Err-clause-writes : goal.returns-in-Err-clause-writes
+returns-in-Err-clause-writes g c = λ sink. err_unwritten _ _
+
+pub loop-ending-init : goal.loop-ending-init
+loop-ending-init g c = record {
+  went = went_nowhere _ _ c.requires.sound;
+  sink_tells = refl;
+  source_tells = refl;
+  told = λ delay is told source sink. record {
+    turns = rw (c.requires.first, c.in-Ok.ensures) (c.first_turn.ensures.none_yet _ _ _ _);
+    served = nothing_served _ _ _ _ _ _ _ _ _ c.requires.first (rw c.in-Ok.ensures refl);
+  };
+  reads = λ source. record {
+    turns = rw (c.requires.first, c.in-Ok.ensures) (c.reading_is_turns.ensures.none_yet _ _ _);
+    takes = takes_none _;
+  };
+  writes = λ sink. ok_unwritten _ _;
+  few = omega (arith, c.requires.first);
+  source_faults = refl;
+  sink_faults = refl;
+  leads = λ source. rw (c.requires.first, c.in-Ok.ensures) (leads_nowhere _ _ _ _);
+}
+
+pub loop-ending-preserved : goal.loop-ending-preserved
+loop-ending-preserved g c =
+    let turn = rw c.in-Ok-None.field-0-is at c.in-Ok-None.ensures.told in
+    let read = rw (c.in-Ok-None.field-0-is, has_read_fault) at c.in-Ok-None.ensures.source_faults in
+    let was = c.loop-ending.invariant in
+    record {
+      sink_tells = c.take_turn.ensures.sink_tells ∙ was.sink_tells;
+      source_tells = c.take_turn.ensures.source_tells ∙ was.source_tells;
+      told = λ delay is told source sink.
+          let before = was.told delay is told source sink in
+          let next = rw was.went.players at (turn delay (was.went.gives delay is) (still_told _ _ _ was.went told) (was.source_tells ∙ source) (was.sink_tells ∙ sink)) in
+          record {
+            turns = c.turns_go_on.ensures _ (Ok None) _ _ _ _ _ _ _ _ _ _ _ _ _ _ before.turns next.turns;
+            served = served_on _ _ _ _ _ _ _ _ _ _ _ _ _ _ _ _ before.served next.served;
+          };
+      reads = λ source.
+          let next = (rw c.in-Ok-None.field-0-is at c.in-Ok-None.ensures.reads) (was.source_tells ∙ source) in
+          record {
+            turns = c.reading_is_turns.ensures.on (Ok None) _ _ _ _ _ _ _ _ _ _ _ _ _ _ (was.reads source).turns next.turns;
+            takes = takes_on _ _ _ _ (was.reads source).takes next.takes;
+          };
+      writes = λ sink. ok_then _ c.in-Ok-None.field-0 _ _ _ _ (was.writes sink) (c.in-Ok-None.ensures.writes (was.sink_tells ∙ sink));
+      few = c.take_turn.ensures.few;
+      source_faults = read ∙ was.source_faults;
+      sink_faults = c.in-Ok-None.ensures.sink_faults ∙ was.sink_faults;
+      leads = λ source. leads_on _ _ _ _ _ _ _ _ (was.leads source) (c.take_turn.ensures.leads (c.in-Ok-None.is ∙ ap Ok c.in-Ok-None.field-0-is) (was.source_tells ∙ source));
+      went = went_on _ _ _ _ was.went (went_so _ _ (λ number status has source. asks_before _ _ _ _ _ _ (was.leads source) number status (has (was.source_tells ∙ source))) _ _ c.take_turn.ensures.went);
+    }
+
+pub returns-in-Ok-Some-clause-told : goal.returns-in-Ok-Some-clause-told
+returns-in-Ok-Some-clause-told g c = λ delay is told source sink.
+    let turn = rw c.in-Ok-Some.field-0-is at c.in-Ok-Some.ensures.told in
+    let was = c.loop-ending.invariant in
+    let before = was.told delay is told source sink in
+    let next = rw was.went.players at (turn delay (was.went.gives delay is) (still_told _ _ _ was.went told) (was.source_tells ∙ source) (was.sink_tells ∙ sink)) in
+    record {
+      runs = c.turns_are_a_run.ensures _ (Ok c.in-Ok-Some.ending) _ _ _ _ _ _ _ _ (c.turns_go_on.ensures _ (Ok (Some c.in-Ok-Some.ending)) _ _ _ _ _ _ _ _ _ _ _ _ _ _ before.turns next.turns);
+      served = served_to _ _ _ _ _ _ _ _ _ _ _ _ _ _ _ before.served next.served;
+    }
+
+pub returns-in-Err-take_turn-clause-told : goal.returns-in-Err-take_turn-clause-told
+returns-in-Err-take_turn-clause-told g c = λ delay is told source sink.
+    let was = c.loop-ending.invariant in
+    let before = was.told delay is told source sink in
+    let next = rw was.went.players at (c.in-Err-take_turn.ensures.told delay (was.went.gives delay is) (still_told _ _ _ was.went told) (was.source_tells ∙ source) (was.sink_tells ∙ sink)) in
+    record {
+      runs = c.turns_are_a_run.ensures _ (Err c.in-Err-take_turn.stop) _ _ _ _ _ _ _ _ (c.turns_go_on.ensures _ (Err c.in-Err-take_turn.stop) _ _ _ _ _ _ _ _ _ _ _ _ _ _ before.turns next.turns);
+      served = broken_on _ _ _ _ _ _ _ _ _ _ _ _ _ _ _ before.served next.served;
+    }
+
+pub returns-in-Ok-Some-clause-went : goal.returns-in-Ok-Some-clause-went
+returns-in-Ok-Some-clause-went g c =
+    let was = c.loop-ending.invariant in
+    went_on _ _ _ _ was.went (went_so _ _ (λ number status has source. asks_before _ _ _ _ _ _ (was.leads source) number status (has (was.source_tells ∙ source))) _ _ c.take_turn.ensures.went)
+
+pub returns-in-Err-take_turn-clause-went : goal.returns-in-Err-take_turn-clause-went
+returns-in-Err-take_turn-clause-went g c =
+    let was = c.loop-ending.invariant in
+    went_on _ _ _ _ was.went (went_so _ _ (λ number status has source. asks_before _ _ _ _ _ _ (was.leads source) number status (has (was.source_tells ∙ source))) _ _ c.take_turn.ensures.went)
+
+pub returns-in-Ok-Some-clause-reads : goal.returns-in-Ok-Some-clause-reads
+returns-in-Ok-Some-clause-reads g c = λ source.
+    let was = c.loop-ending.invariant in
+    let next = (rw c.in-Ok-Some.field-0-is at c.in-Ok-Some.ensures.reads) (was.source_tells ∙ source) in
+    record {
+      runs = c.reading_is_turns.ensures.run (Ok c.in-Ok-Some.ending) _ _ _ _ _ _ _ _ (c.reading_is_turns.ensures.on (Ok (Some c.in-Ok-Some.ending)) _ _ _ _ _ _ _ _ _ _ _ _ _ _ (was.reads source).turns next.turns);
+      takes = takes_on _ _ _ _ (was.reads source).takes next.takes;
+    }
+
+pub returns-in-Err-take_turn-clause-reads : goal.returns-in-Err-take_turn-clause-reads
+returns-in-Err-take_turn-clause-reads g c = λ source.
+    let was = c.loop-ending.invariant in
+    let next = c.in-Err-take_turn.ensures.reads (was.source_tells ∙ source) in
+    record {
+      runs = c.reading_is_turns.ensures.run (Err c.in-Err-take_turn.stop) _ _ _ _ _ _ _ _ (c.reading_is_turns.ensures.on (Err c.in-Err-take_turn.stop) _ _ _ _ _ _ _ _ _ _ _ _ _ _ (was.reads source).turns next.turns);
+      takes = takes_on _ _ _ _ (was.reads source).takes next.takes;
+    }
+
+pub returns-in-Ok-Some-clause-writes : goal.returns-in-Ok-Some-clause-writes
+returns-in-Ok-Some-clause-writes g c = λ sink.
+    let was = c.loop-ending.invariant in
+    ok_then _ c.in-Ok-Some.field-0 _ _ _ _ (was.writes sink) (c.in-Ok-Some.ensures.writes (was.sink_tells ∙ sink))
+
+pub returns-in-Err-take_turn-clause-writes : goal.returns-in-Err-take_turn-clause-writes
+returns-in-Err-take_turn-clause-writes g c = λ sink.
+    let was = c.loop-ending.invariant in
+    err_then _ c.in-Err-take_turn.stop _ _ _ (was.writes sink) (c.in-Err-take_turn.ensures.writes (was.sink_tells ∙ sink))

@@ -1,0 +1,90 @@
+use crate::protocol::Protocol;
+use item_stream::{Front, Stepping};
+use pam_base::{NoMemory, Refuse, ScriptKind, Text};
+use script_lang::{Line, parse};
+use script_stream::{LineStepping, Lines, MAX_LINES, front_of_lines};
+use std::alloc::Global;
+
+/// The lines of a script; their reports are written as they are.
+pub struct Script;
+
+// What a line does, for the laws on streams of lines.
+struct Meaning;
+
+impl LineStepping for Meaning {
+    ghost use Rattle.session_run.specs.State.{Setting as RunSetting, RunState};
+    ghost use Rattle.session_run.specs.Step.{line_step, Fails};
+
+    ghost Setting = { RunSetting };
+
+    ghost State = { RunState };
+
+    ghost line_step = { line_step };
+
+    ghost fails = { Fails };
+}
+
+// Whether a line is refused, for the same laws.
+struct Refusing;
+
+impl LineStepping for Refusing {
+    ghost use Rattle.session_run.specs.Reading.{Whatever as NoState, line_read as reads_line};
+
+    ghost Setting = { Unit {0} };
+
+    ghost State = { Unit {0} };
+
+    ghost line_step = { λ _. reads_line };
+
+    ghost fails = { λ _. NoState };
+}
+
+impl Protocol for Script {
+    ghost use Rattle.script_stream.specs.Looked.{IsOver, looked};
+    ghost use Rattle.script_stream.specs.Run.{step_at};
+    ghost use Rattle.session_run.specs.Reading.{line_read};
+    ghost use Rattle.session_run.specs.Script.{as_it_is, line_asked, script_step};
+    ghost use Rattle.session_run.specs.Step.{Fails as LineFails};
+
+    type Kind = ScriptKind;
+
+    ghost looked = { looked };
+
+    ghost refuses = { IsOver };
+
+    ghost asked = { line_asked };
+
+    ghost wrapped = { as_it_is };
+
+    ghost step = { script_step };
+
+    ghost fails = { LineFails };
+
+    ghost read_step = { step_at line_read };
+
+    fn front(before: u32, held: &[u8]) -> Front {
+        front_of_lines(before, held)
+    }
+
+    fn cuts() {
+        Lines::<Meaning>::cuts();
+    }
+
+    fn keeps() {
+        Lines::<Meaning>::keeps();
+        Lines::<Refusing>::keeps();
+    }
+
+    fn does() {}
+
+    fn read(alloc: Global, taken: u32, item: &[u8]) -> Result<Line, Refuse<ScriptKind>> {
+        if taken >= MAX_LINES {
+            return Err(Refuse::Named(ScriptKind::TooManyLines));
+        }
+        parse(alloc, item)
+    }
+
+    fn wrap(_alloc: Global, report: String) -> Result<Text, NoMemory> {
+        Ok(Text::from_vec(report.into_bytes()))
+    }
+}
