@@ -3,3 +3,10 @@ pub mod Closing
 pub mod Putting
 pub mod Attempting
 pub mod Writing
+mod Reading
+mod Lines
+mod Holding
+mod Storing
+mod Passing
+mod Loading
+mod Written

@@ -1,5 +1,5 @@
 -- Calls of a library, one after another.
-use Rattle.std.proofs.Common.{◌≡◌, ℕ, Option, Some, None, refl}
+use Rattle.std.proofs.Common.{ℕ, Option, Some, None, refl}
 use Rattle.pam_base.specs.declared.call.AppCall.TheVariants as calls
 use Rattle.session_run.specs.pam_library.specs.AnyWorld.{end_at}
 use Rattle.session_run.specs.pam_library.specs.Slots.{PlainSlot, closed, opened}

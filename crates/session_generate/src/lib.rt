@@ -5,6 +5,7 @@
 #![tactic(auto)]
 
 mod generating;
+pub mod laws;
 mod login;
 mod place;
 mod placing;

@@ -1,5 +1,4 @@
 use Rattle.session_generate.proofs.Closing.{tries_both, tries_not}
-use Rattle.std.proofs.Common.{◌∙◌}
 use Rattle.session_run.proofs.Going.{still_told, went_on}
 use Rattle.session_generate.proofs.login.attempt.Goals as goal
 
