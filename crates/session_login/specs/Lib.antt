@@ -4,3 +4,4 @@ pub mod Calls
 pub mod Login
 pub mod Told
 pub mod Ends
+pub mod Reported

@@ -9,6 +9,7 @@ ghost use Rattle.item_stream.specs.Turns.{has_write_fault};
 ghost use Rattle.session_run.specs.Seen.{AllTell, IsSoundIn, NoneIsOpenIn, Went, setting_in, state};
 ghost use Rattle.session_login.specs.Ends.{IsDenial, IsEndOfLogin, IsEndWith, closing_code};
 ghost use Rattle.session_login.specs.Login.{denied_line, end_call, end_code, logging_in, login_of, make, settling, verdict_by};
+ghost use Rattle.session_login.specs.Reported.{Reports, SaysCalls, SaysDenial, SaysLogin, SaysSettled};
 ghost use Rattle.session_login.specs.Told.{Comes, LogsIn, SaysEnd, SaysVerdict, Shows, WritesDenial, as_it_is};
 
 use crate::calls::LOGIN_CALLS;
@@ -76,6 +77,12 @@ pub fn login<K: Sink>(
     ensures shows { IsTrue (K.sink_tells out.old) →
         Shows SaysVerdict result (K.sink_holds out.old) (K.sink_holds out.new) }
 
+    // If only the sink is modelled: what is written is a line for each call with its result, and the verdict is the one
+    // that these results lead to; after an Err it is a prefix of that.
+    ensures reports { IsTrue (K.sink_tells out.old) →
+        Reports (SaysLogin service.now (option_copied user.entry)) result (K.sink_holds out.old)
+        (K.sink_holds out.new) }
+
     // With real objects too: SUCCESS denies nobody; no transaction is open; and the cleanup log and the module data
     // are what calls of the library, with these statuses of pam_end, made of them.
     ensures denies { (code : Code) → result ≡ Ok (Verdict.Denied code) → IsDenial code }
@@ -122,6 +129,9 @@ fn try_login<K: Sink>(
         (seen library.old world.old) (seen library.new world.new) }
     ensures shows { IsTrue (K.sink_tells out.old) →
         Shows SaysVerdict result (K.sink_holds out.old) (K.sink_holds out.new) }
+    ensures reports { IsTrue (K.sink_tells out.old) →
+        Reports (SaysLogin service.now (option_copied user.entry)) result (K.sink_holds out.old)
+        (K.sink_holds out.new) }
     ensures faults { RisesIf (has_write_fault result) (K.sink_faults out.old)
         (K.sink_faults out.new) }
 {
@@ -183,6 +193,8 @@ fn log_in<K: Sink>(
         (seen library.old world.old) (seen library.new world.new) }
     ensures shows { IsTrue (K.sink_tells out.old) →
         Shows SaysEnd result (K.sink_holds out.old) (K.sink_holds out.new) }
+    ensures reports { IsTrue (K.sink_tells out.old) →
+        Reports SaysCalls result (K.sink_holds out.old) (K.sink_holds out.new) }
     ensures faults { RisesIf (has_write_fault result) (K.sink_faults out.old)
         (K.sink_faults out.new) }
 {
@@ -217,6 +229,8 @@ fn settle<K: Sink>(
         (seen library.old world.old) (seen library.new world.new) }
     ensures shows { IsTrue (K.sink_tells out.old) →
         Shows SaysEnd result (K.sink_holds out.old) (K.sink_holds out.new) }
+    ensures reports { IsTrue (K.sink_tells out.old) →
+        Reports (SaysSettled denied) result (K.sink_holds out.old) (K.sink_holds out.new) }
     ensures faults { RisesIf (has_write_fault result) (K.sink_faults out.old)
         (K.sink_faults out.new) }
 {
@@ -237,6 +251,8 @@ fn deny<K: Sink>(alloc: Global, code: Code, out: &mut K) -> Result<Verdict, Stop
     ensures verdict { IfOk result (λ verdict. verdict ≡ Verdict.Denied code) }
     ensures shows { IsTrue (K.sink_tells out.old) →
         Shows SaysEnd result (K.sink_holds out.old) (K.sink_holds out.new) }
+    ensures reports { IsTrue (K.sink_tells out.old) →
+        Reports (SaysDenial code) result (K.sink_holds out.old) (K.sink_holds out.new) }
     ensures faults { RisesIf (has_write_fault result) (K.sink_faults out.old)
         (K.sink_faults out.new) }
 {

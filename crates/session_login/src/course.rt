@@ -6,6 +6,7 @@ ghost use Rattle.item_stream.specs.Turns.{has_write_fault};
 ghost use Rattle.session_run.specs.Seen.{AllTell, IsSoundIn, Went, setting_in, state};
 ghost use Rattle.session_login.specs.Ends.{IsDenial, IsNoEnd};
 ghost use Rattle.session_login.specs.Login.{course};
+ghost use Rattle.session_login.specs.Reported.{Reports, SaysCourse};
 ghost use Rattle.session_login.specs.Told.{GoesThrough, SaysAnything, Shows};
 
 use crate::calls::{LoginCall, code_in};
@@ -45,6 +46,8 @@ pub(crate) fn go_through<K: Sink>(
         (seen library.new world.new) }
     ensures shows { IsTrue (K.sink_tells out.old) →
         Shows SaysAnything result (K.sink_holds out.old) (K.sink_holds out.new) }
+    ensures reports { IsTrue (K.sink_tells out.old) →
+        Reports (SaysCourse calls.now last) result (K.sink_holds out.old) (K.sink_holds out.new) }
     ensures faults { RisesIf (has_write_fault result) (K.sink_faults out.old)
         (K.sink_faults out.new) }
 {

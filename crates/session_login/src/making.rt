@@ -8,6 +8,7 @@ ghost use Rattle.item_stream.specs.Turns.{has_write_fault};
 ghost use Rattle.session_run.specs.Ends.{IsEndStep};
 ghost use Rattle.session_run.specs.Seen.{AllTell, IsSoundIn, Went, setting_in, state};
 ghost use Rattle.session_login.specs.Login.{answer_line, make};
+ghost use Rattle.session_login.specs.Reported.{Reports, SaysResult};
 ghost use Rattle.session_login.specs.Told.{Makes, SaysAnswer, Shows};
 
 use item_stream::Stop;
@@ -46,6 +47,8 @@ pub(crate) fn make<K: Sink>(
         (seen library.new world.new) }
     ensures shows { IsTrue (K.sink_tells out.old) →
         Shows (SaysAnswer call) result (K.sink_holds out.old) (K.sink_holds out.new) }
+    ensures reports { IsTrue (K.sink_tells out.old) →
+        Reports (SaysResult call) result (K.sink_holds out.old) (K.sink_holds out.new) }
     ensures faults { RisesIf (has_write_fault result) (K.sink_faults out.old)
         (K.sink_faults out.new) }
 {

@@ -1,6 +1,7 @@
-use Rattle.std.proofs.Common.{[]}
+use Rattle.std.proofs.Common.{[], refl}
 use Rattle.session_login.proofs.Coming.{denial_cut, denial_unwritten, denial_written}
 use Rattle.session_login.proofs.Showing.{shows_front, shows_none, shows_whole}
+use Rattle.session_login.proofs.Reporting.{reports_front, reports_none, reports_whole}
 use Rattle.session_login.proofs.attempt.deny.Goals as goal
 
 pub returns-in-Err-clause-told : goal.returns-in-Err-clause-told
@@ -20,3 +21,14 @@ returns-in-Ok-write_all-clause-shows g c = λ sink. shows_whole _ _ c.in-Ok-writ
 
 pub returns-clause-shows : goal.returns-clause-shows
 returns-clause-shows g c = λ sink. shows_front _ c.in-Err-write_all.field-0 _ _ _ (rw c.as_bytes.ensures.value at (c.in-Err-write_all.ensures.told sink))
+
+pub returns-in-Err-clause-reports : goal.returns-in-Err-clause-reports
+returns-in-Err-clause-reports g c = λ sink. reports_none _ _ _ _ _ (refl, refl)
+
+pub returns-in-Ok-write_all-clause-reports : goal.returns-in-Ok-write_all-clause-reports
+returns-in-Ok-write_all-clause-reports g c = λ sink.
+    reports_whole _ _ c.in-Ok-write_all.field-0 _ _ _ (rw c.as_bytes.ensures.value at (c.in-Ok-write_all.ensures.told sink)) (refl, c.in-Ok.ensures)
+
+pub returns-clause-reports : goal.returns-clause-reports
+returns-clause-reports g c = λ sink.
+    reports_front _ c.in-Err-write_all.field-0 _ _ _ _ (rw c.as_bytes.ensures.value at (c.in-Err-write_all.ensures.told sink)) (refl, c.in-Ok.ensures)

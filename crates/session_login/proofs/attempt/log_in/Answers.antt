@@ -2,11 +2,15 @@ use Rattle.std.proofs.Common.{Err, ◌∙◌, refl}
 use Rattle.session_login.proofs.Coming.{logs_on, logs_stopped}
 use Rattle.session_run.proofs.Going.{still_told, went_on, went_so}
 use Rattle.session_login.proofs.Proceeding.{no_end, own_end}
-use Rattle.session_login.proofs.Showing.{end_said, shows_then}
+use Rattle.session_login.proofs.Showing.{end_said, shows_stop, shows_then}
+use Rattle.session_login.proofs.Reporting.{said_calls, said_course_stopped}
 use Rattle.session_login.proofs.attempt.log_in.Goals as goal
 
 pub returns-in-Err-clause-told : goal.returns-in-Err-clause-told
 returns-in-Err-clause-told g c = λ delay is told sink. logs_stopped _ _ _ _ _ _ _ (c.in-Err.ensures.told delay is told sink)
+
+pub returns-in-Err-clause-shows : goal.returns-in-Err-clause-shows
+returns-in-Err-clause-shows g c = λ sink. shows_stop _ _ _ _ _ (c.in-Err.ensures.shows sink)
 
 pub returns-in-Err-clause-went : goal.returns-in-Err-clause-went
 returns-in-Err-clause-went g c = went_so _ _ (no_end (Err c.in-Err.stop)) _ _ c.go_through.ensures.went
@@ -23,3 +27,9 @@ returns-in-Ok-clause-went g c =
 
 pub returns-in-Ok-clause-shows : goal.returns-in-Ok-clause-shows
 returns-in-Ok-clause-shows g c = λ sink. shows_then _ _ c.in-Ok.denied _ _ _ _ (c.in-Ok.ensures.shows sink) (c.settle.ensures.shows (c.go_through.ensures.sink_tells ∙ sink)) end_said
+
+pub returns-in-Err-clause-reports : goal.returns-in-Err-clause-reports
+returns-in-Err-clause-reports g c = λ sink. said_course_stopped _ _ _ (c.in-Err.ensures.reports sink)
+
+pub returns-in-Ok-clause-reports : goal.returns-in-Ok-clause-reports
+returns-in-Ok-clause-reports g c = λ sink. said_calls c.in-Ok.denied _ _ _ _ (c.in-Ok.ensures.reports sink) (c.settle.ensures.reports (c.go_through.ensures.sink_tells ∙ sink))

@@ -18,3 +18,9 @@ pub returns-clause-went : goal.returns-clause-went
 returns-clause-went g c =
     went_on _ _ _ _ c.try_login-result.ensures.went
     (went_so _ _ (closing_end_as c.try_login-result.result c.closing_code.result c.closing_code.ensures) _ _ c.end_silently.ensures.went)
+
+pub returns-clause-shows : goal.returns-clause-shows
+returns-clause-shows g c = λ sink. c.try_login-result.ensures.shows sink
+
+pub returns-clause-reports : goal.returns-clause-reports
+returns-clause-reports g c = λ sink. c.try_login-result.ensures.reports sink

@@ -5,6 +5,7 @@ use Rattle.session_login.proofs.Coming.{comes_stopped, made_as, settles_denied}
 use Rattle.session_run.proofs.Going.{went_so}
 use Rattle.session_login.proofs.Proceeding.{end_ends_as}
 use Rattle.session_login.proofs.Showing.{end_said, shows_then}
+use Rattle.session_login.proofs.Reporting.{said_denial, said_end_stopped, said_passed}
 use Rattle.session_login.proofs.attempt.settle.Goals as goal
 
 pub returns-in-Err-clause-told : goal.returns-in-Err-clause-told
@@ -27,3 +28,13 @@ returns-clause-went g c = went_so _ _ (end_ends_as _ c.end_call.result (c.end_ca
 
 pub returns-clause-shows : goal.returns-clause-shows
 returns-clause-shows g c = λ sink. shows_then _ _ c.in-Ok.field-0 _ _ _ _ (c.in-Ok.ensures.shows sink) (c.deny.ensures.shows (c.make.ensures.sink_tells ∙ sink)) end_said
+
+pub returns-in-Err-clause-reports : goal.returns-in-Err-clause-reports
+returns-in-Err-clause-reports g c = λ sink. said_end_stopped _ _ (c.end_call.ensures ∙ ap end_call c.end_code.ensures) _ _ _ (c.in-Err.ensures.reports sink)
+
+pub returns-in-None-clause-reports : goal.returns-in-None-clause-reports
+returns-in-None-clause-reports g c = λ sink. said_passed _ _ (c.end_call.ensures ∙ ap end_call c.end_code.ensures) _ _ _ c.in-None.is (c.in-Ok.ensures.reports sink)
+
+pub returns-clause-reports : goal.returns-clause-reports
+returns-clause-reports g c = λ sink.
+    said_denial _ _ (c.end_call.ensures ∙ ap end_call c.end_code.ensures) c.in-Some.code c.in-Some.is _ _ _ _ _ (c.in-Ok.ensures.reports sink) (c.deny.ensures.reports (c.make.ensures.sink_tells ∙ sink))

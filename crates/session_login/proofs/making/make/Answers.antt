@@ -4,6 +4,7 @@ use Rattle.session_login.proofs.Answering.{call_cut, call_failed, call_unwritten
 use Rattle.session_run.proofs.Going.{went_once}
 use Rattle.session_run.proofs.Proceeding.{call_ends}
 use Rattle.session_login.proofs.Showing.{shows_front, shows_none, shows_whole}
+use Rattle.session_login.proofs.Reporting.{by_sound, possible, reports_front, reports_none, reports_whole}
 use Rattle.session_login.proofs.making.make.Goals as goal
 
 pub returns-in-Err-clause-told : goal.returns-in-Err-clause-told
@@ -59,3 +60,17 @@ returns-in-Ok-write_all-clause-shows g c = λ sink. shows_whole _ _ c.in-Ok-writ
 
 pub returns-clause-shows : goal.returns-clause-shows
 returns-clause-shows g c = λ sink. shows_front _ c.in-Err-write_all.field-0 _ _ _ (rw c.as_bytes.ensures.value at (c.in-Err-write_all.ensures.told sink))
+
+pub returns-in-Err-clause-reports : goal.returns-in-Err-clause-reports
+returns-in-Err-clause-reports g c = λ sink. reports_none _ _ _ _ _ (possible _)
+
+pub returns-in-Err-line_of-clause-reports : goal.returns-in-Err-line_of-clause-reports
+returns-in-Err-line_of-clause-reports g c = λ sink. reports_none _ _ _ _ _ (possible _)
+
+pub returns-in-Ok-write_all-clause-reports : goal.returns-in-Ok-write_all-clause-reports
+returns-in-Ok-write_all-clause-reports g c = λ sink.
+    reports_whole _ _ c.in-Ok-write_all.field-0 _ _ _ (rw c.as_bytes.ensures.value at (c.in-Ok-write_all.ensures.told sink)) (by_sound _ _ _ _ c.requires.sound _ _ c.in-Ok.ensures.answer, c.in-Ok-line_of.ensures)
+
+pub returns-clause-reports : goal.returns-clause-reports
+returns-clause-reports g c = λ sink.
+    reports_front _ c.in-Err-write_all.field-0 _ _ _ _ (rw c.as_bytes.ensures.value at (c.in-Err-write_all.ensures.told sink)) (by_sound _ _ _ _ c.requires.sound _ _ c.in-Ok.ensures.answer, c.in-Ok-line_of.ensures)
