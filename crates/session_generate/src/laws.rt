@@ -8,9 +8,9 @@ ghost use Rattle.session_generate.specs.Generated.{generation};
 ghost use Rattle.session_generate.specs.Loads.{IsFree, LoadsAll};
 
 /// Each generated file is one of rules without a fault: a rule of the type auth for each of its
-/// lines, with the actions and the argument that the seed gives, and after those of an odd file one that
-/// names the file after it. So is the service, whose rules name the odd files. This is a
-/// law about the definitions: its contract states it.
+/// lines, with the actions and the argument that the seed gives, and in an odd file that isn't the
+/// last, one more, which names the file after it. So is the service, whose rules name the odd files.
+/// This is a law about the definitions: its contract states it.
 pub fn generated_files_are_read()
     ensures files { (seed lines k : ℕ) → lines ≤ 4096 → k ≤ count_of lines →
         HoldsRules (text_of seed lines k) (contents_of seed lines k) }
