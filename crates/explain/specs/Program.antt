@@ -7,7 +7,7 @@ use Rattle.pam_outside.specs.Streams.{SinkState}
 use Rattle.explain.specs.declared.explaining.Output.{Output}
 use Rattle.explain.specs.declared.input.Report.{Report}
 use Rattle.explain.specs.declared.input.Report.TheVariants.{Whole, TooLong, Unread}
-use Rattle.explain.specs.declared.program.Place.{Place}
+use Rattle.explain.specs.declared.program.Target.{Target}
 use Rattle.explain.specs.Explained.{Written, written, IsExplained, Explains, Shows, unread_explained}
 use Rattle.explain.specs.Input.{is_unread}
 
@@ -24,7 +24,7 @@ asked_of (root ∷ service ∷ []) =
 asked_of words = None
 
 -- what was found in them
-abbrev pub asked : Option Place → Option Asked
+abbrev pub asked : Option Target → Option Asked
 asked None = None
 asked (Some place) = Some (record { root = place.root.now; service = place.service.now })
 

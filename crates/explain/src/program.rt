@@ -21,7 +21,7 @@ const TOO_LONG: u8 = 12;
 
 /// A root, and a service below it.
 #[derive(Clone, Copy)]
-pub struct Place<'a> {
+pub struct Target<'a> {
     pub root: &'a [u8],
     pub service: &'a [u8],
 }
@@ -95,11 +95,11 @@ fn output_for<S: Source>(
 }
 
 // What the arguments name; None unless there are exactly two.
-fn place_in(words: &[String]) -> Option<Place<'_>>
+fn place_in(words: &[String]) -> Option<Target<'_>>
     ensures { asked result ≡ asked_of words.now }
 {
     match words {
-        [root, service] => Some(Place {
+        [root, service] => Some(Target {
             root: root.as_bytes(),
             service: service.as_bytes(),
         }),

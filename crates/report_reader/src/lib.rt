@@ -14,5 +14,5 @@ mod shown;
 mod told;
 mod words;
 
-pub use form::{Answer, Form, Outcome, Spoken};
+pub use form::{Form, ReportedAnswer, ReportedOutcome, Spoken};
 pub use line::read_line;

@@ -6,7 +6,7 @@ use crate::form::Form;
 use crate::last::read_last;
 use crate::outcome::read_result;
 use crate::told::{read_cleanup, read_message, read_missing, read_variable, read_visit, read_wait};
-use crate::words::{before_space, behind_space, number_of};
+use crate::words::{after_space, before_space, number_of};
 use pam_base::{NoMemory, are_digits};
 use std::alloc::Global;
 
@@ -19,13 +19,13 @@ pub fn read_line(alloc: Global, line: &[u8]) -> Result<Option<Form>, NoMemory>
         return read_last(alloc, line);
     }
     let number = number_of(before_space(line));
-    let behind_number = behind_space(line);
+    let behind_number = after_space(line);
     read_numbered(
         alloc,
         line,
         number,
         before_space(behind_number),
-        behind_space(behind_number),
+        after_space(behind_number),
     )
 }
 

@@ -4,14 +4,14 @@ ghost use Rattle.report_reader.specs.Form.{Reads, command_of};
 ghost use Rattle.report_reader.specs.Guess.{guessed_result, guessed_shown, if_printed};
 ghost use Rattle.report_reader.specs.Says.{results};
 
-use crate::form::{Form, Outcome, Spoken};
+use crate::form::{Form, ReportedOutcome, Spoken};
 use crate::names::{code_in, command_in};
 use crate::printed::if_printed;
 use crate::shown::{
     read_already_open, read_answer, read_bad_number, read_count, read_not_open, read_refusal,
     read_set, read_unset,
 };
-use crate::words::{before_space, behind_space};
+use crate::words::{after_space, before_space};
 use pam_base::{Code, NoMemory, are_digits};
 use report_lines::write_code_result;
 use std::alloc::Global;
@@ -49,7 +49,7 @@ fn read_closed(
         line,
         Form::Result {
             number,
-            outcome: Outcome::Closed,
+            outcome: ReportedOutcome::Closed,
         },
     ))
 }
@@ -70,9 +70,9 @@ fn read_shown(
     if are_digits(word) {
         read_count(alloc, line, number, command, word)
     } else if word == b"refused".as_slice() {
-        read_refusal(alloc, line, number, command, behind_space(words))
+        read_refusal(alloc, line, number, command, after_space(words))
     } else if word == b"set".as_slice() {
-        read_set(alloc, line, number, command, behind_space(words))
+        read_set(alloc, line, number, command, after_space(words))
     } else if word == b"unset".as_slice() {
         read_unset(alloc, line, number, command)
     } else if word == b"not".as_slice() {

@@ -3,13 +3,13 @@ ghost use Rattle.report_lines.specs.Line.{answered, shows_already_open, shows_ba
 ghost use Rattle.report_reader.specs.Form.{Reads, command_of, shown_of};
 ghost use Rattle.report_reader.specs.Guess.{guessed_answer, guessed_refusal, if_printed};
 ghost use Rattle.report_reader.specs.Says.{results};
-ghost use Rattle.report_reader.specs.Words.{behind_space, guessed_number, unquoted};
+ghost use Rattle.report_reader.specs.Words.{after_space, guessed_number, unquoted};
 
-use crate::form::{Answer, Form, Outcome, Spoken};
+use crate::form::{Form, ReportedAnswer, ReportedOutcome, Spoken};
 use crate::names::{code_in, command_word, fault_in, func_in};
 use crate::printed::{if_printed, push_refused};
 use crate::quoted::unquoted;
-use crate::words::{before_last, before_space, behind_space, last_word, number_of};
+use crate::words::{after_space, before_last, before_space, last_word, number_of};
 use pam_base::{Code, Func, NoMemory, Text};
 use report_lines::{
     write_code_result, write_count_result, write_pending_result, write_result, write_value_result,
@@ -17,12 +17,12 @@ use report_lines::{
 use std::alloc::Global;
 
 // The form of a result.
-fn result_form(number: u32, command: Spoken, answer: Answer) -> Form
-    ensures { result ≡ Form.Result number (Outcome.Answered command answer) }
+fn result_form(number: u32, command: Spoken, answer: ReportedAnswer) -> Form
+    ensures { result ≡ Form.Result number (ReportedOutcome.Answered command answer) }
 {
     Form::Result {
         number,
-        outcome: Outcome::Answered(command, answer),
+        outcome: ReportedOutcome::Answered(command, answer),
     }
 }
 
@@ -55,7 +55,7 @@ pub fn read_count(
     Ok(if_printed(
         text.as_str(),
         line,
-        result_form(number, command, Answer::Count),
+        result_form(number, command, ReportedAnswer::Count),
     ))
 }
 
@@ -88,7 +88,7 @@ pub fn read_refusal(
     Ok(if_printed(
         text.as_str(),
         line,
-        result_form(number, command, Answer::Fault),
+        result_form(number, command, ReportedAnswer::Fault),
     ))
 }
 
@@ -110,7 +110,7 @@ pub fn read_set(
     Ok(if_printed(
         text.as_str(),
         line,
-        result_form(number, command, Answer::Value),
+        result_form(number, command, ReportedAnswer::Value),
     ))
 }
 
@@ -128,7 +128,7 @@ pub fn read_unset(
     Ok(if_printed(
         text.as_str(),
         line,
-        result_form(number, command, Answer::Value),
+        result_form(number, command, ReportedAnswer::Value),
     ))
 }
 
@@ -146,7 +146,7 @@ pub fn read_not_open(
     Ok(if_printed(
         text.as_str(),
         line,
-        result_form(number, command, Answer::NotOpen),
+        result_form(number, command, ReportedAnswer::NotOpen),
     ))
 }
 
@@ -164,7 +164,7 @@ pub fn read_already_open(
     Ok(if_printed(
         text.as_str(),
         line,
-        result_form(number, command, Answer::AlreadyOpen),
+        result_form(number, command, ReportedAnswer::AlreadyOpen),
     ))
 }
 
@@ -182,7 +182,7 @@ pub fn read_bad_number(
     Ok(if_printed(
         text.as_str(),
         line,
-        result_form(number, command, Answer::BadNumber),
+        result_form(number, command, ReportedAnswer::BadNumber),
     ))
 }
 
@@ -199,14 +199,14 @@ pub fn read_answer(
         (if_printed line.now (results number
         (answered (command_of command) (guessed_answer words.now)))) }
 {
-    let behind_code = behind_space(behind_space(words));
+    let behind_code = after_space(after_space(words));
     if before_space(behind_code) == b"pending".as_slice() {
         read_pending(
             alloc,
             line,
             number,
             command,
-            func_in(behind_space(behind_code)),
+            func_in(after_space(behind_code)),
         )
     } else {
         read_code(alloc, line, number, command, code_in(before_space(words)))
@@ -228,7 +228,7 @@ fn read_pending(
     Ok(if_printed(
         text.as_str(),
         line,
-        result_form(number, command, Answer::Pending(func)),
+        result_form(number, command, ReportedAnswer::Pending(func)),
     ))
 }
 
@@ -247,6 +247,6 @@ fn read_code(
     Ok(if_printed(
         text.as_str(),
         line,
-        result_form(number, command, Answer::Code(code)),
+        result_form(number, command, ReportedAnswer::Code(code)),
     ))
 }

@@ -3,13 +3,13 @@ ghost use Rattle.report_lines.specs.Line.{told_cleanup, told_missing, told_varia
 ghost use Rattle.report_reader.specs.Form.{Reads};
 ghost use Rattle.report_reader.specs.Guess.{guessed_cleanup, guessed_message, guessed_seen, guessed_wait, has_form, if_printed};
 ghost use Rattle.report_reader.specs.Says.{tells};
-ghost use Rattle.report_reader.specs.Words.{behind_space, unquoted};
+ghost use Rattle.report_reader.specs.Words.{after_space, unquoted};
 
 use crate::form::Form;
 use crate::names::{code_in, style_in};
 use crate::printed::{if_printed, push_cleaned, push_visit, push_waited};
 use crate::quoted::unquoted;
-use crate::words::{before_last, before_space, behind_space, last_word, number_of, status_of};
+use crate::words::{after_space, before_last, before_space, last_word, number_of, status_of};
 use pam_base::{NoMemory, first_place};
 use report_lines::{write_missing, write_said, write_variable};
 use stack_walk::Seen;
@@ -25,7 +25,7 @@ pub fn read_message(
     ensures { Reads result (if_printed line.now (tells number (guessed_message words.now))) }
 {
     let style = style_in(number_of(before_space(words)));
-    let message = unquoted(alloc, behind_space(words))?;
+    let message = unquoted(alloc, after_space(words))?;
     let mut text = String::new(alloc);
     write_said(&mut text, number, style, message.bytes())?;
     Ok(if_printed(
@@ -49,7 +49,7 @@ pub fn read_visit(
         (if_printed line.now (tells number (told_visit (guessed_seen words.now)))) }
 {
     let place = number_of(before_space(words));
-    let named = before_last(behind_space(words));
+    let named = before_last(after_space(words));
     let name = unquoted(alloc, before_last(named))?;
     let answer = code_in(last_word(named));
     let mut text = String::new(alloc);
@@ -78,9 +78,9 @@ pub fn read_cleanup(
     ensures { Reads result
         (if_printed line.now (tells number (told_cleanup (guessed_cleanup words.now)))) }
 {
-    let behind_id = behind_space(words);
-    let behind_status = behind_space(behind_id);
-    let names = unquoted(alloc, behind_space(behind_status))?;
+    let behind_id = after_space(words);
+    let behind_status = after_space(behind_id);
+    let names = unquoted(alloc, after_space(behind_status))?;
     let mut text = String::new(alloc);
     push_cleaned(
         &mut text,
@@ -89,7 +89,7 @@ pub fn read_cleanup(
         status_of(before_space(behind_id)),
         number_of(before_space(behind_status)),
         before_space(names.bytes()),
-        behind_space(names.bytes()),
+        after_space(names.bytes()),
     )?;
     Ok(if_printed(
         text.as_str(),
@@ -110,14 +110,14 @@ pub fn read_wait(
 ) -> Result<Option<Form>, NoMemory>
     ensures { Reads result (if_printed line.now (tells number (guessed_wait words.now))) }
 {
-    let behind_code = behind_space(behind_space(words));
+    let behind_code = after_space(after_space(words));
     let mut text = String::new(alloc);
     push_waited(
         &mut text,
         number,
         code_in(before_space(words)),
         number_of(before_space(behind_code)),
-        number_of(behind_space(behind_code)),
+        number_of(after_space(behind_code)),
     )?;
     Ok(if_printed(
         text.as_str(),
@@ -137,9 +137,9 @@ pub fn read_missing(
     words: &[u8],
 ) -> Result<Option<Form>, NoMemory>
     ensures { Reads result
-        (if_printed line.now (tells number (told_missing (unquoted (behind_space words.now))))) }
+        (if_printed line.now (tells number (told_missing (unquoted (after_space words.now))))) }
 {
-    let name = unquoted(alloc, behind_space(words))?;
+    let name = unquoted(alloc, after_space(words))?;
     let mut text = String::new(alloc);
     write_missing(&mut text, number, name.bytes())?;
     Ok(if_printed(
