@@ -4,7 +4,7 @@ ghost use Rattle.conv_port.specs.Message.{AreReplies, IsExchange};
 ghost use Rattle.pam_outside.specs.Files.{VaultState};
 ghost use Rattle.pam_outside.specs.Time.{ClockState};
 ghost use Rattle.account_files.specs.pam_room.specs.State.{PlainProcess};
-ghost use Rattle.account_files.specs.pam_room.specs.Say.{Shows, signs, token_of};
+ghost use Rattle.account_files.specs.pam_room.specs.Say.{ConvErrIsCounted, signs, token_of};
 ghost use Rattle.account_files.specs.Act.{asks_user};
 ghost use Rattle.module_acts.specs.Comes.{Comes, ComesTo, lent};
 ghost use Rattle.module_acts.specs.Steps.{asks_token, exchanges};
@@ -27,7 +27,7 @@ pub fn require_user(
         ComesTo result (unwrap_or transaction.new.items.user []) asks_user
         (lent transaction.old (conv_holds conv.old) vault clock process)
         (lent transaction.new (conv_holds conv.new) vault clock process) }
-    ensures shows { Shows result (signs (conv_faults conv.old)
+    ensures shows { ConvErrIsCounted result (signs (conv_faults conv.old)
         (conv_deferrals conv.old) transaction.old.put_off)
         (signs (conv_faults conv.new) (conv_deferrals conv.new) transaction.new.put_off) }
     ensures set { OnOk result (transaction.new.items.user ≢ None) }
@@ -55,7 +55,7 @@ pub fn require_token(
         (asks_token old prompt.now)
         (lent transaction.old (conv_holds conv.old) vault clock process)
         (lent transaction.new (conv_holds conv.new) vault clock process) }
-    ensures shows { Shows result (signs (conv_faults conv.old)
+    ensures shows { ConvErrIsCounted result (signs (conv_faults conv.old)
         (conv_deferrals conv.old) transaction.old.put_off)
         (signs (conv_faults conv.new) (conv_deferrals conv.new) transaction.new.put_off) }
     ensures set { OnOk result (text_of transaction.new.items (token_of old) ≢ None) }
@@ -81,7 +81,7 @@ pub fn exchange(
         (lent transaction.new (conv_holds conv.new) vault clock process) }
     ensures untaken { IsTrue (conv_tells conv.old) → result ≡ Err Refuse.NoMemory →
         conv_holds conv.new ≡ conv_holds conv.old }
-    ensures shows { Shows result (signs (conv_faults conv.old)
+    ensures shows { ConvErrIsCounted result (signs (conv_faults conv.old)
         (conv_deferrals conv.old) transaction.old.put_off)
         (signs (conv_faults conv.new) (conv_deferrals conv.new) transaction.new.put_off) }
     ensures replies { IfOk result (λ replies. AreReplies messages.now replies) }
