@@ -5,7 +5,7 @@ ghost use Rattle.pam_outside.specs.Counts.{RisesIf};
 ghost use Rattle.session_run.specs.item_stream.specs.Turns.{has_write_fault};
 ghost use Rattle.session_run.specs.Reading.{WritesScript};
 ghost use Rattle.session_run.specs.Seen.{AllTell, IsSoundIn, NoneIsOpenIn, Went, setting_in, state};
-ghost use Rattle.session_generate.specs.Generated.{Finds, Generates, IsEndOfFinding, IsEndOfGenerate, IsFound, attempted, generated_text, generation};
+ghost use Rattle.session_generate.specs.Generated.{AttemptStops, FindsOrStops, Generates, IsEndOfFinding, IsEndOfGenerate, IsFound, attempted, generated_text, generation};
 ghost use Rattle.session_generate.specs.Login.{ComesTo, IsEndWith, end_status};
 
 use crate::login::{Login, log_in};
@@ -101,9 +101,8 @@ fn find(
     requires sound { IsSoundIn (⟦<Session as Told>⟧.seen library.old world.old) }
     ensures told { let seen = ⟦<Session as Told>⟧.seen in (delay : TheCode → ℕ → ℕ) →
         (seen library.old world.old).gives delay → AllTell (seen library.old world.old) →
-        IfOk result (λ finding. Finds finding (generation
-        (setting_in (seen library.old world.old) delay) seed lines
-        (state (seen library.old world.old))) (state (seen library.new world.new))) }
+        FindsOrStops result (generation (setting_in (seen library.old world.old) delay) seed lines
+        (state (seen library.old world.old))) (state (seen library.new world.new)) }
     ensures none_open { NoneIsOpenIn (⟦<Session as Told>⟧.seen library.new world.new) }
     ensures went { let seen = ⟦<Session as Told>⟧.seen in Went (IsEndOfFinding result)
         (seen library.old world.old) (seen library.new world.new) }
@@ -125,8 +124,10 @@ fn attempt(
     requires sound { IsSoundIn (⟦<Session as Told>⟧.seen library.old world.old) }
     ensures told { let seen = ⟦<Session as Told>⟧.seen in (delay : TheCode → ℕ → ℕ) →
         (seen library.old world.old).gives delay → AllTell (seen library.old world.old) →
-        ComesTo result (attempted (setting_in (seen library.old world.old) delay) seed lines
-        (state (seen library.old world.old))) (state (seen library.new world.new)) }
+        (let setting = setting_in (seen library.old world.old) delay in
+        let before = state (seen library.old world.old) in
+        ComesTo result (attempted setting seed lines before)
+        (AttemptStops setting seed lines before) (state (seen library.new world.new))) }
     ensures none_open { NoneIsOpenIn (⟦<Session as Told>⟧.seen library.new world.new) }
     ensures went { let seen = ⟦<Session as Told>⟧.seen in Went
         (IsEndWith (number_of (end_status result))) (seen library.old world.old)

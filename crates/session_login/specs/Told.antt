@@ -1,11 +1,8 @@
 -- How far a login came, and what is written of it (this project's own).
-use Rattle.std.specs.Prelude.{◌≡◌, ◌⊎◌, ℕ, ◌+◌, ◌≤◌, true, List, [], ◌∷◌, ◌++◌, length, Option, Result, Ok, Err, IfOk, OnOk}
+use Rattle.std.specs.Prelude.{◌≡◌, ◌⊎◌, ℕ, ◌+◌, ◌≤◌, List, [], ◌∷◌, ◌++◌, length, Option, Result, Ok, Err, IfOk, OnOk}
 use Rattle.pam_base.specs.declared.code.Code.{Code}
 use Rattle.pam_base.specs.declared.call.AppCall.{AppCall}
 use Rattle.pam_outside.specs.Streams.{SinkState}
-use Rattle.session_run.specs.pam_room.specs.Module.{notes_of}
-use Rattle.session_run.specs.pam_library.specs.AnyWorld.{FailsAt, SpendsAt, leaves_world}
-use Rattle.session_run.specs.pam_library.specs.Slots.{lists_of, slot_at}
 use Rattle.session_run.specs.pam_library.specs.declared.outcome.Answer.{Answer}
 use Rattle.session_run.specs.service_load.specs.declared.load_fault.LoadFault.{LoadFault}
 use Rattle.item_stream.specs.declared.ending.Stop.{Stop}
@@ -14,28 +11,18 @@ use Rattle.session_run.specs.session_report.specs.Fault.{refused_text}
 use Rattle.session_run.specs.Endings.{stop_status}
 use Rattle.session_run.specs.Reported.{CutBy}
 use Rattle.session_run.specs.State.{Setting, RunState}
+use Rattle.session_run.specs.Step.{CallFails}
 use Rattle.session_login.specs.declared.attempt.Verdict.{Verdict}
 use Rattle.session_login.specs.declared.attempt.Verdict.TheVariants.{Passed, Denied, Refused}
-use Rattle.session_login.specs.Login.{Course, Login, Made, answer_line, denied_line, end_call, last_line, lines_of_calls, make, made_line, state_behind}
+use Rattle.session_login.specs.Login.{Course, Login, Made, answer_line, denied_line, end_call, last_line, lines_of_calls, make, made_line, state_behind, step_of}
 
 -- ---- a call that stops the login
 
--- The states that a call may leave that ran out of memory: what the library says of the first transaction, with every
--- other as it was, and of the data and the world.
-pub record FindsNoMemory (setting : Setting) (call : AppCall) (s t : RunState) : Type 0 where
-  pub place : FailsAt true call (slot_at s.slots 1) (slot_at t.slots 1)
-  pub others : (number : ℕ) → (number ≡ 1 → ⊥) → slot_at t.slots number ≡ slot_at s.slots number
-  pub spends : SpendsAt (notes_of setting.players) (length setting.players) (slot_at s.slots 1) call
-      (lists_of s.slots 1) s.world.process.ledger (lists_of t.slots 1) t.world.process.ledger
-  pub root : t.world.process.root ≡ s.world.process.root
-  pub caller : t.world.process.caller ≡ s.world.process.caller
-  pub world : leaves_world (slot_at s.slots 1) call ≡ true → t.world ≡ s.world
-
 -- A write failed: the call was made. An allocation failed: the call was made, or it wasn't begun, or it ran out of
--- memory.
+-- memory itself and left a state that the library says.
 abbrev pub StopsIn : Setting → Stop → RunState → Made → RunState → Type 0
 StopsIn setting WriteFault s m t = t ≡ m.state
-StopsIn setting NoMemory s m t = (t ≡ m.state) ⊎ ((t ≡ s) ⊎ FindsNoMemory setting m.call s t)
+StopsIn setting NoMemory s m t = (t ≡ m.state) ⊎ ((t ≡ s) ⊎ CallFails setting (step_of m.call) s t)
 
 -- ---- some calls
 

@@ -2,7 +2,7 @@ use Rattle.std.proofs.Common.{refl, ◌∙◌}
 use Rattle.session_run.specs.pam_room.specs.Plain.{plain_world}
 use Rattle.session_run.specs.pam_room.specs.State.{PlainWorld}
 use Rattle.session_run.specs.State.{state_of}
-use Rattle.session_generate.proofs.Attempting.{all_placed, not_placed, vault_of}
+use Rattle.session_generate.proofs.Attempting.{all_placed, not_begun, not_drawn, not_placed, vault_of}
 use Rattle.session_generate.proofs.Closing.{both_tell}
 use Rattle.session_run.proofs.Going.{went_on, went_quietly}
 use Rattle.session_generate.proofs.generating.attempt.Goals as goal
@@ -20,6 +20,12 @@ pub returns-clause-went : goal.returns-clause-went
 returns-clause-went g c =
     went_on _ _ _ _ (went_quietly _ _ _ refl refl (c.place_in_world.ensures.tells ∙ c.go_to_root.ensures.tells) (λ number gives. gives) refl (rw (c.place_in_world.ensures.process, c.go_to_root.ensures.ledger) refl) c.requires.sound)
     c.log_in.ensures.went
+
+pub returns-in_err-go_to_root-clause-told : goal.returns-in_err-go_to_root-clause-told
+returns-in_err-go_to_root-clause-told g c = λ delay is told. not_begun _ c.args.seed c.args.lines _ _ (rw c.in_err-go_to_root.ensures.err refl)
+
+pub returns-in_err-files-clause-told : goal.returns-in_err-files-clause-told
+returns-in_err-files-clause-told g c = λ delay is told. not_drawn _ c.args.seed c.args.lines _ _ c.in_ok-go_to_root.ensures.ok
 
 pub returns-in-Err-clause-told : goal.returns-in-Err-clause-told
 returns-in-Err-clause-told g c = λ delay is told.
