@@ -9,7 +9,7 @@ ghost use Rattle.session_generate.specs.Generated.{AttemptStops, FindsOrStops, G
 ghost use Rattle.session_generate.specs.Login.{ComesTo, IsEndWith, end_status};
 
 use crate::login::{Login, log_in};
-use crate::place::go_to_root;
+use crate::place::set_process;
 use crate::placing::place_in_world;
 use drawn_files::{MAX_DRAWN, draw_files, file_count};
 use pam_base::{Failed, NoMemory, Refuse, Text, code_name, code_number};
@@ -133,7 +133,7 @@ fn attempt(
         (IsEndWith (number_of (end_status result))) (seen library.old world.old)
         (seen library.new world.new) }
 {
-    go_to_root(alloc, world)?;
+    set_process(alloc, world)?;
     let files = draw_files(alloc, seed, lines)?;
     match place_in_world(alloc, &files, world) {
         Err(refuse) => Err(refuse),

@@ -17,7 +17,7 @@ use Rattle.session_run.specs.State.{Setting, RunState, state_of}
 use Rattle.session_run.specs.Step.{CallFails}
 use Rattle.session_login.specs.Calls.{call_with}
 use Rattle.session_login.specs.Login.{answer_line, lines_of_calls, make, made_line, step_of}
-use Rattle.session_login.specs.Told.{Goes, Makes}
+use Rattle.session_login.specs.Told.{MakesCalls, Makes}
 
 pub fit_call : (func : Func) (flags : ℕ) → is_fit (call_with func flags) ≡ true
 fit_call funcs.Authenticate flags = refl
@@ -28,7 +28,7 @@ fit_call funcs.CloseSession flags = refl
 fit_call funcs.ChAuthTok flags = refl
 
 module _ (setting : Setting) (call : AppCall) (s : RunState) where
-  stopped : (stop : Stop) (t : RunState) (p q : SinkState) → Goes {T = Answer} setting (make setting call s ∷ []) (Err stop) s t p q
+  stopped : (stop : Stop) (t : RunState) (p q : SinkState) → MakesCalls {T = Answer} setting (make setting call s ∷ []) (Err stop) s t p q
       → Makes setting (make setting call s) (Err stop) s t p q
   stopped stop t p q g = record { answers = tt; goes = g }
 

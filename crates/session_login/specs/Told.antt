@@ -28,58 +28,58 @@ StopsIn setting NoMemory s m t = (t ≡ m.state) ⊎ ((t ≡ s) ⊎ CallFails se
 
 -- The lines of all these calls are written; or it stopped in one, whose line isn't whole, and nothing is written
 -- after it.
-abbrev pub GoesTo : {T : Type 0} → Setting → Result T Stop → RunState → RunState → List Made
+abbrev pub CallsLead : {T : Type 0} → Setting → Result T Stop → RunState → RunState → List Made
     → List Made → List ℕ → Type 0
-GoesTo setting (Ok done) s t whole others part = (others ≡ []) × (part ≡ [])
+CallsLead setting (Ok done) s t whole others part = (others ≡ []) × (part ≡ [])
     × (t ≡ state_behind s whole)
-GoesTo setting (Err stop) s t whole [] part = ⊥
-GoesTo setting (Err stop) s t whole (m ∷ made) part = CutBy stop part (made_line m)
+CallsLead setting (Err stop) s t whole [] part = ⊥
+CallsLead setting (Err stop) s t whole (m ∷ made) part = CutBy stop part (made_line m)
     × StopsIn setting stop (state_behind s whole) m t
 
-pub record Goes {T : Type 0} (setting : Setting) (made : List Made) (result : Result T Stop)
+pub record MakesCalls {T : Type 0} (setting : Setting) (made : List Made) (result : Result T Stop)
     (s t : RunState) (old new : SinkState) : Type 0 where
   pub whole : List Made
   pub others : List Made
   pub among : made ≡ whole ++ others
   pub part : List ℕ
   pub written : new.written ≡ old.written ++ (lines_of_calls whole ++ part)
-  pub to : GoesTo setting result s t whole others part
+  pub to : CallsLead setting result s t whole others part
 
 -- one call, with its result
 pub record Makes (setting : Setting) (m : Made) (result : Result Answer Stop) (s t : RunState)
     (old new : SinkState) : Type 0 where
   pub answers : IfOk result (λ (answer : Answer). answer ≡ m.answer)
-  pub goes : Goes setting (m ∷ []) result s t old new
+  pub goes : MakesCalls setting (m ∷ []) result s t old new
 
 -- the calls between start and end, and the code of the one that denied
-pub record GoesThrough (setting : Setting) (c : Course) (result : Result (Option Code) Stop)
+pub record MakesCourse (setting : Setting) (c : Course) (result : Result (Option Code) Stop)
     (s t : RunState) (old new : SinkState) : Type 0 where
   pub denies : IfOk result (λ (denied : Option Code). denied ≡ c.denied)
-  pub goes : Goes setting c.made result s t old new
+  pub goes : MakesCalls setting c.made result s t old new
 
 -- ---- the whole login
 
 -- The lines of all its calls are written, and the last line; or it stopped in that one, if there is one; or in a call.
 -- If it stops, something may be done to the state last.
-abbrev pub ComesTo : Setting → (Stop → RunState → RunState) → Login → Result Verdict Stop → RunState
+abbrev pub LoginLeads : Setting → (Stop → RunState → RunState) → Login → Result Verdict Stop → RunState
     → RunState → List Made → List Made → List ℕ → Type 0
-ComesTo setting behind l (Ok verdict) s t whole others part = (others ≡ [])
+LoginLeads setting behind l (Ok verdict) s t whole others part = (others ≡ [])
     × (part ≡ last_line verdict) × (verdict ≡ l.verdict) × (t ≡ state_behind s whole)
-ComesTo setting behind l (Err stop) s t whole [] part =
+LoginLeads setting behind l (Err stop) s t whole [] part =
     (code : Code) × (l.verdict ≡ Denied code) × CutBy stop part (denied_line code)
     × (t ≡ behind stop (state_behind s whole))
-ComesTo setting behind l (Err stop) s t whole (m ∷ made) part =
+LoginLeads setting behind l (Err stop) s t whole (m ∷ made) part =
     (d : RunState) × CutBy stop part (made_line m) × StopsIn setting stop (state_behind s whole) m d
     × (t ≡ behind stop d)
 
-pub record Comes (setting : Setting) (behind : Stop → RunState → RunState) (l : Login)
+pub record LogsInThen (setting : Setting) (behind : Stop → RunState → RunState) (l : Login)
     (result : Result Verdict Stop) (s t : RunState) (old new : SinkState) : Type 0 where
   pub whole : List Made
   pub others : List Made
   pub among : l.made ≡ whole ++ others
   pub part : List ℕ
   pub written : new.written ≡ old.written ++ (lines_of_calls whole ++ part)
-  pub to : ComesTo setting behind l result s t whole others part
+  pub to : LoginLeads setting behind l result s t whole others part
 
 abbrev pub as_it_is : Stop → RunState → RunState
 as_it_is stop s = s
@@ -102,12 +102,12 @@ ended_for setting stop s = (make setting (end_call (stop_status stop)) s).state
 -- A login with its verdict, and its text is written whole; or where it stopped, and a prefix of the text is.
 abbrev pub LogsIn : Setting → Login → Result Verdict Stop → RunState → RunState → SinkState
     → SinkState → Type 0
-LogsIn setting l result s t old new = Comes setting (ended_for setting) l result s t old new
+LogsIn setting l result s t old new = LogsInThen setting (ended_for setting) l result s t old new
 
 -- ---- what is written, whatever is modelled
 
 -- some bytes were written, with at most one call of `Sink` more than they are; without that one if all went well
-pub record Shows {T : Type 0} (Says : T → List ℕ → Type 0) (result : Result T Stop)
+pub record WritesLines {T : Type 0} (Says : T → List ℕ → Type 0) (result : Result T Stop)
     (p q : SinkState) : Type 0 where
   pub text : List ℕ
   pub written : q.written ≡ p.written ++ text

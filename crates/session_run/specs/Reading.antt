@@ -28,9 +28,9 @@ line_read done line = read_as (parsed line)
 abbrev pub refused_in : List ℕ → Bool → Option ScriptKind
 refused_in bytes ended = (run_of line_read 0 tt bytes ended).refused
 
--- whatever it is
-abbrev pub Whatever : Unit {0} → List ℕ → Unit {0} → Type 0
-Whatever before line after = Unit {0}
+-- no state is excluded
+abbrev pub AnyState : Unit {0} → List ℕ → Unit {0} → Type 0
+AnyState before line after = Unit {0}
 
 -- a sink to which nothing is written
 abbrev pub nowhere : SinkState
@@ -45,17 +45,17 @@ pub record TakesBytes (before : List ℕ) (x y : SourceState) : Type 0 where
 -- one item, one turn and many, for a sink to which nothing is written
 abbrev pub ReadsItem : {Kind : Type 0} → ItemStep (Unit {0}) Kind → Result (Option Kind) Stop → ℕ
     → List ℕ → Type 0
-ReadsItem step result n item = ServesTold step Whatever result n item tt tt nowhere nowhere
+ReadsItem step result n item = ServesTold step AnyState result n item tt tt nowhere nowhere
 
 pub record ReadsTurn {Kind : Type 0} (looked : Looks) (step : ItemStep (Unit {0}) Kind)
     (result : Result (Option (StreamEnding Kind)) Stop) (n m : ℕ) (before held : List ℕ)
     (x y : SourceState) : Type 0 where
-  pub turns : Turns looked step Whatever result n m tt tt before held x y nowhere nowhere
+  pub turns : Turns looked step AnyState result n m tt tt before held x y nowhere nowhere
   pub takes : TakesBytes before x y
 
 pub record ReadsAll {Kind : Type 0} (looked : Looks) (step : ItemStep (Unit {0}) Kind)
     (result : Result (StreamEnding Kind) Stop) (m : ℕ) (x y : SourceState) : Type 0 where
-  pub runs : Runs looked step Whatever result m tt tt x y nowhere nowhere
+  pub runs : Runs looked step AnyState result m tt tt x y nowhere nowhere
   pub takes : TakesBytes [] x y
 
 -- how a run ends, by the bytes: at the end of a script of which no line is refused; at the first line that is; or

@@ -14,7 +14,7 @@ ghost use Rattle.session_report.specs.report_lines.specs.Line.{number_words};
 ghost use Rattle.session_run.specs.AnyWorld.{Proceeds};
 ghost use Rattle.session_report.specs.pam_room.specs.Module.{Player};
 ghost use Rattle.session_run.specs.Closings.{all_closed, closings, closings_text};
-ghost use Rattle.session_run.specs.Isolation.{Came, GoesAsAlone, IsQuietStart, LeaveFiles, all_closing_texts, alone, came_among, script_alone, step_text_with, text_of, texts_among};
+ghost use Rattle.session_run.specs.Isolation.{MadeStep, GoesAsAlone, IsQuietStart, LeaveFiles, all_closing_texts, alone, steps_among, script_alone, step_text_with, text_of, texts_among};
 ghost use Rattle.session_run.specs.Reading.{line_read, refused_in};
 ghost use Rattle.session_run.specs.SideBySide.{ComesAlone, TellsSteps};
 ghost use Rattle.session_run.specs.State.{RunState, Setting};
@@ -46,8 +46,8 @@ pub fn transactions_go_as_alone()
     // What a run writes for the steps on a number, with the numbers of data sets left out.
     ensures texts { (setting : Setting) (number n : ℕ) (s : RunState) (script : List (List ℕ)) →
         texts_among setting number n s script
-        ≡ map (text_of (names_of setting.players)) (came_among setting number n s script) }
-    ensures words { (names : List (List ℕ)) (c : Came) →
+        ≡ map (text_of (names_of setting.players)) (steps_among setting number n s script) }
+    ensures words { (names : List (List ℕ)) (c : MadeStep) →
         step_text_with number_words names c ≡ text_of names c }
 
     // The reports of the implicit pam_end calls are those of each number, in order.
