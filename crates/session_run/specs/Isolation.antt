@@ -31,7 +31,7 @@ use Rattle.session_report.specs.Said.{messages_text}
 use Rattle.session_report.specs.Step.{step_text}
 use Rattle.session_report.specs.Visited.{visits_text}
 use Rattle.session_report.specs.Waited.{waited_text}
-use Rattle.session_run.specs.Closings.{all_closed, world_behind}
+use Rattle.session_run.specs.Closings.{all_closed, closings as all_closings, closings_text, world_behind}
 use Rattle.session_run.specs.State.{Setting, RunState}
 use Rattle.session_run.specs.Step.{line_step}
 
@@ -230,3 +230,22 @@ pub record GoesAsAlone (setting : Setting) (number n : ℕ) (s : RunState)
       ≡ (run_lines (line_step setting) n s (alone number script)).items
   pub refused : (run_lines (line_step setting) n s script).refused
       ≡ (run_lines (line_step setting) n s (alone number script)).refused
+
+-- So does each, from a quiet start, if no step on another number changes a file.
+pub record TransactionsStandAlone : Type 0 where
+  pub goes : (setting : Setting) (number n : ℕ) (s : RunState) (script : List (List ℕ))
+      → IsQuietStart s → LeaveFiles setting number n s script
+      → GoesAsAlone setting number n s script
+  -- what a run writes for the steps on a number, with the numbers of data sets left out
+  pub texts : (setting : Setting) (number n : ℕ) (s : RunState) (script : List (List ℕ))
+      → texts_among setting number n s script
+      ≡ map (text_of (names_of setting.players)) (steps_among setting number n s script)
+  pub words : (names : List (List ℕ)) (c : MadeStep)
+      → step_text_with number_words names c ≡ text_of names c
+  -- the reports of the implicit pam_end calls are those of each number, in order
+  pub closings : (setting : Setting) (status : Code) (s : RunState)
+      → closings_text (all_closings setting.players status s)
+      ≡ all_closing_texts setting.players status s
+  -- the lines of the script on one number, as a text
+  pub script : (number : ℕ) (text : List ℕ)
+      → lines_of (script_alone number text) ≡ alone number (lines_of text)

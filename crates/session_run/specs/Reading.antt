@@ -8,11 +8,14 @@ use Rattle.script_lang.specs.Line.{parsed}
 use Rattle.item_stream.specs.declared.ending.Ending.{Ending as StreamEnding}
 use Rattle.item_stream.specs.declared.ending.Ending.TheVariants.{Done, ReadFault, Refused}
 use Rattle.item_stream.specs.declared.ending.Stop.{Stop}
-use Rattle.item_stream.specs.Run.{ItemStep, Looks}
+use Rattle.item_stream.specs.Laws.{EndIsTurn, FaultIsTurn, ItemIsTurn, NoTurnYet, RestIsTurn, StopsAtOnce, TurnsAreRun, TurnsGoOn}
+use Rattle.item_stream.specs.Run.{ItemStep, Looks, Refuses}
 use Rattle.item_stream.specs.Turns.{ServesTold, Turns}
 use Rattle.item_stream.specs.Whole.{Runs}
 use Rattle.script_stream.specs.Run.{LineStep, run_of}
 use Rattle.script_stream.specs.Turns.{Ending}
+use Rattle.session_run.specs.State.{RunState, Setting}
+use Rattle.session_run.specs.Step.{line_step}
 
 -- ---- what is read
 
@@ -27,6 +30,14 @@ line_read done line = read_as (parsed line)
 -- why a line among some bytes is refused, if one is; whether the input ends after them
 abbrev pub refused_in : List ℕ → Bool → Option ScriptKind
 refused_in bytes ended = (run_of line_read 0 tt bytes ended).refused
+
+-- a run refuses the same line, whatever its lines do and from whatever state
+pub record RefusesByBytes : Type 0 where
+  pub refused : (setting : Setting) (start : RunState) (bytes : List ℕ) (ended : Bool)
+      → (run_of (line_step setting) 0 start bytes ended).refused ≡ refused_in bytes ended
+  pub lines : (setting : Setting) (start : RunState) (bytes : List ℕ) (ended : Bool)
+      → (run_of (line_step setting) 0 start bytes ended).items
+      ≡ (run_of line_read 0 tt bytes ended).items
 
 -- no state is excluded
 abbrev pub AnyState : Unit {0} → List ℕ → Unit {0} → Type 0
@@ -57,6 +68,18 @@ pub record ReadsAll {Kind : Type 0} (looked : Looks) (step : ItemStep (Unit {0})
     (result : Result (StreamEnding Kind) Stop) (m : ℕ) (x y : SourceState) : Type 0 where
   pub runs : Runs looked step AnyState result m tt tt x y nowhere nowhere
   pub takes : TakesBytes [] x y
+
+-- the laws on turns, for a stream of which only the source is modelled
+pub record ReadingIsTurns {Kind : Type 0} (looked : Looks) (refuses : Refuses)
+    (step : ItemStep (Unit {0}) Kind) : Type 0 where
+  pub none_yet : NoTurnYet looked step AnyState
+  pub no_memory : StopsAtOnce looked step AnyState
+  pub fault : FaultIsTurn looked refuses step AnyState
+  pub end : EndIsTurn looked refuses step AnyState
+  pub item : ItemIsTurn looked refuses step AnyState
+  pub rest : RestIsTurn looked refuses step AnyState
+  pub on : TurnsGoOn looked step AnyState
+  pub run : TurnsAreRun looked step AnyState
 
 -- how a run ends, by the bytes: at the end of a script of which no line is refused; at the first line that is; or
 -- after lines that aren't
