@@ -18,7 +18,7 @@ impl NumberedLine<'_> {
     ghost use Rattle.report_reader.specs.Guess.{if_printed};
     ghost use Rattle.report_reader.specs.Says.{Says, says_text};
 
-    /// What is reported before a result, if its text is the line.
+    /// A line before a result, if its text is the line.
     pub fn if_told(self, text: &str, visit: Option<Seen>) -> Option<Form>
         ensures { (s : Says) → says_text s ≡ text.now →
             IsRead (Some (Form.Told self.number visit)) (Some s) →

@@ -22,7 +22,7 @@ use Rattle.item_stream.specs.Taking.{Finds}
 use Rattle.script_stream.specs.Looked.{looked as looked_lines}
 use Rattle.script_stream.specs.Turns.{Ending}
 use Rattle.session_run.specs.Asked.{AreAccepted, Asking, FirstAsks, HasEndAmong, IsEnd, IsEndAmong, LeadsOn}
-use Rattle.session_run.specs.Ends.{HasEnd, HasStatus, IsEndOfRun}
+use Rattle.session_run.specs.Ends.{HasEnd, IsStatusOf, IsEndOfRun}
 use Rattle.session_run.specs.Endings.{ending_status, stop_status}
 use Rattle.session_run.specs.Reading.{read_as}
 use Rattle.session_run.specs.Script.{line_asked}
@@ -139,9 +139,9 @@ by_line all tells text number status has told =
 -- ---- after the lines
 
 pub by_ending : (tells : Bool) (text : List ℕ) (ending : Ending) (code : Code) → code ≡ ending_status ending → (number status : ℕ)
-    → HasStatus code number status → IsEndOfRun tells text number status
+    → IsStatusOf code number status → IsEndOfRun tells text number status
 by_ending tells text ending code e number status is told = inl (inl (ending, is ∙ ap number_of e))
 
 pub by_stop : (tells : Bool) (text : List ℕ) (stop : Stop) (code : Code) → code ≡ stop_status stop → (number status : ℕ)
-    → HasStatus code number status → IsEndOfRun tells text number status
+    → IsStatusOf code number status → IsEndOfRun tells text number status
 by_stop tells text stop code e number status is told = inl (inr (stop, is ∙ ap number_of e))

@@ -63,7 +63,7 @@ pub fn serve_items<P: Protocol, S: Source, K: Sink>(
         Err(NoMemory) => return Err(Stop::NoMemory),
     };
     loop {
-        match take_turn::<P, S, K>(alloc, library, taken, &mut reader, source, sink, world) {
+        match serve_next::<P, S, K>(alloc, library, taken, &mut reader, source, sink, world) {
             Ok(None) => {}
             Ok(Some(ending)) => return Ok(ending),
             Err(stop) => return Err(stop),
@@ -72,7 +72,7 @@ pub fn serve_items<P: Protocol, S: Source, K: Sink>(
 }
 
 // Reads one item and applies it. None if there may be more.
-fn take_turn<P: Protocol, S: Source, K: Sink>(
+fn serve_next<P: Protocol, S: Source, K: Sink>(
     alloc: Global,
     library: &mut Library,
     taken: &mut u32,
