@@ -1,19 +1,22 @@
-ghost use Rattle.std.specs.Prelude.{◌≡◌, ◌++◌, None, OnOk, string_bytes};
+ghost use Rattle.std.specs.Prelude.{◌≡◌, ◌≤◌, ◌++◌, [], None, OnOk, string_bytes};
+ghost use Rattle.control_words.specs.Stack.{lines_in, stack_of};
 ghost use Rattle.service_load.specs.Load.{AreBounded};
+ghost use Rattle.service_load.specs.Trees.{nodes_in};
 ghost use Rattle.stack_walk.specs.Retell.{telling};
 ghost use Rattle.pass_replay.specs.dispatch_core.specs.Calls.{Held as Holding, following};
 ghost use Rattle.pass_replay.specs.Held.{held_of};
 ghost use Rattle.pass_replay.specs.Kept.{kept_answers};
 ghost use Rattle.pass_replay.specs.Retold.{stacks_in};
 ghost use Rattle.pass_replay.specs.Told.{telling_from, visits_in};
-ghost use Rattle.explain_calls.specs.Calls.{call_after_text, call_text, change_text, check_text, first_text, refused_text, run_text};
+ghost use Rattle.explain_calls.specs.Calls.{call_after_text, call_text, change_text, check_text, first_text, refused_text, run_text, second_text};
 
-use crate::runs::rows_of;
+use crate::runs::{Run, rows_of};
 use explain_lines::{Sources, write_run};
 use pam_base::{Code, Func, NoMemory};
 use pass_replay::answers::Answers;
 use pass_replay::held::Held;
 use pass_replay::pass::pass;
+use pass_replay::passed::Passed;
 use service_load::{RuleType, Trees};
 use stack_walk::{PassKind, Seen};
 use std::alloc::Global;
@@ -35,178 +38,94 @@ pub fn write_call(
         ++ call_text (stacks_in trees.now) sources.now number func (held_of held.now)
         (telling (visits_in told.now))) }
 {
+    let past: &[Code] = &[];
+    let call = Call {
+        alloc,
+        trees,
+        sources,
+        number,
+        held,
+        told,
+        past,
+    };
     match &held.pending {
         Some(pending) => {
             let past = pending.past.items();
-            write_after(
-                alloc,
-                trees,
-                sources,
-                text,
-                number,
-                func,
-                past,
-                &pending.first,
-                held,
-                told,
-            )
+            write_after(Call { past, ..call }, text, func, &pending.first)
         }
-        None => write_after(
-            alloc,
-            trees,
-            sources,
-            text,
-            number,
-            func,
-            &[],
-            &None,
-            held,
-            told,
-        ),
+        None => write_after(call, text, func, &None),
     }
 }
 
-// After the codes of its earlier calls; `first` are the codes that the first pass of chauthtok
-// cached, if its second pass is pending.
-fn write_after(
+// A stack call that is replayed.
+#[derive(Clone, Copy)]
+struct Call<'a> {
     alloc: Global,
-    trees: &Trees,
-    sources: &Sources,
-    text: &mut String,
+    trees: &'a Trees,
+    sources: &'a Sources,
+    // The number of its transaction.
     number: u32,
+    // What is held when it begins.
+    held: &'a Held,
+    // The recorded lines of its block.
+    told: &'a [Option<Seen>],
+    // The codes of its earlier calls.
+    past: &'a [Code],
+}
+
+// `first` are the codes that the first pass of chauthtok cached, if its second pass is pending.
+fn write_after(
+    call: Call,
+    text: &mut String,
     func: Func,
-    past: &[Code],
     first: &Option<Answers>,
-    held: &Held,
-    told: &[Option<Seen>],
 ) -> Result<(), NoMemory>
-    requires bounded { AreBounded trees.now }
+    requires bounded { AreBounded call.trees.now }
     ensures { OnOk result (string_bytes text.new ≡ string_bytes text.old
-        ++ call_after_text (stacks_in trees.now) sources.now number func past.now
-        (kept_answers first.now) (held_of held.now) (telling (visits_in told.now))) }
+        ++ call_after_text (stacks_in call.trees.now) call.sources.now call.number func
+        call.past.now (kept_answers first.now) (held_of call.held.now)
+        (telling (visits_in call.told.now))) }
 {
     if func != Func::ChAuthTok {
-        return write_first(alloc, trees, sources, text, number, func, past, held, told);
+        return write_first(call, text, func);
     }
-    write_change(alloc, trees, sources, text, number, past, first, held, told)
+    write_change(call, text, first)
 }
 
 // The passes of chauthtok that are left: both, or the second one if the codes of the first are
 // held.
-fn write_change(
-    alloc: Global,
-    trees: &Trees,
-    sources: &Sources,
-    text: &mut String,
-    number: u32,
-    past: &[Code],
-    first: &Option<Answers>,
-    held: &Held,
-    told: &[Option<Seen>],
-) -> Result<(), NoMemory>
-    requires bounded { AreBounded trees.now }
+fn write_change(call: Call, text: &mut String, first: &Option<Answers>) -> Result<(), NoMemory>
+    requires bounded { AreBounded call.trees.now }
     ensures { OnOk result (string_bytes text.new ≡ string_bytes text.old
-        ++ change_text (stacks_in trees.now) sources.now number past.now
-        (kept_answers first.now) (held_of held.now) (telling (visits_in told.now))) }
+        ++ change_text (stacks_in call.trees.now) call.sources.now call.number call.past.now
+        (kept_answers first.now) (held_of call.held.now) (telling (visits_in call.told.now))) }
 {
     match first {
-        Some(_) => write_password(
-            alloc,
-            trees,
-            sources,
-            text,
-            number,
-            PassKind::Follow,
-            first,
-            past,
-            told,
-            0,
-            false,
-        ),
-        None => write_check(alloc, trees, sources, text, number, past, told),
+        Some(_) => write_second(call, text, first, 0, false),
+        None => write_check(call, text),
     }
 }
 
 // The first run of a call.
-fn write_first(
-    alloc: Global,
-    trees: &Trees,
-    sources: &Sources,
-    text: &mut String,
-    number: u32,
-    func: Func,
-    past: &[Code],
-    held: &Held,
-    told: &[Option<Seen>],
-) -> Result<(), NoMemory>
-    requires bounded { AreBounded trees.now }
+fn write_first(call: Call, text: &mut String, func: Func) -> Result<(), NoMemory>
+    requires bounded { AreBounded call.trees.now }
     ensures { OnOk result (string_bytes text.new ≡ string_bytes text.old
-        ++ first_text (stacks_in trees.now) sources.now number func past.now
-        (held_of held.now) (telling (visits_in told.now))) }
+        ++ first_text (stacks_in call.trees.now) call.sources.now call.number func call.past.now
+        (held_of call.held.now) (telling (visits_in call.told.now))) }
 {
     match func {
-        Func::Authenticate => write_auth(
-            alloc,
-            trees,
-            sources,
-            text,
-            number,
-            func,
-            PassKind::Keep,
-            &held.authenticated,
-            past,
-            told,
-        ),
-        Func::SetCred => write_auth(
-            alloc,
-            trees,
-            sources,
-            text,
-            number,
-            func,
-            following(&held.authenticated),
-            &held.authenticated,
-            past,
-            told,
-        ),
-        Func::AcctMgmt => write_account(alloc, trees, sources, text, number, past, told),
-        Func::OpenSession => write_session(
-            alloc,
-            trees,
-            sources,
-            text,
-            number,
-            func,
-            PassKind::Keep,
-            &held.opened,
-            past,
-            told,
-        ),
-        Func::CloseSession => write_session(
-            alloc,
-            trees,
-            sources,
-            text,
-            number,
-            func,
-            following(&held.opened),
-            &held.opened,
-            past,
-            told,
-        ),
-        Func::ChAuthTok => write_password(
-            alloc,
-            trees,
-            sources,
-            text,
-            number,
-            PassKind::Keep,
-            &None,
-            past,
-            told,
-            0,
-            false,
-        ),
+        Func::Authenticate => write_auth(call, text, func, PassKind::Keep),
+        Func::SetCred => write_auth(call, text, func, following(&call.held.authenticated)),
+        Func::AcctMgmt => {
+            let (stack, kind) = (RuleType::Account, PassKind::Keep);
+            write_stack(call, text, func, stack, kind, &None, 0, false)
+        }
+        Func::OpenSession => write_session(call, text, func, PassKind::Keep),
+        Func::CloseSession => write_session(call, text, func, following(&call.held.opened)),
+        Func::ChAuthTok => {
+            let (stack, kind) = (RuleType::Password, PassKind::Keep);
+            write_stack(call, text, func, stack, kind, &None, 0, false)
+        }
     }
 }
 
@@ -221,196 +140,105 @@ fn following(kept: &Option<Answers>) -> PassKind
 }
 
 // A run of the auth stack.
-fn write_auth(
-    alloc: Global,
-    trees: &Trees,
-    sources: &Sources,
-    text: &mut String,
-    number: u32,
-    func: Func,
-    kind: PassKind,
-    follows: &Option<Answers>,
-    past: &[Code],
-    told: &[Option<Seen>],
-) -> Result<(), NoMemory>
-    requires bounded { AreBounded trees.now }
+fn write_auth(call: Call, text: &mut String, func: Func, kind: PassKind) -> Result<(), NoMemory>
+    requires bounded { AreBounded call.trees.now }
     ensures { OnOk result (string_bytes text.new ≡ string_bytes text.old
-        ++ run_text (stacks_in trees.now) sources.now number func RuleType.Auth
-        (stacks_in trees.now).auth kind (kept_answers follows.now) past.now
-        (telling (visits_in told.now))) }
+        ++ run_text (stacks_in call.trees.now) call.sources.now call.number func RuleType.Auth
+        (stacks_in call.trees.now).auth kind (held_of call.held.now).authenticated
+        call.past.now (telling (visits_in call.told.now))) }
 {
-    let rows = rows_of(alloc, &trees.auth, kind, follows, past, told, 0, false)?;
-    let origins = sources.auth.items();
-    write_run(
-        text,
-        number,
-        func,
-        RuleType::Auth,
-        kind,
-        origins,
-        rows.items(),
-    )
-}
-
-// A run of the account stack.
-fn write_account(
-    alloc: Global,
-    trees: &Trees,
-    sources: &Sources,
-    text: &mut String,
-    number: u32,
-    past: &[Code],
-    told: &[Option<Seen>],
-) -> Result<(), NoMemory>
-    requires bounded { AreBounded trees.now }
-    ensures { OnOk result (string_bytes text.new ≡ string_bytes text.old
-        ++ run_text (stacks_in trees.now) sources.now number Func.AcctMgmt RuleType.Account
-        (stacks_in trees.now).account PassKind.Keep None past.now
-        (telling (visits_in told.now))) }
-{
-    let (func, kind) = (Func::AcctMgmt, PassKind::Keep);
-    let rows = rows_of(alloc, &trees.account, kind, &None, past, told, 0, false)?;
-    let origins = sources.account.items();
-    write_run(
-        text,
-        number,
-        func,
-        RuleType::Account,
-        kind,
-        origins,
-        rows.items(),
-    )
+    let kept = &call.held.authenticated;
+    write_stack(call, text, func, RuleType::Auth, kind, kept, 0, false)
 }
 
 // A run of the session stack.
-fn write_session(
-    alloc: Global,
-    trees: &Trees,
-    sources: &Sources,
-    text: &mut String,
-    number: u32,
-    func: Func,
-    kind: PassKind,
-    follows: &Option<Answers>,
-    past: &[Code],
-    told: &[Option<Seen>],
-) -> Result<(), NoMemory>
-    requires bounded { AreBounded trees.now }
+fn write_session(call: Call, text: &mut String, func: Func, kind: PassKind) -> Result<(), NoMemory>
+    requires bounded { AreBounded call.trees.now }
     ensures { OnOk result (string_bytes text.new ≡ string_bytes text.old
-        ++ run_text (stacks_in trees.now) sources.now number func RuleType.Session
-        (stacks_in trees.now).session kind (kept_answers follows.now) past.now
-        (telling (visits_in told.now))) }
+        ++ run_text (stacks_in call.trees.now) call.sources.now call.number func RuleType.Session
+        (stacks_in call.trees.now).session kind (held_of call.held.now).opened call.past.now
+        (telling (visits_in call.told.now))) }
 {
-    let rows = rows_of(alloc, &trees.session, kind, follows, past, told, 0, false)?;
-    let origins = sources.session.items();
-    write_run(
-        text,
-        number,
-        func,
-        RuleType::Session,
-        kind,
-        origins,
-        rows.items(),
-    )
+    let kept = &call.held.opened;
+    write_stack(call, text, func, RuleType::Session, kind, kept, 0, false)
 }
 
-// A pass of chauthtok, from a recorded line on.
-fn write_password(
-    alloc: Global,
-    trees: &Trees,
-    sources: &Sources,
+// A run of the stack of a type, from a recorded line on.
+fn write_stack(
+    call: Call,
     text: &mut String,
-    number: u32,
+    func: Func,
+    stack: RuleType,
     kind: PassKind,
     follows: &Option<Answers>,
-    past: &[Code],
-    told: &[Option<Seen>],
     next: usize,
     astray: bool,
 ) -> Result<(), NoMemory>
-    requires bounded { AreBounded trees.now }
+    requires few { lines_in (stack_of (nodes_in call.trees.now stack).vec.items) ≤ 4096 }
     ensures { OnOk result (string_bytes text.new ≡ string_bytes text.old
-        ++ run_text (stacks_in trees.now) sources.now number Func.ChAuthTok RuleType.Password
-        (stacks_in trees.now).password kind (kept_answers follows.now) past.now
-        (telling_from told.now next astray)) }
+        ++ run_text (stacks_in call.trees.now) call.sources.now call.number func stack
+        (stack_of (nodes_in call.trees.now stack).vec.items) kind (kept_answers follows.now)
+        call.past.now (telling_from call.told.now next astray)) }
 {
-    let rows = rows_of(
-        alloc,
-        &trees.password,
+    let run = Run {
         kind,
         follows,
-        past,
-        told,
-        next,
-        astray,
-    )?;
-    let origins = sources.password.items();
-    let func = Func::ChAuthTok;
-    write_run(
-        text,
-        number,
-        func,
-        RuleType::Password,
-        kind,
-        origins,
-        rows.items(),
-    )
+        past: call.past,
+        told: call.told,
+    };
+    let rows = rows_of(call.alloc, call.trees.of(stack), run, next, astray)?;
+    let origins = call.sources.of(stack).items();
+    write_run(text, call.number, func, stack, kind, origins, rows.items())
 }
 
 // The first pass of chauthtok, and if that returned SUCCESS the second.
-fn write_check(
-    alloc: Global,
-    trees: &Trees,
-    sources: &Sources,
-    text: &mut String,
-    number: u32,
-    past: &[Code],
-    told: &[Option<Seen>],
-) -> Result<(), NoMemory>
-    requires bounded { AreBounded trees.now }
+fn write_check(call: Call, text: &mut String) -> Result<(), NoMemory>
+    requires bounded { AreBounded call.trees.now }
     ensures { OnOk result ((h : Holding) → string_bytes text.new ≡ string_bytes text.old
-        ++ check_text (stacks_in trees.now) sources.now number past.now h
-        (telling (visits_in told.now))) }
+        ++ check_text (stacks_in call.trees.now) call.sources.now call.number call.past.now h
+        (telling (visits_in call.told.now))) }
 {
-    let nothing: Option<Answers> = None;
-    write_password(
-        alloc,
-        trees,
-        sources,
-        text,
-        number,
-        PassKind::Keep,
-        &nothing,
-        past,
-        told,
-        0,
-        false,
-    )?;
-    let passed = pass(
-        alloc,
-        &trees.password,
-        PassKind::Keep,
-        None,
-        past,
-        told,
-        0,
-        false,
-    )?;
+    let (func, stack, kind) = (Func::ChAuthTok, RuleType::Password, PassKind::Keep);
+    write_stack(call, text, func, stack, kind, &None, 0, false)?;
+    let nodes = &call.trees.password;
+    let (past, told) = (call.past, call.told);
+    let passed = pass(call.alloc, nodes, kind, None, past, told, 0, false)?;
     if passed.code != Code::Success {
         return Ok(());
     }
-    write_password(
-        alloc,
-        trees,
-        sources,
+    let Passed {
+        kept,
+        next,
+        astray,
+        ..
+    } = passed;
+    let past: &[Code] = &[];
+    write_second(Call { past, ..call }, text, &kept, next, astray)
+}
+
+// The second pass of chauthtok, by the codes that the first cached, from a recorded line on.
+fn write_second(
+    call: Call,
+    text: &mut String,
+    first: &Option<Answers>,
+    next: usize,
+    astray: bool,
+) -> Result<(), NoMemory>
+    requires bounded { AreBounded call.trees.now }
+    ensures { OnOk result (string_bytes text.new ≡ string_bytes text.old
+        ++ second_text (stacks_in call.trees.now) call.sources.now call.number
+        (kept_answers first.now) call.past.now (telling_from call.told.now next astray)) }
+{
+    let (stack, kind) = (RuleType::Password, PassKind::Follow);
+    write_stack(
+        call,
         text,
-        number,
-        PassKind::Follow,
-        &passed.kept,
-        &[],
-        told,
-        passed.next,
-        passed.astray,
+        Func::ChAuthTok,
+        stack,
+        kind,
+        first,
+        next,
+        astray,
     )
 }
 

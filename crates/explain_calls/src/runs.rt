@@ -14,35 +14,34 @@ use pass_replay::replay::begun;
 use stack_walk::{Opinion, PassKind, Seen};
 use std::alloc::Global;
 
-/// The rows of a run of a stack, after the codes of its earlier calls, replayed by the recorded
-/// lines from one on.
+/// By what a run of a stack is replayed.
+#[derive(Clone, Copy)]
+pub struct Run<'a> {
+    pub kind: PassKind,
+    /// The codes that an earlier run cached.
+    pub follows: &'a Option<Answers>,
+    /// The codes of its call's earlier calls.
+    pub past: &'a [Code],
+    /// The recorded lines.
+    pub told: &'a [Option<Seen>],
+}
+
+/// The rows of a run of a stack, from a recorded line on.
 pub fn rows_of(
     alloc: Global,
     nodes: &Nodes,
-    kind: PassKind,
-    follows: &Option<Answers>,
-    past: &[Code],
-    told: &[Option<Seen>],
+    run: Run,
     next: usize,
     astray: bool,
 ) -> Result<Rows, NoMemory>
     requires few { lines_in (stack_of nodes.now.vec.items) ≤ 4096 }
-    ensures { IfOk result (λ rows. rows ≡ pass_rows kind (answers_held (kept_answers follows.now))
-        (stack_of nodes.now.vec.items) past.now (telling_from told.now next astray)) }
+    ensures { IfOk result (λ rows. rows
+        ≡ pass_rows run.kind (answers_held (kept_answers run.follows.now))
+        (stack_of nodes.now.vec.items) run.past.now (telling_from run.told.now next astray)) }
 {
     let mut replay = begun(alloc, next, astray);
     let mut rows = Rows::new(alloc);
     let opening = Opinion::opening();
-    walk_nodes(
-        nodes,
-        kind,
-        follows,
-        opening,
-        past,
-        told,
-        Fate::Waits,
-        &mut replay,
-        &mut rows,
-    )?;
+    walk_nodes(nodes, run, opening, Fate::Waits, &mut replay, &mut rows)?;
     Ok(rows)
 }

@@ -1,7 +1,7 @@
 ghost use Rattle.std.specs.Prelude.{◌≡◌, ◌<◌, ◌≤◌, ◌+◌, ◌++◌, IfOk, OnOk, length};
 ghost use Rattle.control_words.specs.Stack.{Stack, count, line, lines_in, node_on, none, stack_of};
 ghost use Rattle.pass_replay.specs.dispatch_core.specs.Calls.{answers_held};
-ghost use Rattle.stack_walk.specs.Pass.{decides, serving};
+ghost use Rattle.stack_walk.specs.Pass.{serving};
 ghost use Rattle.stack_walk.specs.Retell.{replaying};
 ghost use Rattle.stack_walk.specs.Walk.{walk};
 ghost use Rattle.pass_replay.specs.Kept.{kept_answers};
@@ -9,14 +9,15 @@ ghost use Rattle.pass_replay.specs.Walk.{Comes, state_in};
 ghost use Rattle.explain_calls.specs.Rows.{last_of, rows, rows_behind, rows_over};
 ghost use Rattle.explain_calls.specs.Walk.{after_turn};
 
+use crate::runs::Run;
 use crate::turn::{Turn, why_after};
 use control_words::{Node, Nodes, Rule};
 use explain_lines::{Fate, Row, Rows};
-use pam_base::{Code, NoMemory};
-use pass_replay::answers::Answers;
+use pam_base::NoMemory;
 use pass_replay::onward::onward_from;
 use pass_replay::replay::{Replay, next_answer};
-use stack_walk::{Opinion, PassKind, Seen};
+use pass_replay::walk::decide;
+use stack_walk::Opinion;
 
 // Adds the rows of lines that weren't run, the first of which has the rule number `at` + 1. Returns
 // the rule number of the last one.
@@ -71,68 +72,47 @@ fn pass_over_last(
     pass_over(&nodes[nodes.len() - left..], Fate::Unreached, at, shown)
 }
 
-// The code that decides the action of the line with this rule number.
-fn decide(kind: PassKind, follows: &Option<Answers>, place: usize, answer: Code) -> Code
-    ensures { result ≡ decides kind (answers_held (kept_answers follows.now)) place answer }
-{
-    match kind {
-        PassKind::Follow => held_at(follows, place).unwrap_or(answer),
-        PassKind::Keep | PassKind::Loose => answer,
-    }
-}
-
-fn held_at(follows: &Option<Answers>, place: usize) -> Option<Code>
-    ensures { result ≡ answers_held (kept_answers follows.now) place }
-{
-    match follows {
-        Some(kept) => kept.at(place),
-        None => None,
-    }
-}
-
 // Walks the present line, after which `left` nodes of its list are left, and adds its row; None if
 // the walk waits there.
 fn walk_line(
     rule: &Rule,
     left: usize,
-    kind: PassKind,
-    follows: &Option<Answers>,
+    run: Run,
     entry: Opinion,
     opinion: Opinion,
-    past: &[Code],
-    told: &[Option<Seen>],
     why: Fate,
     replay: &mut Replay,
     shown: &mut Rows,
 ) -> Result<Option<Turn>, NoMemory>
     requires few { replay.old.at < 4096 }
     ensures goes { IfOk result (λ turn. (rest : Stack) → count rest ≡ left →
-        walk kind (serving kind (answers_held (kept_answers follows.now)) replaying)
+        walk run.kind (serving run.kind (answers_held (kept_answers run.follows.now)) replaying)
         0 (line rule.now rest) (replay.old.at + 1) entry opinion
-        (state_in past.now told.now replay.old)
-        ≡ after_turn kind (serving kind (answers_held (kept_answers follows.now)) replaying)
+        (state_in run.past.now run.told.now replay.old)
+        ≡ after_turn run.kind
+        (serving run.kind (answers_held (kept_answers run.follows.now)) replaying)
         rest (replay.old.at + 1 + 1) entry opinion turn
-        (state_in past.now told.now replay.new)) }
+        (state_in run.past.now run.told.now replay.new)) }
     ensures shows { IfOk result (λ turn. (rest : Stack) → count rest ≡ left →
-        shown.old ++ rows kind
-        (serving kind (answers_held (kept_answers follows.now)) replaying)
+        shown.old ++ rows run.kind
+        (serving run.kind (answers_held (kept_answers run.follows.now)) replaying)
         0 why (line rule.now rest) (replay.old.at + 1) entry opinion
-        (state_in past.now told.now replay.old)
-        ≡ shown.new ++ rows_behind kind
-        (serving kind (answers_held (kept_answers follows.now)) replaying)
+        (state_in run.past.now run.told.now replay.old)
+        ≡ shown.new ++ rows_behind run.kind
+        (serving run.kind (answers_held (kept_answers run.follows.now)) replaying)
         rest (replay.old.at + 1 + 1) entry turn
-        (state_in past.now told.now replay.new)) }
+        (state_in run.past.now run.told.now replay.new)) }
     ensures at { OnOk result (replay.new.at ≡ replay.old.at + 1) }
 {
-    let Some(answer) = next_answer(rule, past, told, replay)? else {
+    let Some(answer) = next_answer(rule, run.past, run.told, replay)? else {
         replay.at += 1;
         shown.push(Row::of(rule, replay.at, Fate::Waits)?)?;
         return Ok(None);
     };
     replay.at += 1;
-    let deciding = decide(kind, follows, replay.at, answer);
+    let deciding = decide(run.kind, run.follows, replay.at, answer);
     let action = rule.control.action(deciding);
-    let new = opinion.after(kind, action, answer, deciding, entry);
+    let new = opinion.after(run.kind, action, answer, deciding, entry);
     let onward = onward_from(action, left, new);
     let state = onward.opinion;
     let fate = Fate::Ran {
@@ -153,25 +133,22 @@ fn walk_line(
 /// if the walk waits at one of them.
 pub fn walk_nodes(
     nodes: &Nodes,
-    kind: PassKind,
-    follows: &Option<Answers>,
+    run: Run,
     entry: Opinion,
-    past: &[Code],
-    told: &[Option<Seen>],
     reason: Fate,
     replay: &mut Replay,
     shown: &mut Rows,
 ) -> Result<Option<Opinion>, NoMemory>
     requires few { replay.old.at + lines_in (stack_of nodes.now.vec.items) ≤ 4096 }
     ensures comes { IfOk result (λ end. Comes
-        (walk kind (serving kind (answers_held (kept_answers follows.now)) replaying)
+        (walk run.kind (serving run.kind (answers_held (kept_answers run.follows.now)) replaying)
         0 (stack_of nodes.now.vec.items) (replay.old.at + 1) entry entry
-        (state_in past.now told.now replay.old))
-        end (state_in past.now told.now replay.new)) }
-    ensures shows { OnOk result (shown.new ≡ shown.old ++ rows kind
-        (serving kind (answers_held (kept_answers follows.now)) replaying)
+        (state_in run.past.now run.told.now replay.old))
+        end (state_in run.past.now run.told.now replay.new)) }
+    ensures shows { OnOk result (shown.new ≡ shown.old ++ rows run.kind
+        (serving run.kind (answers_held (kept_answers run.follows.now)) replaying)
         0 reason (stack_of nodes.now.vec.items) (replay.old.at + 1) entry entry
-        (state_in past.now told.now replay.old)) }
+        (state_in run.past.now run.told.now replay.old)) }
     ensures at { OnOk result (replay.new.at
         ≡ replay.old.at + lines_in (stack_of nodes.now.vec.items)) }
 {
@@ -188,9 +165,7 @@ pub fn walk_nodes(
         } else {
             match node {
                 Node::Line(rule) => {
-                    let Some(turn) = walk_line(
-                        rule, left, kind, follows, entry, opinion, past, told, why, replay, shown,
-                    )?
+                    let Some(turn) = walk_line(rule, left, run, entry, opinion, why, replay, shown)?
                     else {
                         replay.at = pass_over_last(all, left, replay.at, shown)?;
                         return Ok(None);
@@ -200,10 +175,7 @@ pub fn walk_nodes(
                     why = turn.why;
                 }
                 Node::Sub(inner) => {
-                    let Some(inside) = walk_nodes(
-                        inner, kind, follows, opinion, past, told, why, replay, shown,
-                    )?
-                    else {
+                    let Some(inside) = walk_nodes(inner, run, opinion, why, replay, shown)? else {
                         replay.at = pass_over_last(all, left, replay.at, shown)?;
                         return Ok(None);
                     };

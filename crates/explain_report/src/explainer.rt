@@ -1,4 +1,4 @@
-ghost use Rattle.std.specs.Prelude.{◌≡◌, ◌++◌, [], Some, IfOk, OnOk, map, string_bytes};
+ghost use Rattle.std.specs.Prelude.{◌≡◌, ◌++◌, Some, IfOk, OnOk, map, string_bytes};
 ghost use Rattle.std.specs.Option.{option_map};
 ghost use Rattle.service_load.specs.Load.{AreBounded};
 ghost use Rattle.pass_replay.specs.Held.{held_of};
@@ -7,17 +7,16 @@ ghost use Rattle.report_reader.specs.Form.{result_of};
 ghost use Rattle.report_reader.specs.Guess.{read_line};
 ghost use Rattle.report_reader.specs.Says.{bare, results};
 ghost use Rattle.session_audit.specs.Checked.{place_of, told_in};
-ghost use Rattle.session_audit.specs.Fits.{is_refused_change, place_at, visits_told};
+ghost use Rattle.session_audit.specs.Fits.{place_at, visits_told};
 ghost use Rattle.explain_report.specs.Report.{Takes, block_text, called_text};
 
 use explain_calls::{write_call, write_refused};
 use explain_lines::Sources;
 use pam_base::{Code, Func, NoMemory};
-use pass_replay::first_visit;
 use pass_replay::held::Held;
 use report_reader::{Form, ReportedAnswer, ReportedOutcome, Spoken, read_line};
 use service_load::Trees;
-use session_audit::{SlotLog, judge_at};
+use session_audit::{SlotLog, is_refused_change, judge_at};
 use stack_walk::Seen;
 use std::alloc::Global;
 
@@ -161,20 +160,4 @@ fn write_called(
     } else {
         write_call(alloc, trees, sources, text, number, func, held, told)
     }
-}
-
-// A chauthtok whose flags are refused runs no line.
-fn is_refused_change(func: Func, code: Code, told: &[Option<Seen>]) -> bool
-    ensures { result ≡ is_refused_change func code (visits_told (told_in told.now)) }
-{
-    if first_visit(told) < told.len() {
-        return false;
-    }
-    is_change_fault(func, code)
-}
-
-fn is_change_fault(func: Func, code: Code) -> bool
-    ensures { result ≡ is_refused_change func code [] }
-{
-    func == Func::ChAuthTok && code == Code::SystemErr
 }

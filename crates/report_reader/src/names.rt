@@ -83,11 +83,9 @@ pub fn code_in(word: &[u8]) -> Code
 pub fn style_in(number: u64) -> Style
     ensures { result ≡ guessed_style number }
 {
-    STYLES
-        .iter()
-        .copied()
-        .find(|style| u64::from(style.number()) == number)
-        .unwrap_or(Style::TextInfo)
+    let mut styles = STYLES.iter().copied();
+    let style = styles.find(|style| u64::from(style.number()) == number);
+    style.unwrap_or(Style::TextInfo)
 }
 
 /// The fault of a configuration that a word may name.
@@ -119,10 +117,8 @@ pub fn script_fault_in(word: &[u8]) -> ScriptKind
 fn script_fault_named(word: &[u8]) -> Option<ScriptKind>
     ensures { result ≡ find (λ kind. bytes_eq (script_fault_name kind) word.now) all_script_faults }
 {
-    SCRIPT_KINDS
-        .iter()
-        .copied()
-        .find(|kind| is_script_fault(*kind, word))
+    let mut kinds = SCRIPT_KINDS.iter().copied();
+    kinds.find(|kind| is_script_fault(*kind, word))
 }
 
 fn is_script_fault(kind: ScriptKind, word: &[u8]) -> bool
@@ -161,10 +157,7 @@ fn spoken_named(word: &[u8]) -> Option<Spoken>
     ensures { result ≡ find (λ command. bytes_eq (command_word (command_of command)) word.now)
         all_spoken }
 {
-    SPOKEN
-        .iter()
-        .copied()
-        .find(|command| is_spoken(*command, word))
+    SPOKEN.iter().copied().find(|it| is_spoken(*it, word))
 }
 
 fn is_spoken(command: Spoken, word: &[u8]) -> bool

@@ -106,8 +106,8 @@ fn judge_call(
     judge_retold(alloc, trees, held, func, code, told)
 }
 
-// A chauthtok whose flags are refused runs no line.
-fn is_refused_change(func: Func, code: Code, told: &[Option<Seen>]) -> bool
+/// Whether it is a chauthtok whose flags were refused: then no line is run, and nothing changes.
+pub fn is_refused_change(func: Func, code: Code, told: &[Option<Seen>]) -> bool
     ensures { result ≡ is_refused_change func code (visits_told (told_in told.now)) }
 {
     if first_visit(told) < told.len() {

@@ -6,9 +6,8 @@ use conv_port::QueueConv;
 use data_cleanup::Ledger;
 use pam_base::{Code, Func, ItemName, NoMemory, Numbers, SharedText, Text, Texts};
 use pam_outside::{FixedClock, MemVault, NapSum, read_file};
-use pam_room::{
-    Call, Module, Process, Room, StackLine, Transaction, World, end_room, serve_line, set_item,
-};
+use pam_room::item_store::Items;
+use pam_room::{Call, Module, Process, Room, StackLine, Transaction, World, end_room, serve_line};
 use std::alloc::Global;
 use std::test::Fail;
 
@@ -62,9 +61,7 @@ pub fn serve(alloc: Global, module: Box<dyn Module>, scene: &Scene) -> Result<Ou
         transaction: Transaction::new(alloc, 1),
         conv,
     };
-    for (name, value) in scene.items.iter() {
-        let _set = set_item(&mut room.transaction.items, *name, value);
-    }
+    set_items(&mut room.transaction.items, scene);
     let call = Call {
         func: scene.func,
         flags: 0,
@@ -117,6 +114,12 @@ fn receipts(alloc: Global, ledger: &Ledger) -> Result<Vec<(u64, u32, u32)>, NoMe
         receipts.push((receipt.id, receipt.status, receipt.note))?;
     }
     Ok(receipts)
+}
+
+fn set_items(items: &mut Items, scene: &Scene) {
+    for (name, value) in scene.items.iter() {
+        let _set = items.set_mod(*name, Some(value));
+    }
 }
 
 // The first module serves a line.

@@ -10,6 +10,6 @@ use Rattle.explain_calls.proofs.calls.write_change.Goals as goal
 
 pub returns-in-None : goal.returns-in-None
 returns-in-None c =
-    both_left (stacks_in c.args.trees.now) c.args.sources.now c.args.number c.args.past.now (kept_answers c.args.first.now)
-    (held_of c.args.held.now) (telling (visits_in c.args.told.now)) (string_bytes c.args.text.now) (string_bytes c.write_check.new.text)
+    both_left (stacks_in c.args.call.trees.now) c.args.call.sources.now c.args.call.number c.args.call.past.now (kept_answers c.args.first.now)
+    (held_of c.args.call.held.now) (telling (visits_in c.args.call.told.now)) (string_bytes c.args.text.now) (string_bytes c.write_check.new.text)
     c.write_check.result (ap kept_answers c.in-None.is) c.write_check.ensures

@@ -47,14 +47,14 @@ returns-in_default-clause-shows t c =
     let here = peeled_line _ _ _ _ c.loop-node-test.true c.node-item.is c.in-Line.is in
     let none_over : c.loop-node.skip ≡ 0 = omega arith in
     let rest : Stack = stack_of (drop (c.loop-node.node-index + 1) c.items-all.result.now) in
-    let serve : Serving (PassState Telling) = serving c.args.kind (answers_held (kept_answers c.args.follows.now)) replaying in
-    let old : PassState Telling = state_in c.args.past.now c.args.told.now c.loop-node.replay in
-    let new : PassState Telling = state_in c.args.past.now c.args.told.now c.walk_line.new.replay in
+    let serve : Serving (PassState Telling) = serving c.args.run.kind (answers_held (kept_answers c.args.run.follows.now)) replaying in
+    let old : PassState Telling = state_in c.args.run.past.now c.args.run.told.now c.loop-node.replay in
+    let new : PassState Telling = state_in c.args.run.past.now c.args.run.told.now c.walk_line.new.replay in
     let counted : count rest ≡ c.loop-node.left - 1 = omega (arith, ap count here, c.loop-node.invariant.walking.counted) in
     let last = last_are _ _ _ c.loop-node-test.true (sym counted) in
     let goes = λ (left : count rest ≡ c.loop-node.left - 1).
-    subst (λ (o : Option Turn). c.loop-node.shown ++ rows c.args.kind serve 0 c.loop-node.why (line c.in-Line.rule rest) (c.loop-node.replay.at + 1) c.args.entry c.loop-node.opinion old
-    ≡ c.walk_line.new.shown ++ rows_behind c.args.kind serve rest (c.loop-node.replay.at + 1 + 1) c.args.entry o new)
+    subst (λ (o : Option Turn). c.loop-node.shown ++ rows c.args.run.kind serve 0 c.loop-node.why (line c.in-Line.rule rest) (c.loop-node.replay.at + 1) c.args.entry c.loop-node.opinion old
+    ≡ c.walk_line.new.shown ++ rows_behind c.args.run.kind serve rest (c.loop-node.replay.at + 1 + 1) c.args.entry o new)
     c.in_default.is (c.in_ok-turn-in-Line.ensures.shows rest left) in
     showing_waits _ _ _ _ _ _ _ _ _ rest _ _ _ _ _ _ _ _ _ _ _ _ c.loop-node.invariant.showing here none_over counted c.in_ok-turn-in-Line.ensures.at (ap stack_of last) goes c.in_ok-replay-in-Line.ensures.shows
 
@@ -69,9 +69,9 @@ pub returns-in_default-2-clause-comes : goal.returns-in_default-2-clause-comes
 returns-in_default-2-clause-comes t c =
     let none_over : c.loop-node.skip ≡ 0 = omega arith in
     let here = peeled_sub _ _ _ _ c.loop-node-test.true c.node-item.is c.in-Sub.is in
-    let inside = walk c.args.kind (serving c.args.kind (answers_held (kept_answers c.args.follows.now)) replaying) 0 (stack_of c.in-Sub.inner.vec.items) (c.loop-node.replay.at + 1) c.loop-node.opinion c.loop-node.opinion
-    (state_in c.args.past.now c.args.told.now c.loop-node.replay) in
-    let comes = subst (λ (end : Option Opinion). Comes inside end (state_in c.args.past.now c.args.told.now c.walk_nodes.new.replay))
+    let inside = walk c.args.run.kind (serving c.args.run.kind (answers_held (kept_answers c.args.run.follows.now)) replaying) 0 (stack_of c.in-Sub.inner.vec.items) (c.loop-node.replay.at + 1) c.loop-node.opinion c.loop-node.opinion
+    (state_in c.args.run.past.now c.args.run.told.now c.loop-node.replay) in
+    let comes = subst (λ (end : Option Opinion). Comes inside end (state_in c.args.run.past.now c.args.run.told.now c.walk_nodes.new.replay))
     c.in_default-2.is c.in_ok-inside-in-Sub.ensures.comes in
     sub_put_off _ _ _ _ _ _ _ _ _ _ _ _ _ _ _ c.loop-node.invariant.walking here none_over comes
 
@@ -91,9 +91,9 @@ returns-in_default-2-clause-shows t c =
     let rest : Stack = stack_of (drop (c.loop-node.node-index + 1) c.items-all.result.now) in
     let counted : c.loop-node.left - 1 ≡ count rest = omega (arith, ap count here, c.loop-node.invariant.walking.counted) in
     let last = last_are _ _ _ c.loop-node-test.true counted in
-    let inside = walk c.args.kind (serving c.args.kind (answers_held (kept_answers c.args.follows.now)) replaying) 0 (stack_of c.in-Sub.inner.vec.items) (c.loop-node.replay.at + 1) c.loop-node.opinion c.loop-node.opinion
-    (state_in c.args.past.now c.args.told.now c.loop-node.replay) in
-    let comes = subst (λ (end : Option Opinion). Comes inside end (state_in c.args.past.now c.args.told.now c.walk_nodes.new.replay))
+    let inside = walk c.args.run.kind (serving c.args.run.kind (answers_held (kept_answers c.args.run.follows.now)) replaying) 0 (stack_of c.in-Sub.inner.vec.items) (c.loop-node.replay.at + 1) c.loop-node.opinion c.loop-node.opinion
+    (state_in c.args.run.past.now c.args.run.told.now c.loop-node.replay) in
+    let comes = subst (λ (end : Option Opinion). Comes inside end (state_in c.args.run.past.now c.args.run.told.now c.walk_nodes.new.replay))
     c.in_default-2.is c.in_ok-inside-in-Sub.ensures.comes in
     sub_waits _ _ _ _ _ _ _ _ _ _ rest _ _ _ _ _ _ _ _ _ _ _ c.loop-node.invariant.showing here none_over c.in_ok-inside-in-Sub.ensures.at (ap stack_of last) comes c.in_ok-inside-in-Sub.ensures.shows c.in_ok-replay-in-Sub.ensures.shows
 
@@ -118,17 +118,17 @@ loop-node-preserved t c =
           let here = peeled_line _ _ _ _ c.loop-node-test.true c.node-item.is w.in-Line.is in
           let none_over : c.loop-node.skip ≡ 0 = omega arith in
           let rest : Stack = stack_of (drop (c.loop-node.node-index + 1) c.items-all.result.now) in
-          let serve : Serving (PassState Telling) = serving c.args.kind (answers_held (kept_answers c.args.follows.now)) replaying in
-          let old : PassState Telling = state_in c.args.past.now c.args.told.now c.loop-node.replay in
-          let new : PassState Telling = state_in c.args.past.now c.args.told.now w.walk_line.new.replay in
+          let serve : Serving (PassState Telling) = serving c.args.run.kind (answers_held (kept_answers c.args.run.follows.now)) replaying in
+          let old : PassState Telling = state_in c.args.run.past.now c.args.run.told.now c.loop-node.replay in
+          let new : PassState Telling = state_in c.args.run.past.now c.args.run.told.now w.walk_line.new.replay in
           let counted : count rest ≡ c.loop-node.left - 1 = omega (arith, ap count here, c.loop-node.invariant.walking.counted) in
           let goes = λ (left : count rest ≡ c.loop-node.left - 1).
-          subst (λ (o : Option Turn). walk c.args.kind serve 0 (line w.in-Line.rule rest) (c.loop-node.replay.at + 1) c.args.entry c.loop-node.opinion old
-          ≡ after_turn c.args.kind serve rest (c.loop-node.replay.at + 1 + 1) c.args.entry c.loop-node.opinion o new)
+          subst (λ (o : Option Turn). walk c.args.run.kind serve 0 (line w.in-Line.rule rest) (c.loop-node.replay.at + 1) c.args.entry c.loop-node.opinion old
+          ≡ after_turn c.args.run.kind serve rest (c.loop-node.replay.at + 1 + 1) c.args.entry c.loop-node.opinion o new)
           w.in-Some.is (w.in_ok-turn-in-Line.ensures.goes rest left) in
           let shows = λ (left : count rest ≡ c.loop-node.left - 1).
-          subst (λ (o : Option Turn). c.loop-node.shown ++ rows c.args.kind serve 0 c.loop-node.why (line w.in-Line.rule rest) (c.loop-node.replay.at + 1) c.args.entry c.loop-node.opinion old
-          ≡ w.walk_line.new.shown ++ rows_behind c.args.kind serve rest (c.loop-node.replay.at + 1 + 1) c.args.entry o new)
+          subst (λ (o : Option Turn). c.loop-node.shown ++ rows c.args.run.kind serve 0 c.loop-node.why (line w.in-Line.rule rest) (c.loop-node.replay.at + 1) c.args.entry c.loop-node.opinion old
+          ≡ w.walk_line.new.shown ++ rows_behind c.args.run.kind serve rest (c.loop-node.replay.at + 1 + 1) c.args.entry o new)
           w.in-Some.is (w.in_ok-turn-in-Line.ensures.shows rest left) in
           let further = w.in_ok-turn-in-Line.ensures.at in
           let onward : Onward = record { opinion = w.in-Some.turn.opinion; skip = w.in-Some.turn.skip } in
@@ -140,9 +140,9 @@ loop-node-preserved t c =
       | else-skip-gt0+in-Sub+in_ok-inside-in-Sub+in-Some-2 w ↦
           let here = peeled_sub _ _ _ _ c.loop-node-test.true c.node-item.is w.in-Sub.is in
           let none_over : c.loop-node.skip ≡ 0 = omega arith in
-          let inside = walk c.args.kind (serving c.args.kind (answers_held (kept_answers c.args.follows.now)) replaying) 0 (stack_of w.in-Sub.inner.vec.items) (c.loop-node.replay.at + 1) c.loop-node.opinion c.loop-node.opinion
-          (state_in c.args.past.now c.args.told.now c.loop-node.replay) in
-          let comes = subst (λ (end : Option Opinion). Comes inside end (state_in c.args.past.now c.args.told.now w.walk_nodes.new.replay))
+          let inside = walk c.args.run.kind (serving c.args.run.kind (answers_held (kept_answers c.args.run.follows.now)) replaying) 0 (stack_of w.in-Sub.inner.vec.items) (c.loop-node.replay.at + 1) c.loop-node.opinion c.loop-node.opinion
+          (state_in c.args.run.past.now c.args.run.told.now c.loop-node.replay) in
+          let comes = subst (λ (end : Option Opinion). Comes inside end (state_in c.args.run.past.now c.args.run.told.now w.walk_nodes.new.replay))
           w.in-Some-2.is w.in_ok-inside-in-Sub.ensures.comes in
           let further = w.in_ok-inside-in-Sub.ensures.at in
           let skip_is = w.skip-is ∙ none_over in

@@ -14,10 +14,10 @@ decreases-walk_nodes l = depth (stack_of l.nodes.now.vec.items)
 
 abbrev pub invariant-loop-node : goal.invariant-loop-node
 invariant-loop-node l = record {
-  walking : IsWalking l.kind (serving l.kind (answers_held (kept_answers l.follows)) replaying) (stack_of l.nodes.vec.items)
-      l.fn.replay.at l.entry (state_in l.past l.told l.fn.replay)
-      (stack_of (drop l.node-index l.all)) l.skip l.replay.at l.left l.opinion (state_in l.past l.told l.replay);
-  showing : IsShowing l.kind (serving l.kind (answers_held (kept_answers l.follows)) replaying) (stack_of l.nodes.vec.items)
-      l.fn.replay.at l.entry (state_in l.past l.told l.fn.replay) l.fn.reason l.fn.shown
-      (stack_of (drop l.node-index l.all)) l.skip l.replay.at l.opinion (state_in l.past l.told l.replay) l.why l.shown;
+  walking : IsWalking l.run.kind (serving l.run.kind (answers_held (kept_answers l.run.follows.now)) replaying) (stack_of l.nodes.vec.items)
+      l.fn.replay.at l.entry (state_in l.run.past.now l.run.told.now l.fn.replay)
+      (stack_of (drop l.node-index l.all)) l.skip l.replay.at l.left l.opinion (state_in l.run.past.now l.run.told.now l.replay);
+  showing : IsShowing l.run.kind (serving l.run.kind (answers_held (kept_answers l.run.follows.now)) replaying) (stack_of l.nodes.vec.items)
+      l.fn.replay.at l.entry (state_in l.run.past.now l.run.told.now l.fn.replay) l.fn.reason l.fn.shown
+      (stack_of (drop l.node-index l.all)) l.skip l.replay.at l.opinion (state_in l.run.past.now l.run.told.now l.replay) l.why l.shown;
 }
