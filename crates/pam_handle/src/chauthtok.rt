@@ -1,8 +1,7 @@
-ghost use Rattle.std.specs.Prelude.{◌≡◌, ◌<◌, ◌^◌, ◌&&◌, None, is_some, IfOk, OnErr, IsTrue, length};
-ghost use Rattle.dispatch_core.specs.AnyWorld.{GoesSoundly};
-ghost use Rattle.dispatch_core.specs.Given.{past_of};
+ghost use Rattle.std.specs.Prelude.{◌≡◌, ◌<◌, ◌&&◌, None, is_some, IfOk, OnErr, IsTrue, length};
+ghost use Rattle.dispatch_core.specs.AnyWorld.{PassStays};
+ghost use Rattle.dispatch_core.specs.AnswersSoFar.{past_of};
 ghost use Rattle.dispatch_core.specs.Lines.{names_of};
-ghost use Rattle.dispatch_core.specs.pam_room.specs.Module.{notes_of};
 ghost use Rattle.dispatch_core.specs.pam_room.specs.Plain.{plain_process, plain_transaction};
 ghost use Rattle.dispatch_core.specs.pam_room.specs.State.{state_of};
 ghost use Rattle.dispatch_core.specs.pam_room.specs.Stays.{IsReady};
@@ -75,7 +74,7 @@ impl Handle {
             world,
         );
         clear_if_ended(&mut self.room.transaction.items, &paused);
-        self.settle(Func::ChAuthTok, paused, first);
+        self.keep_pending(Func::ChAuthTok, paused, first);
         result
     }
 }
@@ -94,10 +93,10 @@ fn change(
     requires names { chain.old.names ≡ names_of (⟦<Gear as GearTold>⟧.players gear.now) }
     requires ready { IsReady (length (⟦<Gear as GearTold>⟧.players gear.now))
         (plain_transaction room.old.transaction) (plain_process world.old.process) }
-    ensures tells { ⟦<Room as RoomTold>⟧.tells room.new ≡ ⟦<Room as RoomTold>⟧.tells room.old }
-    ensures world_tells { ⟦<World as WorldTold>⟧.tells world.new
-        ≡ ⟦<World as WorldTold>⟧.tells world.old }
-    ensures nap { world.new.nap ≡ world.old.nap }
+    ensures stays { PassStays (⟦<Gear as GearTold>⟧.players gear.now)
+        (length (⟦<Gear as GearTold>⟧.players gear.now))
+        ⟦<Room as RoomTold>⟧.tells ⟦<World as WorldTold>⟧.tells
+        room.old room.new world.old world.new }
     ensures told { IsTrue (⟦<Room as RoomTold>⟧.tells room.old
         && ⟦<World as WorldTold>⟧.tells world.old) → (h : PlainHandle) →
         h.room ≡ ⟦<Room as RoomTold>⟧.plain room.old → h.stacks.password ≡ chain.old.nodes →
@@ -126,12 +125,6 @@ fn change(
     ensures put_off { IfOk result (λ code. IsTrue (is_some paused.new) → code ≡ Code.Incomplete) }
     ensures nodes { chain.new.nodes ≡ chain.old.nodes }
     ensures names { chain.new.names ≡ chain.old.names }
-    ensures sound { GoesSoundly (notes_of (⟦<Gear as GearTold>⟧.players gear.now))
-        (length (⟦<Gear as GearTold>⟧.players gear.now))
-        (plain_transaction room.old.transaction) (plain_transaction room.new.transaction)
-        (plain_process world.old.process) (plain_process world.new.process) }
-    ensures ready { IsReady (length (⟦<Gear as GearTold>⟧.players gear.now))
-        (plain_transaction room.new.transaction) (plain_process world.new.process) }
 {
     if first.held() {
         update(alloc, gear, chain, flags, first, paused, room, world)
@@ -156,10 +149,10 @@ fn check(
     requires ready { IsReady (length (⟦<Gear as GearTold>⟧.players gear.now))
         (plain_transaction room.old.transaction) (plain_process world.old.process) }
     requires first { first.old ≡ None }
-    ensures tells { ⟦<Room as RoomTold>⟧.tells room.new ≡ ⟦<Room as RoomTold>⟧.tells room.old }
-    ensures world_tells { ⟦<World as WorldTold>⟧.tells world.new
-        ≡ ⟦<World as WorldTold>⟧.tells world.old }
-    ensures nap { world.new.nap ≡ world.old.nap }
+    ensures stays { PassStays (⟦<Gear as GearTold>⟧.players gear.now)
+        (length (⟦<Gear as GearTold>⟧.players gear.now))
+        ⟦<Room as RoomTold>⟧.tells ⟦<World as WorldTold>⟧.tells
+        room.old room.new world.old world.new }
     ensures told { IsTrue (⟦<Room as RoomTold>⟧.tells room.old
         && ⟦<World as WorldTold>⟧.tells world.old) → (h : PlainHandle) →
         h.room ≡ ⟦<Room as RoomTold>⟧.plain room.old → h.stacks.password ≡ chain.old.nodes →
@@ -188,12 +181,6 @@ fn check(
     ensures put_off { IfOk result (λ code. IsTrue (is_some paused.new) → code ≡ Code.Incomplete) }
     ensures nodes { chain.new.nodes ≡ chain.old.nodes }
     ensures names { chain.new.names ≡ chain.old.names }
-    ensures sound { GoesSoundly (notes_of (⟦<Gear as GearTold>⟧.players gear.now))
-        (length (⟦<Gear as GearTold>⟧.players gear.now))
-        (plain_transaction room.old.transaction) (plain_transaction room.new.transaction)
-        (plain_process world.old.process) (plain_process world.new.process) }
-    ensures ready { IsReady (length (⟦<Gear as GearTold>⟧.players gear.now))
-        (plain_transaction room.new.transaction) (plain_process world.new.process) }
 {
     dispatch_core::laws::soundness_is_transitive();
     let mut kept = Kept::none();
@@ -234,10 +221,10 @@ fn update(
     requires names { chain.old.names ≡ names_of (⟦<Gear as GearTold>⟧.players gear.now) }
     requires ready { IsReady (length (⟦<Gear as GearTold>⟧.players gear.now))
         (plain_transaction room.old.transaction) (plain_process world.old.process) }
-    ensures tells { ⟦<Room as RoomTold>⟧.tells room.new ≡ ⟦<Room as RoomTold>⟧.tells room.old }
-    ensures world_tells { ⟦<World as WorldTold>⟧.tells world.new
-        ≡ ⟦<World as WorldTold>⟧.tells world.old }
-    ensures nap { world.new.nap ≡ world.old.nap }
+    ensures stays { PassStays (⟦<Gear as GearTold>⟧.players gear.now)
+        (length (⟦<Gear as GearTold>⟧.players gear.now))
+        ⟦<Room as RoomTold>⟧.tells ⟦<World as WorldTold>⟧.tells
+        room.old room.new world.old world.new }
     ensures told { IsTrue (⟦<Room as RoomTold>⟧.tells room.old
         && ⟦<World as WorldTold>⟧.tells world.old) → (h : PlainHandle) →
         h.room ≡ ⟦<Room as RoomTold>⟧.plain room.old → h.stacks.password ≡ chain.old.nodes →
@@ -266,12 +253,6 @@ fn update(
     ensures put_off { IfOk result (λ code. IsTrue (is_some paused.new) → code ≡ Code.Incomplete) }
     ensures nodes { chain.new.nodes ≡ chain.old.nodes }
     ensures names { chain.new.names ≡ chain.old.names }
-    ensures sound { GoesSoundly (notes_of (⟦<Gear as GearTold>⟧.players gear.now))
-        (length (⟦<Gear as GearTold>⟧.players gear.now))
-        (plain_transaction room.old.transaction) (plain_transaction room.new.transaction)
-        (plain_process world.old.process) (plain_process world.new.process) }
-    ensures ready { IsReady (length (⟦<Gear as GearTold>⟧.players gear.now))
-        (plain_transaction room.new.transaction) (plain_process world.new.process) }
 {
     pass(
         alloc,
