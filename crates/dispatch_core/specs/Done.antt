@@ -1,6 +1,6 @@
 -- What a line of a pass, and a whole pass, give and leave, each in one record. Room and world are modelled as the four
 -- functions say: whether each is, and what it holds.
-use Rattle.std.specs.Prelude.{◌≡◌, ◌≤◌, ◌+◌, ◌*◌, ◌&&◌, ◌⊎◌, ℕ, Bool, IsNone, IsTrue, IfOk, OnErr, OnOk, List, [], length, Option, Result}
+use Rattle.std.specs.Prelude.{◌≡◌, ◌≤◌, ◌+◌, ◌*◌, ◌&&◌, ◌⊎◌, ℕ, Bool, IsNone, IsTrue, IfOk, OnErr, OnOk, List, [], length, Option, is_none, Result}
 use Rattle.pam_base.specs.declared.code.Code.{Code}
 use Rattle.pam_base.specs.declared.fault.NoMemory.{NoMemory}
 use Rattle.control_words.specs.Stack.{Stack}
@@ -10,17 +10,41 @@ use Rattle.pam_room.specs.Module.{Player}
 use Rattle.pam_room.specs.Plain.{plain_transaction}
 use Rattle.pam_room.specs.State.{PlainRoom, PlainWorld, State, state_of}
 use Rattle.pam_room.specs.declared.room.Room.{Room}
-use Rattle.stack_walk.specs.Pass.{PassState, pass_after}
+use Rattle.stack_walk.specs.declared.pass_kind.PassKind.{PassKind}
+use Rattle.stack_walk.specs.Pass.{PassState, Visit, decides, pass_after, pass_state, serving}
 use Rattle.stack_walk.specs.Retell.{Telling}
 use Rattle.stack_walk.specs.Route.{KeptAnswers}
-use Rattle.stack_walk.specs.Walk.{Walked}
+use Rattle.stack_walk.specs.Walk.{ServedAs, Walked}
 use Rattle.dispatch_core.specs.declared.request.PassRequest.{PassRequest}
 use Rattle.dispatch_core.specs.declared.pass_memory.PassMemory.{PassMemory}
+use Rattle.dispatch_core.specs.declared.walker.Walker.{Walker}
 use Rattle.dispatch_core.specs.Failing.{BreaksAt, IsAtWork, StopsAt, Takes}
+use Rattle.dispatch_core.specs.Index.{walk_on}
 use Rattle.dispatch_core.specs.Lines.{answers_by}
-use Rattle.dispatch_core.specs.Passes.{taken_with}
+use Rattle.dispatch_core.specs.Passes.{answer_in, taken_with, turned, visits_with}
 use Rattle.dispatch_core.specs.Paths.{HasPaths}
 use Rattle.dispatch_core.specs.Trail.{ByTrail}
+
+-- the code of a line, or that of an earlier call in its place, is what a walk gives there, whatever the kind of pass
+abbrev pub GivesLine : List Player → PassRequest → Stack → ℕ → Option Code → List Code → List Code
+    → State → State → Type 0
+GivesLine players request stack i answer past left s t =
+    (kind : PassKind) (kept : KeptAnswers) (visits : List Visit) → ServedAs
+    (serving kind kept (answers_by players request.func request.flags) (rule_at stack i) (i + 1)
+    (pass_state past visits s))
+    (answer_in answer) (decides kind kept (i + 1) (answer_in answer)) (is_none answer)
+    (pass_state left (visits_with visits (i + 1) answer) t)
+
+-- a turn is the next step of the walk from where a walker is
+abbrev pub TurnsLine : List Player → PassRequest → KeptAnswers → Stack → Walker → Walker
+    → Option Code → List Code → List Code → State → State → Type 0
+TurnsLine players request kept stack old new answer past left s t =
+    (visits : List Visit) → walk_on request.kind
+    (serving request.kind kept (answers_by players request.func request.flags)) stack old
+    (pass_state past visits s)
+    ≡ turned request.kind
+    (serving request.kind kept (answers_by players request.func request.flags)) stack answer
+    old.opinion new (pass_state left (visits_with visits (old.at + 1) answer) t)
 
 module _ {C World : Type 0} {T : C → Type 0} where
   -- The line of an index has returned: what is taken of the codes of earlier calls and of the memory of the pass, and

@@ -1,22 +1,17 @@
-ghost use Rattle.std.specs.Prelude.{◌≡◌, ◌<◌, ◌≤◌, ◌+◌, ◌*◌, ◌&&◌, List, [], None, is_none, is_some, true, length, map, IfOk, OnOk, IfSome, IsTrue};
+ghost use Rattle.std.specs.Prelude.{◌≡◌, ◌<◌, ◌≤◌, ◌+◌, ◌*◌, ◌&&◌, [], None, is_some, true, length, map, IfOk, OnOk, IfSome, IsTrue};
 ghost use Rattle.control_words.specs.Stack.{lines_in};
-ghost use Rattle.handler_chain.specs.FlatLines.{rule_at};
 ghost use Rattle.frozen_chain.specs.Kept.{lines_kept};
 ghost use Rattle.pam_room.specs.State.{state_of};
 ghost use Rattle.pam_room.specs.Stays.{IsReady};
 ghost use Rattle.pam_room.specs.Module.{player_of};
 ghost use Rattle.pam_room.specs.Plain.{plain_process, plain_transaction};
 ghost use Rattle.stack_walk.specs.declared.pass_kind.PassKind.{PassKind};
-ghost use Rattle.stack_walk.specs.Route.{KeptAnswers};
-ghost use Rattle.stack_walk.specs.Pass.{Visit, decides, is_incomplete, pass_state, serving};
-ghost use Rattle.stack_walk.specs.Walk.{ServedAs};
+ghost use Rattle.stack_walk.specs.Pass.{decides, is_incomplete};
 ghost use Rattle.dispatch_core.specs.AnyWorld.{PassStays};
-ghost use Rattle.dispatch_core.specs.Done.{LineDone};
+ghost use Rattle.dispatch_core.specs.Done.{GivesLine, LineDone, TurnsLine};
 ghost use Rattle.dispatch_core.specs.Failing.{GoesBy};
-ghost use Rattle.dispatch_core.specs.Index.{walk_on};
-ghost use Rattle.dispatch_core.specs.Lines.{answers_by};
 ghost use Rattle.dispatch_core.specs.Paths.{HasPaths};
-ghost use Rattle.dispatch_core.specs.Passes.{IsAhead, answer_in, by_place, kept_with, turned, visits_with};
+ghost use Rattle.dispatch_core.specs.Passes.{IsAhead, by_place, kept_with};
 
 use crate::line::ask_line;
 use crate::pass_memory::PassMemory;
@@ -71,18 +66,12 @@ pub fn next_answer(
         ⟦<Room as RoomTold>⟧.tells ⟦<World as WorldTold>⟧.tells
         room.old room.new world.old world.new }
     ensures told { IsTrue (⟦<Room as RoomTold>⟧.tells room.old
-        && ⟦<World as WorldTold>⟧.tells world.old) →
-        IfOk result (λ answer. (kind : PassKind) (kept : KeptAnswers) (visits : List Visit) →
-        ServedAs
-        (serving kind kept
-        (answers_by (map (player_of label plays note breaks) mods.now) request.func request.flags)
-        (rule_at chain.now.nodes i) (i + 1)
-        (pass_state memory.old.answers.past visits
-        (state_of (⟦<Room as RoomTold>⟧.plain room.old) (⟦<World as WorldTold>⟧.plain world.old))))
-        (answer_in answer) (decides kind kept (i + 1) (answer_in answer)) (is_none answer)
-        (pass_state memory.new.answers.past (visits_with visits (i + 1) answer)
+        && ⟦<World as WorldTold>⟧.tells world.old) → IfOk result (λ answer. GivesLine
+        (map (player_of label plays note breaks) mods.now) request chain.now.nodes i answer
+        memory.old.answers.past memory.new.answers.past
+        (state_of (⟦<Room as RoomTold>⟧.plain room.old) (⟦<World as WorldTold>⟧.plain world.old))
         (state_of (⟦<Room as RoomTold>⟧.plain room.new)
-        (⟦<World as WorldTold>⟧.plain world.new)))) }
+        (⟦<World as WorldTold>⟧.plain world.new))) }
     ensures line { LineDone (map (player_of label plays note breaks) mods.now) request
         chain.now.nodes i ⟦<Room as RoomTold>⟧.tells ⟦<Room as RoomTold>⟧.plain
         ⟦<World as WorldTold>⟧.tells ⟦<World as WorldTold>⟧.plain
@@ -138,20 +127,13 @@ pub fn walk_line(
         ⟦<Room as RoomTold>⟧.tells ⟦<World as WorldTold>⟧.tells
         room.old room.new world.old world.new }
     ensures told { IsTrue (⟦<Room as RoomTold>⟧.tells room.old
-        && ⟦<World as WorldTold>⟧.tells world.old) → IfOk result (λ answer. (visits : List Visit) →
-        walk_on request.kind
-        (serving request.kind (by_place follows.now)
-        (answers_by (map (player_of label plays note breaks) mods.now) request.func request.flags))
-        chain.old.nodes walker.old
-        (pass_state memory.old.answers.past visits
-        (state_of (⟦<Room as RoomTold>⟧.plain room.old) (⟦<World as WorldTold>⟧.plain world.old)))
-        ≡ turned request.kind
-        (serving request.kind (by_place follows.now)
-        (answers_by (map (player_of label plays note breaks) mods.now) request.func request.flags))
-        chain.old.nodes answer walker.old.opinion walker.new
-        (pass_state memory.new.answers.past (visits_with visits (walker.old.at + 1) answer)
+        && ⟦<World as WorldTold>⟧.tells world.old) → IfOk result (λ answer. TurnsLine
+        (map (player_of label plays note breaks) mods.now) request (by_place follows.now)
+        chain.old.nodes walker.old walker.new answer
+        memory.old.answers.past memory.new.answers.past
+        (state_of (⟦<Room as RoomTold>⟧.plain room.old) (⟦<World as WorldTold>⟧.plain world.old))
         (state_of (⟦<Room as RoomTold>⟧.plain room.new)
-        (⟦<World as WorldTold>⟧.plain world.new)))) }
+        (⟦<World as WorldTold>⟧.plain world.new))) }
     ensures line { LineDone (map (player_of label plays note breaks) mods.now) request
         chain.old.nodes walker.old.at ⟦<Room as RoomTold>⟧.tells ⟦<Room as RoomTold>⟧.plain
         ⟦<World as WorldTold>⟧.tells ⟦<World as WorldTold>⟧.plain
