@@ -1,17 +1,15 @@
-ghost use Rattle.std.specs.Prelude.{◌≡◌, ◌<◌, ◌&&◌, None, is_some, IfOk, OnErr, IsTrue, length};
+ghost use Rattle.std.specs.Prelude.{◌≡◌, ◌<◌, ◌^◌, ◌&&◌, None, is_some, IfOk, OnErr, IsTrue, length};
 ghost use Rattle.dispatch_core.specs.AnyWorld.{PassStays};
 ghost use Rattle.dispatch_core.specs.AnswersSoFar.{past_of};
 ghost use Rattle.dispatch_core.specs.Lines.{names_of};
 ghost use Rattle.dispatch_core.specs.pam_room.specs.Plain.{plain_process, plain_transaction};
 ghost use Rattle.dispatch_core.specs.pam_room.specs.State.{state_of};
 ghost use Rattle.dispatch_core.specs.pam_room.specs.Stays.{IsReady};
-ghost use Rattle.dispatch_core.specs.Pending.{pending_after};
-ghost use Rattle.pam_handle.specs.Handle.{PlainHandle};
 ghost use Rattle.pam_handle.specs.Pass.{kept_answers};
 ghost use Rattle.pam_handle.specs.Plain.{plain_handle};
 ghost use Rattle.pam_handle.specs.Ready.{IsReadyFor};
 ghost use Rattle.pam_handle.specs.StackCalled.{StackCalled};
-ghost use Rattle.pam_handle.specs.StackCalls.{change_goes_on, changed, check, update};
+ghost use Rattle.pam_handle.specs.StackCalls.{ChangesTo, change_goes_on, check, update};
 ghost use Rattle.pam_handle.specs.Stopping.{StopsInChange, StopsInCheck, StopsInUpdate};
 ghost use Rattle.pam_handle.specs.Trail.{ChangesByTrail, ChecksByTrail, UpdatesByTrail};
 
@@ -98,18 +96,12 @@ fn change(
         ⟦<Room as RoomTold>⟧.tells ⟦<World as WorldTold>⟧.tells
         room.old room.new world.old world.new }
     ensures told { IsTrue (⟦<Room as RoomTold>⟧.tells room.old
-        && ⟦<World as WorldTold>⟧.tells world.old) → (h : PlainHandle) →
-        h.room ≡ ⟦<Room as RoomTold>⟧.plain room.old → h.stacks.password ≡ chain.old.nodes →
-        IfOk result (λ code. change_goes_on (⟦<Gear as GearTold>⟧.players gear.now) flags
-        (past_of paused.old)
-        (kept_answers first.old) h (⟦<World as WorldTold>⟧.plain world.old)
-        ≡ changed paused.new code
-        (record h {
-          room =
-              ⟦<Room as RoomTold>⟧.plain room.new;
-          pending = pending_after Func.ChAuthTok
-              (kept_answers first.new) paused.new;
-        }) (⟦<World as WorldTold>⟧.plain world.new)) }
+        && ⟦<World as WorldTold>⟧.tells world.old) → ChangesTo
+        (change_goes_on (⟦<Gear as GearTold>⟧.players gear.now)
+        flags (past_of paused.old) (kept_answers first.old))
+        result chain.old.nodes (⟦<Room as RoomTold>⟧.plain room.old)
+        (⟦<World as WorldTold>⟧.plain world.old) (kept_answers first.new) paused.new
+        (⟦<Room as RoomTold>⟧.plain room.new) (⟦<World as WorldTold>⟧.plain world.new) }
     ensures by_trail { IfOk result (λ code. ChangesByTrail chain.old.nodes
         (kept_answers first.old) (past_of paused.old)
         (plain_transaction room.old.transaction).trail
@@ -154,18 +146,12 @@ fn check(
         ⟦<Room as RoomTold>⟧.tells ⟦<World as WorldTold>⟧.tells
         room.old room.new world.old world.new }
     ensures told { IsTrue (⟦<Room as RoomTold>⟧.tells room.old
-        && ⟦<World as WorldTold>⟧.tells world.old) → (h : PlainHandle) →
-        h.room ≡ ⟦<Room as RoomTold>⟧.plain room.old → h.stacks.password ≡ chain.old.nodes →
-        IfOk result (λ code. check (⟦<Gear as GearTold>⟧.players gear.now) flags
-        (past_of paused.old) h
-        (⟦<World as WorldTold>⟧.plain world.old)
-        ≡ changed paused.new code
-        (record h {
-          room =
-              ⟦<Room as RoomTold>⟧.plain room.new;
-          pending = pending_after Func.ChAuthTok
-              (kept_answers first.new) paused.new;
-        }) (⟦<World as WorldTold>⟧.plain world.new)) }
+        && ⟦<World as WorldTold>⟧.tells world.old) → ChangesTo
+        (check (⟦<Gear as GearTold>⟧.players gear.now)
+        flags (past_of paused.old))
+        result chain.old.nodes (⟦<Room as RoomTold>⟧.plain room.old)
+        (⟦<World as WorldTold>⟧.plain world.old) (kept_answers first.new) paused.new
+        (⟦<Room as RoomTold>⟧.plain room.new) (⟦<World as WorldTold>⟧.plain world.new) }
     ensures by_trail { IfOk result (λ code. ChecksByTrail chain.old.nodes
         (past_of paused.old)
         (plain_transaction room.old.transaction).trail
@@ -226,18 +212,12 @@ fn update(
         ⟦<Room as RoomTold>⟧.tells ⟦<World as WorldTold>⟧.tells
         room.old room.new world.old world.new }
     ensures told { IsTrue (⟦<Room as RoomTold>⟧.tells room.old
-        && ⟦<World as WorldTold>⟧.tells world.old) → (h : PlainHandle) →
-        h.room ≡ ⟦<Room as RoomTold>⟧.plain room.old → h.stacks.password ≡ chain.old.nodes →
-        IfOk result (λ code. update (⟦<Gear as GearTold>⟧.players gear.now) flags
-        (kept_answers first.old)
-        (past_of paused.old) h (⟦<World as WorldTold>⟧.plain world.old)
-        ≡ changed paused.new code
-        (record h {
-          room =
-              ⟦<Room as RoomTold>⟧.plain room.new;
-          pending = pending_after Func.ChAuthTok
-              (kept_answers first.new) paused.new;
-        }) (⟦<World as WorldTold>⟧.plain world.new)) }
+        && ⟦<World as WorldTold>⟧.tells world.old) → ChangesTo
+        (update (⟦<Gear as GearTold>⟧.players gear.now)
+        flags (kept_answers first.old) (past_of paused.old))
+        result chain.old.nodes (⟦<Room as RoomTold>⟧.plain room.old)
+        (⟦<World as WorldTold>⟧.plain world.old) (kept_answers first.new) paused.new
+        (⟦<Room as RoomTold>⟧.plain room.new) (⟦<World as WorldTold>⟧.plain world.new) }
     ensures by_trail { IfOk result (λ code. UpdatesByTrail chain.old.nodes
         (kept_answers first.old) (past_of paused.old)
         (plain_transaction room.old.transaction).trail
