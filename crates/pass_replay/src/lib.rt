@@ -16,7 +16,7 @@ mod retelling;
 mod retold;
 mod told;
 mod visited;
-mod walk;
+pub mod walk;
 
 pub use held::Held;
 pub use retelling::retell;

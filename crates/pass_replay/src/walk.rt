@@ -39,8 +39,8 @@ fn lines_of(node: &Node) -> usize
     }
 }
 
-// The code that decides the action of the line with this rule number.
-fn decide(kind: PassKind, follows: &Option<Answers>, place: usize, answer: Code) -> Code
+/// The code that decides the action of the line with this rule number.
+pub fn decide(kind: PassKind, follows: &Option<Answers>, place: usize, answer: Code) -> Code
     ensures { result ≡ decides kind (answers_held (kept_answers follows.now)) place answer }
 {
     match kind {
