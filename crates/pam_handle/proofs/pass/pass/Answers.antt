@@ -1,7 +1,7 @@
-use Rattle.std.proofs.Common.{map, ◌∙◌, ap, rules}
+use Rattle.std.proofs.Common.{map, ◌∙◌, ap}
 use Rattle.dispatch_core.specs.pam_room.specs.Module.{player_of}
 use Rattle.dispatch_core.specs.AnswersSoFar.{past_of}
-use Rattle.pam_handle.proofs.Passing.{names_of_players, pass_by_trail, pass_stopped, pass_told}
+use Rattle.pam_handle.proofs.Passing.{names_of_players, pass_by_trail, pass_ready, pass_sound, pass_stopped, pass_told}
 use Rattle.pam_handle.proofs.pass.pass.Goals as goal
 
 pub dispatch-requires-clause-names : goal.dispatch-requires-clause-names
@@ -25,8 +25,8 @@ returns-clause-stays g c = record {
   room_tells = c.dispatch.ensures.stays.room_tells;
   world_tells = c.dispatch.ensures.stays.world_tells;
   nap = c.dispatch.ensures.stays.nap;
-  sound = search rules;
-  ready = search rules;
+  sound = pass_sound (λ b. (goal.Module-dyn g (b.vtable, b.value)).label b.value) (λ b. (goal.Module-dyn g (b.vtable, b.value)).plays b.value) (λ b. (goal.Module-dyn g (b.vtable, b.value)).note b.value) (λ b. (goal.Module-dyn g (b.vtable, b.value)).breaks b.value) _ c.args.gear.now.mods.items c.deref.ensures.value _ _ _ _ c.dispatch.ensures.stays.sound;
+  ready = pass_ready (λ b. (goal.Module-dyn g (b.vtable, b.value)).label b.value) (λ b. (goal.Module-dyn g (b.vtable, b.value)).plays b.value) (λ b. (goal.Module-dyn g (b.vtable, b.value)).note b.value) (λ b. (goal.Module-dyn g (b.vtable, b.value)).breaks b.value) _ c.args.gear.now.mods.items c.deref.ensures.value _ _ c.dispatch.ensures.stays.ready;
 }
 
 pub returns-clause-stopped : goal.returns-clause-stopped
