@@ -9,11 +9,11 @@ use Rattle.stack_walk.specs.Opinion.{verdict}
 use Rattle.stack_walk.specs.Pass.{PassState, Visit, pass_state, answers_of}
 use Rattle.stack_walk.specs.Walk.{Serving, Walked, walked, halted}
 use Rattle.dispatch_core.specs.declared.walker.Walker.{Walker}
-use Rattle.dispatch_core.specs.Given.{GivenView}
+use Rattle.dispatch_core.specs.AnswersSoFar.{AnswersView}
 use Rattle.dispatch_core.specs.Index.{walk_on}
 use Rattle.dispatch_core.specs.Passes.{Keeps, WalksAs}
 
-module _ {State : Type 0} (w : Walked (PassState State)) (opinion : Opinion) (past : List Code) (visits : List Visit) (state : State) (kept : Answers) (given : GivenView)
+module _ {State : Type 0} (w : Walked (PassState State)) (opinion : Opinion) (past : List Code) (visits : List Visit) (state : State) (kept : Answers) (given : AnswersView)
     (taken : given.taken ≡ answers_of visits) (keeps : is_some kept ≡ true → Keeps kept visits) where
   pub walks_off : halted opinion (pass_state past visits state) ≡ w → WalksAs w None kept given state
   walks_off is = subst (λ (x : Walked (PassState State)). WalksAs x None kept given state) is (record { end_is = refl; kept_is = keeps; taken_is = taken; state_is = refl })

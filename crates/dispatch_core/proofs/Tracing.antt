@@ -22,7 +22,7 @@ use Rattle.stack_walk.specs.Walk.{ServedAs, Walked}
 use Rattle.dispatch_core.specs.declared.walker.Walker.{Walker}
 use Rattle.dispatch_core.specs.EntryStates.{entry_at}
 use Rattle.dispatch_core.specs.Failing.{GoesBy, IsAsked, Takes, visited_at}
-use Rattle.dispatch_core.specs.Given.{GivenView}
+use Rattle.dispatch_core.specs.AnswersSoFar.{AnswersView}
 use Rattle.dispatch_core.specs.Index.{walk_on}
 use Rattle.dispatch_core.specs.Passes.{Keeps, KeepsAfter, KeepsAll, LeavesAs, PassesAs, WalksAs, kept_behind}
 use Rattle.dispatch_core.specs.Trail.{ByTrail, seen_in, seen_of}
@@ -122,7 +122,7 @@ module _ (kind : PassKind) (kept : KeptAnswers) (stack : Stack) (given : List Co
         (subst (λ (t : Stack). GoesBy kind kept t code walker new) same (subst (λ (o : Option Code). IfSome o (λ (k : Code). GoesBy kind kept nodes k walker new)) is goes))
         (subst (λ (t : Stack). Takes players func flags t tells walker.at (Some code) past left now later) same (subst (λ (o : Option Code). Takes players func flags nodes tells walker.at o past left now later) is takes))
 
-    module _ (cells : Answers) (view : GivenView) (taken : view.taken ≡ answers_of visits) (keeps : is_some cells ≡ true → Keeps cells visits) where
+    module _ (cells : Answers) (view : AnswersView) (taken : view.taken ≡ answers_of visits) (keeps : is_some cells ≡ true → Keeps cells visits) where
       traced_off : IsAsked players func flags stack tells walker.at codes.Incomplete true past left now later → walker.at < lines_in stack
           → ByTrail kind kept stack given start later.room.transaction.trail (λ w told. WalksAs w None cells view told)
       traced_off asked within =
@@ -144,7 +144,7 @@ module _ (kind : PassKind) (kept : KeptAnswers) (stack : Stack) (given : List Co
           (subst (λ (t : Stack). IsAsked players func flags t tells walker.at codes.Incomplete true past left now later) same (subst (λ (o : Option Code). Takes players func flags nodes tells walker.at o past left now later) is takes))
           (omega (arith, within, ap lines_in same))
 
-  pub traced_ended : (walker : Walker) (past : List Code) (visits : List Visit) (now : List Visited) (cells : Answers) (view : GivenView) (code : Code) → Traced walker past visits now
+  pub traced_ended : (walker : Walker) (past : List Code) (visits : List Visit) (now : List Visited) (cells : Answers) (view : AnswersView) (code : Code) → Traced walker past visits now
       → view.taken ≡ answers_of visits → (is_some cells ≡ true → Keeps cells visits) → lines_in stack ≤ walker.at → code ≡ verdict walker.opinion
       → ByTrail kind kept stack given start now (λ w told. WalksAs w (Some code) cells view told)
   traced_ended walker past visits now cells view code traced taken keeps behind decided = record {
@@ -175,7 +175,7 @@ on_if : (b : Bool) (code x : Code) → Some code ≡ (if b then None else Some x
 on_if true code x e = (cc)
 on_if false code x e = (refl, cc)
 
-pub passes_off : {T : Type 0} (kind : PassKind) (w : Walked (PassState T)) (code : Code) (cells : Answers) (view : GivenView) (paused : Option (List Code)) (t : T) → code ≡ codes.Incomplete → paused ≡ Some view.taken
+pub passes_off : {T : Type 0} (kind : PassKind) (w : Walked (PassState T)) (code : Code) (cells : Answers) (view : AnswersView) (paused : Option (List Code)) (t : T) → code ≡ codes.Incomplete → paused ≡ Some view.taken
     → (kind ≡ kinds.Keep → is_some cells ≡ true) → WalksAs w None cells view t → PassesAs kind w code cells paused t
 passes_off kind w code cells view paused t off at held walks =
     let stops : w.stopped ≡ true = off_if w.stopped (verdict w.opinion) walks.end_is in
@@ -186,7 +186,7 @@ passes_off kind w code cells view paused t off at held walks =
       state_is = walks.state_is;
     }
 
-pub passes_on : {T : Type 0} (kind : PassKind) (w : Walked (PassState T)) (code : Code) (cells : Answers) (view : GivenView) (paused : Option (List Code)) (t : T) → paused ≡ None
+pub passes_on : {T : Type 0} (kind : PassKind) (w : Walked (PassState T)) (code : Code) (cells : Answers) (view : AnswersView) (paused : Option (List Code)) (t : T) → paused ≡ None
     → (kind ≡ kinds.Keep → is_some cells ≡ true) → WalksAs w (Some code) cells view t → PassesAs kind w code cells paused t
 passes_on kind w code cells view paused t none held walks =
     let on = on_if w.stopped code (verdict w.opinion) walks.end_is in

@@ -12,7 +12,7 @@ use Rattle.stack_walk.specs.Walk.{Serving, Walked, halted, code_of}
 use Rattle.stack_walk.specs.Route.{KeptAnswers}
 use Rattle.stack_walk.specs.Pass.{PassState, Visit, visit, kept_in, answers_of}
 use Rattle.dispatch_core.specs.declared.walker.Walker.{Walker}
-use Rattle.dispatch_core.specs.Given.{GivenView}
+use Rattle.dispatch_core.specs.AnswersSoFar.{AnswersView}
 use Rattle.dispatch_core.specs.Index.{walk_on}
 
 -- cached codes by rule number, from 1
@@ -64,7 +64,7 @@ KeepsAll kept visits = (is_some kept ≡ true) × Keeps kept visits
 
 -- what a walk over all lines gave, cached and took is that of a walk
 pub record WalksAs {State : Type 0} (w : Walked (PassState State)) (ended : Option Code)
-    (kept : Answers) (given : GivenView) (state : State) : Type 0 where
+    (kept : Answers) (given : AnswersView) (state : State) : Type 0 where
   pub end_is : ended ≡ end_of w
   pub kept_is : is_some kept ≡ true → Keeps kept w.state.visits
   pub taken_is : given.taken ≡ answers_of w.state.visits

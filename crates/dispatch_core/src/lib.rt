@@ -2,20 +2,20 @@
 //! and the walker goes on where the line's list does. Whatever the modules do, the pass is the walk
 //! over the nested stack of `stack_walk`.
 //!
-//! Begin at pass.rt; turn.rt is one line, and walker.rt with onward.rt decides where the pass goes
+//! Begin at pass.rt; turn.rt is one line, and walker.rt with next_line.rt decides where the pass goes
 //! on after it.
 #![tactic(auto)]
 
+mod answers_so_far;
 mod entry_states;
-mod given;
 pub mod laws;
 mod line;
-mod onward;
+mod next_line;
 mod pass;
+mod pass_memory;
 mod paths;
 mod paused;
 mod request;
-mod supplies;
 mod turn;
 mod walker;
 

@@ -3,10 +3,10 @@ ghost use Rattle.control_words.specs.Stack.{lines_in};
 ghost use Rattle.handler_chain.specs.FlatLines.{rule_at};
 ghost use Rattle.pam_room.specs.State.{state_of};
 ghost use Rattle.pam_room.specs.Stays.{IsReady};
-ghost use Rattle.pam_room.specs.Module.{notes_of, player_of};
+ghost use Rattle.pam_room.specs.Module.{player_of};
 ghost use Rattle.pam_room.specs.Plain.{plain_process, plain_transaction};
 ghost use Rattle.stack_walk.specs.Pass.{AnswersAs};
-ghost use Rattle.dispatch_core.specs.AnyWorld.{GoesSoundly};
+ghost use Rattle.dispatch_core.specs.AnyWorld.{PassStays};
 ghost use Rattle.dispatch_core.specs.Failing.{BreaksAt, IsAtWork, visited_at};
 ghost use Rattle.dispatch_core.specs.Lines.{answers_by};
 ghost use Rattle.dispatch_core.specs.Paths.{HasPaths};
@@ -35,10 +35,9 @@ pub fn ask_line(
     requires spare { 0 < room.old.transaction.trail.spare }
     requires ready { IsReady (length mods.now) (plain_transaction room.old.transaction)
         (plain_process world.old.process) }
-    ensures room_tells { ⟦<Room as RoomTold>⟧.tells room.new ≡ ⟦<Room as RoomTold>⟧.tells room.old }
-    ensures world_tells { ⟦<World as WorldTold>⟧.tells world.new
-        ≡ ⟦<World as WorldTold>⟧.tells world.old }
-    ensures nap { world.new.nap ≡ world.old.nap }
+    ensures stays { PassStays (map (player_of label plays note breaks) mods.now) (length mods.now)
+        ⟦<Room as RoomTold>⟧.tells ⟦<World as WorldTold>⟧.tells
+        room.old room.new world.old world.new }
     ensures told { IsTrue (⟦<Room as RoomTold>⟧.tells room.old
         && ⟦<World as WorldTold>⟧.tells world.old) →
         IfOk result (λ answer. AnswersAs
@@ -63,12 +62,6 @@ pub fn ask_line(
         (plain_transaction room.new.transaction)) }
     ensures spare { room.old.transaction.trail.spare ≤ room.new.transaction.trail.spare + 1 }
     ensures paths { HasPaths chain.now.nodes (i + 1) paths.new }
-    ensures sound { GoesSoundly (notes_of (map (player_of label plays note breaks) mods.now))
-        (length mods.now)
-        (plain_transaction room.old.transaction) (plain_transaction room.new.transaction)
-        (plain_process world.old.process) (plain_process world.new.process) }
-    ensures ready { IsReady (length mods.now) (plain_transaction room.new.transaction)
-        (plain_process world.new.process) }
 {
     // A law, with nothing to do at run time: a stack has fewer than 4,097 lines, and a chain is
     // made for fewer than 2^32 modules.

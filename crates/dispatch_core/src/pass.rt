@@ -1,23 +1,20 @@
-ghost use Rattle.std.specs.Prelude.{◌≡◌, ◌<◌, ◌≤◌, ◌+◌, ◌*◌, ◌&&◌, ◌⊎◌, [], None, Some, true, is_some, length, map, IfOk, OnOk, OnErr, IsNone, IsTrue};
+ghost use Rattle.std.specs.Prelude.{◌≡◌, ◌<◌, ◌≤◌, ◌⊎◌, [], None, Some, true, is_some, length, map, IfOk, OnOk, OnErr, IsNone, IsTrue};
 ghost use Rattle.control_words.specs.Stack.{lines_in};
-ghost use Rattle.frozen_chain.specs.Kept.{empty_cells, lines_kept};
-ghost use Rattle.pam_room.specs.State.{state_of};
+ghost use Rattle.frozen_chain.specs.Kept.{empty_cells};
 ghost use Rattle.pam_room.specs.Stays.{IsReady};
-ghost use Rattle.pam_room.specs.Module.{notes_of, player_of};
+ghost use Rattle.pam_room.specs.Module.{player_of};
 ghost use Rattle.pam_room.specs.Plain.{plain_process, plain_transaction};
-ghost use Rattle.stack_walk.specs.Pass.{pass_after};
-ghost use Rattle.dispatch_core.specs.AnyWorld.{GoesSoundly};
-ghost use Rattle.dispatch_core.specs.Failing.{IsUntouched, StopsAt};
-ghost use Rattle.dispatch_core.specs.Given.{past_of};
-ghost use Rattle.dispatch_core.specs.Lines.{answers_by};
+ghost use Rattle.dispatch_core.specs.AnyWorld.{PassStays};
+ghost use Rattle.dispatch_core.specs.Done.{PassDone, PassStops};
+ghost use Rattle.dispatch_core.specs.Failing.{IsUntouched};
+ghost use Rattle.dispatch_core.specs.AnswersSoFar.{past_of};
 ghost use Rattle.dispatch_core.specs.Paths.{HasPaths};
 ghost use Rattle.dispatch_core.specs.Passes.{LeavesAs, PassesAs, WalksAs, by_place, kept_behind, kept_failed};
-ghost use Rattle.dispatch_core.specs.Trail.{ByTrail};
 
 use crate::laws;
+use crate::pass_memory::PassMemory;
 use crate::paused::Paused;
 use crate::request::PassRequest;
-use crate::supplies::Supplies;
 use crate::turn::walk_line;
 use crate::walker::Walker;
 use frozen_chain::Kept;
@@ -35,56 +32,35 @@ fn walk(
     request: PassRequest,
     follows: &Kept,
     keeps: &mut Kept,
-    supplies: &mut Supplies,
+    memory: &mut PassMemory,
     room: &mut Room,
     world: &mut World,
 ) -> Result<Option<Code>, NoMemory>
     requires names { chain.old.names ≡ map label mods.now }
-    requires taken { supplies.old.given.taken ≡ [] }
-    requires answers { lines_in chain.old.nodes ≤ supplies.old.given.room }
-    requires paths { HasPaths chain.old.nodes 0 supplies.old.paths }
+    requires taken { memory.old.answers.taken ≡ [] }
+    requires answers { lines_in chain.old.nodes ≤ memory.old.answers.room }
+    requires paths { HasPaths chain.old.nodes 0 memory.old.paths }
     requires spare { lines_in chain.old.nodes ≤ room.old.transaction.trail.spare }
     requires cells { is_some keeps.old ≡ true →
         keeps.old ≡ Some (empty_cells (lines_in chain.old.nodes)) }
     requires ready { IsReady (length mods.now) (plain_transaction room.old.transaction)
         (plain_process world.old.process) }
-    ensures room_tells { ⟦<Room as RoomTold>⟧.tells room.new ≡ ⟦<Room as RoomTold>⟧.tells room.old }
-    ensures world_tells { ⟦<World as WorldTold>⟧.tells world.new
-        ≡ ⟦<World as WorldTold>⟧.tells world.old }
-    ensures nap { world.new.nap ≡ world.old.nap }
-    ensures told { IsTrue (⟦<Room as RoomTold>⟧.tells room.old
-        && ⟦<World as WorldTold>⟧.tells world.old) →
-        IfOk result (λ end. WalksAs
-        (pass_after request.kind (by_place follows.now)
-        (answers_by (map (player_of label plays note breaks) mods.now) request.func request.flags)
-        chain.old.nodes supplies.old.given.past
-        (state_of (⟦<Room as RoomTold>⟧.plain room.old) (⟦<World as WorldTold>⟧.plain world.old)))
-        end keeps.new supplies.new.given
-        (state_of (⟦<Room as RoomTold>⟧.plain room.new) (⟦<World as WorldTold>⟧.plain world.new))) }
-    ensures by_trail { IfOk result (λ end. ByTrail request.kind (by_place follows.now)
-        chain.old.nodes supplies.old.given.past (plain_transaction room.old.transaction).trail
-        (plain_transaction room.new.transaction).trail (λ w told.
-        WalksAs w end keeps.new supplies.new.given told)) }
+    ensures stays { PassStays (map (player_of label plays note breaks) mods.now) (length mods.now)
+        ⟦<Room as RoomTold>⟧.tells ⟦<World as WorldTold>⟧.tells
+        room.old room.new world.old world.new }
+    ensures done { PassDone (map (player_of label plays note breaks) mods.now) request
+        (by_place follows.now) memory.old.answers.past
+        (λ _ w end state. WalksAs w end keeps.new memory.new.answers state)
+        ⟦<Room as RoomTold>⟧.tells ⟦<Room as RoomTold>⟧.plain
+        ⟦<World as WorldTold>⟧.tells ⟦<World as WorldTold>⟧.plain
+        result chain.old chain.new room.old room.new world.old world.new }
     ensures held { OnOk result (is_some keeps.new ≡ is_some keeps.old) }
-    ensures none { IfOk result (λ end. IsNone end → supplies.new.given.past ≡ []) }
-    ensures nodes { chain.new.nodes ≡ chain.old.nodes }
-    ensures names { chain.new.names ≡ chain.old.names }
-    ensures looks { OnOk result (chain.new.looks + 4 * length room.old.transaction.trail.visits
-        ≤ chain.old.looks + 4 *
-        (length room.new.transaction.trail.visits + length supplies.old.given.past)) }
-    ensures stopped { OnErr result
-        (StopsAt (map (player_of label plays note breaks) mods.now) request.func request.flags
-        chain.old.nodes request.kind (by_place follows.now) supplies.old.given.past
-        (⟦<Room as RoomTold>⟧.tells room.old && ⟦<World as WorldTold>⟧.tells world.old)
-        (state_of (⟦<Room as RoomTold>⟧.plain room.old) (⟦<World as WorldTold>⟧.plain world.old))
-        (state_of (⟦<Room as RoomTold>⟧.plain room.new)
-        (⟦<World as WorldTold>⟧.plain world.new))) }
-    ensures sound { GoesSoundly (notes_of (map (player_of label plays note breaks) mods.now))
-        (length mods.now)
-        (plain_transaction room.old.transaction) (plain_transaction room.new.transaction)
-        (plain_process world.old.process) (plain_process world.new.process) }
-    ensures ready { IsReady (length mods.now) (plain_transaction room.new.transaction)
-        (plain_process world.new.process) }
+    ensures none { IfOk result (λ end. IsNone end → memory.new.answers.past ≡ []) }
+    ensures stopped { OnErr result (PassStops
+        (map (player_of label plays note breaks) mods.now) request chain.old.nodes
+        (by_place follows.now) memory.old.answers.past ⟦<Room as RoomTold>⟧.tells
+        ⟦<Room as RoomTold>⟧.plain ⟦<World as WorldTold>⟧.tells ⟦<World as WorldTold>⟧.plain
+        room.old room.new world.old world.new) }
 {
     pam_room::data_cleanup::laws::nothing_grows();
     laws::soundness_is_transitive();
@@ -97,7 +73,7 @@ fn walk(
             request,
             follows,
             keeps,
-            supplies,
+            memory,
             room,
             world,
             &mut walker,
@@ -125,48 +101,28 @@ fn walk_all(
     requires cells { keeps.old ≡ None }
     requires ready { IsReady (length mods.now) (plain_transaction room.old.transaction)
         (plain_process world.old.process) }
-    ensures room_tells { ⟦<Room as RoomTold>⟧.tells room.new ≡ ⟦<Room as RoomTold>⟧.tells room.old }
-    ensures world_tells { ⟦<World as WorldTold>⟧.tells world.new
-        ≡ ⟦<World as WorldTold>⟧.tells world.old }
-    ensures nap { world.new.nap ≡ world.old.nap }
-    ensures told { IsTrue (⟦<Room as RoomTold>⟧.tells room.old
-        && ⟦<World as WorldTold>⟧.tells world.old) →
-        IfOk result (λ code. PassesAs request.kind
-        (pass_after request.kind (by_place follows.now)
-        (answers_by (map (player_of label plays note breaks) mods.now) request.func request.flags)
-        chain.old.nodes (past_of paused.old)
-        (state_of (⟦<Room as RoomTold>⟧.plain room.old) (⟦<World as WorldTold>⟧.plain world.old)))
-        code keeps.new paused.new
-        (state_of (⟦<Room as RoomTold>⟧.plain room.new) (⟦<World as WorldTold>⟧.plain world.new))) }
-    ensures by_trail { IfOk result (λ code. ByTrail request.kind (by_place follows.now)
-        chain.old.nodes (past_of paused.old) (plain_transaction room.old.transaction).trail
-        (plain_transaction room.new.transaction).trail (λ w told.
-        PassesAs request.kind w code keeps.new paused.new told)) }
+    ensures stays { PassStays (map (player_of label plays note breaks) mods.now) (length mods.now)
+        ⟦<Room as RoomTold>⟧.tells ⟦<World as WorldTold>⟧.tells
+        room.old room.new world.old world.new }
+    ensures done { PassDone (map (player_of label plays note breaks) mods.now) request
+        (by_place follows.now) (past_of paused.old)
+        (λ _ w code state. PassesAs request.kind w code keeps.new paused.new state)
+        ⟦<Room as RoomTold>⟧.tells ⟦<Room as RoomTold>⟧.plain
+        ⟦<World as WorldTold>⟧.tells ⟦<World as WorldTold>⟧.plain
+        result chain.old chain.new room.old room.new world.old world.new }
     ensures paused { OnErr result (paused.new ≡ None) }
     ensures put_off { IfOk result (λ code. IsTrue (is_some paused.new) → code ≡ Code.Incomplete) }
-    ensures nodes { chain.new.nodes ≡ chain.old.nodes }
-    ensures names { chain.new.names ≡ chain.old.names }
-    ensures looks { OnOk result (chain.new.looks + 4 * length room.old.transaction.trail.visits
-        ≤ chain.old.looks + 4 *
-        (length room.new.transaction.trail.visits + length (past_of paused.old))) }
     ensures stopped { OnErr result
         (IsUntouched (⟦<Room as RoomTold>⟧.plain room.old) (⟦<Room as RoomTold>⟧.plain room.new)
         room.old.conv room.new.conv world.old world.new
-        ⊎ StopsAt (map (player_of label plays note breaks) mods.now) request.func request.flags
-        chain.old.nodes request.kind (by_place follows.now) (past_of paused.old)
-        (⟦<Room as RoomTold>⟧.tells room.old && ⟦<World as WorldTold>⟧.tells world.old)
-        (state_of (⟦<Room as RoomTold>⟧.plain room.old) (⟦<World as WorldTold>⟧.plain world.old))
-        (state_of (⟦<Room as RoomTold>⟧.plain room.new)
-        (⟦<World as WorldTold>⟧.plain world.new))) }
-    ensures sound { GoesSoundly (notes_of (map (player_of label plays note breaks) mods.now))
-        (length mods.now)
-        (plain_transaction room.old.transaction) (plain_transaction room.new.transaction)
-        (plain_process world.old.process) (plain_process world.new.process) }
-    ensures ready { IsReady (length mods.now) (plain_transaction room.new.transaction)
-        (plain_process world.new.process) }
+        ⊎ PassStops
+        (map (player_of label plays note breaks) mods.now) request chain.old.nodes
+        (by_place follows.now) (past_of paused.old) ⟦<Room as RoomTold>⟧.tells
+        ⟦<Room as RoomTold>⟧.plain ⟦<World as WorldTold>⟧.tells ⟦<World as WorldTold>⟧.plain
+        room.old room.new world.old world.new) }
 {
     pam_room::data_cleanup::laws::nothing_grows();
-    let mut supplies = Supplies::take(alloc, chain, paused, room)?;
+    let mut memory = PassMemory::take(alloc, chain, paused, room)?;
     if request.kind == PassKind::Keep {
         keeps.open(alloc, chain.len())?;
     }
@@ -177,13 +133,13 @@ fn walk_all(
         request,
         follows,
         keeps,
-        &mut supplies,
+        &mut memory,
         room,
         world,
     )? {
         Some(code) => Ok(code),
         None => {
-            *paused = supplies.given.pause();
+            *paused = memory.answers.pause();
             Ok(Code::Incomplete)
         }
     }
@@ -226,46 +182,26 @@ pub fn dispatch(
     requires names { chain.old.names ≡ map label mods.now }
     requires ready { IsReady (length mods.now) (plain_transaction room.old.transaction)
         (plain_process world.old.process) }
-    ensures room_tells { ⟦<Room as RoomTold>⟧.tells room.new ≡ ⟦<Room as RoomTold>⟧.tells room.old }
-    ensures world_tells { ⟦<World as WorldTold>⟧.tells world.new
-        ≡ ⟦<World as WorldTold>⟧.tells world.old }
-    ensures nap { world.new.nap ≡ world.old.nap }
-    ensures told { IsTrue (⟦<Room as RoomTold>⟧.tells room.old
-        && ⟦<World as WorldTold>⟧.tells world.old) →
-        IfOk result (λ code. LeavesAs request.kind
-        (pass_after request.kind (by_place kept.old)
-        (answers_by (map (player_of label plays note breaks) mods.now) request.func request.flags)
-        chain.old.nodes (past_of paused.old)
-        (state_of (⟦<Room as RoomTold>⟧.plain room.old) (⟦<World as WorldTold>⟧.plain world.old)))
-        kept.old code kept.new paused.new
-        (state_of (⟦<Room as RoomTold>⟧.plain room.new) (⟦<World as WorldTold>⟧.plain world.new))) }
-    ensures by_trail { IfOk result (λ code. ByTrail request.kind (by_place kept.old)
-        chain.old.nodes (past_of paused.old) (plain_transaction room.old.transaction).trail
-        (plain_transaction room.new.transaction).trail (λ w told.
-        LeavesAs request.kind w kept.old code kept.new paused.new told)) }
+    ensures stays { PassStays (map (player_of label plays note breaks) mods.now) (length mods.now)
+        ⟦<Room as RoomTold>⟧.tells ⟦<World as WorldTold>⟧.tells
+        room.old room.new world.old world.new }
+    ensures done { PassDone (map (player_of label plays note breaks) mods.now) request
+        (by_place kept.old) (past_of paused.old)
+        (λ _ w code state. LeavesAs request.kind w kept.old code kept.new paused.new state)
+        ⟦<Room as RoomTold>⟧.tells ⟦<Room as RoomTold>⟧.plain
+        ⟦<World as WorldTold>⟧.tells ⟦<World as WorldTold>⟧.plain
+        result chain.old chain.new room.old room.new world.old world.new }
     ensures kept { OnErr result (kept.new ≡ kept_failed request.kind kept.old) }
     ensures paused { OnErr result (paused.new ≡ None) }
     ensures put_off { IfOk result (λ code. IsTrue (is_some paused.new) → code ≡ Code.Incomplete) }
-    ensures nodes { chain.new.nodes ≡ chain.old.nodes }
-    ensures names { chain.new.names ≡ chain.old.names }
-    ensures looks { OnOk result (chain.new.looks + 4 * length room.old.transaction.trail.visits
-        ≤ chain.old.looks + 4 *
-        (length room.new.transaction.trail.visits + length (past_of paused.old))) }
     ensures stopped { OnErr result
         (IsUntouched (⟦<Room as RoomTold>⟧.plain room.old) (⟦<Room as RoomTold>⟧.plain room.new)
         room.old.conv room.new.conv world.old world.new
-        ⊎ StopsAt (map (player_of label plays note breaks) mods.now) request.func request.flags
-        chain.old.nodes request.kind (by_place kept.old) (past_of paused.old)
-        (⟦<Room as RoomTold>⟧.tells room.old && ⟦<World as WorldTold>⟧.tells world.old)
-        (state_of (⟦<Room as RoomTold>⟧.plain room.old) (⟦<World as WorldTold>⟧.plain world.old))
-        (state_of (⟦<Room as RoomTold>⟧.plain room.new)
-        (⟦<World as WorldTold>⟧.plain world.new))) }
-    ensures sound { GoesSoundly (notes_of (map (player_of label plays note breaks) mods.now))
-        (length mods.now)
-        (plain_transaction room.old.transaction) (plain_transaction room.new.transaction)
-        (plain_process world.old.process) (plain_process world.new.process) }
-    ensures ready { IsReady (length mods.now) (plain_transaction room.new.transaction)
-        (plain_process world.new.process) }
+        ⊎ PassStops
+        (map (player_of label plays note breaks) mods.now) request chain.old.nodes
+        (by_place kept.old) (past_of paused.old) ⟦<Room as RoomTold>⟧.tells
+        ⟦<Room as RoomTold>⟧.plain ⟦<World as WorldTold>⟧.tells ⟦<World as WorldTold>⟧.plain
+        room.old room.new world.old world.new) }
 {
     let mut keeps = Kept::none();
     let result = walk_all(

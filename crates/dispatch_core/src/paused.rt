@@ -1,5 +1,5 @@
 ghost use Rattle.std.specs.Prelude.{◌≡◌, None, Some, is_none};
-ghost use Rattle.dispatch_core.specs.Given.{past_of};
+ghost use Rattle.dispatch_core.specs.AnswersSoFar.{past_of};
 
 use pam_base::Code;
 use std::alloc::Global;

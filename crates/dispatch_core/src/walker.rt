@@ -1,5 +1,5 @@
 use crate::entry_states::EntryStates;
-use crate::onward::onward_from;
+use crate::next_line::next_line_after;
 use handler_chain::Chain;
 use pam_base::Code;
 use stack_walk::{Opinion, PassKind};
@@ -53,8 +53,8 @@ impl Walker {
         let action = chain.control(i).action(deciding);
         let entry = self.entries.at(level);
         let new = self.opinion.after(kind, action, answer, deciding, entry);
-        let onward = onward_from(chain, i, action, new);
-        self.opinion = onward.opinion;
-        self.at = onward.next;
+        let next = next_line_after(chain, i, action, new);
+        self.opinion = next.opinion;
+        self.at = next.index;
     }
 }

@@ -11,7 +11,7 @@ use Rattle.stack_walk.specs.declared.opinion.Opinion.{Opinion}
 use Rattle.stack_walk.specs.declared.pass_kind.PassKind.{PassKind}
 use Rattle.stack_walk.specs.Opinion.{acted}
 use Rattle.stack_walk.specs.Walk.{Serving, Served, ServedAs, Walked, walk, walked, next_of, settled}
-use Rattle.pass_replay.specs.Walk.{skip_of, Comes}
+use Rattle.pass_replay.specs.Walk.{skip_of, WalkEnds}
 use Rattle.explain_lines.specs.declared.row.Fate.{Fate}
 use Rattle.explain_lines.specs.declared.row.Fate.TheVariants.{Ran, Waits, Unreached}
 use Rattle.explain_lines.specs.declared.row.Row.{Row}
@@ -199,7 +199,7 @@ module _ {State : Type 0} (kind : PassKind) (serve : Serving State) where
 
   pub sub_waits : (all : Stack) (first : ℕ) (entry : Opinion) (start : State) (reason : Fate) (before : List Row) (here inner rest left : Stack) (skip at at' : ℕ) (opinion : Opinion) (state new : State) (why : Fate) (shown after final : List Row)
       → IsShowing all first entry start reason before here skip at opinion state why shown → here ≡ sub inner rest → skip ≡ 0 → at' ≡ at + lines_in inner → left ≡ rest
-      → Comes (walk kind serve 0 inner (at + 1) opinion opinion state) None new
+      → WalkEnds (walk kind serve 0 inner (at + 1) opinion opinion state) None new
       → after ≡ shown ++ rows kind serve 0 why inner (at + 1) opinion opinion state
       → final ≡ after ++ rows_over Unreached (at' + 1) left
       → final ≡ before ++ rows kind serve 0 reason all (first + 1) entry entry start

@@ -5,7 +5,7 @@ ghost use Rattle.stack_walk.specs.Pass.{serving};
 ghost use Rattle.stack_walk.specs.Retell.{replaying};
 ghost use Rattle.stack_walk.specs.Walk.{walk};
 ghost use Rattle.pass_replay.specs.Kept.{kept_answers};
-ghost use Rattle.pass_replay.specs.Walk.{Comes, state_in};
+ghost use Rattle.pass_replay.specs.Walk.{WalkEnds, state_in};
 ghost use Rattle.explain_calls.specs.Rows.{last_of, rows, rows_behind, rows_over};
 ghost use Rattle.explain_calls.specs.Walk.{after_turn};
 
@@ -14,7 +14,7 @@ use crate::turn::{Turn, why_after};
 use control_words::{Node, Nodes, Rule};
 use explain_lines::{Fate, Row, Rows};
 use pam_base::NoMemory;
-use pass_replay::onward::onward_from;
+use pass_replay::next_node::next_node_after;
 use pass_replay::replay::{Replay, next_answer};
 use pass_replay::walk::decide;
 use stack_walk::Opinion;
@@ -113,7 +113,7 @@ fn walk_line(
     let deciding = decide(run.kind, run.follows, replay.at, answer);
     let action = rule.control.action(deciding);
     let new = opinion.after(run.kind, action, answer, deciding, entry);
-    let onward = onward_from(action, left, new);
+    let onward = next_node_after(action, left, new);
     let state = onward.opinion;
     let fate = Fate::Ran {
         answer,
@@ -140,7 +140,7 @@ pub fn walk_nodes(
     shown: &mut Rows,
 ) -> Result<Option<Opinion>, NoMemory>
     requires few { replay.old.at + lines_in (stack_of nodes.now.vec.items) ≤ 4096 }
-    ensures comes { IfOk result (λ end. Comes
+    ensures comes { IfOk result (λ end. WalkEnds
         (walk run.kind (serving run.kind (answers_held (kept_answers run.follows.now)) replaying)
         0 (stack_of nodes.now.vec.items) (replay.old.at + 1) entry entry
         (state_in run.past.now run.told.now replay.old))

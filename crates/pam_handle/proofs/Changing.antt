@@ -2,7 +2,7 @@
 use Rattle.std.proofs.Common.{◌≡◌, ℕ, bit_or, List, [], Option, Some, None, Result, Ok, Err, IfOk, OnErr, if◌then◌else◌, Bool, true, false, ◌&&◌, is_some, IsTrue, refl, sym, ◌∙◌, ap, subst, arith}
 use Rattle.dispatch_core.specs.control_words.specs.Stack.{Stack}
 use Rattle.frozen_chain.specs.Kept.{Answers}
-use Rattle.dispatch_core.specs.Given.{past_of}
+use Rattle.dispatch_core.specs.AnswersSoFar.{past_of}
 use Rattle.pam_base.specs.declared.code.Code.{Code}
 use Rattle.pam_base.specs.declared.code.Code.TheVariants.{Abort, Success, SystemErr, Incomplete}
 use Rattle.pam_base.specs.declared.call.Func.TheVariants.{ChAuthTok}

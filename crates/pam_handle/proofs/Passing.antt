@@ -1,6 +1,7 @@
 -- A pass over a chain with an array of cached codes is a pass over a stack with a function from rule numbers to codes.
-use Rattle.std.proofs.Common.{◌≡◌, ℕ, zero, suc, List, [], ◌∷◌, ◌++◌, Option, Some, None, Result, Ok, Err, IfOk, OnErr, ◌⊎◌, Bool, true, false, map, refl, sym, ◌∙◌, ap, subst}
+use Rattle.std.proofs.Common.{◌≡◌, ℕ, zero, suc, List, [], ◌∷◌, ◌++◌, Option, Some, None, Result, Ok, Err, IfOk, OnErr, ◌⊎◌, Bool, true, false, length, map, refl, sym, ◌∙◌, ap, subst}
 use Rattle.std.proofs.Math.Path.{fun_ext}
+use Rattle.std.proofs.lemmas.List.{length-map}
 use Rattle.pam_base.specs.declared.code.Code.{Code}
 use Rattle.pam_base.specs.declared.call.Func.{Func}
 use Rattle.pam_base.specs.declared.fault.NoMemory.{NoMemory}
@@ -11,11 +12,13 @@ use Rattle.dispatch_core.specs.stack_walk.specs.declared.pass_kind.PassKind.TheV
 use Rattle.dispatch_core.specs.stack_walk.specs.Pass.{PassState, Visit, kept_in, pass_after}
 use Rattle.dispatch_core.specs.stack_walk.specs.Walk.{Walked, code_of}
 use Rattle.dispatch_core.specs.stack_walk.specs.Route.{KeptAnswers}
+use Rattle.dispatch_core.specs.AnyWorld.{GoesSoundly}
 use Rattle.dispatch_core.specs.Failing.{StopsAt}
 use Rattle.dispatch_core.specs.Lines.{answers_by, names_of}
 use Rattle.dispatch_core.specs.Passes.{by_place, paused_after, KeepsAfter, KeepsAll, LeavesAs}
-use Rattle.dispatch_core.specs.pam_room.specs.State.{State}
-use Rattle.dispatch_core.specs.pam_room.specs.Module.{Breaks, Player, Plays, Note, player_of}
+use Rattle.dispatch_core.specs.pam_room.specs.State.{PlainProcess, PlainTransaction, State}
+use Rattle.dispatch_core.specs.pam_room.specs.Module.{Breaks, Player, Plays, Note, notes_of, player_of}
+use Rattle.dispatch_core.specs.pam_room.specs.Stays.{IsReady}
 use Rattle.dispatch_core.specs.Calls.{answers_held, kept_behind, passed_by}
 use Rattle.dispatch_core.specs.Trail.{ByTrail, seen_in}
 use Rattle.dispatch_core.specs.pam_room.specs.declared.visits.Visit.{Visit as Visited}
@@ -81,6 +84,19 @@ pub names_of_players : {M : Type 0} (label : M → List ℕ) (plays : M → Play
     → names_of (map (player_of label plays note breaks) mods) ≡ map label mods
 names_of_players label plays note breaks [] = refl
 names_of_players label plays note breaks (m ∷ mods) = ap (λ (names : List (List ℕ)). label m ∷ names) (names_of_players label plays note breaks mods)
+
+-- what a pass keeps, said of the modules, holds of their meanings
+module _ {M : Type 0} (label : M → List ℕ) (plays : M → Plays) (note : M → Note) (breaks : M → Breaks) (found mods : List M) (same : found ≡ mods) where
+  pub pass_sound : (x y : PlainTransaction) (a b : PlainProcess) → GoesSoundly (notes_of (map (player_of label plays note breaks) found)) (length found) x y a b
+      → GoesSoundly (notes_of (map (player_of label plays note breaks) mods)) (length (map (player_of label plays note breaks) mods)) x y a b
+  pass_sound x y a b sound =
+      subst (λ (n : ℕ). GoesSoundly (notes_of (map (player_of label plays note breaks) mods)) n x y a b) (sym (length-map mods (player_of label plays note breaks)))
+      (subst (λ (ms : List M). GoesSoundly (notes_of (map (player_of label plays note breaks) ms)) (length ms) x y a b) same sound)
+
+  pub pass_ready : (t : PlainTransaction) (p : PlainProcess) → IsReady (length found) t p → IsReady (length (map (player_of label plays note breaks) mods)) t p
+  pass_ready t p ready =
+      subst (λ (n : ℕ). IsReady n t p) (sym (length-map mods (player_of label plays note breaks)))
+      (subst (λ (ms : List M). IsReady (length ms) t p) same ready)
 
 pub pass_told : (result : Result Code NoMemory) (found players : List Player) (func : Func) (flags : ℕ) (kind : PassKind) (old new : Answers) (stack : Stack) (past : List Code) (s : State)
     (paused : Option (List Code)) (state : State) → found ≡ players

@@ -13,7 +13,7 @@ use Rattle.dispatch_core.specs.stack_walk.specs.Route.{KeptAnswers}
 use Rattle.dispatch_core.specs.AnyWorld.{GoesSoundly}
 use Rattle.dispatch_core.specs.Calls.{answers_held}
 use Rattle.dispatch_core.specs.Failing.{IsUntouched, StopsAt}
-use Rattle.dispatch_core.specs.Given.{past_of}
+use Rattle.dispatch_core.specs.AnswersSoFar.{past_of}
 use Rattle.dispatch_core.specs.Pending.{Pending, first_in, past_in}
 use Rattle.dispatch_core.specs.pam_room.specs.Module.{Player, notes_of}
 use Rattle.dispatch_core.specs.pam_room.specs.State.{PlainRoom, PlainWorld, State, state_of}

@@ -15,7 +15,7 @@ use Rattle.dispatch_core.specs.stack_walk.specs.Route.{KeptAnswers}
 use Rattle.frozen_chain.specs.Kept.{Answers}
 use Rattle.dispatch_core.specs.Calls as calls
 use Rattle.dispatch_core.specs.Calls.{Held, Went, answers_held, held, held_behind, passed_by, went}
-use Rattle.dispatch_core.specs.Given.{past_of}
+use Rattle.dispatch_core.specs.AnswersSoFar.{past_of}
 use Rattle.dispatch_core.specs.Pending.{past_in, first_in, pending_after}
 use Rattle.dispatch_core.specs.Trail.{ByTrail, seen_in, seen_of}
 use Rattle.dispatch_core.specs.pam_room.specs.State.{PlainRoom}

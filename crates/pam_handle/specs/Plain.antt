@@ -2,7 +2,7 @@
 use Rattle.std.specs.Option.{option_map}
 use Rattle.std.specs.declared.alloc.Global.{Global}
 use Rattle.std.specs.declared.dyn_box.DynBox.{DynBox}
-use Rattle.dispatch_core.specs.Given.{past_of}
+use Rattle.dispatch_core.specs.AnswersSoFar.{past_of}
 use Rattle.dispatch_core.specs.pam_room.specs.State.{PlainRoom}
 use Rattle.dispatch_core.specs.pam_room.specs.declared.room.Room.{Room}
 use Rattle.pam_handle.specs.declared.chains.Chains.{Chains}

@@ -58,7 +58,7 @@ impl Handle {
             &mut self.room,
             world,
         );
-        self.settle(Func::AcctMgmt, paused, Kept::none());
+        self.keep_pending(Func::AcctMgmt, paused, Kept::none());
         result
     }
 }

@@ -75,7 +75,7 @@ impl Handle {
         clear_if_ended(&mut self.room.transaction.items, &paused);
         let code = final_code(&result, &paused);
         sleep_after(gear, world, self.delay_on, longest, code, &mut self.waited);
-        self.settle(Func::Authenticate, paused, Kept::none());
+        self.keep_pending(Func::Authenticate, paused, Kept::none());
         result
     }
 }

@@ -1,18 +1,15 @@
 ghost use Rattle.std.specs.Prelude.{◌≡◌, ◌<◌, ◌^◌, ◌&&◌, None, is_some, IfOk, OnErr, IsTrue, length};
-ghost use Rattle.dispatch_core.specs.AnyWorld.{GoesSoundly};
-ghost use Rattle.dispatch_core.specs.Given.{past_of};
+ghost use Rattle.dispatch_core.specs.AnyWorld.{PassStays};
+ghost use Rattle.dispatch_core.specs.AnswersSoFar.{past_of};
 ghost use Rattle.dispatch_core.specs.Lines.{names_of};
-ghost use Rattle.dispatch_core.specs.pam_room.specs.Module.{notes_of};
 ghost use Rattle.dispatch_core.specs.pam_room.specs.Plain.{plain_process, plain_transaction};
 ghost use Rattle.dispatch_core.specs.pam_room.specs.State.{state_of};
 ghost use Rattle.dispatch_core.specs.pam_room.specs.Stays.{IsReady};
-ghost use Rattle.dispatch_core.specs.Pending.{pending_after};
-ghost use Rattle.pam_handle.specs.Handle.{PlainHandle};
 ghost use Rattle.pam_handle.specs.Pass.{kept_answers};
 ghost use Rattle.pam_handle.specs.Plain.{plain_handle};
 ghost use Rattle.pam_handle.specs.Ready.{IsReadyFor};
 ghost use Rattle.pam_handle.specs.StackCalled.{StackCalled};
-ghost use Rattle.pam_handle.specs.StackCalls.{change_goes_on, changed, check, update};
+ghost use Rattle.pam_handle.specs.StackCalls.{ChangesTo, change_goes_on, check, update};
 ghost use Rattle.pam_handle.specs.Stopping.{StopsInChange, StopsInCheck, StopsInUpdate};
 ghost use Rattle.pam_handle.specs.Trail.{ChangesByTrail, ChecksByTrail, UpdatesByTrail};
 
@@ -75,7 +72,7 @@ impl Handle {
             world,
         );
         clear_if_ended(&mut self.room.transaction.items, &paused);
-        self.settle(Func::ChAuthTok, paused, first);
+        self.keep_pending(Func::ChAuthTok, paused, first);
         result
     }
 }
@@ -94,23 +91,17 @@ fn change(
     requires names { chain.old.names ≡ names_of (⟦<Gear as GearTold>⟧.players gear.now) }
     requires ready { IsReady (length (⟦<Gear as GearTold>⟧.players gear.now))
         (plain_transaction room.old.transaction) (plain_process world.old.process) }
-    ensures tells { ⟦<Room as RoomTold>⟧.tells room.new ≡ ⟦<Room as RoomTold>⟧.tells room.old }
-    ensures world_tells { ⟦<World as WorldTold>⟧.tells world.new
-        ≡ ⟦<World as WorldTold>⟧.tells world.old }
-    ensures nap { world.new.nap ≡ world.old.nap }
+    ensures stays { PassStays (⟦<Gear as GearTold>⟧.players gear.now)
+        (length (⟦<Gear as GearTold>⟧.players gear.now))
+        ⟦<Room as RoomTold>⟧.tells ⟦<World as WorldTold>⟧.tells
+        room.old room.new world.old world.new }
     ensures told { IsTrue (⟦<Room as RoomTold>⟧.tells room.old
-        && ⟦<World as WorldTold>⟧.tells world.old) → (h : PlainHandle) →
-        h.room ≡ ⟦<Room as RoomTold>⟧.plain room.old → h.stacks.password ≡ chain.old.nodes →
-        IfOk result (λ code. change_goes_on (⟦<Gear as GearTold>⟧.players gear.now) flags
-        (past_of paused.old)
-        (kept_answers first.old) h (⟦<World as WorldTold>⟧.plain world.old)
-        ≡ changed paused.new code
-        (record h {
-          room =
-              ⟦<Room as RoomTold>⟧.plain room.new;
-          pending = pending_after Func.ChAuthTok
-              (kept_answers first.new) paused.new;
-        }) (⟦<World as WorldTold>⟧.plain world.new)) }
+        && ⟦<World as WorldTold>⟧.tells world.old) → ChangesTo
+        (change_goes_on (⟦<Gear as GearTold>⟧.players gear.now)
+        flags (past_of paused.old) (kept_answers first.old))
+        result chain.old.nodes (⟦<Room as RoomTold>⟧.plain room.old)
+        (⟦<World as WorldTold>⟧.plain world.old) (kept_answers first.new) paused.new
+        (⟦<Room as RoomTold>⟧.plain room.new) (⟦<World as WorldTold>⟧.plain world.new) }
     ensures by_trail { IfOk result (λ code. ChangesByTrail chain.old.nodes
         (kept_answers first.old) (past_of paused.old)
         (plain_transaction room.old.transaction).trail
@@ -126,12 +117,6 @@ fn change(
     ensures put_off { IfOk result (λ code. IsTrue (is_some paused.new) → code ≡ Code.Incomplete) }
     ensures nodes { chain.new.nodes ≡ chain.old.nodes }
     ensures names { chain.new.names ≡ chain.old.names }
-    ensures sound { GoesSoundly (notes_of (⟦<Gear as GearTold>⟧.players gear.now))
-        (length (⟦<Gear as GearTold>⟧.players gear.now))
-        (plain_transaction room.old.transaction) (plain_transaction room.new.transaction)
-        (plain_process world.old.process) (plain_process world.new.process) }
-    ensures ready { IsReady (length (⟦<Gear as GearTold>⟧.players gear.now))
-        (plain_transaction room.new.transaction) (plain_process world.new.process) }
 {
     if first.held() {
         update(alloc, gear, chain, flags, first, paused, room, world)
@@ -156,23 +141,17 @@ fn check(
     requires ready { IsReady (length (⟦<Gear as GearTold>⟧.players gear.now))
         (plain_transaction room.old.transaction) (plain_process world.old.process) }
     requires first { first.old ≡ None }
-    ensures tells { ⟦<Room as RoomTold>⟧.tells room.new ≡ ⟦<Room as RoomTold>⟧.tells room.old }
-    ensures world_tells { ⟦<World as WorldTold>⟧.tells world.new
-        ≡ ⟦<World as WorldTold>⟧.tells world.old }
-    ensures nap { world.new.nap ≡ world.old.nap }
+    ensures stays { PassStays (⟦<Gear as GearTold>⟧.players gear.now)
+        (length (⟦<Gear as GearTold>⟧.players gear.now))
+        ⟦<Room as RoomTold>⟧.tells ⟦<World as WorldTold>⟧.tells
+        room.old room.new world.old world.new }
     ensures told { IsTrue (⟦<Room as RoomTold>⟧.tells room.old
-        && ⟦<World as WorldTold>⟧.tells world.old) → (h : PlainHandle) →
-        h.room ≡ ⟦<Room as RoomTold>⟧.plain room.old → h.stacks.password ≡ chain.old.nodes →
-        IfOk result (λ code. check (⟦<Gear as GearTold>⟧.players gear.now) flags
-        (past_of paused.old) h
-        (⟦<World as WorldTold>⟧.plain world.old)
-        ≡ changed paused.new code
-        (record h {
-          room =
-              ⟦<Room as RoomTold>⟧.plain room.new;
-          pending = pending_after Func.ChAuthTok
-              (kept_answers first.new) paused.new;
-        }) (⟦<World as WorldTold>⟧.plain world.new)) }
+        && ⟦<World as WorldTold>⟧.tells world.old) → ChangesTo
+        (check (⟦<Gear as GearTold>⟧.players gear.now)
+        flags (past_of paused.old))
+        result chain.old.nodes (⟦<Room as RoomTold>⟧.plain room.old)
+        (⟦<World as WorldTold>⟧.plain world.old) (kept_answers first.new) paused.new
+        (⟦<Room as RoomTold>⟧.plain room.new) (⟦<World as WorldTold>⟧.plain world.new) }
     ensures by_trail { IfOk result (λ code. ChecksByTrail chain.old.nodes
         (past_of paused.old)
         (plain_transaction room.old.transaction).trail
@@ -188,12 +167,6 @@ fn check(
     ensures put_off { IfOk result (λ code. IsTrue (is_some paused.new) → code ≡ Code.Incomplete) }
     ensures nodes { chain.new.nodes ≡ chain.old.nodes }
     ensures names { chain.new.names ≡ chain.old.names }
-    ensures sound { GoesSoundly (notes_of (⟦<Gear as GearTold>⟧.players gear.now))
-        (length (⟦<Gear as GearTold>⟧.players gear.now))
-        (plain_transaction room.old.transaction) (plain_transaction room.new.transaction)
-        (plain_process world.old.process) (plain_process world.new.process) }
-    ensures ready { IsReady (length (⟦<Gear as GearTold>⟧.players gear.now))
-        (plain_transaction room.new.transaction) (plain_process world.new.process) }
 {
     dispatch_core::laws::soundness_is_transitive();
     let mut kept = Kept::none();
@@ -234,23 +207,17 @@ fn update(
     requires names { chain.old.names ≡ names_of (⟦<Gear as GearTold>⟧.players gear.now) }
     requires ready { IsReady (length (⟦<Gear as GearTold>⟧.players gear.now))
         (plain_transaction room.old.transaction) (plain_process world.old.process) }
-    ensures tells { ⟦<Room as RoomTold>⟧.tells room.new ≡ ⟦<Room as RoomTold>⟧.tells room.old }
-    ensures world_tells { ⟦<World as WorldTold>⟧.tells world.new
-        ≡ ⟦<World as WorldTold>⟧.tells world.old }
-    ensures nap { world.new.nap ≡ world.old.nap }
+    ensures stays { PassStays (⟦<Gear as GearTold>⟧.players gear.now)
+        (length (⟦<Gear as GearTold>⟧.players gear.now))
+        ⟦<Room as RoomTold>⟧.tells ⟦<World as WorldTold>⟧.tells
+        room.old room.new world.old world.new }
     ensures told { IsTrue (⟦<Room as RoomTold>⟧.tells room.old
-        && ⟦<World as WorldTold>⟧.tells world.old) → (h : PlainHandle) →
-        h.room ≡ ⟦<Room as RoomTold>⟧.plain room.old → h.stacks.password ≡ chain.old.nodes →
-        IfOk result (λ code. update (⟦<Gear as GearTold>⟧.players gear.now) flags
-        (kept_answers first.old)
-        (past_of paused.old) h (⟦<World as WorldTold>⟧.plain world.old)
-        ≡ changed paused.new code
-        (record h {
-          room =
-              ⟦<Room as RoomTold>⟧.plain room.new;
-          pending = pending_after Func.ChAuthTok
-              (kept_answers first.new) paused.new;
-        }) (⟦<World as WorldTold>⟧.plain world.new)) }
+        && ⟦<World as WorldTold>⟧.tells world.old) → ChangesTo
+        (update (⟦<Gear as GearTold>⟧.players gear.now)
+        flags (kept_answers first.old) (past_of paused.old))
+        result chain.old.nodes (⟦<Room as RoomTold>⟧.plain room.old)
+        (⟦<World as WorldTold>⟧.plain world.old) (kept_answers first.new) paused.new
+        (⟦<Room as RoomTold>⟧.plain room.new) (⟦<World as WorldTold>⟧.plain world.new) }
     ensures by_trail { IfOk result (λ code. UpdatesByTrail chain.old.nodes
         (kept_answers first.old) (past_of paused.old)
         (plain_transaction room.old.transaction).trail
@@ -266,12 +233,6 @@ fn update(
     ensures put_off { IfOk result (λ code. IsTrue (is_some paused.new) → code ≡ Code.Incomplete) }
     ensures nodes { chain.new.nodes ≡ chain.old.nodes }
     ensures names { chain.new.names ≡ chain.old.names }
-    ensures sound { GoesSoundly (notes_of (⟦<Gear as GearTold>⟧.players gear.now))
-        (length (⟦<Gear as GearTold>⟧.players gear.now))
-        (plain_transaction room.old.transaction) (plain_transaction room.new.transaction)
-        (plain_process world.old.process) (plain_process world.new.process) }
-    ensures ready { IsReady (length (⟦<Gear as GearTold>⟧.players gear.now))
-        (plain_transaction room.new.transaction) (plain_process world.new.process) }
 {
     pass(
         alloc,

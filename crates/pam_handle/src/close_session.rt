@@ -57,7 +57,7 @@ impl Handle {
             &mut self.room,
             world,
         );
-        self.settle(Func::CloseSession, paused, Kept::none());
+        self.keep_pending(Func::CloseSession, paused, Kept::none());
         result
     }
 }

@@ -57,7 +57,7 @@ impl Handle {
             &mut self.room,
             world,
         );
-        self.settle(Func::OpenSession, paused, Kept::none());
+        self.keep_pending(Func::OpenSession, paused, Kept::none());
         result
     }
 }

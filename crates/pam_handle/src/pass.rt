@@ -1,16 +1,14 @@
-ghost use Rattle.std.specs.Prelude.{◌≡◌, ◌<◌, ◌^◌, ◌&&◌, ◌⊎◌, None, is_some, length, IfOk, OnErr, IsTrue};
-ghost use Rattle.dispatch_core.specs.AnyWorld.{GoesSoundly};
-ghost use Rattle.dispatch_core.specs.Given.{past_of};
+ghost use Rattle.std.specs.Prelude.{◌≡◌, ◌<◌, ◌^◌, ◌⊎◌, None, is_some, length, IfOk, OnErr, IsTrue};
+ghost use Rattle.dispatch_core.specs.AnyWorld.{PassStays};
+ghost use Rattle.dispatch_core.specs.Done.{PassDone, PassStops};
+ghost use Rattle.dispatch_core.specs.AnswersSoFar.{past_of};
 ghost use Rattle.dispatch_core.specs.Lines.{names_of};
 ghost use Rattle.dispatch_core.specs.Passes.{kept_failed};
-ghost use Rattle.dispatch_core.specs.pam_room.specs.Module.{notes_of};
 ghost use Rattle.dispatch_core.specs.pam_room.specs.Plain.{plain_process, plain_transaction};
-ghost use Rattle.dispatch_core.specs.pam_room.specs.State.{state_of};
 ghost use Rattle.dispatch_core.specs.pam_room.specs.Stays.{IsReady};
 ghost use Rattle.dispatch_core.specs.Calls.{answers_held, following, passed_by};
-ghost use Rattle.dispatch_core.specs.Failing.{IsUntouched, StopsAt};
-ghost use Rattle.dispatch_core.specs.Trail.{ByTrail};
-ghost use Rattle.pam_handle.specs.Pass.{PassesTo, kept_answers, passed};
+ghost use Rattle.dispatch_core.specs.Failing.{IsUntouched};
+ghost use Rattle.pam_handle.specs.Pass.{PassesTo, kept_answers};
 
 use crate::gear::{Gear, GearTold};
 use dispatch_core::handler_chain::Chain;
@@ -36,44 +34,27 @@ pub(crate) fn pass(
     requires names { chain.old.names ≡ names_of (⟦<Gear as GearTold>⟧.players gear.now) }
     requires ready { IsReady (length (⟦<Gear as GearTold>⟧.players gear.now))
         (plain_transaction room.old.transaction) (plain_process world.old.process) }
-    ensures tells { ⟦<Room as RoomTold>⟧.tells room.new ≡ ⟦<Room as RoomTold>⟧.tells room.old }
-    ensures world_tells { ⟦<World as WorldTold>⟧.tells world.new
-        ≡ ⟦<World as WorldTold>⟧.tells world.old }
-    ensures nap { world.new.nap ≡ world.old.nap }
-    ensures told { IsTrue (⟦<Room as RoomTold>⟧.tells room.old
-        && ⟦<World as WorldTold>⟧.tells world.old) →
-        IfOk result (λ code. PassesTo
-        (passed (⟦<Gear as GearTold>⟧.players gear.now) request.func request.flags request.kind
-        (kept_answers kept.old) chain.old.nodes (past_of paused.old)
-        (state_of (⟦<Room as RoomTold>⟧.plain room.old) (⟦<World as WorldTold>⟧.plain world.old)))
-        code (kept_answers kept.new) paused.new
-        (state_of (⟦<Room as RoomTold>⟧.plain room.new) (⟦<World as WorldTold>⟧.plain world.new))) }
-    ensures by_trail { IfOk result (λ code. ByTrail request.kind
-        (answers_held (kept_answers kept.old)) chain.old.nodes (past_of paused.old)
-        (plain_transaction room.old.transaction).trail
-        (plain_transaction room.new.transaction).trail (λ w told. PassesTo
-        (passed_by request.kind (kept_answers kept.old) w)
-        code (kept_answers kept.new) paused.new told)) }
+    ensures stays { PassStays (⟦<Gear as GearTold>⟧.players gear.now)
+        (length (⟦<Gear as GearTold>⟧.players gear.now))
+        ⟦<Room as RoomTold>⟧.tells ⟦<World as WorldTold>⟧.tells
+        room.old room.new world.old world.new }
+    ensures done { PassDone (⟦<Gear as GearTold>⟧.players gear.now) request
+        (answers_held (kept_answers kept.old)) (past_of paused.old)
+        (λ _ w code state. PassesTo (passed_by request.kind (kept_answers kept.old) w)
+        code (kept_answers kept.new) paused.new state)
+        ⟦<Room as RoomTold>⟧.tells ⟦<Room as RoomTold>⟧.plain
+        ⟦<World as WorldTold>⟧.tells ⟦<World as WorldTold>⟧.plain
+        result chain.old chain.new room.old room.new world.old world.new }
     ensures kept { OnErr result (kept.new ≡ kept_failed request.kind kept.old) }
     ensures paused { OnErr result (paused.new ≡ None) }
     ensures put_off { IfOk result (λ code. IsTrue (is_some paused.new) → code ≡ Code.Incomplete) }
-    ensures nodes { chain.new.nodes ≡ chain.old.nodes }
-    ensures names { chain.new.names ≡ chain.old.names }
     ensures stopped { OnErr result
         (IsUntouched (⟦<Room as RoomTold>⟧.plain room.old) (⟦<Room as RoomTold>⟧.plain room.new)
         room.old.conv room.new.conv world.old world.new
-        ⊎ StopsAt (⟦<Gear as GearTold>⟧.players gear.now) request.func request.flags
-        chain.old.nodes request.kind (answers_held (kept_answers kept.old)) (past_of paused.old)
-        (⟦<Room as RoomTold>⟧.tells room.old && ⟦<World as WorldTold>⟧.tells world.old)
-        (state_of (⟦<Room as RoomTold>⟧.plain room.old) (⟦<World as WorldTold>⟧.plain world.old))
-        (state_of (⟦<Room as RoomTold>⟧.plain room.new)
-        (⟦<World as WorldTold>⟧.plain world.new))) }
-    ensures sound { GoesSoundly (notes_of (⟦<Gear as GearTold>⟧.players gear.now))
-        (length (⟦<Gear as GearTold>⟧.players gear.now))
-        (plain_transaction room.old.transaction) (plain_transaction room.new.transaction)
-        (plain_process world.old.process) (plain_process world.new.process) }
-    ensures ready { IsReady (length (⟦<Gear as GearTold>⟧.players gear.now))
-        (plain_transaction room.new.transaction) (plain_process world.new.process) }
+        ⊎ PassStops (⟦<Gear as GearTold>⟧.players gear.now) request chain.old.nodes
+        (answers_held (kept_answers kept.old)) (past_of paused.old) ⟦<Room as RoomTold>⟧.tells
+        ⟦<Room as RoomTold>⟧.plain ⟦<World as WorldTold>⟧.tells ⟦<World as WorldTold>⟧.plain
+        room.old room.new world.old world.new) }
 {
     dispatch(alloc, chain, &gear.mods, request, kept, paused, room, world)
 }

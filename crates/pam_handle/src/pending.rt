@@ -1,6 +1,6 @@
 ghost use Rattle.std.specs.Prelude.{◌≡◌, false, None};
 ghost use Rattle.std.specs.Option.{option_map};
-ghost use Rattle.dispatch_core.specs.Given.{past_of};
+ghost use Rattle.dispatch_core.specs.AnswersSoFar.{past_of};
 ghost use Rattle.dispatch_core.specs.Pending.{first_in, is_other_pending, past_in, pending_after, pending_func, same_func};
 ghost use Rattle.pam_handle.specs.Call.{final_code, items_begun, items_behind, request_behind};
 ghost use Rattle.pam_handle.specs.Pass.{kept_answers};
@@ -38,7 +38,7 @@ impl Handle {
     }
 
     // After a pass: if it is incomplete, the call is pending; else the requested delay is dropped.
-    pub(crate) fn settle(&mut self, func: Func, paused: Paused, first: Kept)
+    pub(crate) fn keep_pending(&mut self, func: Func, paused: Paused, first: Kept)
         requires { (plain_handle ⟦<Room as RoomTold>⟧.plain self.old).pending ≡ None }
         ensures tells { ⟦<Room as RoomTold>⟧.tells (room_in self.new)
             ≡ ⟦<Room as RoomTold>⟧.tells (room_in self.old) }

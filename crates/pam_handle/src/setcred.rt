@@ -59,7 +59,7 @@ impl Handle {
             &mut self.room,
             world,
         );
-        self.settle(Func::SetCred, paused, Kept::none());
+        self.keep_pending(Func::SetCred, paused, Kept::none());
         result
     }
 }

@@ -8,19 +8,19 @@ use Rattle.stack_walk.specs.Route.{KeptAnswers}
 use Rattle.stack_walk.specs.Pass.{PassState}
 use Rattle.dispatch_core.specs.Calls.{Passed, passed_by, kept_behind}
 use Rattle.pass_replay.specs.Passed.{ended_code, ended_paused}
-use Rattle.pass_replay.specs.Walk.{Comes}
+use Rattle.pass_replay.specs.Walk.{WalkEnds}
 
 module _ {State : Type 0} (kind : PassKind) (kept : Option KeptAnswers) where
   abbrev passed_with : Code → Option KeptAnswers → Option (List Code) → State → Passed State
   passed_with code keeps paused state = record { code = code; kept = keeps; paused = paused; state = state }
 
-  comes_to : (w : Walked (PassState State)) (end : Option Opinion) (s : PassState State) → Comes w end s
+  comes_to : (w : Walked (PassState State)) (end : Option Opinion) (s : PassState State) → WalkEnds w end s
       → passed_with (ended_code end) (kept_behind kind s.visits kept) (ended_paused end s.visits) s.state ≡ passed_by kind kept w
   comes_to w None s is = sym (ap (passed_by kind kept) is)
   comes_to w (Some opinion) s is = sym (ap (passed_by kind kept) is)
 
   pub finished : (w : Walked (PassState State)) (end : Option Opinion) (s : PassState State)
-      (code : Code) (keeps : Option KeptAnswers) (paused : Option (List Code)) → Comes w end s
+      (code : Code) (keeps : Option KeptAnswers) (paused : Option (List Code)) → WalkEnds w end s
       → code ≡ ended_code end → keeps ≡ kept_behind kind s.visits kept → paused ≡ ended_paused end s.visits
       → passed_with code keeps paused s.state ≡ passed_by kind kept w
   finished w end s code keeps paused is code_is keeps_is paused_is =

@@ -11,8 +11,8 @@ use Rattle.stack_walk.specs.declared.pass_kind.PassKind.{PassKind}
 use Rattle.stack_walk.specs.Opinion.{acted}
 use Rattle.stack_walk.specs.Walk.{Next, after, stop, Serving, Served, ServedAs, Walked, walk, walked, halted, next_of, settled}
 use Rattle.stack_walk.specs.Walk.{onward as onto}
-use Rattle.pass_replay.specs.declared.onward.Onward.{Onward}
-use Rattle.pass_replay.specs.Walk.{skip_of, Comes}
+use Rattle.pass_replay.specs.declared.next_node.NextNode.{NextNode}
+use Rattle.pass_replay.specs.Walk.{skip_of, WalkEnds}
 use Rattle.pass_replay.proofs.Peeling.{count_node, lines_node, depth_node}
 
 module _ {State : Type 0} (kind : PassKind) (serve : Serving State) where
@@ -42,7 +42,7 @@ module _ {State : Type 0} (kind : PassKind) (serve : Serving State) where
       rw is (goes_on (next_of action (count rest) new) rest (at + 1) entry (settled action (count rest) new) served.state)
 
   pub line_goes : (rule : Rule) (rest : Stack) (at : ℕ) (entry opinion : Opinion) (old new : State) (answer deciding : Code)
-      (action : Action) (left : ℕ) (acts : Opinion) (on : Onward)
+      (action : Action) (left : ℕ) (acts : Opinion) (on : NextNode)
       → ServedAs (serve rule at old) answer deciding false new → action ≡ action_at rule.control deciding
       → acts ≡ acted kind action answer deciding entry opinion → count rest ≡ left
       → on.opinion ≡ settled action left acts → on.skip ≡ skip_of (next_of action left acts) left
@@ -81,7 +81,7 @@ module _ {State : Type 0} (kind : PassKind) (serve : Serving State) where
         shallow = omega (arith, was.shallow, ap depth is, depth_node node rest);
       }
 
-  pub walking_line : (all : Stack) (first : ℕ) (entry : Opinion) (start : State) (here rest : Stack) (rule : Rule) (skip at left at' left' : ℕ) (opinion : Opinion) (state new : State) (on : Onward)
+  pub walking_line : (all : Stack) (first : ℕ) (entry : Opinion) (start : State) (here rest : Stack) (rule : Rule) (skip at left at' left' : ℕ) (opinion : Opinion) (state new : State) (on : NextNode)
       → IsWalking all first entry start here skip at left opinion state → here ≡ line rule rest → skip ≡ 0 → at' ≡ at + 1 → left' ≡ left - 1
       → (count rest ≡ left' → walk kind serve 0 (line rule rest) (at + 1) entry opinion state ≡ walk kind serve on.skip rest (at + 1 + 1) entry on.opinion new)
       → IsWalking all first entry start rest on.skip at' left' on.opinion new
@@ -122,7 +122,7 @@ module _ {State : Type 0} (kind : PassKind) (serve : Serving State) where
   on_halt : (inside other : Walked State) → inside.stopped ≡ true → (if inside.stopped then inside else other) ≡ inside
   on_halt inside other is = ap (λ (b : Bool). if b then inside else other) is
 
-  sub_halts : (inner rest : Stack) (at : ℕ) (entry opinion : Opinion) (state new : State) → Comes (walk kind serve 0 inner at opinion opinion state) None new
+  sub_halts : (inner rest : Stack) (at : ℕ) (entry opinion : Opinion) (state new : State) → WalkEnds (walk kind serve 0 inner at opinion opinion state) None new
       → walk kind serve 0 (sub inner rest) at entry opinion state ≡ halted (walk kind serve 0 inner at opinion opinion state).opinion new
   sub_halts inner rest at entry opinion state new is =
       let inside : Walked State = walk kind serve 0 inner at opinion opinion state in
@@ -130,8 +130,8 @@ module _ {State : Type 0} (kind : PassKind) (serve : Serving State) where
 
   pub sub_put_off : (all : Stack) (first : ℕ) (entry : Opinion) (start : State) (here inner rest : Stack) (skip at left : ℕ) (opinion : Opinion) (state new : State)
       → IsWalking all first entry start here skip at left opinion state → here ≡ sub inner rest → skip ≡ 0
-      → Comes (walk kind serve 0 inner (at + 1) opinion opinion state) None new
-      → Comes (walk kind serve 0 all (first + 1) entry entry start) None new
+      → WalkEnds (walk kind serve 0 inner (at + 1) opinion opinion state) None new
+      → WalkEnds (walk kind serve 0 all (first + 1) entry entry start) None new
   sub_put_off all first entry start here inner rest skip at left opinion state new was is none_over goes =
       put_off _ _ new
       (sym was.goes ∙ ap (λ n. walk kind serve n here (at + 1) entry opinion state) none_over ∙ ap (λ (s : Stack). walk kind serve 0 s (at + 1) entry opinion state) is

@@ -8,7 +8,7 @@ use Rattle.stack_walk.specs.declared.seen.Seen.{Seen}
 use Rattle.stack_walk.specs.Walk.{Next, after, stop, Serving, Walked, walk, walked, halted}
 use Rattle.stack_walk.specs.Retell.{Telling}
 use Rattle.stack_walk.specs.Pass.{PassState, pass_state}
-use Rattle.pass_replay.specs.declared.onward.Onward.{Onward}
+use Rattle.pass_replay.specs.declared.next_node.NextNode.{NextNode}
 use Rattle.pass_replay.specs.declared.replay.Replay.{Replay}
 use Rattle.pass_replay.specs.Kept.{visits_of}
 use Rattle.pass_replay.specs.Told.{telling_from}
@@ -24,11 +24,11 @@ skip_of (after n) left = n
 skip_of stop left = left
 
 -- what is left of a walk after a line: it goes on, or None if it pauses there
-abbrev pub after_line : {State : Type 0} → PassKind → Serving State → Stack → ℕ → Opinion → Opinion → Option Onward → State → Walked State
+abbrev pub after_line : {State : Type 0} → PassKind → Serving State → Stack → ℕ → Opinion → Opinion → Option NextNode → State → Walked State
 after_line kind serve rest at entry opinion None state = halted opinion state
 after_line kind serve rest at entry opinion (Some onward) state = walk kind serve onward.skip rest at entry onward.opinion state
 
 -- a walk ended in this state and with this replay, or paused at this replay
-abbrev pub Comes : {State : Type 0} → Walked State → Option Opinion → State → Type 0
-Comes w (Some opinion) state = w ≡ walked opinion state
-Comes w None state = w ≡ halted w.opinion state
+abbrev pub WalkEnds : {State : Type 0} → Walked State → Option Opinion → State → Type 0
+WalkEnds w (Some opinion) state = w ≡ walked opinion state
+WalkEnds w None state = w ≡ halted w.opinion state

@@ -8,7 +8,7 @@
 
 pub mod answers;
 pub mod held;
-pub mod onward;
+pub mod next_node;
 pub mod pass;
 pub mod passed;
 pub mod replay;

@@ -7,7 +7,7 @@ ghost use Rattle.stack_walk.specs.Walk.{Walked};
 ghost use Rattle.pass_replay.specs.Kept.{kept_answers, visits_of};
 ghost use Rattle.pass_replay.specs.Passed.{ended_code, ended_paused, passed_of};
 ghost use Rattle.pass_replay.specs.Told.{telling_from};
-ghost use Rattle.pass_replay.specs.Walk.{Comes, state_in};
+ghost use Rattle.pass_replay.specs.Walk.{WalkEnds, state_in};
 
 use crate::answers::Answers;
 use crate::passed::Passed;
@@ -51,7 +51,7 @@ fn finish(
     replay: Replay,
 ) -> Result<Passed, NoMemory>
     ensures { IfOk result (λ passed. (past : List Code) (told : List (Option Seen))
-        (walked : Walked (PassState Telling)) → Comes walked end (state_in past told replay) →
+        (walked : Walked (PassState Telling)) → WalkEnds walked end (state_in past told replay) →
         passed_of told passed ≡ passed_by kind (kept_answers follows) walked) }
 {
     let kept = kept_behind(alloc, kind, replay.visits.items(), follows)?;

@@ -5,10 +5,10 @@ ghost use Rattle.stack_walk.specs.Pass.{decides, serving};
 ghost use Rattle.stack_walk.specs.Retell.{replaying};
 ghost use Rattle.stack_walk.specs.Walk.{walk};
 ghost use Rattle.pass_replay.specs.Kept.{kept_answers};
-ghost use Rattle.pass_replay.specs.Walk.{Comes, after_line, state_in};
+ghost use Rattle.pass_replay.specs.Walk.{WalkEnds, after_line, state_in};
 
 use crate::answers::Answers;
-use crate::onward::{Onward, onward_from};
+use crate::next_node::{NextNode, next_node_after};
 use crate::replay::{Replay, next_answer};
 use control_words::{Node, Nodes, Rule};
 use pam_base::{Code, NoMemory};
@@ -70,7 +70,7 @@ fn walk_line(
     past: &[Code],
     told: &[Option<Seen>],
     replay: &mut Replay,
-) -> Result<Option<Onward>, NoMemory>
+) -> Result<Option<NextNode>, NoMemory>
     requires few { replay.old.at < 4096 }
     ensures goes { IfOk result (λ onward. (rest : Stack) → count rest ≡ left →
         walk kind (serving kind (answers_held (kept_answers follows.now)) replaying)
@@ -88,7 +88,7 @@ fn walk_line(
     let deciding = decide(kind, follows, replay.at, answer);
     let action = rule.control.action(deciding);
     let new = opinion.after(kind, action, answer, deciding, entry);
-    Ok(Some(onward_from(action, left, new)))
+    Ok(Some(next_node_after(action, left, new)))
 }
 
 /// Walks a list from a state, which is also that at its entry; None if the walk is incomplete.
@@ -104,7 +104,7 @@ pub fn walk_nodes(
     replay: &mut Replay,
 ) -> Result<Option<Opinion>, NoMemory>
     requires few { replay.old.at + lines_in (stack_of nodes.now.vec.items) ≤ 4096 }
-    ensures comes { IfOk result (λ end. Comes
+    ensures comes { IfOk result (λ end. WalkEnds
         (walk kind (serving kind (answers_held (kept_answers follows.now)) replaying)
         0 (stack_of nodes.now.vec.items) (replay.old.at + 1) entry entry
         (state_in past.now told.now replay.old))

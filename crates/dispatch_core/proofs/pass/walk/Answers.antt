@@ -28,7 +28,7 @@ loop-walker-init g c =
         goes = λ told. begun c.args.request.kind (serving c.args.request.kind (by_place c.args.follows.now) answers) c.args.chain.now.nodes c.new-walker.result _ c.new-walker.ensures.at c.new-walker.ensures.opinion c.new-walker.ensures.entries;
         far = far_first _ _ _ _ _ _ _ _ _ c.new-walker.result c.new-walker.ensures.at c.new-walker.ensures.opinion c.new-walker.ensures.entries;
         traced = traced_first _ _ _ _ _ c.new-walker.result c.new-walker.ensures.at c.new-walker.ensures.opinion c.new-walker.ensures.entries;
-        progress = nothing_yet c.args.keeps.now c.args.supplies.now.given.taken (lines_in c.args.chain.now.nodes) c.new-walker.result.at c.requires.cells c.requires.taken;
+        progress = nothing_yet c.args.keeps.now c.args.memory.now.answers.taken (lines_in c.args.chain.now.nodes) c.new-walker.result.at c.requires.cells c.requires.taken;
         few = omega (arith, ap length c.requires.taken);
         answers_fit = omega (arith, c.requires.answers);
         spare = omega (arith, c.requires.spare);
@@ -46,37 +46,55 @@ loop-walker-init g c =
       },
     )
 
-pub returns-in_default-clause-told : goal.returns-in_default-clause-told
-returns-in_default-clause-told g c = λ told.
-    let sofar = c.loop-walker.invariant.1 in
-    let visits : List Visit = c.loop-walker.invariant.0 in
-    let answers : Answering State = answers_by (map (player_of (λ b. (goal.Module-dyn g (b.vtable, b.value)).label b.value) (λ b. (goal.Module-dyn g (b.vtable, b.value)).plays b.value) (λ b. (goal.Module-dyn g (b.vtable, b.value)).note b.value) (λ b. (goal.Module-dyn g (b.vtable, b.value)).breaks b.value)) c.args.mods.now) c.args.request.func c.args.request.flags in
-    let serve = serving c.args.request.kind (by_place c.args.follows.now) answers in
-    let later : State = state_of (plain_room (λ b. (goal.Conv-dyn g (b.vtable, b.value)).conv_holds b.value) c.walk_line.new.room) (plain_world (λ b. (goal.Vault-dyn g (b.vtable, b.value)).vault_holds b.value) (λ b. (goal.Clock-dyn g (b.vtable, b.value)).clock_holds b.value) (λ b. (goal.Nap-dyn g (b.vtable, b.value)).nap_holds b.value) c.walk_line.new.world) in
-    let now = both_tell _ _ _ _ sofar.room_tells sofar.world_tells told in
-    let kept : c.walk_line.new.keeps ≡ c.loop-walker.keeps = c.in_ok-_answer.ensures.keeps ∙ ap (kept_with c.loop-walker.keeps c.loop-walker.walker.at) c.in_default.is in
-    walks_off _ c.loop-walker.walker.opinion c.walk_line.new.supplies.given.past visits later c.walk_line.new.keeps c.walk_line.new.supplies.given
-    (c.in_ok-_answer.ensures.taken ∙ ap (taken_with c.loop-walker.supplies.given.taken) c.in_default.is ∙ sofar.progress.taken_is)
-    (subst (λ (k : Answers). is_some k ≡ true → Keeps k visits) (sym kept) sofar.progress.kept_is)
-    (turn_more c.args.request.kind serve c.loop-walker.chain.nodes c.args.chain.now.nodes c.loop-walker.walker _ _ c.in_ok-_answer.field-0 None
-    (λ stack o. turned c.args.request.kind serve stack o c.loop-walker.walker.opinion c.walk_line.new.walker (pass_state c.walk_line.new.supplies.given.past (visits_with visits (c.loop-walker.walker.at + 1) o) later))
-    sofar.nodes (c.in_ok-_answer.ensures.told now visits) c.in_default.is (sofar.goes told))
+pub returns-in_default-clause-done : goal.returns-in_default-clause-done
+returns-in_default-clause-done g c =
+    record {
+      told = λ told.
+          let sofar = c.loop-walker.invariant.1 in
+          let visits : List Visit = c.loop-walker.invariant.0 in
+          let answers : Answering State = answers_by (map (player_of (λ b. (goal.Module-dyn g (b.vtable, b.value)).label b.value) (λ b. (goal.Module-dyn g (b.vtable, b.value)).plays b.value) (λ b. (goal.Module-dyn g (b.vtable, b.value)).note b.value) (λ b. (goal.Module-dyn g (b.vtable, b.value)).breaks b.value)) c.args.mods.now) c.args.request.func c.args.request.flags in
+          let serve = serving c.args.request.kind (by_place c.args.follows.now) answers in
+          let later : State = state_of (plain_room (λ b. (goal.Conv-dyn g (b.vtable, b.value)).conv_holds b.value) c.walk_line.new.room) (plain_world (λ b. (goal.Vault-dyn g (b.vtable, b.value)).vault_holds b.value) (λ b. (goal.Clock-dyn g (b.vtable, b.value)).clock_holds b.value) (λ b. (goal.Nap-dyn g (b.vtable, b.value)).nap_holds b.value) c.walk_line.new.world) in
+          let now = both_tell _ _ _ _ sofar.room_tells sofar.world_tells told in
+          let kept : c.walk_line.new.keeps ≡ c.loop-walker.keeps = c.in_ok-_answer.ensures.keeps ∙ ap (kept_with c.loop-walker.keeps c.loop-walker.walker.at) c.in_default.is in
+          walks_off _ c.loop-walker.walker.opinion c.walk_line.new.memory.answers.past visits later c.walk_line.new.keeps c.walk_line.new.memory.answers
+          (c.in_ok-_answer.ensures.line.taken ∙ ap (taken_with c.loop-walker.memory.answers.taken) c.in_default.is ∙ sofar.progress.taken_is)
+          (subst (λ (k : Answers). is_some k ≡ true → Keeps k visits) (sym kept) sofar.progress.kept_is)
+          (turn_more c.args.request.kind serve c.loop-walker.chain.nodes c.args.chain.now.nodes c.loop-walker.walker _ _ c.in_ok-_answer.field-0 None
+          (λ stack o. turned c.args.request.kind serve stack o c.loop-walker.walker.opinion c.walk_line.new.walker (pass_state c.walk_line.new.memory.answers.past (visits_with visits (c.loop-walker.walker.at + 1) o) later))
+          sofar.nodes (c.in_ok-_answer.ensures.told now visits) c.in_default.is (sofar.goes told));
+      by_trail =
+          let sofar = c.loop-walker.invariant.1 in
+          let visits : List Visit = c.loop-walker.invariant.0 in
+          let kept : c.walk_line.new.keeps ≡ c.loop-walker.keeps = c.in_ok-_answer.ensures.keeps ∙ ap (kept_with c.loop-walker.keeps c.loop-walker.walker.at) c.in_default.is in
+          traced_put_off _ _ _ _ _ _ _ _ _ c.loop-walker.walker c.loop-walker.memory.answers.past c.walk_line.new.memory.answers.past visits _ _ sofar.traced c.walk_line.new.keeps c.walk_line.new.memory.answers
+          (c.in_ok-_answer.ensures.line.taken ∙ ap (taken_with c.loop-walker.memory.answers.taken) c.in_default.is ∙ sofar.progress.taken_is)
+          (subst (λ (k : Answers). is_some k ≡ true → Keeps k visits) (sym kept) sofar.progress.kept_is)
+          _ c.in_ok-_answer.field-0 sofar.nodes c.in_ok-_answer.ensures.line.took c.in_default.is (omega (arith, c.loop-walker-test.true, c.len.ensures.counted));
+      nodes = c.walk_line.ensures.nodes ∙ c.loop-walker.invariant.1.nodes;
+      names = c.walk_line.ensures.names ∙ c.loop-walker.invariant.1.names;
+      looks = omega (arith, c.in_ok-_answer.ensures.looks, c.loop-walker.invariant.1.looks);
+    }
 
-pub returns-in_default-clause-by_trail : goal.returns-in_default-clause-by_trail
-returns-in_default-clause-by_trail g c =
-    let sofar = c.loop-walker.invariant.1 in
-    let visits : List Visit = c.loop-walker.invariant.0 in
-    let kept : c.walk_line.new.keeps ≡ c.loop-walker.keeps = c.in_ok-_answer.ensures.keeps ∙ ap (kept_with c.loop-walker.keeps c.loop-walker.walker.at) c.in_default.is in
-    traced_put_off _ _ _ _ _ _ _ _ _ c.loop-walker.walker c.loop-walker.supplies.given.past c.walk_line.new.supplies.given.past visits _ _ sofar.traced c.walk_line.new.keeps c.walk_line.new.supplies.given
-    (c.in_ok-_answer.ensures.taken ∙ ap (taken_with c.loop-walker.supplies.given.taken) c.in_default.is ∙ sofar.progress.taken_is)
-    (subst (λ (k : Answers). is_some k ≡ true → Keeps k visits) (sym kept) sofar.progress.kept_is)
-    _ c.in_ok-_answer.field-0 sofar.nodes c.in_ok-_answer.ensures.took c.in_default.is (omega (arith, c.loop-walker-test.true, c.len.ensures.counted))
+pub returns-in_default-clause-stays : goal.returns-in_default-clause-stays
+returns-in_default-clause-stays g c =
+    record {
+      room_tells = c.walk_line.ensures.stays.room_tells ∙ c.loop-walker.invariant.1.room_tells;
+      world_tells = c.walk_line.ensures.stays.world_tells ∙ c.loop-walker.invariant.1.world_tells;
+      nap = c.walk_line.ensures.stays.nap ∙ c.loop-walker.invariant.1.nap;
+      sound = c.soundness_is_transitive.ensures _ _ _ _ _ _ _ _ c.loop-walker.invariant.1.sound c.walk_line.ensures.stays.sound;
+      ready = c.walk_line.ensures.stays.ready;
+    }
 
-pub returns-in_default-clause-sound : goal.returns-in_default-clause-sound
-returns-in_default-clause-sound g c = c.soundness_is_transitive.ensures _ _ _ _ _ _ _ _ c.loop-walker.invariant.1.sound c.walk_line.ensures.sound
-
-pub returns-in_err-_answer-clause-sound : goal.returns-in_err-_answer-clause-sound
-returns-in_err-_answer-clause-sound g c = c.soundness_is_transitive.ensures _ _ _ _ _ _ _ _ c.loop-walker.invariant.1.sound c.walk_line.ensures.sound
+pub returns-in_err-_answer-clause-stays : goal.returns-in_err-_answer-clause-stays
+returns-in_err-_answer-clause-stays g c =
+    record {
+      room_tells = c.walk_line.ensures.stays.room_tells ∙ c.loop-walker.invariant.1.room_tells;
+      world_tells = c.walk_line.ensures.stays.world_tells ∙ c.loop-walker.invariant.1.world_tells;
+      nap = c.walk_line.ensures.stays.nap ∙ c.loop-walker.invariant.1.nap;
+      sound = c.soundness_is_transitive.ensures _ _ _ _ _ _ _ _ c.loop-walker.invariant.1.sound c.walk_line.ensures.stays.sound;
+      ready = c.walk_line.ensures.stays.ready;
+    }
 
 pub loop-walker-preserved : goal.loop-walker-preserved
 loop-walker-preserved g c =
@@ -89,7 +107,7 @@ loop-walker-preserved g c =
     let later : State = state_of (plain_room (λ b. (goal.Conv-dyn g (b.vtable, b.value)).conv_holds b.value) c.walk_line.new.room) (plain_world (λ b. (goal.Vault-dyn g (b.vtable, b.value)).vault_holds b.value) (λ b. (goal.Clock-dyn g (b.vtable, b.value)).clock_holds b.value) (λ b. (goal.Nap-dyn g (b.vtable, b.value)).nap_holds b.value) c.walk_line.new.world) in
     let kept : c.walk_line.new.keeps ≡ kept_at c.loop-walker.keeps at answer = c.in_ok-_answer.ensures.keeps ∙ ap (kept_with c.loop-walker.keeps at) c.in-Some.is in
     let held : is_some c.walk_line.new.keeps ≡ is_some c.loop-walker.keeps = ap is_some kept ∙ held-more c.loop-walker.keeps at answer in
-    let taken : c.walk_line.new.supplies.given.taken ≡ c.loop-walker.supplies.given.taken ++ answer ∷ [] = c.in_ok-_answer.ensures.taken ∙ ap (taken_with c.loop-walker.supplies.given.taken) c.in-Some.is in
+    let taken : c.walk_line.new.memory.answers.taken ≡ c.loop-walker.memory.answers.taken ++ answer ∷ [] = c.in_ok-_answer.ensures.line.taken ∙ ap (taken_with c.loop-walker.memory.answers.taken) c.in-Some.is in
     let ahead : at < c.walk_line.new.walker.at = subst (λ (o : Option Code). IsAhead o c.loop-walker.walker c.walk_line.new.walker) c.in-Some.is c.in_ok-_answer.ensures.ahead in
     let within : at < lines_in c.loop-walker.chain.nodes = omega (arith, c.loop-walker-test.true, c.len.ensures.counted) in (
       visits ++ visit (at + 1) answer ∷ [],
@@ -97,47 +115,51 @@ loop-walker-preserved g c =
         goes = λ told.
             let now = both_tell _ _ _ _ sofar.room_tells sofar.world_tells told in
             turn_more c.args.request.kind serve c.loop-walker.chain.nodes c.args.chain.now.nodes c.loop-walker.walker _ _ c.in_ok-_answer.field-0 (Some answer)
-            (λ stack o. turned c.args.request.kind serve stack o c.loop-walker.walker.opinion c.walk_line.new.walker (pass_state c.walk_line.new.supplies.given.past (visits_with visits (at + 1) o) later))
+            (λ stack o. turned c.args.request.kind serve stack o c.loop-walker.walker.opinion c.walk_line.new.walker (pass_state c.walk_line.new.memory.answers.past (visits_with visits (at + 1) o) later))
             sofar.nodes (c.in_ok-_answer.ensures.told now visits) c.in-Some.is (sofar.goes told);
-        far = far_later _ _ _ _ _ _ _ _ _ _ c.loop-walker.walker c.walk_line.new.walker c.loop-walker.supplies.given.past c.walk_line.new.supplies.given.past answer _ later c.in_ok-_answer.field-0 sofar.nodes _ (both_tell _ _ _ _ sofar.room_tells sofar.world_tells) sofar.far c.in_ok-_answer.ensures.goes c.in_ok-_answer.ensures.took c.in-Some.is;
-        traced = traced_later _ _ _ _ _ _ _ _ _ c.loop-walker.walker c.loop-walker.supplies.given.past c.walk_line.new.supplies.given.past visits _ later sofar.traced _ c.walk_line.new.walker answer c.in_ok-_answer.field-0 sofar.nodes c.in_ok-_answer.ensures.goes c.in_ok-_answer.ensures.took c.in-Some.is;
-        progress = one_more c.loop-walker.keeps c.walk_line.new.keeps c.loop-walker.supplies.given.taken c.walk_line.new.supplies.given.taken at c.walk_line.new.walker.at visits answer sofar.progress
+        far = far_later _ _ _ _ _ _ _ _ _ _ c.loop-walker.walker c.walk_line.new.walker c.loop-walker.memory.answers.past c.walk_line.new.memory.answers.past answer _ later c.in_ok-_answer.field-0 sofar.nodes _ (both_tell _ _ _ _ sofar.room_tells sofar.world_tells) sofar.far c.in_ok-_answer.ensures.goes c.in_ok-_answer.ensures.line.took c.in-Some.is;
+        traced = traced_later _ _ _ _ _ _ _ _ _ c.loop-walker.walker c.loop-walker.memory.answers.past c.walk_line.new.memory.answers.past visits _ later sofar.traced _ c.walk_line.new.walker answer c.in_ok-_answer.field-0 sofar.nodes c.in_ok-_answer.ensures.goes c.in_ok-_answer.ensures.line.took c.in-Some.is;
+        progress = one_more c.loop-walker.keeps c.walk_line.new.keeps c.loop-walker.memory.answers.taken c.walk_line.new.memory.answers.taken at c.walk_line.new.walker.at visits answer sofar.progress
             (λ there. omega (arith, sofar.cells there, within, ap lines_in sofar.nodes)) held kept taken ahead;
-        few = omega (arith, ap length taken, length-append c.loop-walker.supplies.given.taken (answer ∷ []), sofar.few, ahead);
-        answers_fit = omega (arith, c.in_ok-_answer.ensures.answers, sofar.answers_fit);
-        spare = omega (arith, c.walk_line.ensures.spare, sofar.spare, ahead);
-        paths = paths_ahead _ _ (at + 1) _ (omega (arith, ahead)) (subst (λ (t : Stack). HasPaths t (at + 1) c.walk_line.new.supplies.paths) sofar.nodes c.walk_line.ensures.paths);
+        few = omega (arith, ap length taken, length-append c.loop-walker.memory.answers.taken (answer ∷ []), sofar.few, ahead);
+        answers_fit = omega (arith, c.in_ok-_answer.ensures.line.answers, sofar.answers_fit);
+        spare = omega (arith, c.walk_line.ensures.line.spare, sofar.spare, ahead);
+        paths = paths_ahead _ _ (at + 1) _ (omega (arith, ahead)) (subst (λ (t : Stack). HasPaths t (at + 1) c.walk_line.new.memory.paths) sofar.nodes c.walk_line.ensures.line.paths);
         cells = λ there. ap lines_kept kept ∙ lines_kept-more c.loop-walker.keeps at answer ∙ sofar.cells (sym held ∙ there);
         held = held ∙ sofar.held;
-        room_tells = c.walk_line.ensures.room_tells ∙ sofar.room_tells;
-        world_tells = c.walk_line.ensures.world_tells ∙ sofar.world_tells;
-        nap = c.walk_line.ensures.nap ∙ sofar.nap;
+        room_tells = c.walk_line.ensures.stays.room_tells ∙ sofar.room_tells;
+        world_tells = c.walk_line.ensures.stays.world_tells ∙ sofar.world_tells;
+        nap = c.walk_line.ensures.stays.nap ∙ sofar.nap;
         nodes = c.walk_line.ensures.nodes ∙ sofar.nodes;
         names = c.walk_line.ensures.names ∙ sofar.names;
         looks = omega (arith, c.in_ok-_answer.ensures.looks, sofar.looks);
-        sound = c.soundness_is_transitive.ensures _ _ _ _ _ _ _ _ sofar.sound c.walk_line.ensures.sound;
-        ready = c.walk_line.ensures.ready;
+        sound = c.soundness_is_transitive.ensures _ _ _ _ _ _ _ _ sofar.sound c.walk_line.ensures.stays.sound;
+        ready = c.walk_line.ensures.stays.ready;
       },
     )
 
-pub returns-clause-told : goal.returns-clause-told
-returns-clause-told g c = λ told.
-    let sofar = c.loop-walker.invariant.1 in
-    let answers : Answering State = answers_by (map (player_of (λ b. (goal.Module-dyn g (b.vtable, b.value)).label b.value) (λ b. (goal.Module-dyn g (b.vtable, b.value)).plays b.value) (λ b. (goal.Module-dyn g (b.vtable, b.value)).note b.value) (λ b. (goal.Module-dyn g (b.vtable, b.value)).breaks b.value)) c.args.mods.now) c.args.request.func c.args.request.flags in
-    let now : State = state_of (plain_room (λ b. (goal.Conv-dyn g (b.vtable, b.value)).conv_holds b.value) c.loop-walker.room) (plain_world (λ b. (goal.Vault-dyn g (b.vtable, b.value)).vault_holds b.value) (λ b. (goal.Clock-dyn g (b.vtable, b.value)).clock_holds b.value) (λ b. (goal.Nap-dyn g (b.vtable, b.value)).nap_holds b.value) c.loop-walker.world) in
-    let behind : lines_in c.args.chain.now.nodes ≤ c.loop-walker.walker.at = omega (arith, c.len.ensures.counted, c.loop-walker-test.false, ap lines_in sofar.nodes) in
-    walks_to _ c.loop-walker.walker.opinion c.loop-walker.supplies.given.past c.loop-walker.invariant.0 now c.loop-walker.keeps c.loop-walker.supplies.given sofar.progress.taken_is sofar.progress.kept_is _ c.verdict.ensures
-    (ended_at_last c.args.request.kind (serving c.args.request.kind (by_place c.args.follows.now) answers) c.args.chain.now.nodes c.loop-walker.walker _ _ behind (sofar.goes told))
+pub returns-clause-done : goal.returns-clause-done
+returns-clause-done g c =
+    record {
+      told = λ told.
+          let sofar = c.loop-walker.invariant.1 in
+          let answers : Answering State = answers_by (map (player_of (λ b. (goal.Module-dyn g (b.vtable, b.value)).label b.value) (λ b. (goal.Module-dyn g (b.vtable, b.value)).plays b.value) (λ b. (goal.Module-dyn g (b.vtable, b.value)).note b.value) (λ b. (goal.Module-dyn g (b.vtable, b.value)).breaks b.value)) c.args.mods.now) c.args.request.func c.args.request.flags in
+          let now : State = state_of (plain_room (λ b. (goal.Conv-dyn g (b.vtable, b.value)).conv_holds b.value) c.loop-walker.room) (plain_world (λ b. (goal.Vault-dyn g (b.vtable, b.value)).vault_holds b.value) (λ b. (goal.Clock-dyn g (b.vtable, b.value)).clock_holds b.value) (λ b. (goal.Nap-dyn g (b.vtable, b.value)).nap_holds b.value) c.loop-walker.world) in
+          let behind : lines_in c.args.chain.now.nodes ≤ c.loop-walker.walker.at = omega (arith, c.len.ensures.counted, c.loop-walker-test.false, ap lines_in sofar.nodes) in
+          walks_to _ c.loop-walker.walker.opinion c.loop-walker.memory.answers.past c.loop-walker.invariant.0 now c.loop-walker.keeps c.loop-walker.memory.answers sofar.progress.taken_is sofar.progress.kept_is _ c.verdict.ensures
+          (ended_at_last c.args.request.kind (serving c.args.request.kind (by_place c.args.follows.now) answers) c.args.chain.now.nodes c.loop-walker.walker _ _ behind (sofar.goes told));
+      by_trail =
+          let sofar = c.loop-walker.invariant.1 in
+          traced_ended _ _ _ _ _ c.loop-walker.walker c.loop-walker.memory.answers.past c.loop-walker.invariant.0 _ c.loop-walker.keeps c.loop-walker.memory.answers _ sofar.traced sofar.progress.taken_is sofar.progress.kept_is
+          (omega (arith, c.len.ensures.counted, c.loop-walker-test.false, ap lines_in sofar.nodes)) c.verdict.ensures;
+      nodes = c.loop-walker.invariant.1.nodes;
+      names = c.loop-walker.invariant.1.names;
+      looks = omega (arith, c.loop-walker.invariant.1.looks);
+    }
 
 pub returns-in_err-_answer-clause-stopped : goal.returns-in_err-_answer-clause-stopped
 returns-in_err-_answer-clause-stopped g c =
     let sofar = c.loop-walker.invariant.1 in
     let answered : c.from_residual.result ≡ Err c.in_err-_answer.field-0.0 = search rules in
-    rw answered (stops_later _ _ _ _ _ _ _ _ _ _ c.loop-walker.walker c.loop-walker.supplies.given.past _ _ _ sofar.nodes _ (both_tell _ _ _ _ sofar.room_tells sofar.world_tells) sofar.far c.in_err-_answer.ensures.at_work.0 (omega (arith, c.loop-walker-test.true, c.len.ensures.counted)) c.in_err-_answer.ensures.at_work.1
-    (length-map c.args.mods.now (player_of (λ b. (goal.Module-dyn g (b.vtable, b.value)).label b.value) (λ b. (goal.Module-dyn g (b.vtable, b.value)).plays b.value) (λ b. (goal.Module-dyn g (b.vtable, b.value)).note b.value) (λ b. (goal.Module-dyn g (b.vtable, b.value)).breaks b.value))) c.walk_line.ensures.sound (ap (λ b. (goal.Nap-dyn g (b.vtable, b.value)).nap_holds b.value) c.walk_line.ensures.nap) c.in_err-_answer.ensures.broken)
-
-pub returns-clause-by_trail : goal.returns-clause-by_trail
-returns-clause-by_trail g c =
-    let sofar = c.loop-walker.invariant.1 in
-    traced_ended _ _ _ _ _ c.loop-walker.walker c.loop-walker.supplies.given.past c.loop-walker.invariant.0 _ c.loop-walker.keeps c.loop-walker.supplies.given _ sofar.traced sofar.progress.taken_is sofar.progress.kept_is
-    (omega (arith, c.len.ensures.counted, c.loop-walker-test.false, ap lines_in sofar.nodes)) c.verdict.ensures
+    rw answered (stops_later _ _ _ _ _ _ _ _ _ _ c.loop-walker.walker c.loop-walker.memory.answers.past _ _ _ sofar.nodes _ (both_tell _ _ _ _ sofar.room_tells sofar.world_tells) sofar.far c.in_err-_answer.ensures.line.at_work.0 (omega (arith, c.loop-walker-test.true, c.len.ensures.counted)) c.in_err-_answer.ensures.line.at_work.1
+    (length-map c.args.mods.now (player_of (λ b. (goal.Module-dyn g (b.vtable, b.value)).label b.value) (λ b. (goal.Module-dyn g (b.vtable, b.value)).plays b.value) (λ b. (goal.Module-dyn g (b.vtable, b.value)).note b.value) (λ b. (goal.Module-dyn g (b.vtable, b.value)).breaks b.value))) c.walk_line.ensures.stays.sound (ap (λ b. (goal.Nap-dyn g (b.vtable, b.value)).nap_holds b.value) c.walk_line.ensures.stays.nap) c.in_err-_answer.ensures.line.broken)

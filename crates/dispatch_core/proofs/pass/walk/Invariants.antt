@@ -31,15 +31,15 @@ invariant-loop-walker g l =
     && (goal.Nap-dyn g (l.fn.world.nap.vtable, l.fn.world.nap.value)).nap_tells l.fn.world.nap.value in
     (visits : List Visit) × record {
       goes : IsTrue (room_start && world_start)
-          → walk_on l.request.kind (serving l.request.kind (by_place l.follows) answers) l.fn.chain.nodes l.walker (pass_state l.supplies.given.past visits now)
-          ≡ pass_after l.request.kind (by_place l.follows) answers l.fn.chain.nodes l.fn.supplies.given.past start;
-      far : Far players l.request.func l.request.flags l.fn.chain.nodes l.request.kind (by_place l.follows) l.fn.supplies.given.past (room_start && world_start) start l.walker l.supplies.given.past now;
-      traced : Traced l.request.kind (by_place l.follows) l.fn.chain.nodes l.fn.supplies.given.past (plain_transaction l.fn.room.transaction).trail l.walker l.supplies.given.past visits (plain_transaction l.room.transaction).trail;
-      progress : Progress l.keeps l.supplies.given.taken l.walker.at visits;
-      few : length l.supplies.given.taken ≤ l.walker.at;
-      answers_fit : lines_in l.fn.chain.nodes ≤ length l.supplies.given.taken + length l.supplies.given.past + l.supplies.given.room;
+          → walk_on l.request.kind (serving l.request.kind (by_place l.follows) answers) l.fn.chain.nodes l.walker (pass_state l.memory.answers.past visits now)
+          ≡ pass_after l.request.kind (by_place l.follows) answers l.fn.chain.nodes l.fn.memory.answers.past start;
+      far : Far players l.request.func l.request.flags l.fn.chain.nodes l.request.kind (by_place l.follows) l.fn.memory.answers.past (room_start && world_start) start l.walker l.memory.answers.past now;
+      traced : Traced l.request.kind (by_place l.follows) l.fn.chain.nodes l.fn.memory.answers.past (plain_transaction l.fn.room.transaction).trail l.walker l.memory.answers.past visits (plain_transaction l.room.transaction).trail;
+      progress : Progress l.keeps l.memory.answers.taken l.walker.at visits;
+      few : length l.memory.answers.taken ≤ l.walker.at;
+      answers_fit : lines_in l.fn.chain.nodes ≤ length l.memory.answers.taken + length l.memory.answers.past + l.memory.answers.room;
       spare : lines_in l.fn.chain.nodes ≤ l.room.transaction.trail.spare + l.walker.at;
-      paths : HasPaths l.fn.chain.nodes l.walker.at l.supplies.paths;
+      paths : HasPaths l.fn.chain.nodes l.walker.at l.memory.paths;
       cells : is_some l.keeps ≡ true → lines_kept l.keeps ≡ lines_in l.fn.chain.nodes;
       held : is_some l.keeps ≡ is_some l.fn.keeps;
       room_tells : room_now ≡ room_start;
@@ -47,7 +47,7 @@ invariant-loop-walker g l =
       nap : l.world.nap ≡ l.fn.world.nap;
       nodes : l.chain.nodes ≡ l.fn.chain.nodes;
       names : l.chain.names ≡ l.fn.chain.names;
-      looks : l.chain.looks + 4 * (length l.fn.room.transaction.trail.visits + length l.supplies.given.past) ≤ l.fn.chain.looks + 4 * (length l.room.transaction.trail.visits + length l.fn.supplies.given.past);
+      looks : l.chain.looks + 4 * (length l.fn.room.transaction.trail.visits + length l.memory.answers.past) ≤ l.fn.chain.looks + 4 * (length l.room.transaction.trail.visits + length l.fn.memory.answers.past);
       sound : GoesSoundly (notes_of players) (length l.fn.mods) (plain_transaction l.fn.room.transaction) (plain_transaction l.room.transaction) (plain_process l.fn.world.process) (plain_process l.world.process);
       ready : IsReady (length l.fn.mods) (plain_transaction l.room.transaction) (plain_process l.world.process);
     }

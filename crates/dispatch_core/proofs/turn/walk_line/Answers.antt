@@ -17,7 +17,7 @@ returns-in_default-clause-told g c = λ told visits.
     let start : State = state_of (plain_room (λ b. (goal.Conv-dyn g (b.vtable, b.value)).conv_holds b.value) c.args.room.now) (plain_world (λ b. (goal.Vault-dyn g (b.vtable, b.value)).vault_holds b.value) (λ b. (goal.Clock-dyn g (b.vtable, b.value)).clock_holds b.value) (λ b. (goal.Nap-dyn g (b.vtable, b.value)).nap_holds b.value) c.args.world.now) in
     let later : State = state_of (plain_room (λ b. (goal.Conv-dyn g (b.vtable, b.value)).conv_holds b.value) c.next_answer.new.room) (plain_world (λ b. (goal.Vault-dyn g (b.vtable, b.value)).vault_holds b.value) (λ b. (goal.Clock-dyn g (b.vtable, b.value)).clock_holds b.value) (λ b. (goal.Nap-dyn g (b.vtable, b.value)).nap_holds b.value) c.next_answer.new.world) in
     put_off c.args.request.kind (serving c.args.request.kind (by_place c.args.follows.now) answers) c.args.chain.now.nodes c.args.walker.now
-    (pass_state c.args.supplies.now.given.past visits start) c.next_answer.new.supplies.given.past visits later
+    (pass_state c.args.memory.now.answers.past visits start) c.next_answer.new.memory.answers.past visits later
     c.in_ok-answer.field-0 _ c.requires.within (c.in_ok-answer.ensures.told told c.args.request.kind (by_place c.args.follows.now) visits) c.in_default.is
 
 pub returns-clause-told : goal.returns-clause-told
@@ -26,7 +26,7 @@ returns-clause-told g c = λ told visits.
     let start : State = state_of (plain_room (λ b. (goal.Conv-dyn g (b.vtable, b.value)).conv_holds b.value) c.args.room.now) (plain_world (λ b. (goal.Vault-dyn g (b.vtable, b.value)).vault_holds b.value) (λ b. (goal.Clock-dyn g (b.vtable, b.value)).clock_holds b.value) (λ b. (goal.Nap-dyn g (b.vtable, b.value)).nap_holds b.value) c.args.world.now) in
     let later : State = state_of (plain_room (λ b. (goal.Conv-dyn g (b.vtable, b.value)).conv_holds b.value) c.next_answer.new.room) (plain_world (λ b. (goal.Vault-dyn g (b.vtable, b.value)).vault_holds b.value) (λ b. (goal.Clock-dyn g (b.vtable, b.value)).clock_holds b.value) (λ b. (goal.Nap-dyn g (b.vtable, b.value)).nap_holds b.value) c.next_answer.new.world) in
     taken c.args.request.kind (serving c.args.request.kind (by_place c.args.follows.now) answers) c.args.chain.now.nodes c.args.walker.now
-    (pass_state c.args.supplies.now.given.past visits start) c.next_answer.new.supplies.given.past visits later
+    (pass_state c.args.memory.now.answers.past visits start) c.next_answer.new.memory.answers.past visits later
     c.in_ok-answer.field-0 c.in-Some.answer _ _ c.requires.within (c.in_ok-answer.ensures.told told c.args.request.kind (by_place c.args.follows.now) visits) c.in-Some.is
     (λ l stands.
     subst (λ (k : Code). GoesOn c.args.request.kind l c.in-Some.answer k c.args.walker.now c.go_on.new.self)
@@ -36,8 +36,8 @@ pub returns-clause-goes : goal.returns-clause-goes
 returns-clause-goes g c = goes_by c.args.request.kind (by_place c.args.follows.now) c.args.chain.now.nodes c.in-Some.answer c.args.walker.now c.go_on.new.self c.requires.within
     (λ l stands. subst (λ (k : Code). GoesOn c.args.request.kind l c.in-Some.answer k c.args.walker.now c.go_on.new.self) c.decide-deciding.ensures (c.go_on.ensures.goes l stands))
 
-pub returns-clause-took : goal.returns-clause-took
-returns-clause-took g c = rw c.in-Some.is at c.in_ok-answer.ensures.took
+pub returns-clause-line : goal.returns-clause-line
+returns-clause-line g c = rw c.in-Some.is at c.in_ok-answer.ensures.line
 
-pub returns-in_default-clause-took : goal.returns-in_default-clause-took
-returns-in_default-clause-took g c = rw c.in_default.is at c.in_ok-answer.ensures.took
+pub returns-in_default-clause-line : goal.returns-in_default-clause-line
+returns-in_default-clause-line g c = rw c.in_default.is at c.in_ok-answer.ensures.line

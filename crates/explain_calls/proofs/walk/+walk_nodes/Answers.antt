@@ -7,8 +7,8 @@ use Rattle.stack_walk.specs.Pass.{PassState, serving}
 use Rattle.stack_walk.specs.Retell.{Telling, replaying}
 use Rattle.stack_walk.specs.Walk.{Serving, walk}
 use Rattle.pass_replay.specs.Kept.{kept_answers}
-use Rattle.pass_replay.specs.declared.onward.Onward.{Onward}
-use Rattle.pass_replay.specs.Walk.{Comes, state_in}
+use Rattle.pass_replay.specs.declared.next_node.NextNode.{NextNode}
+use Rattle.pass_replay.specs.Walk.{WalkEnds, state_in}
 use Rattle.pass_replay.proofs.Peeling.{few_there, peeled, peeled_line, peeled_sub, some_left}
 use Rattle.pass_replay.proofs.Walking.{sub_put_off, walking_line, walking_skip, walking_sub}
 use Rattle.explain_calls.specs.declared.turn.Turn.{Turn}
@@ -71,7 +71,7 @@ returns-in_default-2-clause-comes t c =
     let here = peeled_sub _ _ _ _ c.loop-node-test.true c.node-item.is c.in-Sub.is in
     let inside = walk c.args.run.kind (serving c.args.run.kind (answers_held (kept_answers c.args.run.follows.now)) replaying) 0 (stack_of c.in-Sub.inner.vec.items) (c.loop-node.replay.at + 1) c.loop-node.opinion c.loop-node.opinion
     (state_in c.args.run.past.now c.args.run.told.now c.loop-node.replay) in
-    let comes = subst (λ (end : Option Opinion). Comes inside end (state_in c.args.run.past.now c.args.run.told.now c.walk_nodes.new.replay))
+    let comes = subst (λ (end : Option Opinion). WalkEnds inside end (state_in c.args.run.past.now c.args.run.told.now c.walk_nodes.new.replay))
     c.in_default-2.is c.in_ok-inside-in-Sub.ensures.comes in
     sub_put_off _ _ _ _ _ _ _ _ _ _ _ _ _ _ _ c.loop-node.invariant.walking here none_over comes
 
@@ -93,7 +93,7 @@ returns-in_default-2-clause-shows t c =
     let last = last_are _ _ _ c.loop-node-test.true counted in
     let inside = walk c.args.run.kind (serving c.args.run.kind (answers_held (kept_answers c.args.run.follows.now)) replaying) 0 (stack_of c.in-Sub.inner.vec.items) (c.loop-node.replay.at + 1) c.loop-node.opinion c.loop-node.opinion
     (state_in c.args.run.past.now c.args.run.told.now c.loop-node.replay) in
-    let comes = subst (λ (end : Option Opinion). Comes inside end (state_in c.args.run.past.now c.args.run.told.now c.walk_nodes.new.replay))
+    let comes = subst (λ (end : Option Opinion). WalkEnds inside end (state_in c.args.run.past.now c.args.run.told.now c.walk_nodes.new.replay))
     c.in_default-2.is c.in_ok-inside-in-Sub.ensures.comes in
     sub_waits _ _ _ _ _ _ _ _ _ _ rest _ _ _ _ _ _ _ _ _ _ _ c.loop-node.invariant.showing here none_over c.in_ok-inside-in-Sub.ensures.at (ap stack_of last) comes c.in_ok-inside-in-Sub.ensures.shows c.in_ok-replay-in-Sub.ensures.shows
 
@@ -131,7 +131,7 @@ loop-node-preserved t c =
           ≡ w.walk_line.new.shown ++ rows_behind c.args.run.kind serve rest (c.loop-node.replay.at + 1 + 1) c.args.entry o new)
           w.in-Some.is (w.in_ok-turn-in-Line.ensures.shows rest left) in
           let further = w.in_ok-turn-in-Line.ensures.at in
-          let onward : Onward = record { opinion = w.in-Some.turn.opinion; skip = w.in-Some.turn.skip } in
+          let onward : NextNode = record { opinion = w.in-Some.turn.opinion; skip = w.in-Some.turn.skip } in
           rw (w.shown-is, w.replay-is, w.opinion-is, w.why-is, w.skip-is)
           (record {
             walking = walking_line _ _ _ _ _ _ _ _ _ _ _ _ _ _ _ _ _ onward c.loop-node.invariant.walking here none_over further refl goes;
@@ -142,7 +142,7 @@ loop-node-preserved t c =
           let none_over : c.loop-node.skip ≡ 0 = omega arith in
           let inside = walk c.args.run.kind (serving c.args.run.kind (answers_held (kept_answers c.args.run.follows.now)) replaying) 0 (stack_of w.in-Sub.inner.vec.items) (c.loop-node.replay.at + 1) c.loop-node.opinion c.loop-node.opinion
           (state_in c.args.run.past.now c.args.run.told.now c.loop-node.replay) in
-          let comes = subst (λ (end : Option Opinion). Comes inside end (state_in c.args.run.past.now c.args.run.told.now w.walk_nodes.new.replay))
+          let comes = subst (λ (end : Option Opinion). WalkEnds inside end (state_in c.args.run.past.now c.args.run.told.now w.walk_nodes.new.replay))
           w.in-Some-2.is w.in_ok-inside-in-Sub.ensures.comes in
           let further = w.in_ok-inside-in-Sub.ensures.at in
           let skip_is = w.skip-is ∙ none_over in

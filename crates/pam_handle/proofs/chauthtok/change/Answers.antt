@@ -1,5 +1,5 @@
 use Rattle.std.proofs.Common.{sym, ◌∙◌}
-use Rattle.dispatch_core.specs.Given.{past_of}
+use Rattle.dispatch_core.specs.AnswersSoFar.{past_of}
 use Rattle.pam_handle.proofs.Changing.{goes_on_anew, goes_on_held, if_ok_from}
 use Rattle.pam_handle.proofs.Stopping.{change_anew, change_held}
 use Rattle.pam_handle.specs.Pass.{kept_answers}

@@ -1,5 +1,5 @@
 use Rattle.std.proofs.Common.{◌&&◌, Bool}
-use Rattle.dispatch_core.specs.Given.{past_of}
+use Rattle.dispatch_core.specs.AnswersSoFar.{past_of}
 use Rattle.dispatch_core.specs.pam_room.specs.Plain.{plain_room, plain_world}
 use Rattle.dispatch_core.specs.pam_room.specs.State.{State, state_of}
 use Rattle.pam_handle.specs.Pass.{kept_answers}
@@ -17,4 +17,4 @@ returns-clause-stopped g c =
     stops_in_update _ c.args.flags c.args.chain.now.nodes tells c.pass.result (kept_answers c.args.first.now) (past_of c.args.paused.now) start end c.args.room.now.conv c.pass.new.room.conv c.args.world.now c.pass.new.world c.pass.ensures.stopped
 
 pub returns-clause-by_trail : goal.returns-clause-by_trail
-returns-clause-by_trail g c = updates c.pass.result c.args.chain.now.nodes (kept_answers c.args.first.now) (kept_answers c.pass.new.kept) (past_of c.args.paused.now) _ _ c.pass.new.paused c.pass.ensures.by_trail
+returns-clause-by_trail g c = updates c.pass.result c.args.chain.now.nodes (kept_answers c.args.first.now) (kept_answers c.pass.new.kept) (past_of c.args.paused.now) _ _ c.pass.new.paused c.pass.ensures.done.by_trail

@@ -6,8 +6,8 @@ use Rattle.stack_walk.specs.Pass.{PassState, serving}
 use Rattle.stack_walk.specs.Retell.{Telling, replaying}
 use Rattle.stack_walk.specs.Walk.{Serving, walk}
 use Rattle.pass_replay.specs.Kept.{kept_answers}
-use Rattle.pass_replay.specs.declared.onward.Onward.{Onward}
-use Rattle.pass_replay.specs.Walk.{Comes, after_line, state_in}
+use Rattle.pass_replay.specs.declared.next_node.NextNode.{NextNode}
+use Rattle.pass_replay.specs.Walk.{WalkEnds, after_line, state_in}
 use Rattle.pass_replay.proofs.Peeling.{few_there, peeled, peeled_line, peeled_sub, some_left}
 use Rattle.pass_replay.proofs.Walking.{sub_put_off, walking_line, walking_skip, walking_sub}
 use Rattle.pass_replay.proofs.walk.+walk_nodes.Goals as goal
@@ -40,7 +40,7 @@ returns-in_default-2-clause-comes t c =
     let serve : Serving (PassState Telling) = serving c.args.kind (answers_held (kept_answers c.args.follows.now)) replaying in
     let inside = walk c.args.kind serve 0 (stack_of c.in-Sub.inner.vec.items) (c.loop-node.replay.at + 1) c.loop-node.opinion c.loop-node.opinion
     (state_in c.args.past.now c.args.told.now c.loop-node.replay) in
-    let comes = subst (λ (end : Option Opinion). Comes inside end (state_in c.args.past.now c.args.told.now c.walk_nodes.new.replay))
+    let comes = subst (λ (end : Option Opinion). WalkEnds inside end (state_in c.args.past.now c.args.told.now c.walk_nodes.new.replay))
     c.in_default-2.is c.in_ok-inside-in-Sub.ensures.comes in
     sub_put_off _ _ _ _ _ _ _ _ _ _ _ _ _ _ _ c.loop-node.invariant here none_over comes
 
@@ -60,10 +60,10 @@ loop-node-preserved t c =
           let old : PassState Telling = state_in c.args.past.now c.args.told.now c.loop-node.replay in
           let new : PassState Telling = state_in c.args.past.now c.args.told.now w.walk_line.new.replay in
           let goes = λ (counted : count rest ≡ c.loop-node.left - 1).
-          subst (λ (o : Option Onward). walk c.args.kind serve 0 (line w.in-Line.rule rest) (c.loop-node.replay.at + 1) c.args.entry c.loop-node.opinion old
+          subst (λ (o : Option NextNode). walk c.args.kind serve 0 (line w.in-Line.rule rest) (c.loop-node.replay.at + 1) c.args.entry c.loop-node.opinion old
           ≡ after_line c.args.kind serve rest (c.loop-node.replay.at + 1 + 1) c.args.entry c.loop-node.opinion o new)
           w.in-Some.is (w.in_ok-onward-in-Line.ensures.goes rest counted) in
-          let further = subst (λ (o : Option Onward). IfSome o (λ _. w.walk_line.new.replay.at ≡ c.loop-node.replay.at + 1)) w.in-Some.is w.in_ok-onward-in-Line.ensures.at in
+          let further = subst (λ (o : Option NextNode). IfSome o (λ _. w.walk_line.new.replay.at ≡ c.loop-node.replay.at + 1)) w.in-Some.is w.in_ok-onward-in-Line.ensures.at in
           rw (w.replay-is, w.opinion-is, w.skip-is)
           (walking_line _ _ _ _ _ _ _ _ _ _ _ _ _ _ _ _ _ _ c.loop-node.invariant here none_over further refl goes)
       | else-skip-gt0+in-Sub+in_ok-inside-in-Sub+in-Some-2 w ↦
@@ -72,7 +72,7 @@ loop-node-preserved t c =
           let serve : Serving (PassState Telling) = serving c.args.kind (answers_held (kept_answers c.args.follows.now)) replaying in
           let inside = walk c.args.kind serve 0 (stack_of w.in-Sub.inner.vec.items) (c.loop-node.replay.at + 1) c.loop-node.opinion c.loop-node.opinion
           (state_in c.args.past.now c.args.told.now c.loop-node.replay) in
-          let comes = subst (λ (end : Option Opinion). Comes inside end (state_in c.args.past.now c.args.told.now w.walk_nodes.new.replay))
+          let comes = subst (λ (end : Option Opinion). WalkEnds inside end (state_in c.args.past.now c.args.told.now w.walk_nodes.new.replay))
           w.in-Some-2.is w.in_ok-inside-in-Sub.ensures.comes in
           let further = subst (λ (end : Option Opinion). IfSome end (λ _. w.walk_nodes.new.replay.at ≡ c.loop-node.replay.at + lines_in (stack_of w.in-Sub.inner.vec.items)))
           w.in-Some-2.is w.in_ok-inside-in-Sub.ensures.at in

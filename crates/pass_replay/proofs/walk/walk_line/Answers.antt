@@ -25,7 +25,7 @@ returns-clause-goes c = λ rest counted.
     subst (λ (a : Option Code). ServedAs (serve c.args.rule.now at old) (answer_in a) (decides c.args.kind kept at (answer_in a)) (is_none a) new)
     c.in-Some.is (c.in_ok-answer.ensures.served c.args.kind kept) in
     line_goes c.args.kind serve c.args.rule.now rest at c.args.entry c.args.opinion old new c.in-Some.answer
-    (decides c.args.kind kept at c.in-Some.answer) c.action-action.result c.args.left c.after-new.result c.onward_from.result served
+    (decides c.args.kind kept at c.in-Some.answer) c.action-action.result c.args.left c.after-new.result c.next_node_after.result served
     (c.action-action.ensures ∙ ap (action_at c.args.rule.now.control) deciding)
     (c.after-new.ensures ∙ ap (λ (d : Code). acted c.args.kind c.action-action.result c.in-Some.answer d c.args.entry c.args.opinion) deciding)
-    counted c.onward_from.ensures.opinion c.onward_from.ensures.skip
+    counted c.next_node_after.ensures.opinion c.next_node_after.ensures.skip

@@ -28,19 +28,19 @@ returns-clause-called g c =
       told = λ number is told. ran_once c.pass-result.result AcctMgmt h.pending _ (λ past. passed players AcctMgmt c.args.flags Keep None h.stacks.account past (state_of h.room w))
           (λ kept. h) _ (kept_answers c.pass-result.new.kept) c.pass-result.new.paused _ _ _
           (sym c.is_other_pending.ensures ∙ c.if-is_other_pending.false) (c.resumed_from-paused.ensures.past ∙ ap (λ (p : Option PutOff). past_in (option_map pending_of p)) c.take.ensures.value)
-          (c.settle.ensures.plain ∙ rw (c.pass-result.ensures.nodes, c.none.ensures) refl)
-          (rw c.none-kept.ensures at (c.pass-result.ensures.told told));
+          (c.keep_pending.ensures.plain ∙ rw (c.pass-result.ensures.done.nodes, c.none.ensures) refl)
+          (rw c.none-kept.ensures at (c.pass-result.ensures.done.told told));
       refused = search rules;
       aborted = search rules;
       left = search rules;
       by_trail = λ free other. called_once c.pass-result.result AcctMgmt h _ Keep None h.stacks.account _ _ _ (kept_answers c.pass-result.new.kept) c.pass-result.new.paused
           (λ kept. h) (request_behind c.pass-result.new.paused ((plain_room (λ b. (goal.Conv-dyn g (b.vtable, b.value)).conv_holds b.value)) c.pass-result.new.room))
           (λ s. refl) (λ p. refl) (c.resumed_from-paused.ensures.past ∙ ap (λ (p : Option PutOff). past_in (option_map pending_of p)) c.take.ensures.value) refl (trail_kept c.pass-result.new.paused ((plain_room (λ b. (goal.Conv-dyn g (b.vtable, b.value)).conv_holds b.value)) c.pass-result.new.room))
-          (c.settle.ensures.plain ∙ rw (c.pass-result.ensures.nodes, c.none.ensures) refl) (rw c.none-kept.ensures at c.pass-result.ensures.by_trail);
+          (c.keep_pending.ensures.plain ∙ rw (c.pass-result.ensures.done.nodes, c.none.ensures) refl) (rw c.none-kept.ensures at c.pass-result.ensures.done.by_trail);
       stopped = stops_once players AcctMgmt c.args.flags _ h _ (plain_world (λ b. (goal.Vault-dyn g (b.vtable, b.value)).vault_holds b.value) (λ b. (goal.Clock-dyn g (b.vtable, b.value)).clock_holds b.value) (λ b. (goal.Nap-dyn g (b.vtable, b.value)).nap_holds b.value)) c.args.world.now c.pass-result.result c.pass-result.new.world _ _ _ _ ((plain_room (λ b. (goal.Conv-dyn g (b.vtable, b.value)).conv_holds b.value)) c.pass-result.new.room) _ _ _ _
           refl refl refl (ap kept_answers c.none-kept.ensures)
           (c.resumed_from-paused.ensures.past ∙ ap (λ (p : Option PutOff). past_in (option_map pending_of p)) c.take.ensures.value)
-          (on_err_from c.pass-result.result (λ p. ap (λ (k : PlainHandle). k.room) c.settle.ensures.plain ∙ ap (λ (o : Option (List Code)). request_behind o ((plain_room (λ b. (goal.Conv-dyn g (b.vtable, b.value)).conv_holds b.value)) c.pass-result.new.room)) p) c.pass-result.ensures.paused) (on_err c.pass-result.result refl) c.pass-result.ensures.stopped;
+          (on_err_from c.pass-result.result (λ p. ap (λ (k : PlainHandle). k.room) c.keep_pending.ensures.plain ∙ ap (λ (o : Option (List Code)). request_behind o ((plain_room (λ b. (goal.Conv-dyn g (b.vtable, b.value)).conv_holds b.value)) c.pass-result.new.room)) p) c.pass-result.ensures.paused) (on_err c.pass-result.result refl) c.pass-result.ensures.stopped;
       err = search rules;
       others = search rules;
       sound = search rules;

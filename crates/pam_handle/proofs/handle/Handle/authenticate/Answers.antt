@@ -28,29 +28,29 @@ returns-clause-called g c =
           (plain_room (λ b. (goal.Conv-dyn g (b.vtable, b.value)).conv_holds b.value) c.pass-result.new.room) _ _ c.longest-longest.result c.sleep_after.new.waited _
           (sym c.is_other_pending.ensures ∙ c.if-is_other_pending.false)
           (c.resumed_from-paused.ensures.past ∙ ap (λ (p : Option PutOff). past_in (option_map pending_of p)) c.take.ensures.value)
-          c.clear_unless_pending.ensures (c.pass-result.ensures.told told) c.longest-longest.ensures.longest
-          (rw c.final_code-code.ensures at (c.sleep_after.ensures.told number is (tells_beside _ _ _ c.pass-result.ensures.world_tells told)))
-          (c.settle.ensures.plain ∙ rw (c.pass-result.ensures.nodes, c.pass-result.ensures.names, c.clear_if_ended.ensures, c.none.ensures) refl);
+          c.clear_unless_pending.ensures (c.pass-result.ensures.done.told told) c.longest-longest.ensures.longest
+          (rw c.final_code-code.ensures at (c.sleep_after.ensures.told number is (tells_beside _ _ _ c.pass-result.ensures.stays.world_tells told)))
+          (c.keep_pending.ensures.plain ∙ rw (c.pass-result.ensures.done.nodes, c.pass-result.ensures.done.names, c.clear_if_ended.ensures, c.none.ensures) refl);
       refused = search rules;
       aborted = search rules;
       left = search rules;
       by_trail = λ free other. called_once c.pass-result.result Authenticate h _ Keep h.authenticated h.stacks.auth _ _ _ (kept_answers c.pass-result.new.kept) c.pass-result.new.paused
           (λ kept. record h { authenticated = kept; waited = c.sleep_after.new.waited }) (room_behind c.pass-result.new.paused ((plain_room (λ b. (goal.Conv-dyn g (b.vtable, b.value)).conv_holds b.value)) c.pass-result.new.room))
           (λ s. refl) (λ p. refl) (c.resumed_from-paused.ensures.past ∙ ap (λ (p : Option PutOff). past_in (option_map pending_of p)) c.take.ensures.value) refl (trail_behind c.pass-result.new.paused ((plain_room (λ b. (goal.Conv-dyn g (b.vtable, b.value)).conv_holds b.value)) c.pass-result.new.room))
-          (c.settle.ensures.plain ∙ rw (c.pass-result.ensures.nodes, c.pass-result.ensures.names, c.clear_if_ended.ensures, c.none.ensures) refl) c.pass-result.ensures.by_trail;
+          (c.keep_pending.ensures.plain ∙ rw (c.pass-result.ensures.done.nodes, c.pass-result.ensures.done.names, c.clear_if_ended.ensures, c.none.ensures) refl) c.pass-result.ensures.done.by_trail;
       stopped = stops_once players Authenticate c.args.flags _ h _ (plain_world (λ b. (goal.Vault-dyn g (b.vtable, b.value)).vault_holds b.value) (λ b. (goal.Clock-dyn g (b.vtable, b.value)).clock_holds b.value) (λ b. (goal.Nap-dyn g (b.vtable, b.value)).nap_holds b.value)) c.args.world.now c.pass-result.result c.pass-result.new.world c.sleep_after.new.world _ _ _ ((plain_room (λ b. (goal.Conv-dyn g (b.vtable, b.value)).conv_holds b.value)) c.pass-result.new.room) _ _ _ _
           (ap (λ (items : ItemTexts). record h.room { transaction = record h.room.transaction { items = items } }) c.clear_unless_pending.ensures) refl refl refl
           (c.resumed_from-paused.ensures.past ∙ ap (λ (p : Option PutOff). past_in (option_map pending_of p)) c.take.ensures.value)
           (ended_behind c.pass-result.result c.pass-result.new.paused ((plain_room (λ b. (goal.Conv-dyn g (b.vtable, b.value)).conv_holds b.value)) c.pass-result.new.room) (record h { authenticated = kept_answers c.pass-result.new.kept; waited = c.sleep_after.new.waited }) _ (pending_after Authenticate None c.pass-result.new.paused) c.pass-result.ensures.paused
-          (c.settle.ensures.plain ∙ rw (c.pass-result.ensures.nodes, c.pass-result.ensures.names, c.clear_if_ended.ensures, c.none.ensures) refl))
+          (c.keep_pending.ensures.plain ∙ rw (c.pass-result.ensures.done.nodes, c.pass-result.ensures.done.names, c.clear_if_ended.ensures, c.none.ensures) refl))
           (not_rested c.pass-result.result c.pass-result.new.paused _ _ _ _ c.final_code-code.ensures refl c.sleep_after.ensures.stays) c.pass-result.ensures.stopped;
       err = search rules;
       others = search rules;
       sound = runs_soundly (notes_of players) (length players) h (record h { authenticated = kept_answers c.pass-result.new.kept; waited = c.sleep_after.new.waited }) _ c.clear_unless_pending.new.items (pending_after Authenticate None c.pass-result.new.paused) c.pass-result.new.paused
           (plain_room (λ b. (goal.Conv-dyn g (b.vtable, b.value)).conv_holds b.value) c.pass-result.new.room) _ _
           c.clear_unless_pending.ensures refl refl refl
-          (c.settle.ensures.plain ∙ rw (c.pass-result.ensures.nodes, c.pass-result.ensures.names, c.clear_if_ended.ensures, c.none.ensures) refl)
-          (rw c.sleep_after.ensures.process c.pass-result.ensures.sound);
+          (c.keep_pending.ensures.plain ∙ rw (c.pass-result.ensures.done.nodes, c.pass-result.ensures.done.names, c.clear_if_ended.ensures, c.none.ensures) refl)
+          (rw c.sleep_after.ensures.process c.pass-result.ensures.stays.sound);
       ready = search rules;
     }
 
@@ -58,9 +58,9 @@ pub returns-clause-waited : goal.returns-clause-waited
 returns-clause-waited g c = λ other.
     let h : PlainHandle = plain_handle (plain_room (λ b. (goal.Conv-dyn g (b.vtable, b.value)).conv_holds b.value)) c.args.self.now in
     waited_at_end (λ b. (goal.Nap-dyn g (b.vtable, b.value)).nap_holds b.value) (λ b. (goal.Nap-dyn g (b.vtable, b.value)).nap_tells b.value) c.args.world.now.nap c.pass-result.new.world.nap _ c.pass-result.result c.pass-result.new.paused (room_behind c.pass-result.new.paused (plain_room (λ b. (goal.Conv-dyn g (b.vtable, b.value)).conv_holds b.value) c.pass-result.new.room)) h (record h { authenticated = kept_answers c.pass-result.new.kept; waited = c.sleep_after.new.waited }) _
-    c.pass-result.ensures.nap (c.settle.ensures.plain ∙ rw (c.pass-result.ensures.nodes, c.pass-result.ensures.names, c.clear_if_ended.ensures, c.none.ensures) refl)
+    c.pass-result.ensures.stays.nap (c.keep_pending.ensures.plain ∙ rw (c.pass-result.ensures.done.nodes, c.pass-result.ensures.done.names, c.clear_if_ended.ensures, c.none.ensures) refl)
     (rw c.final_code-code.ensures at c.sleep_after.ensures.sound)
 
 pub returns-clause-no_nap : goal.returns-clause-no_nap
 returns-clause-no_nap g c =
-    on_err_from c.pass-result.result (λ same. rw same c.pass-result.ensures.nap) (not_rested c.pass-result.result c.pass-result.new.paused _ c.pass-result.new.world c.pass-result.new.world c.sleep_after.new.world c.final_code-code.ensures refl c.sleep_after.ensures.stays)
+    on_err_from c.pass-result.result (λ same. rw same c.pass-result.ensures.stays.nap) (not_rested c.pass-result.result c.pass-result.new.paused _ c.pass-result.new.world c.pass-result.new.world c.sleep_after.new.world c.final_code-code.ensures refl c.sleep_after.ensures.stays)

@@ -29,30 +29,30 @@ returns-clause-called g c =
           (c.resumed_from-paused.ensures.past ∙ ap (λ (p : Option PutOff). past_in (option_map pending_of p)) c.take.ensures.value)
           (c.resumed_from-paused.ensures.first ∙ ap (λ (p : Option PutOff). first_in (option_map pending_of p)) c.take.ensures.value)
           c.clear_unless_pending.ensures (c.change-result.ensures.told told (with_items c.clear_unless_pending.new.items h) refl refl)
-          (c.settle.ensures.plain ∙ rw (c.change-result.ensures.nodes, c.clear_if_ended.ensures) refl);
+          (c.keep_pending.ensures.plain ∙ rw (c.change-result.ensures.nodes, c.clear_if_ended.ensures) refl);
       refused = search rules;
       aborted = search rules;
       left = search rules;
       by_trail = λ free other. called_changing c.change-result.result h _ _ (kept_answers c.change-result.new.first) _ _ _ c.change-result.new.paused (room_behind c.change-result.new.paused ((plain_room (λ b. (goal.Conv-dyn g (b.vtable, b.value)).conv_holds b.value)) c.change-result.new.room))
           (c.resumed_from-paused.ensures.past ∙ ap (λ (p : Option PutOff). past_in (option_map pending_of p)) c.take.ensures.value) (c.resumed_from-paused.ensures.first ∙ ap (λ (p : Option PutOff). first_in (option_map pending_of p)) c.take.ensures.value) refl (trail_behind c.change-result.new.paused ((plain_room (λ b. (goal.Conv-dyn g (b.vtable, b.value)).conv_holds b.value)) c.change-result.new.room))
-          (c.settle.ensures.plain ∙ rw (c.change-result.ensures.nodes, c.clear_if_ended.ensures) refl) c.change-result.ensures.by_trail;
+          (c.keep_pending.ensures.plain ∙ rw (c.change-result.ensures.nodes, c.clear_if_ended.ensures) refl) c.change-result.ensures.by_trail;
       stopped = stops_changing players c.args.flags _ h _ (plain_world (λ b. (goal.Vault-dyn g (b.vtable, b.value)).vault_holds b.value) (λ b. (goal.Clock-dyn g (b.vtable, b.value)).clock_holds b.value) (λ b. (goal.Nap-dyn g (b.vtable, b.value)).nap_holds b.value)) c.args.world.now _ c.change-result.result _ ((plain_room (λ b. (goal.Conv-dyn g (b.vtable, b.value)).conv_holds b.value)) c.change-result.new.room) _ _
           (ap (λ (items : ItemTexts). record h.room { transaction = record h.room.transaction { items = items } }) c.clear_unless_pending.ensures)
           (c.resumed_from-paused.ensures.first ∙ ap (λ (p : Option PutOff). first_in (option_map pending_of p)) c.take.ensures.value)
           (c.resumed_from-paused.ensures.past ∙ ap (λ (p : Option PutOff). past_in (option_map pending_of p)) c.take.ensures.value)
           (ended_behind c.change-result.result c.change-result.new.paused ((plain_room (λ b. (goal.Conv-dyn g (b.vtable, b.value)).conv_holds b.value)) c.change-result.new.room) h _ (pending_after ChAuthTok (kept_answers c.change-result.new.first) c.change-result.new.paused) c.change-result.ensures.paused
-          (c.settle.ensures.plain ∙ rw (c.change-result.ensures.nodes, c.clear_if_ended.ensures) refl))
+          (c.keep_pending.ensures.plain ∙ rw (c.change-result.ensures.nodes, c.clear_if_ended.ensures) refl))
           c.change-result.ensures.stopped;
       err = failed_change c.change-result.result (kept_answers c.change-result.new.first) c.change-result.new.paused (plain_room (λ b. (goal.Conv-dyn g (b.vtable, b.value)).conv_holds b.value) c.change-result.new.room) h _ c.change-result.ensures.paused
-          (c.settle.ensures.plain ∙ rw (c.change-result.ensures.nodes, c.clear_if_ended.ensures) refl);
+          (c.keep_pending.ensures.plain ∙ rw (c.change-result.ensures.nodes, c.clear_if_ended.ensures) refl);
       others = record {
-        authenticated = ap (λ (h : PlainHandle). h.authenticated) c.settle.ensures.plain;
-        opened = ap (λ (h : PlainHandle). h.opened) c.settle.ensures.plain;
-        waited = ap (λ (h : PlainHandle). h.waited) c.settle.ensures.plain;
+        authenticated = ap (λ (h : PlainHandle). h.authenticated) c.keep_pending.ensures.plain;
+        opened = ap (λ (h : PlainHandle). h.opened) c.keep_pending.ensures.plain;
+        waited = ap (λ (h : PlainHandle). h.waited) c.keep_pending.ensures.plain;
       };
       sound = runs_soundly (notes_of players) (length players) h h _ c.clear_unless_pending.new.items (pending_after ChAuthTok (kept_answers c.change-result.new.first) c.change-result.new.paused) c.change-result.new.paused (plain_room (λ b. (goal.Conv-dyn g (b.vtable, b.value)).conv_holds b.value) c.change-result.new.room) _ _
           c.clear_unless_pending.ensures refl refl refl
-          (c.settle.ensures.plain ∙ rw (c.change-result.ensures.nodes, c.clear_if_ended.ensures) refl)
-          c.change-result.ensures.sound;
+          (c.keep_pending.ensures.plain ∙ rw (c.change-result.ensures.nodes, c.clear_if_ended.ensures) refl)
+          c.change-result.ensures.stays.sound;
       ready = search rules;
     }

@@ -28,21 +28,21 @@ returns-clause-called g c =
       told = λ number is told. ran_once c.pass-result.result CloseSession h.pending _ (λ past. passed players CloseSession c.args.flags (following h.opened) h.opened h.stacks.session past (state_of h.room w))
           (λ kept. record h { opened = kept }) _ (kept_answers c.pass-result.new.kept) c.pass-result.new.paused _ _ _
           (sym c.is_other_pending.ensures ∙ c.if-is_other_pending.false) (c.resumed_from-paused.ensures.past ∙ ap (λ (p : Option PutOff). past_in (option_map pending_of p)) c.take.ensures.value)
-          (c.settle.ensures.plain ∙ rw (c.pass-result.ensures.nodes, c.none.ensures) refl)
-          (rw c.following-kind.ensures at (c.pass-result.ensures.told told));
+          (c.keep_pending.ensures.plain ∙ rw (c.pass-result.ensures.done.nodes, c.none.ensures) refl)
+          (rw c.following-kind.ensures at (c.pass-result.ensures.done.told told));
       refused = search rules;
       aborted = search rules;
       left = search rules;
       by_trail = λ free other. called_once c.pass-result.result CloseSession h _ (following h.opened) h.opened h.stacks.session _ _ _ (kept_answers c.pass-result.new.kept) c.pass-result.new.paused
           (λ kept. record h { opened = kept }) (request_behind c.pass-result.new.paused ((plain_room (λ b. (goal.Conv-dyn g (b.vtable, b.value)).conv_holds b.value)) c.pass-result.new.room))
           (λ s. refl) (λ p. refl) (c.resumed_from-paused.ensures.past ∙ ap (λ (p : Option PutOff). past_in (option_map pending_of p)) c.take.ensures.value) refl (trail_kept c.pass-result.new.paused ((plain_room (λ b. (goal.Conv-dyn g (b.vtable, b.value)).conv_holds b.value)) c.pass-result.new.room))
-          (c.settle.ensures.plain ∙ rw (c.pass-result.ensures.nodes, c.none.ensures) refl) (rw c.following-kind.ensures at c.pass-result.ensures.by_trail);
+          (c.keep_pending.ensures.plain ∙ rw (c.pass-result.ensures.done.nodes, c.none.ensures) refl) (rw c.following-kind.ensures at c.pass-result.ensures.done.by_trail);
       stopped = stops_once players CloseSession c.args.flags _ h _ (plain_world (λ b. (goal.Vault-dyn g (b.vtable, b.value)).vault_holds b.value) (λ b. (goal.Clock-dyn g (b.vtable, b.value)).clock_holds b.value) (λ b. (goal.Nap-dyn g (b.vtable, b.value)).nap_holds b.value)) c.args.world.now c.pass-result.result c.pass-result.new.world _ _ _ _ ((plain_room (λ b. (goal.Conv-dyn g (b.vtable, b.value)).conv_holds b.value)) c.pass-result.new.room) _ _ _ _
           refl refl c.following-kind.ensures refl
           (c.resumed_from-paused.ensures.past ∙ ap (λ (p : Option PutOff). past_in (option_map pending_of p)) c.take.ensures.value)
-          (on_err_from c.pass-result.result (λ p. ap (λ (k : PlainHandle). k.room) c.settle.ensures.plain ∙ ap (λ (o : Option (List Code)). request_behind o ((plain_room (λ b. (goal.Conv-dyn g (b.vtable, b.value)).conv_holds b.value)) c.pass-result.new.room)) p) c.pass-result.ensures.paused) (on_err c.pass-result.result refl) c.pass-result.ensures.stopped;
+          (on_err_from c.pass-result.result (λ p. ap (λ (k : PlainHandle). k.room) c.keep_pending.ensures.plain ∙ ap (λ (o : Option (List Code)). request_behind o ((plain_room (λ b. (goal.Conv-dyn g (b.vtable, b.value)).conv_holds b.value)) c.pass-result.new.room)) p) c.pass-result.ensures.paused) (on_err c.pass-result.result refl) c.pass-result.ensures.stopped;
       err = failed c.pass-result.result CloseSession c.pass-result.new.paused (plain_room (λ b. (goal.Conv-dyn g (b.vtable, b.value)).conv_holds b.value) c.pass-result.new.room) h (record h { opened = kept_answers c.pass-result.new.kept }) _
-          c.pass-result.ensures.paused (c.settle.ensures.plain ∙ rw (c.pass-result.ensures.nodes, c.none.ensures) refl) (on_err c.pass-result.result refl) (followed_failed c.pass-result.result c.args.self.now.opened c.pass-result.new.kept c.following-kind.result c.following-kind.ensures c.pass-result.ensures.kept) refl tt refl refl refl;
+          c.pass-result.ensures.paused (c.keep_pending.ensures.plain ∙ rw (c.pass-result.ensures.done.nodes, c.none.ensures) refl) (on_err c.pass-result.result refl) (followed_failed c.pass-result.result c.args.self.now.opened c.pass-result.new.kept c.following-kind.result c.following-kind.ensures c.pass-result.ensures.kept) refl tt refl refl refl;
       others = search rules;
       sound = search rules;
       ready = search rules;

@@ -1,5 +1,5 @@
 ghost use Rattle.std.specs.Prelude.{◌≡◌, ◌<◌, ◌≤◌, ◌+◌, ◌∷◌, ◌++◌, [], None, Some, IfOk, IfSome, IfNone};
-ghost use Rattle.dispatch_core.specs.Given.{past_of};
+ghost use Rattle.dispatch_core.specs.AnswersSoFar.{past_of};
 
 use crate::paused::Paused;
 use pam_base::{Code, NoMemory};
@@ -9,16 +9,16 @@ use std::marker::Model;
 /// The return codes that a pass was given: those of its earlier calls, which come first again, and
 /// those of this one.
 #[derive(Drop)]
-pub struct Given {
+pub struct AnswersSoFar {
     answers: Vec<Code>,
     used: usize,
 }
 
-impl Model for Given {
+impl Model for AnswersSoFar {
     ghost use Rattle.std.specs.Prelude.{◌-◌, ◌≤◌, drop, length, take, vec_capacity, vec_len};
-    ghost use Rattle.dispatch_core.specs.Given.{GivenView};
+    ghost use Rattle.dispatch_core.specs.AnswersSoFar.{AnswersView};
 
-    ghost Value = { GivenView };
+    ghost Value = { AnswersView };
 
     ghost view = { λ g. record {
       taken = take g.used g.answers.items;
@@ -29,18 +29,18 @@ impl Model for Given {
     ghost invariant = { λ g. g.used ≤ length g.answers.items };
 }
 
-impl Given {
+impl AnswersSoFar {
     /// Resumes an incomplete pass, or begins a new one, with room for the codes of n lines. After
     /// it no pass is incomplete, even if an allocation fails.
     pub fn resume(alloc: Global, paused: &mut Paused, lines: usize) -> Result<Self, NoMemory>
-        ensures past { IfOk result (λ given. given.past ≡ past_of paused.old) }
-        ensures taken { IfOk result (λ given. given.taken ≡ []) }
-        ensures room { IfOk result (λ given. lines ≤ given.room) }
+        ensures past { IfOk result (λ codes. codes.past ≡ past_of paused.old) }
+        ensures taken { IfOk result (λ codes. codes.taken ≡ []) }
+        ensures room { IfOk result (λ codes. lines ≤ codes.room) }
         ensures none { paused.new ≡ None }
     {
         let mut answers = paused.take(alloc);
         answers.reserve(lines)?;
-        Ok(Given { answers, used: 0 })
+        Ok(AnswersSoFar { answers, used: 0 })
     }
 
     /// Takes the next code of an earlier call, if one is left.

@@ -1,7 +1,7 @@
 use Rattle.std.proofs.Common.{◌≡◌, sym, ◌∙◌, ap}
 use Rattle.handler_chain.specs.FlatLines.{end_at}
 use Rattle.dispatch_core.proofs.Turning.{jumped_near, jumped_far, ended_at, goes_ahead}
-use Rattle.dispatch_core.proofs.onward.onward_from.Goals as goal
+use Rattle.dispatch_core.proofs.next_line.next_line_after.Goals as goal
 
 pub returns-in-Some-clause-leads : goal.returns-in-Some-clause-leads
 returns-in-Some-clause-leads c = λ s stands. jumped_near c.args.chain.now.nodes _ _ _ _ _ s c.in-Jump.is c.in-Some.ensures.value stands

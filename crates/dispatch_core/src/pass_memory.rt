@@ -1,9 +1,9 @@
 ghost use Rattle.std.specs.Prelude.{◌≡◌, ◌≤◌, [], None, IfOk, OnOk};
 ghost use Rattle.control_words.specs.Stack.{lines_in};
-ghost use Rattle.dispatch_core.specs.Given.{past_of};
+ghost use Rattle.dispatch_core.specs.AnswersSoFar.{past_of};
 ghost use Rattle.dispatch_core.specs.Paths.{HasPaths};
 
-use crate::given::Given;
+use crate::answers_so_far::AnswersSoFar;
 use crate::paths::Paths;
 use crate::paused::Paused;
 use handler_chain::Chain;
@@ -13,12 +13,12 @@ use std::alloc::Global;
 
 /// What a pass uses up, so that it does not allocate between two modules.
 #[derive(Drop)]
-pub struct Supplies {
-    pub given: Given,
+pub struct PassMemory {
+    pub answers: AnswersSoFar,
     pub paths: Paths,
 }
 
-impl Supplies {
+impl PassMemory {
     /// Allocates everything for a pass except the codes that it caches; in the room it makes spare
     /// room for lines run. After it no pass is incomplete, even if an allocation fails.
     pub fn take(
@@ -27,20 +27,20 @@ impl Supplies {
         paused: &mut Paused,
         room: &mut Room,
     ) -> Result<Self, NoMemory>
-        ensures past { IfOk result (λ supplies. supplies.given.past ≡ past_of paused.old) }
-        ensures taken { IfOk result (λ supplies. supplies.given.taken ≡ []) }
-        ensures answers { IfOk result (λ supplies. lines_in chain.now.nodes ≤ supplies.given.room) }
-        ensures paths { IfOk result (λ supplies. HasPaths chain.now.nodes 0 supplies.paths) }
+        ensures past { IfOk result (λ memory. memory.answers.past ≡ past_of paused.old) }
+        ensures taken { IfOk result (λ memory. memory.answers.taken ≡ []) }
+        ensures answers { IfOk result (λ memory. lines_in chain.now.nodes ≤ memory.answers.room) }
+        ensures paths { IfOk result (λ memory. HasPaths chain.now.nodes 0 memory.paths) }
         ensures spare { OnOk result (lines_in chain.now.nodes ≤ room.new.transaction.trail.spare) }
         ensures none { paused.new ≡ None }
         ensures room { ⟦<Room as RoomTold>⟧.plain room.new ≡ ⟦<Room as RoomTold>⟧.plain room.old }
         ensures tells { ⟦<Room as RoomTold>⟧.tells room.new ≡ ⟦<Room as RoomTold>⟧.tells room.old }
         ensures conv { room.new.conv ≡ room.old.conv }
     {
-        let given = Given::resume(alloc, paused, chain.len())?;
+        let answers = AnswersSoFar::resume(alloc, paused, chain.len())?;
         let paths = Paths::of(alloc, chain)?;
         reserve_visits(room, chain.len())?;
-        Ok(Supplies { given, paths })
+        Ok(PassMemory { answers, paths })
     }
 }
 

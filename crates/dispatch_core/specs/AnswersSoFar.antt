@@ -3,7 +3,7 @@ use Rattle.std.specs.Prelude.{ℕ, Option, Some, None, List, []}
 use Rattle.pam_base.specs.declared.code.Code.{Code}
 
 -- those that this call has taken, in order, those of earlier calls that are left, and the spare room for more
-pub record GivenView : Type 0 where
+pub record AnswersView : Type 0 where
   pub taken : List Code
   pub past : List Code
   pub room : ℕ

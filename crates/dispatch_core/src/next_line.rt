@@ -9,44 +9,47 @@ use stack_walk::Opinion;
 
 /// Where a list goes on after a line, and in what state.
 #[derive(Clone, Copy)]
-pub struct Onward {
+pub struct NextLine {
     pub opinion: Opinion,
-    pub next: usize,
+    pub index: usize,
 }
 
 /// Where the list of a line goes on after it, after an action that led to a state.
-pub fn onward_from(chain: &mut Chain, i: usize, action: Action, new: Opinion) -> Onward
+pub fn next_line_after(chain: &mut Chain, i: usize, action: Action, new: Opinion) -> NextLine
     requires within { i < lines_in chain.old.nodes }
     requires few { i < 4096 }
     ensures leads { (line : FlatLine) → Stands chain.old.nodes i line →
-        LeadsTo action line.rest new i result.opinion result.next }
-    ensures ahead { i < result.next }
+        LeadsTo action line.rest new i result.opinion result.index }
+    ensures ahead { i < result.index }
     ensures nodes { chain.new.nodes ≡ chain.old.nodes }
     ensures names { chain.new.names ≡ chain.old.names }
     ensures looks { chain.new.looks ≤ chain.old.looks + 2 }
 {
     if let Action::Jump(n) = action {
         return match chain.target(i, n) {
-            Some(next) => Onward { opinion: new, next },
+            Some(index) => NextLine {
+                opinion: new,
+                index,
+            },
             None => {
                 let denied = Opinion::overrun();
                 let end = chain.end(i);
-                Onward {
+                NextLine {
                     opinion: denied,
-                    next: end,
+                    index: end,
                 }
             }
         };
     }
     if new.ends(action) {
         let behind = chain.end(i);
-        return Onward {
+        return NextLine {
             opinion: new,
-            next: behind,
+            index: behind,
         };
     }
-    Onward {
+    NextLine {
         opinion: new,
-        next: i + 1,
+        index: i + 1,
     }
 }

@@ -9,13 +9,13 @@ use stack_walk::Opinion;
 /// Where a list goes on after a line: the state, and how many of its nodes are skipped, which is
 /// all that are left if the list ends.
 #[derive(Clone, Copy, Debug)]
-pub struct Onward {
+pub struct NextNode {
     pub opinion: Opinion,
     pub skip: usize,
 }
 
 /// Where a list with `left` nodes left goes on, after an action that led to a state.
-pub fn onward_from(action: Action, left: usize, new: Opinion) -> Onward
+pub fn next_node_after(action: Action, left: usize, new: Opinion) -> NextNode
     ensures opinion { result.opinion ≡ settled action left new }
     ensures skip { result.skip ≡ skip_of (next_of action left new) left }
 {
@@ -23,21 +23,21 @@ pub fn onward_from(action: Action, left: usize, new: Opinion) -> Onward
         return jumped(usize::from(number), left, new);
     }
     let skip = if new.ends(action) { left } else { 0 };
-    Onward { opinion: new, skip }
+    NextNode { opinion: new, skip }
 }
 
 // After a jump; one over more nodes than are left ends the list.
-fn jumped(number: usize, left: usize, new: Opinion) -> Onward
+fn jumped(number: usize, left: usize, new: Opinion) -> NextNode
     ensures opinion { result.opinion ≡ (if nat_le number left then new else overrun) }
     ensures skip { result.skip ≡ (if nat_le number left then number else left) }
 {
     if number <= left {
-        return Onward {
+        return NextNode {
             opinion: new,
             skip: number,
         };
     }
-    Onward {
+    NextNode {
         opinion: Opinion::overrun(),
         skip: left,
     }
