@@ -6,14 +6,14 @@ use Rattle.pam_outside.specs.Streams.{SourceState, SinkState}
 use Rattle.pam_room.specs.Module.{Player}
 use Rattle.pam_room.specs.State.{PlainWorld}
 use Rattle.session_check.specs.pam_library.specs.Slots.{PlainSlot}
-use Rattle.session_program.specs.Command.{Request}
+use Rattle.session_program.specs.Command.{Command}
 use Rattle.pam_service.specs.Service.{served_wait}
 use Rattle.pam_service.specs.Serving.{ServesFrames, Stream}
 
 pub waits : (Post : Code → ℕ → ℕ → Type 0) → IsNumberGiven Post served_wait → (number : Code → ℕ → ℕ) → number ≡ served_wait → IsNumberGiven Post number
 waits Post given number same = subst (IsNumberGiven Post) (sym same) given
 
-module _ (request : Option Request) (players : List Player) (slots : List PlainSlot) (Gives Known : (Code → ℕ → ℕ) → Type 0) (tells : Bool)
+module _ (request : Option Command) (players : List Player) (slots : List PlainSlot) (Gives Known : (Code → ℕ → ℕ) → Type 0) (tells : Bool)
     (status : ℕ) (old new : PlainWorld) (input : Stream SourceState) (output : Stream SinkState) where
   pub served_by : ((number : Code → ℕ → ℕ) → Known number → Gives number) → ServesFrames request players slots Gives tells status old new input output
       → ServesFrames request players slots Known tells status old new input output
@@ -32,7 +32,7 @@ module _ (request : Option Request) (players : List Player) (slots : List PlainS
     cleaned_up = s.cleaned_up;
   }
 
-module _ (request : Option Request) (players : List Player) (slots : List PlainSlot) (Post : Code → ℕ → ℕ → Type 0) (tells : Bool)
+module _ (request : Option Command) (players : List Player) (slots : List PlainSlot) (Post : Code → ℕ → ℕ → Type 0) (tells : Bool)
     (status : ℕ) (old new : PlainWorld) (input : Stream SourceState) (output : Stream SinkState) where
   pub served_with : ServesFrames request players slots (IsNumberGiven Post) tells status old new input output
       → IsNumberGiven Post served_wait → ServesFrames request players slots (λ number. number ≡ served_wait) tells status old new input output

@@ -9,7 +9,7 @@ use Rattle.session_check.specs.pam_library.specs.Slots.{PlainSlot}
 use Rattle.session_login.specs.session_run.specs.Reading.{WritesScript}
 use Rattle.session_login.specs.session_run.specs.State.{setting_of}
 use Rattle.session_program.specs.CleanedUp.{IsCleanedUp, MayEnd}
-use Rattle.session_program.specs.Command.{Request, wires}
+use Rattle.session_program.specs.Command.{Command, wires}
 use Rattle.session_program.specs.Run.{opening}
 use Rattle.session_program.specs.Wire.{AnswersBy, IsReadThrough, IsWireStatus, ReadsFramesBy, Serves, WireCompletes}
 
@@ -33,7 +33,7 @@ stream_of tells holds faults old new = record {
 
 -- A run with these modules, slots and delay function, by its exit status. `tells` says whether the world and the
 -- conversations are modelled.
-pub record ServesFrames (request : Option Request) (players : List Player) (slots : List PlainSlot)
+pub record ServesFrames (request : Option Command) (players : List Player) (slots : List PlainSlot)
     (gives : (Code → ℕ → ℕ) → Type 0) (tells : Bool) (status : ℕ) (old new : PlainWorld)
     (input : Stream SourceState) (output : Stream SinkState) : Type 0 where
   -- If all objects are modelled: with status 0, 5, 13 and 14 all calls in the bytes that were read are answered, and

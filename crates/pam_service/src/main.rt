@@ -10,7 +10,7 @@ ghost use Rattle.std.specs.Prelude.{◌≡◌, ◌≤◌, ◌<◌, ◌^◌, ◌&
 ghost use Rattle.pam_base.specs.declared.code.Code.{Code};
 ghost use Rattle.pam_room.specs.Module.{Player};
 ghost use Rattle.fail_delay.specs.DelayFn.{GivesOneNumber, IsNumberGiven};
-ghost use Rattle.session_program.specs.Command.{request_of};
+ghost use Rattle.session_program.specs.Command.{command_of};
 ghost use Rattle.pam_service.specs.Service.{IsOfFrames, StatusOf, served_wait, service_request};
 ghost use Rattle.pam_service.specs.Serving.{ServesFrames, stream_of};
 
@@ -187,9 +187,9 @@ fn has_own_ids(user: &Option<Ids>, group: &Option<Ids>) -> bool {
 // The arguments for the program: `wire /`, or `wire ROOT` if one argument names a root and the process has no rights
 // but its caller's. Otherwise none, which is no command.
 fn words_for(alloc: Global, words: &[String], has_own_ids: bool) -> io::Result<Vec<String>>
-    ensures request { IfOk result (λ asked. request_of asked.items
+    ensures request { IfOk result (λ asked. command_of asked.items
         ≡ service_request has_own_ids words.now) }
-    ensures frames { IfOk result (λ asked. IsOfFrames (request_of asked.items)) }
+    ensures frames { IfOk result (λ asked. IsOfFrames (command_of asked.items)) }
 {
     let mut asked = Vec::new(alloc);
     match words {
@@ -216,13 +216,13 @@ fn serve<S: Source, K: Sink>(
     out: &mut K,
     world: &mut World,
 ) -> io::Result<u8>
-    requires frames { IsOfFrames (request_of words.now) }
+    requires frames { IsOfFrames (command_of words.now) }
     requires sixteen { length talks.convs.items ≡ TRANSACTIONS }
     requires no_births { world.old.process.ledger.births ≡ [] }
     requires no_receipts { world.old.process.ledger.filed ≡ [] }
-    ensures status { IfOk result (λ status. StatusOf (request_of words.now) status) }
+    ensures status { IfOk result (λ status. StatusOf (command_of words.now) status) }
     ensures served { IfOk result (λ status. (players : List Player)
-        × ServesFrames (request_of words.now) players
+        × ServesFrames (command_of words.now) players
         (⟦<Conversations as ConversationsTold>⟧.slots talks) (λ number. number ≡ served_wait)
         (⟦<World as WorldTold>⟧.tells world.old
         && ⟦<Conversations as ConversationsTold>⟧.tells talks) status
@@ -291,7 +291,7 @@ fn answer_frames<S: Source, K: Sink>(
     world: &mut World,
     desk: Desk,
 ) -> u8
-    requires frames { IsOfFrames (request_of words.now) }
+    requires frames { IsOfFrames (command_of words.now) }
     requires sixteen { length desk.convs.items ≡ 16 }
     requires few { length desk.mods.items < 2 ^ 32 }
     requires callable { (code : Code) (asked : ℕ) → asked ≤ LONGEST_ASKED →
@@ -300,8 +300,8 @@ fn answer_frames<S: Source, K: Sink>(
         (⟦<DelayRule as Fn(Code, u32) -> u32>⟧.post desk.delay) }
     requires no_births { world.old.process.ledger.births ≡ [] }
     requires no_receipts { world.old.process.ledger.filed ≡ [] }
-    ensures status { StatusOf (request_of words.now) result }
-    ensures served { ServesFrames (request_of words.now) (⟦<Desk as DeskTold>⟧.players desk)
+    ensures status { StatusOf (command_of words.now) result }
+    ensures served { ServesFrames (command_of words.now) (⟦<Desk as DeskTold>⟧.players desk)
         (⟦<Desk as DeskTold>⟧.slots desk)
         (IsNumberGiven (⟦<DelayRule as Fn(Code, u32) -> u32>⟧.post desk.delay))
         (⟦<World as WorldTold>⟧.tells world.old && ⟦<Desk as DeskTold>⟧.tells desk) result

@@ -1,8 +1,10 @@
 -- What a run of frames says by its status.
-use Rattle.std.proofs.Common.{◌≡◌, ◌⊎◌, inl, inr, ℕ, ◌<◌, if◌then◌else◌, List, [], ◌∷◌, ◌++◌, length, Option, Some, None, Result, Ok, Err, refl, sym, ap, ◌∙◌, subst, arith}
+use Rattle.std.proofs.Common.{◌≡◌, ◌⊎◌, inl, inr, ℕ, ◌<◌, if◌then◌else◌, List, [], ◌∷◌, ◌++◌, length, Option, Some, None, Result, Ok, Err, refl, sym, ap, ◌∙◌, subst, subst₂, arith}
 use Rattle.std.specs.Int.{w16, to_be_bytes}
 use Rattle.std.specs.Prelude.{nat_eq}
 use Rattle.pam_outside.specs.Streams.{SourceState, SinkState}
+use Rattle.pam_base.specs.declared.code.Code.{Code}
+use Rattle.pam_room.specs.Module.{Player}
 use Rattle.pam_room.specs.State.{PlainWorld}
 use Rattle.session_check.specs.pam_library.specs.Slots.{PlainSlot}
 use Rattle.session_wire.specs.pam_wire.specs.Frame.{sized}
@@ -13,12 +15,15 @@ use Rattle.item_stream.specs.declared.ending.Stop.{Stop}
 use Rattle.item_stream.specs.declared.ending.Stop.TheVariants.{NoMemory, WriteFault}
 use Rattle.session_wire.specs.frame_stream.specs.declared.fault.FrameFault.{FrameFault}
 use Rattle.session_wire.specs.frame_stream.specs.declared.fault.FrameFault.TheVariants.{BadFrame, TooManyFrames}
-use Rattle.session_login.specs.session_run.specs.State.{Setting, state_of}
+use Rattle.session_login.specs.session_run.specs.State.{Setting, setting_of, state_of}
 use Rattle.session_wire.specs.Reading.{EndsAtBytes, ReadsFrames}
 use Rattle.session_wire.specs.Whole.{Answers, Completes}
-use Rattle.session_program.specs.Command.{Request, wires}
-use Rattle.session_program.specs.Run.{IsUnder, opening}
+use Rattle.session_login.specs.session_run.specs.Seen.{Seen}
+use Rattle.session_program.specs.ByCommand.{Setup}
+use Rattle.session_program.specs.Opened.{IsOpened}
+use Rattle.session_program.specs.Run.{IsReset, opening, under_root}
 use Rattle.session_program.specs.Wire.{AnswersBy, IsReadThrough, IsServed, IsWireStatus, ReadsFramesBy, Serves, WireCompletes, wire_status}
+use Rattle.session_program.proofs.Telling.{under_now}
 
 -- ---- the ending of a status
 
@@ -66,37 +71,32 @@ no_fault_read status before now known through (inr seven) = not_seven known.0 (s
 
 -- ---- what is answered
 
-module _ (setting : Setting) (slots ends : List PlainSlot) (root : List ℕ) (old now new : PlainWorld) (x y : SourceState) (p q : SinkState) where
-  pub served : (result : Result (Ending FrameFault) Stop) (status : ℕ) → status ≡ wire_status result → IsUnder root old now
+module _ (root : List ℕ) (setup : Setup) (old : PlainWorld) (s : Seen) (now new : PlainWorld) (ends : List PlainSlot) (x y : SourceState) (p q : SinkState) where
+  served_at : (setting : Setting) (slots : List PlainSlot) (result : Result (Ending FrameFault) Stop) (status : ℕ) → status ≡ wire_status result → now ≡ under_root root old
       → Answers setting result (state_of slots now) (state_of ends new) x y p q → IsServed setting status (opening slots root old) new x y p q
-  served result status is under answers = record {
+  served_at setting slots result status is under answers = record {
     result = result;
     is = is;
     end = state_of ends new;
     world_is = refl;
-    answers = subst (λ (w : PlainWorld). Answers setting result (state_of slots w) (state_of ends new) x y p q) under.world_is answers;
+    answers = subst (λ (w : PlainWorld). Answers setting result (state_of slots w) (state_of ends new) x y p q) under answers;
   }
 
-module _ (setting : Setting) (status : ℕ) (slots : List PlainSlot) (root asked : List ℕ) (old new : PlainWorld) (x y : SourceState) (p q : SinkState) (same : root ≡ asked) where
-  pub serves_asked : Serves setting status slots root old new x y p q → Serves setting status slots asked old new x y p q
-  serves_asked served = subst (λ (r : List ℕ). Serves setting status slots r old new x y p q) same served
+  pub served : (number : Code → ℕ → ℕ) (result : Result (Ending FrameFault) Stop) (status : ℕ) → status ≡ wire_status result → IsOpened root setup old s → IsReset s.world now
+      → Answers (setting_of s.players number) result (state_of s.slots now) (state_of ends new) x y p q
+      → IsServed (setting_of setup.players number) status (opening setup.slots root old) new x y p q
+  served number result status is opened reset answers =
+      subst₂ (λ (players : List Player) (slots : List PlainSlot). IsServed (setting_of players number) status (opening slots root old) new x y p q) opened.players opened.slots
+      (served_at (setting_of s.players number) s.slots result status is (under_now root old s.world now opened.world_is reset) answers)
 
-  answered : Serves setting status slots asked old new x y p q → AnswersBy setting status (opening slots asked old) new x y p q
+module _ (setting : Setting) (status : ℕ) (slots : List PlainSlot) (root : List ℕ) (old new : PlainWorld) (x y : SourceState) (p q : SinkState) where
+  pub answered : Serves setting status slots root old new x y p q → AnswersBy setting status (opening slots root old) new x y p q
   answered (inl s) = λ ending is. record {
     end = s.end;
     world_is = s.world_is;
-    all = subst (λ (r : Result (Ending FrameFault) Stop). Answers setting r (opening slots asked old) s.end x y p q) (is_ending s.result ending (sym s.is ∙ is)) s.answers;
+    all = subst (λ (r : Result (Ending FrameFault) Stop). Answers setting r (opening slots root old) s.end x y p q) (is_ending s.result ending (sym s.is ∙ is)) s.answers;
   }
   answered (inr n) = λ ending is. no_ending status ending n.0 is
-
-  pub answers_asked : Serves setting status slots root old new x y p q → AnswersBy setting status (opening slots asked old) new x y p q
-  answers_asked served = answered (serves_asked served)
-
--- the root that was asked for is the one that was found
-pub wire_root : (found asked : List ℕ) (request : Option Request) → Some (wires found) ≡ request → request ≡ Some (wires asked) → found ≡ asked
-wire_root found asked request is same =
-    let e : Some (wires found) ≡ Some (wires asked) = is ∙ same in
-    cc
 
 -- ---- what the bytes say
 
