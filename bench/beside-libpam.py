@@ -288,12 +288,13 @@ def calls(bench):
             cells.append(", ".join(f"{call} {count:g}" for call, count in sorted(each.items(), key=lambda it: -it[1]) if count >= 0.5))
         print(f"| {name} | {cells[0]} | {cells[1]} |", flush=True)
     bench.compile("reads")
-    alone = subprocess.run([f"{bench.room}/reads", bench.room, "1", str(bench.rounds)], stdout=subprocess.PIPE, text=True, check=True)
-    held, opened = alone.stdout.split()
-    print("\n| Microseconds of the calls on files that a start on 1 line makes, alone in a C program | |")
-    print("|---|--:|")
-    print(f"| files that stay open | {held} |")
-    print(f"| each file opened and closed | {opened} |", flush=True)
+    included = [f"common-{kind}" for kind in TYPES]
+    sets = [["1", "1", "other"], [str(1 + len(included)), "debian", *included]]
+    alone = [subprocess.run([f"{bench.room}/reads", bench.room, str(bench.rounds), *it], stdout=subprocess.PIPE, text=True, check=True).stdout.split() for it in sets]
+    print("\n| Microseconds of the calls on files alone, in a C program | 1 line | Debian's form |")
+    print("|---|--:|--:|")
+    print(f"| files that stay open | {alone[0][0]} | {alone[1][0]} |")
+    print(f"| each file opened and closed | {alone[0][1]} | {alone[1][1]} |", flush=True)
 
 
 def into_page(printed):

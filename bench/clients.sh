@@ -1,7 +1,8 @@
 #!/bin/bash
 # Measures a login through the C library of clients/libpam beside the same through the system's libpam, in turns, in roots of
-# their own, and what memory an open transaction takes. `bench/clients.sh [TURNS]`; the program is crates/pam_service/out's, or
-# the one that PAM_SERVICE names. It wants root, gcc, and what clients/check downloads (run that first).
+# their own, and what memory an open transaction takes. With pam_permit also what is left of it if a program that only says yes
+# takes the server's place. `bench/clients.sh [TURNS]`; the program is crates/pam_service/out's, or the one that PAM_SERVICE
+# names. It wants root, gcc, and what clients/check downloads (run that first).
 set -eu
 cd "$(dirname "$0")/.."
 turns=${1:-10}
@@ -13,22 +14,25 @@ trap 'rm -rf "$work"' EXIT
 headers=-I$cache/sys/usr/include
 make -s -C clients/libpam OUT="$work/libpam.so.0" CPPFLAGS="$headers"
 gcc -O2 -Wall -Wextra $headers -o "$work/clients" bench/clients.c "$work/libpam.so.0"
+gcc -O2 -Wall -Wextra -o "$work/yes" bench/yes.c
 
-# Prints `SERVICE LEAST MEDIAN` for each turn.
-run() { # LIBRARY WORD..
-    BRING="$work/clients" clients/tests/room "$cache/sys" "$1" "$server" /brought/clients "${@:2}"
+run() { # LIBRARY SERVER WORD..
+    BRING="$work/clients" clients/tests/room "$cache/sys" "$1" "$2" /brought/clients "${@:3}"
+}
+# Prints `SERVICE WHOSE LEAST MEDIAN` for each turn.
+time_logins() { # SERVICE WHOSE LIBRARY SERVER
+    run "$3" "$4" time "$1" joe 'Hello world!' 200 | sed "s/^/$1 $2 /"
 }
 for ((turn = 0; turn < turns; turn++)); do
     for service in permit unixn; do
-        for library in "$work/libpam.so.0" -; do
-            [ "$library" = - ] && whose=libpam || whose=ours
-            run "$library" time "$service" joe 'Hello world!' 200 | sed "s/^/$service $whose /"
-        done
+        time_logins $service ours "$work/libpam.so.0" "$server"
+        time_logins $service libpam - "$server"
     done
+    time_logins permit yes "$work/libpam.so.0" "$work/yes"
 done | sort -k1,2 | awk '
     function flush() { if (n) { printf "%-7s %-7s least %6d us, median of the quietest turn %6d us\n", service, whose, least, median } }
     $1 != service || $2 != whose { flush(); service = $1; whose = $2; least = $3; median = $4; n = 0 }
     { n++; if ($3 < least) least = $3; if ($4 < median) median = $4 }
     END { flush() }'
-echo "an open transaction, ours:   $(run "$work/libpam.so.0" memory unixn joe 'Hello world!')"
-echo "an open transaction, libpam: $(run - memory unixn joe 'Hello world!')"
+echo "an open transaction, ours:   $(run "$work/libpam.so.0" "$server" memory unixn joe 'Hello world!')"
+echo "an open transaction, libpam: $(run - "$server" memory unixn joe 'Hello world!')"

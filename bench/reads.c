@@ -1,20 +1,27 @@
 /*
- * The system calls on files that a start makes by the rules for a service of auth lines alone, and nothing else: is DIRECTORY/etc/pam.d a
- * directory; the service's file read for each of the four types, and `other` for the three of which it has no line. A read looks at the
- * path (statx) and reads the file from its start: one that stayed open, or one that is opened, looked at and closed. Prints the least
- * microseconds of the processor for such a set of calls, of ROUNDS rounds: with files that stay open, and with files that are opened.
+ * The system calls on files that a start makes by the rules, and nothing else: is DIRECTORY/etc/pam.d a directory; and for each of the four
+ * types the files of the service. The first type reads the first FIRST of them, and the other three read all: a service of auth lines alone
+ * has its own file and `other`, which is read for the types of which it has no line; one that includes files has its own and those. A read
+ * looks at the path (statx) and reads the file from its start: one that stayed open, or one that is opened, looked at and closed. Prints the
+ * least microseconds of the processor for such a set of calls, of ROUNDS rounds: with files that stay open, and with files that are opened.
  *
- *   reads DIRECTORY SERVICE ROUNDS
+ *   reads DIRECTORY ROUNDS FIRST FILE..
  */
 #define _GNU_SOURCE
 #include <fcntl.h>
+#include <stdbool.h>
 #include <stdio.h>
 #include <stdlib.h>
 #include <sys/stat.h>
 #include <time.h>
 #include <unistd.h>
 
-enum { SETS = 4000 };
+enum { SETS = 4000, MOST = 8 };
+
+struct file {
+    char path[4096];
+    int held;
+};
 
 static char bytes[4096];
 
@@ -46,51 +53,51 @@ static int open_file(const char *path)
     return file;
 }
 
-/* Reads a file whose descriptor is held, or, if that is -1, one that is opened. */
-static void read_file(const char *path, int held)
+static void read_file(const struct file *file, bool stays_open)
 {
-    look(AT_FDCWD, path, 0);
-    int file = held;
-    if (held < 0) {
-        file = open_file(path);
-        look(file, "", AT_EMPTY_PATH);
+    look(AT_FDCWD, file->path, 0);
+    int opened = file->held;
+    if (!stays_open) {
+        opened = open_file(file->path);
+        look(opened, "", AT_EMPTY_PATH);
     }
-    if (pread(file, bytes, sizeof bytes, 0) < 0)
-        stop(path);
-    if (held < 0)
-        close(file);
+    if (pread(opened, bytes, sizeof bytes, 0) < 0)
+        stop(file->path);
+    if (!stays_open)
+        close(opened);
 }
 
 /* The microseconds of one set of calls. */
-static double took(const char *directory, const char *own, int own_held, const char *other, int other_held)
+static double took(const char *directory, const struct file *files, int first, int count, bool stay_open)
 {
     double begun = now();
     for (int i = 0; i < SETS; i++) {
         look(AT_FDCWD, directory, 0);
-        read_file(own, own_held);
-        for (int type = 0; type < 3; type++) {
-            read_file(own, own_held);
-            read_file(other, other_held);
-        }
+        for (int type = 0; type < 4; type++)
+            for (int at = 0; at < (type == 0 ? first : count); at++)
+                read_file(&files[at], stay_open);
     }
     return (now() - begun) / SETS;
 }
 
 int main(int argc, char **argv)
 {
-    char directory[4096], own[4096], other[4096];
+    static struct file files[MOST];
+    char directory[4096];
     double held = 1e9, opened = 1e9;
+    int count = argc - 4, first = argc > 3 ? atoi(argv[3]) : 0;
 
-    if (argc != 4)
+    if (count < 1 || count > MOST || first > count)
         return 2;
     snprintf(directory, sizeof directory, "%s/etc/pam.d", argv[1]);
-    snprintf(own, sizeof own, "%s/etc/pam.d/%s", argv[1], argv[2]);
-    snprintf(other, sizeof other, "%s/etc/pam.d/other", argv[1]);
-    int own_held = open_file(own), other_held = open_file(other);
-    for (int rounds = atoi(argv[3]); rounds > 0; rounds--) {
-        double each = took(directory, own, own_held, other, other_held);
+    for (int at = 0; at < count; at++) {
+        snprintf(files[at].path, sizeof files[at].path, "%s/etc/pam.d/%s", argv[1], argv[at + 4]);
+        files[at].held = open_file(files[at].path);
+    }
+    for (int rounds = atoi(argv[2]); rounds > 0; rounds--) {
+        double each = took(directory, files, first, count, true);
         held = each < held ? each : held;
-        each = took(directory, own, -1, other, -1);
+        each = took(directory, files, first, count, false);
         opened = each < opened ? each : opened;
     }
     printf("%.1f %.1f\n", held, opened);

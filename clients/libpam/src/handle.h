@@ -19,11 +19,6 @@
 /* docs/wire.md: a text, a service's name, what follows the kind in a frame. The last: the longest answer. */
 enum { MAX_TEXT = 512, MAX_SERVICE = 64, MAX_REST = 578, MAX_ANSWER = 1 << 20 };
 
-/* How many seconds the process may take for one answer, or to read one frame. */
-#ifndef PATIENCE
-#define PATIENCE 60
-#endif
-
 /* The kinds of the frames (docs/wire.md). */
 enum kind {
     START = 1, END, AUTHENTICATE, SETCRED, ACCT_MGMT, OPEN_SESSION, CLOSE_SESSION, CHAUTHTOK,

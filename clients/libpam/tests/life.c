@@ -440,6 +440,31 @@ static void test_life(void)
     is("end", pam_end(handle, 0), PAM_SUCCESS);
 }
 
+static volatile int ends;
+static void end_of_thread(void *unused)
+{
+    (void)unused;
+    ends++;
+}
+
+static void *told_to_end(void *unused)
+{
+    pam_handle_t *handle = NULL;
+    (void)unused;
+    pthread_cleanup_push(end_of_thread, NULL);
+    pthread_cancel(pthread_self());
+    (void)start(&handle);
+    pthread_testcancel();
+    pthread_cleanup_pop(0);
+    return NULL;
+}
+
+static bool thread_told_to_end(void)
+{
+    pthread_t thread;
+    return pthread_create(&thread, NULL, told_to_end, NULL) == 0 && pthread_join(thread, NULL) == 0 && ends == 1;
+}
+
 static void test_threads(void)
 {
     volatile int stop = 0;
@@ -457,6 +482,7 @@ static void test_threads(void)
         pthread_join(threads[i], NULL);
     is("300 starts beside four threads that allocate", good, 300);
     is("no descriptor is left", socket_of(), -1);
+    is("a thread that was told to end before its start ends once", in_a_copy(thread_told_to_end), 0);
 }
 
 int main(int words, char **word)

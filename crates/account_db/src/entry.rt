@@ -8,7 +8,7 @@ use pam_base::{Lines, NoMemory, Sequence};
 use std::alloc::Global;
 
 /// An entry of an account file, on a line of its own.
-pub(crate) trait Entry: Drop {
+pub(crate) trait AccountEntry: Drop {
     /// The entry of a line that has the form of one.
     ghost form: { List ℕ → Option Self };
 
@@ -29,7 +29,7 @@ pub(crate) trait Entry: Drop {
 }
 
 /// Whether each line of a text that isn't skipped has the form; else the first that doesn't.
-pub(crate) fn check_lines<E: Entry>(text: &[u8]) -> Result<(), DbFault>
+pub(crate) fn check_lines<E: AccountEntry>(text: &[u8]) -> Result<(), DbFault>
     requires { length text.now ≤ 1048576 }
     ensures { Checks E.form result text.now }
 {
@@ -44,14 +44,17 @@ pub(crate) fn check_lines<E: Entry>(text: &[u8]) -> Result<(), DbFault>
     Ok(())
 }
 
-fn is_faulty<E: Entry>(line: &[u8]) -> bool
+fn is_faulty<E: AccountEntry>(line: &[u8]) -> bool
     ensures { result ≡ is_faulty E.form line.now }
 {
     !is_passed_over(line) && !E::has_form(line)
 }
 
 /// The entries of a text, in order.
-pub(crate) fn entries_in<E: Entry>(alloc: Global, text: &[u8]) -> Result<Sequence<E>, NoMemory>
+pub(crate) fn entries_in<E: AccountEntry>(
+    alloc: Global,
+    text: &[u8],
+) -> Result<Sequence<E>, NoMemory>
     ensures { IfOk result (λ entries. entries ≡ kept E.form text.now) }
 {
     let mut entries = Sequence::new(alloc);
@@ -67,7 +70,7 @@ pub(crate) fn entries_in<E: Entry>(alloc: Global, text: &[u8]) -> Result<Sequenc
 }
 
 /// The first entry of a text with this name. Lines with another name aren't read any further.
-pub(crate) fn entry_named<E: Entry>(
+pub(crate) fn entry_named<E: AccountEntry>(
     alloc: Global,
     name: &[u8],
     text: &[u8],
@@ -84,7 +87,11 @@ pub(crate) fn entry_named<E: Entry>(
     Ok(None)
 }
 
-fn entry_if_named<E: Entry>(alloc: Global, name: &[u8], line: &[u8]) -> Result<Option<E>, NoMemory>
+fn entry_if_named<E: AccountEntry>(
+    alloc: Global,
+    name: &[u8],
+    line: &[u8],
+) -> Result<Option<E>, NoMemory>
     ensures { IfOk result (λ entry. entry ≡ entry_if_named E.form name.now line.now) }
 {
     if is_line_of(name, line) {

@@ -2,7 +2,7 @@ ghost use Rattle.std.specs.Prelude.{◌≡◌, ◌≤◌, length, IfOk};
 ghost use Rattle.account_db.specs.Shadow.{are_days, is_days, shadow_in, shadow_named, shadow_of, shadows_of};
 ghost use Rattle.account_db.specs.Parts.{fields_of};
 
-use crate::entry::{Entry, check_lines, entry_named};
+use crate::entry::{AccountEntry, check_lines, entry_named};
 use crate::fault::DbFault;
 use crate::parts::{field, has_fields};
 use pam_base::{NoMemory, Text, are_digits, number_in};
@@ -40,7 +40,7 @@ impl Model for ShadowFile {
     ghost view = { λ s. kept shadow_in s.text };
 }
 
-impl Entry for Shadow {
+impl AccountEntry for Shadow {
     ghost form = { shadow_in };
 
     ghost name = { λ s. s.name };

@@ -181,8 +181,8 @@ plays_by act call room held sight = act call (record {
 })
 
 -- what a module gets, as a scene: a transaction, and what its conversation, the files and the clock hold
-abbrev pub standing : Transaction → ConvState → VaultState → ClockState → Process → Scene
-standing transaction conv vault clock process =
+abbrev pub scene_at : Transaction → ConvState → VaultState → ClockState → Process → Scene
+scene_at transaction conv vault clock process =
     scene_of (room_of (plain_transaction transaction) conv) vault clock (plain_process process)
 
 -- A code was returned and this was left, as an act has it.
@@ -191,14 +191,14 @@ pub record Acts (act : Act) (known : Known) (old : Scene) (code : Code) (new : S
   pub scene_is : new ≡ with_played (act (stage_of known old)) old
 
 -- What is done from there on is what the whole does from here, whatever is known of the account files.
-abbrev pub Leads : (Act → Act) → Scene → Scene → Type 0
-Leads step old new =
+abbrev pub Reaches : (Act → Act) → Scene → Scene → Type 0
+Reaches step old new =
     (act : Act) (known : Known) (code : Code) (end : Scene)
     → Acts act known new code end → Acts (step act) known old code end
 
 -- A step gave this value: what is done with it from there on is what the whole does from here.
-abbrev pub Came : {A : Type 0} → A → ((A → Act) → Act) → Scene → Scene → Type 0
-Came {A} value step old new =
+abbrev pub Yields : {A : Type 0} → A → ((A → Act) → Act) → Scene → Scene → Type 0
+Yields {A} value step old new =
     (act : A → Act) (known : Known) (code : Code) (end : Scene)
     → Acts (act value) known new code end → Acts (step act) known old code end
 
@@ -207,7 +207,7 @@ abbrev pub StepsTo : {A : Type 0} → ((A → Act) → Act) → A → Process �
     → Type 0
 StepsTo {A} step value process old new =
     (room : PlainRoom) (clock : ClockState)
-    → Came value step (scene_of room old clock (plain_process process))
+    → Yields value step (scene_of room old clock (plain_process process))
     (scene_of room new clock (plain_process process))
 
 -- The same of a step that may read account files, by what is known of them before and after it.

@@ -20,7 +20,7 @@ use Rattle.session_run.specs.Closings.{world_behind, text_of_end, closings_behin
 use Rattle.session_run.specs.Whole.{ending_status, last_line}
 use Rattle.stack_walk.specs.Retell.{Seen}
 use Rattle.report_lines.specs.Line.{Block, closed_by_program, block_text, blocks_text, last_text, AreBlocks, IsLast}
-use Rattle.session_audit.specs.Fits.{Place, shut, running, with_place, all_shut, fold_on, fold, behind_block, behind_at, behind_result, with_behind}
+use Rattle.session_audit.specs.Fits.{SlotLog, shut, running, with_place, all_shut, fold_on, fold, behind_block, behind_at, behind_result, with_behind}
 use Rattle.session_audit.specs.Sound.{ArePrintable, AreSound}
 use Rattle.pam_handle.specs.StackCalls.{held_in}
 use Rattle.audit_laws.specs.Report.{closing_reported}
@@ -58,8 +58,8 @@ with_behind_slot front x y slots = ap (λ (n : ℕ). with_slot (front ++ x ∷ s
 
 module _ (players : List Player) (status : Code) (stacks : Stacks) where
   -- what follows fits, and leads to some places
-  record FitsOn (places : List Place) (blocks : List Block) : Type 0 where
-    behind : List Place
+  record FitsOn (places : List SlotLog) (blocks : List Block) : Type 0 where
+    behind : List SlotLog
     fits : fold stacks places blocks ≡ Some behind
 
   moved : (front slots : List PlainSlot) (x : PlainSlot) (blocks : List Block) → FitsOn (places_of ((front ++ x ∷ []) ++ slots)) blocks → FitsOn (places_of (front ++ x ∷ slots)) blocks
@@ -74,8 +74,8 @@ module _ (players : List Player) (status : Code) (stacks : Stacks) where
       ap (behind_at stacks (places_of slots') b) (place_at-of slots' (length front + 1) ∙ ap (option_map place_of) (slot_behind front (opened h) slots))
       ∙ ap (λ (vs : List Seen). with_behind stacks (places_of slots') (length front + 1) (behind_result stacks (running (held_in h)) vs (closed_by_program status)))
       (filed_visits (names_of players) v.process.ledger.births (drop (length w.process.ledger.filed) v.process.ledger.filed))
-      ∙ ap (λ (p : Place). Some (with_place (places_of slots') (length front + 1) p)) (sym is)
-      ∙ ap (λ (x : List Place). Some x) (with_place-of slots' (length front + 1) y ∙ ap places_of (with_behind_slot front (opened h) y slots))
+      ∙ ap (λ (p : SlotLog). Some (with_place (places_of slots') (length front + 1) p)) (sym is)
+      ∙ ap (λ (x : List SlotLog). Some x) (with_place-of slots' (length front + 1) y ∙ ap places_of (with_behind_slot front (opened h) y slots))
 
   closings_fit : (front slots : List PlainSlot) (w : PlainWorld) → FitsOn (places_of (front ++ slots)) (closing_blocks players status front slots w)
   closings_fit front [] w = record { behind = places_of (front ++ []); fits = refl }
@@ -86,7 +86,7 @@ module _ (players : List Player) (status : Code) (stacks : Stacks) where
       let rest : FitsOn (places_of (front ++ y ∷ slots)) (closing_blocks players status (front ++ y ∷ []) slots v) = moved front slots y _ (closings_fit (front ++ y ∷ []) slots v) in
       record {
         behind = rest.behind;
-        fits = ap (λ (x : Option (List Place)). fold_on stacks x (λ p. fold stacks p (closing_blocks players status (front ++ y ∷ []) slots v))) (one_closed front slots h y w v refl) ∙ rest.fits;
+        fits = ap (λ (x : Option (List SlotLog)). fold_on stacks x (λ p. fold stacks p (closing_blocks players status (front ++ y ∷ []) slots v))) (one_closed front slots h y w v refl) ∙ rest.fits;
       }
 
   closings_print_all : (by : ByRemainders) (front slots : List PlainSlot) (w : PlainWorld) → blocks_text (closing_blocks players status front slots w) ≡ closings_text (closings_behind players status front slots w)
@@ -146,7 +146,7 @@ runs_fit prints setting stacks ending start end input taken left text e loaded s
     let sound : AreSound stacks (places_of start.slots) = subst (AreSound stacks) (sym shuts) (sound_shut stacks 16) in
     let r : LinesFit by setting stacks start (run_lines (line_step setting) 0 start ls) (run_blocks setting 0 start ls) = lines_fit by setting stacks 0 start ls have sound (starts_have setting stacks 0 start ls have finds) in
     let first : fold stacks all_shut (run_blocks setting 0 start ls) ≡ Some (places_of e.last.slots) =
-    ap (λ (p : List Place). fold stacks p (run_blocks setting 0 start ls)) (sym shuts) ∙ r.fits ∙ ap (λ (x : Run RunState). Some (places_of x.last.slots)) c.is in
+    ap (λ (p : List SlotLog). fold stacks p (run_blocks setting 0 start ls)) (sym shuts) ∙ r.fits ∙ ap (λ (x : Run RunState). Some (places_of x.last.slots)) c.is in
     let body : blocks_text (run_blocks setting 0 start ls) ≡ e.body = r.text ∙ ap (λ (x : Run RunState). x.text) c.is in
     let closes : List Block = closing_blocks setting.players (ending_status ending) [] e.last.slots e.last.world in
     let f : FitsOn setting.players (ending_status ending) stacks (places_of e.last.slots) closes = closings_fit setting.players (ending_status ending) stacks [] e.last.slots e.last.world in

@@ -35,7 +35,7 @@ use Rattle.session_report.specs.Step.{step_text}
 use Rattle.session_run.specs.State.{Setting, RunState}
 use Rattle.session_run.specs.Step.{applied_or_refused, line_step}
 use Rattle.report_lines.specs.Line.{Block, Shown, block_text, blocks_text}
-use Rattle.session_audit.specs.Fits.{Place, fold_on, fold, behind_block}
+use Rattle.session_audit.specs.Fits.{SlotLog, fold_on, fold, behind_block}
 use Rattle.session_audit.specs.Sound.{AreSound}
 use Rattle.session_audit.proofs.Sound.{folds_sound}
 use Rattle.audit_laws.specs.Report.{shown_of, all_told, command_of, blocks_by, reported}
@@ -135,14 +135,14 @@ module _ (players : List Player) (number_of : Code → ℕ → ℕ) where
 
 -- ---- lines, one after another
 
-by_first : (stacks : Stacks) (first : Option (List Place)) (one two : List Block) (next : List Place)
-    → ((places : List Place) → fold stacks places one ≡ Some next → fold stacks places (one ++ two) ≡ fold stacks next two)
+by_first : (stacks : Stacks) (first : Option (List SlotLog)) (one two : List Block) (next : List SlotLog)
+    → ((places : List SlotLog) → fold stacks places one ≡ Some next → fold stacks places (one ++ two) ≡ fold stacks next two)
     → fold_on stacks first (λ p. fold stacks p one) ≡ Some next → fold_on stacks first (λ p. fold stacks p (one ++ two)) ≡ fold stacks next two
 by_first stacks None one two next each is = absurd (cc)
 by_first stacks (Some places) one two next each is = each places is
 
-pub fold-append : (stacks : Stacks) (places : List Place) (one two : List Block) (next : List Place) → fold stacks places one ≡ Some next → fold stacks places (one ++ two) ≡ fold stacks next two
-fold-append stacks places [] two next is = let e : places ≡ next = cc in ap (λ (x : List Place). fold stacks x two) e
+pub fold-append : (stacks : Stacks) (places : List SlotLog) (one two : List Block) (next : List SlotLog) → fold stacks places one ≡ Some next → fold stacks places (one ++ two) ≡ fold stacks next two
+fold-append stacks places [] two next is = let e : places ≡ next = cc in ap (λ (x : List SlotLog). fold stacks x two) e
 fold-append stacks places (b ∷ one) two next is = by_first stacks (behind_block stacks places b) one two next (λ first is'. fold-append stacks first one two next is') is
 
 module _ (by : ByRemainders) (setting : Setting) (stacks : Stacks) where

@@ -7,9 +7,9 @@ use Rattle.std.proofs.lemmas.List.Folds.{list_any-append}
 use Rattle.std.specs.List.{list_any}
 use Rattle.pam_base.specs.Bytes.{has_byte}
 use Rattle.pam_base.specs.White.{is_white}
-use Rattle.conf_lex.specs.declared.lexer.Found.{Found}
+use Rattle.conf_lex.specs.declared.lexer.LinePiece.{LinePiece}
 use Rattle.conf_lex.specs.declared.lexer.Line.{Line}
-use Rattle.conf_lex.specs.declared.lexer.Found.TheVariants as founds
+use Rattle.conf_lex.specs.declared.lexer.LinePiece.TheVariants as founds
 use Rattle.conf_lex.specs.Piece.{BracketUnit, units_bytes, units_stand, Piece, white, join, plain, bracket, open_bracket, comment, piece_bytes, piece_tokens, spelling, tokens_of, is_newline, is_open, stands, all_stand, at_line_end, begins_with, goes_on, all_go_on, Reads}
 use Rattle.conf_lex.specs.Reading.{unit_at, run_of}
 use Rattle.conf_lex.specs.Rules.{newlines}
@@ -184,7 +184,7 @@ push_reads before mid after ps p r spelled stand = record {
 any_push : (f : Piece → Bool) (ps : List Piece) (p : Piece) → list_any f (ps ++ p ∷ []) ≡ (list_any f ps || f p)
 any_push f ps p = list_any-append f ps (p ∷ []) ∙ ap (λ (b : Bool). list_any f ps || b) (or_false (f p))
 
-pub push_piece : (line next : Line) (found : Found) (before mid after : List ℕ) (m k n : ℕ) → TakesPieces line before mid m k
+pub push_piece : (line next : Line) (found : LinePiece) (before mid after : List ℕ) (m k n : ℕ) → TakesPieces line before mid m k
     → TakesPiece found mid after k n → next.tokens ≡ line.tokens ++ found_tokens found → next.opened ≡ (line.opened || found_open found)
     → TakesPieces next before after m n
 push_piece line next found before mid after m k n ps p tokens opened = record {

@@ -8,8 +8,8 @@ use Rattle.pam_base.specs.declared.fault.FaultKind.TheVariants.{OpenBracket, Rul
 use Rattle.conf_lex.specs.declared.token.Token.{Token}
 use Rattle.conf_lex.specs.declared.token.RawRule.{RawRule}
 use Rattle.conf_lex.specs.declared.token.LexFault.{LexFault}
-use Rattle.conf_lex.specs.declared.lexer.Found.{Found}
-use Rattle.conf_lex.specs.declared.lexer.Found.TheVariants as founds
+use Rattle.conf_lex.specs.declared.lexer.LinePiece.{LinePiece}
+use Rattle.conf_lex.specs.declared.lexer.LinePiece.TheVariants as founds
 use Rattle.conf_lex.specs.declared.lexer.Line.{Line}
 use Rattle.conf_lex.specs.Piece.{Join, join_bytes, join_at, BracketUnit, unit_bytes, unit_text, units_bytes, units_text, units_stand, unit_stands, Piece, piece_bytes, piece_tokens, spelling, tokens_of, is_newline, is_open, stands, begins_with, Reads}
 use Rattle.conf_lex.specs.Reading.{unit_at, pieces_of}
@@ -77,18 +77,18 @@ pub record TakesUnits (text before after : List ℕ) (old_line new_line : ℕ) :
   pub lines : new_line ≡ old_line + newlines (units_bytes units)
 
 -- the tokens of what was found
-abbrev pub found_tokens : Found → List Token
+abbrev pub found_tokens : LinePiece → List Token
 found_tokens founds.Blank = []
 found_tokens (founds.Token t) = t ∷ []
 found_tokens founds.OpenBracket = []
 
 -- whether it is an open bracket
-abbrev pub found_open : Found → Bool
+abbrev pub found_open : LinePiece → Bool
 found_open founds.OpenBracket = true
 found_open _ = false
 
 -- a piece other than a newline was taken
-pub record TakesPiece (found : Found) (before after : List ℕ) (old_line new_line : ℕ) : Type 0 where
+pub record TakesPiece (found : LinePiece) (before after : List ℕ) (old_line new_line : ℕ) : Type 0 where
   pub piece : Piece
   pub spelled : before ≡ piece_bytes piece ++ after
   pub stand : stands piece after ≡ true

@@ -24,7 +24,7 @@ pub struct Lexer<'a> {
 
 /// A piece of a joined line.
 #[derive(Drop)]
-pub enum Found {
+pub enum LinePiece {
     /// White space, a join or a comment.
     Blank,
     Token(Token),
@@ -61,14 +61,14 @@ fn line_fault(first: u32, length: usize, opened: bool) -> Option<LexFault>
 
 impl Line {
     /// Adds the next piece.
-    fn add(&mut self, found: Found) -> Result<(), NoMemory>
+    fn add(&mut self, found: LinePiece) -> Result<(), NoMemory>
         ensures tokens { OnOk result (self.new.tokens ≡ self.old.tokens ++ found_tokens found) }
         ensures opened { OnOk result (self.new.opened ≡ (self.old.opened || found_open found)) }
     {
         match found {
-            Found::Blank => {}
-            Found::Token(token) => self.tokens.push(token)?,
-            Found::OpenBracket => self.opened = true,
+            LinePiece::Blank => {}
+            LinePiece::Token(token) => self.tokens.push(token)?,
+            LinePiece::OpenBracket => self.opened = true,
         }
         Ok(())
     }
@@ -145,7 +145,7 @@ impl<'a> Lexer<'a> {
     }
 
     /// Reads a bracket.
-    fn bracket(&mut self, alloc: Global) -> Result<Found, NoMemory>
+    fn bracket(&mut self, alloc: Global) -> Result<LinePiece, NoMemory>
         requires fits { self.old.line + length self.old.rest.now < 2 ^ 32 }
         requires bracket { IsTrue (begins_with 91 (before_nul self.old.rest.now)) }
         ensures taken { IfOk result (λ found. TakesPiece found (before_nul self.old.rest.now)
@@ -155,17 +155,17 @@ impl<'a> Lexer<'a> {
         self.skip(1, 0);
         let text = self.units(alloc)?;
         if at_line_end(self.rest) {
-            return Ok(Found::OpenBracket);
+            return Ok(LinePiece::OpenBracket);
         }
         self.skip(1, 0);
-        Ok(Found::Token(Token {
+        Ok(LinePiece::Token(Token {
             bracketed: true,
             text,
         }))
     }
 
     /// Reads a plain token.
-    fn plain(&mut self, alloc: Global) -> Result<Found, NoMemory>
+    fn plain(&mut self, alloc: Global) -> Result<LinePiece, NoMemory>
         requires fits { self.old.line + length self.old.rest.now < 2 ^ 32 }
         requires on { goes_on (before_nul self.old.rest.now) ≡ true }
         requires no_bracket { begins_with 91 (before_nul self.old.rest.now) ≡ false }
@@ -176,14 +176,14 @@ impl<'a> Lexer<'a> {
         let length = run_length(self.rest);
         let run = &self.rest[..length];
         self.skip(length, 0);
-        Ok(Found::Token(Token {
+        Ok(LinePiece::Token(Token {
             bracketed: false,
             text: Text::from_bytes(alloc, run)?,
         }))
     }
 
     /// Skips a comment.
-    fn comment(&mut self) -> Found
+    fn comment(&mut self) -> LinePiece
         requires fits { self.old.line + length self.old.rest.now < 2 ^ 32 }
         requires hash { IsTrue (begins_with 35 (before_nul self.old.rest.now)) }
         ensures taken { TakesPiece result (before_nul self.old.rest.now)
@@ -193,11 +193,11 @@ impl<'a> Lexer<'a> {
     {
         let length = line_length(self.rest);
         self.skip(length, 0);
-        Found::Blank
+        LinePiece::Blank
     }
 
     /// Skips white space.
-    fn white(&mut self) -> Found
+    fn white(&mut self) -> LinePiece
         requires fits { self.old.line + length self.old.rest.now < 2 ^ 32 }
         requires white { IsTrue (begins_white (before_nul self.old.rest.now)) }
         ensures taken { TakesPiece result (before_nul self.old.rest.now)
@@ -206,11 +206,11 @@ impl<'a> Lexer<'a> {
         ensures moves { Moves self.old.rest.now self.new.rest.now self.old.line self.new.line }
     {
         self.skip(1, 0);
-        Found::Blank
+        LinePiece::Blank
     }
 
     /// Reads the next piece of a joined line.
-    fn piece(&mut self, alloc: Global) -> Result<Found, NoMemory>
+    fn piece(&mut self, alloc: Global) -> Result<LinePiece, NoMemory>
         requires fits { self.old.line + length self.old.rest.now < 2 ^ 32 }
         requires within { at_line_end (before_nul self.old.rest.now) ≡ false }
         ensures taken { IfOk result (λ found. TakesPiece found (before_nul self.old.rest.now)
@@ -218,7 +218,7 @@ impl<'a> Lexer<'a> {
         ensures moves { Moves self.old.rest.now self.new.rest.now self.old.line self.new.line }
     {
         if self.join() {
-            return Ok(Found::Blank);
+            return Ok(LinePiece::Blank);
         }
         match self.rest[0] {
             byte if is_white(byte) => Ok(self.white()),

@@ -4,7 +4,7 @@ use Rattle.std.specs.List.{position_or_len, before_first}
 use Rattle.std.proofs.lemmas.List.{drop-drop, nil_from_length}
 use Rattle.std.proofs.lemmas.List.Sums.{prefix_len-le-length}
 use Rattle.pam_base.specs.White.{is_white}
-use Rattle.control_words.specs.Entries.{Entry, FirstEntry, behind_space, ends_name, entries_behind, entries_in, first_entry, from_first, is_other, with_name}
+use Rattle.control_words.specs.Entries.{ControlPair, FirstEntry, after_space, ends_name, entries_behind, entries_in, first_entry, from_first, is_other, with_name}
 
 -- ---- the ends of a text
 
@@ -42,8 +42,8 @@ from_first-end test text = record { places = position_or_len test text; inside =
 -- ---- the first entry
 
 -- what follows an action
-behind_equals : (bs : List ℕ) → IsEnd bs (from_first is_white (behind_space bs))
-behind_equals bs = end-end bs (behind_space bs) _ (from_first-end is_other bs) (from_first-end is_white (behind_space bs))
+behind_equals : (bs : List ℕ) → IsEnd bs (from_first is_white (after_space bs))
+behind_equals bs = end-end bs (after_space bs) _ (from_first-end is_other bs) (from_first-end is_white (after_space bs))
 
 module _ (name : List ℕ) where
   with_name-by : (b : ℕ) (bs : List ℕ) (is : Bool) → eqb b 61 ≡ is → IsEnd (b ∷ bs) (with_name name (b ∷ bs)).rest
@@ -64,21 +64,21 @@ pub from_first-here : (test : ℕ → Bool) (b : ℕ) (bs : List ℕ) → test b
 from_first-here test b bs e = rw e refl
 
 module _ (b : ℕ) (bs : List ℕ) (other : is_white b ≡ false) where
-  space-here : behind_space (b ∷ bs) ≡ b ∷ bs
+  space-here : after_space (b ∷ bs) ≡ b ∷ bs
   space-here = from_first-here is_other b bs (ap not other)
 
   name : List ℕ
   name = before_first ends_name (b ∷ bs)
 
   rest_at : List ℕ → List ℕ
-  rest_at text = (with_name name (behind_space text)).rest
+  rest_at text = (with_name name (after_space text)).rest
 
-  equals_first : eqb b 61 ≡ true → (first_entry (b ∷ bs)).rest ≡ from_first is_white (behind_space bs)
+  equals_first : eqb b 61 ≡ true → (first_entry (b ∷ bs)).rest ≡ from_first is_white (after_space bs)
   unfolding name rest_at
   equals_first e =
       let ends : ends_name b ≡ true = rw (other, e) refl in
-      let here : behind_space (from_first ends_name (b ∷ bs)) ≡ b ∷ bs = ap behind_space (from_first-here ends_name b bs ends) ∙ space-here in
-      let equals : (with_name name (b ∷ bs)).rest ≡ from_first is_white (behind_space bs) = rw e refl in
+      let here : after_space (from_first ends_name (b ∷ bs)) ≡ b ∷ bs = ap after_space (from_first-here ends_name b bs ends) ∙ space-here in
+      let equals : (with_name name (b ∷ bs)).rest ≡ from_first is_white (after_space bs) = rw e refl in
       ap (λ (t : List ℕ). (with_name name t).rest) here ∙ equals
 
   -- at least one byte is taken
@@ -88,8 +88,8 @@ module _ (b : ℕ) (bs : List ℕ) (other : is_white b ≡ false) where
   first_entry-by false e =
       let goes_on : ends_name b ≡ false = rw (other, e) refl in
       let later : from_first ends_name (b ∷ bs) ≡ from_first ends_name bs = from_first-later ends_name b bs goes_on in
-      let middle : IsEnd bs (behind_space (from_first ends_name bs)) = end-end bs (from_first ends_name bs) _ (from_first-end ends_name bs) (from_first-end is_other (from_first ends_name bs)) in
-      let end : IsEnd bs (rest_at (from_first ends_name bs)) = end-end bs _ _ middle (with_name-end name (behind_space (from_first ends_name bs))) in
+      let middle : IsEnd bs (after_space (from_first ends_name bs)) = end-end bs (from_first ends_name bs) _ (from_first-end ends_name bs) (from_first-end is_other (from_first ends_name bs)) in
+      let end : IsEnd bs (rest_at (from_first ends_name bs)) = end-end bs _ _ middle (with_name-end name (after_space (from_first ends_name bs))) in
       subst (λ (t : List ℕ). IsEnd bs t) (sym (ap rest_at later)) end
 
   first_entry-end : IsEnd bs (first_entry (b ∷ bs)).rest
@@ -117,7 +117,7 @@ unfolding entries_in
 entries-other b bs other =
     let rest : List ℕ = (first_entry (b ∷ bs)).rest in
     let left : entries_behind (length bs - length rest) bs ≡ entries_behind 0 rest = entries_behind-dropped (length bs - length rest) bs ∙ ap (entries_behind 0) (end-dropped bs rest (first_entry-end b bs other)) in
-    entries-found b bs (first_entry (b ∷ bs)) other refl ∙ ap (λ (es : List Entry). (first_entry (b ∷ bs)).entry ∷ es) left
+    entries-found b bs (first_entry (b ∷ bs)) other refl ∙ ap (λ (es : List ControlPair). (first_entry (b ∷ bs)).entry ∷ es) left
 
 entries-later : (b : ℕ) (bs : List ℕ) → is_white b ≡ true → entries_in (b ∷ bs) ≡ entries_in bs
 unfolding entries_in entries_behind
@@ -128,41 +128,41 @@ abbrev pub starts : List ℕ → Bool
 starts [] = true
 starts (b ∷ bs) = is_other b
 
-entries-behind_space-by : (b : ℕ) (bs : List ℕ) (is : Bool) → is_white b ≡ is → entries_in bs ≡ entries_in (behind_space bs)
-    → entries_in (b ∷ bs) ≡ entries_in (behind_space (b ∷ bs))
-entries-behind_space-by b bs true e h = entries-later b bs e ∙ h ∙ ap entries_in (sym (from_first-later is_other b bs (ap not e)))
-entries-behind_space-by b bs false e h = ap entries_in (sym (from_first-here is_other b bs (ap not e)))
+entries-after_space-by : (b : ℕ) (bs : List ℕ) (is : Bool) → is_white b ≡ is → entries_in bs ≡ entries_in (after_space bs)
+    → entries_in (b ∷ bs) ≡ entries_in (after_space (b ∷ bs))
+entries-after_space-by b bs true e h = entries-later b bs e ∙ h ∙ ap entries_in (sym (from_first-later is_other b bs (ap not e)))
+entries-after_space-by b bs false e h = ap entries_in (sym (from_first-here is_other b bs (ap not e)))
 
 -- white space at the beginning is no part of an entry
-pub entries-behind_space : (text : List ℕ) → entries_in text ≡ entries_in (behind_space text)
-entries-behind_space [] = refl
-entries-behind_space (b ∷ bs) = entries-behind_space-by b bs (is_white b) refl (entries-behind_space bs)
+pub entries-after_space : (text : List ℕ) → entries_in text ≡ entries_in (after_space text)
+entries-after_space [] = refl
+entries-after_space (b ∷ bs) = entries-after_space-by b bs (is_white b) refl (entries-after_space bs)
 
 pub not-true : (b : Bool) → not b ≡ true → b ≡ false
 not-true true e = absurd cc
 not-true false e = refl
 
-starts-by : (b : ℕ) (bs : List ℕ) (is : Bool) → is_white b ≡ is → starts (behind_space bs) ≡ true → starts (behind_space (b ∷ bs)) ≡ true
+starts-by : (b : ℕ) (bs : List ℕ) (is : Bool) → is_white b ≡ is → starts (after_space bs) ≡ true → starts (after_space (b ∷ bs)) ≡ true
 starts-by b bs true e h = ap starts (from_first-later is_other b bs (ap not e)) ∙ h
 starts-by b bs false e h = ap starts (from_first-here is_other b bs (ap not e)) ∙ ap not e
 
-pub starts-behind_space : (text : List ℕ) → starts (behind_space text) ≡ true
-starts-behind_space [] = refl
-starts-behind_space (b ∷ bs) = starts-by b bs (is_white b) refl (starts-behind_space bs)
+pub starts-after_space : (text : List ℕ) → starts (after_space text) ≡ true
+starts-after_space [] = refl
+starts-after_space (b ∷ bs) = starts-by b bs (is_white b) refl (starts-after_space bs)
 
 -- the first entry of a text that starts with none, and those after it
 pub entries-first : (text : List ℕ) → 0 < length text → starts text ≡ true
-    → entries_in text ≡ (first_entry text).entry ∷ entries_in (behind_space (first_entry text).rest)
+    → entries_in text ≡ (first_entry text).entry ∷ entries_in (after_space (first_entry text).rest)
 entries-first [] some other = absurd (omega (arith, some))
 entries-first (b ∷ bs) some other =
-    entries-other b bs (not-true (is_white b) other) ∙ ap (λ (es : List Entry). (first_entry (b ∷ bs)).entry ∷ es) (entries-behind_space (first_entry (b ∷ bs)).rest)
+    entries-other b bs (not-true (is_white b) other) ∙ ap (λ (es : List ControlPair). (first_entry (b ∷ bs)).entry ∷ es) (entries-after_space (first_entry (b ∷ bs)).rest)
 
-pub rest-shorter : (text : List ℕ) → 0 < length text → starts text ≡ true → length (behind_space (first_entry text).rest) < length text
+pub rest-shorter : (text : List ℕ) → 0 < length text → starts text ≡ true → length (after_space (first_entry text).rest) < length text
 rest-shorter [] some other = absurd (omega (arith, some))
 rest-shorter (b ∷ bs) some other =
     let rest : List ℕ = (first_entry (b ∷ bs)).rest in
     let a : length rest ≤ length bs = end-shorter bs rest (first_entry-end b bs (not-true (is_white b) other)) in
-    let c : length (behind_space rest) ≤ length rest = end-shorter rest (behind_space rest) (from_first-end is_other rest) in
+    let c : length (after_space rest) ≤ length rest = end-shorter rest (after_space rest) (from_first-end is_other rest) in
     omega (arith, a, c)
 
 pub none-left : (text : List ℕ) → length text ≡ 0 → entries_in text ≡ []

@@ -16,7 +16,7 @@ use Rattle.control_words.specs.declared.bracket.ControlFault.{ControlFault}
 use Rattle.control_words.specs.declared.table.Table.{Table}
 use Rattle.control_words.specs.declared.control.Action.{Action}
 use Rattle.control_words.specs.Bracket.{action_among, action_of_word, control_of_entries, control_unless, fault_of_entry, is_code, is_default, last_action, names}
-use Rattle.control_words.specs.Entries.{Entry}
+use Rattle.control_words.specs.Entries.{ControlPair}
 use Rattle.control_words.specs.Table.{filled, named_with, settled, table_of}
 
 module _ (choose : Option Action → Action) (actions : List Action) (named : List (Option Action)) (i : ℕ) where
@@ -42,20 +42,20 @@ last-end : {A : Type 0} (o : Option A) (xs : List A) (x : A) → last_or o (xs +
 last-end o [] x = refl
 last-end o (y ∷ xs) x = last-end (Some y) xs x
 
-module _ (test : List ℕ → Bool) (seen : List Entry) (entry : Entry) where
+module _ (test : List ℕ → Bool) (seen : List ControlPair) (entry : ControlPair) where
   abbrev pub said : Option Action
   said = result_ok (action_of_word entry.action)
 
-  abbrev passing : List Entry
+  abbrev passing : List ControlPair
   passing = filter (λ e. test e.name) seen
 
   last_by_test : (passes : Bool)
       → option_and_then (λ e. result_ok (action_of_word e.action)) (last_or None (passing ++ cond passes (entry ∷ []) [])) ≡ cond passes said (option_and_then (λ e. result_ok (action_of_word e.action)) (last_or None passing))
-  last_by_test true = ap (option_and_then (λ (e : Entry). result_ok (action_of_word e.action))) (last-end None passing entry)
-  last_by_test false = ap (λ (es : List Entry). option_and_then (λ (e : Entry). result_ok (action_of_word e.action)) (last_or None es)) (append-nil passing)
+  last_by_test true = ap (option_and_then (λ (e : ControlPair). result_ok (action_of_word e.action))) (last-end None passing entry)
+  last_by_test false = ap (λ (es : List ControlPair). option_and_then (λ (e : ControlPair). result_ok (action_of_word e.action)) (last_or None es)) (append-nil passing)
 
   pub last_action-more : last_action test (seen ++ entry ∷ []) ≡ cond (test entry.name) said (last_action test seen)
-  last_action-more = ap (λ (es : List Entry). option_and_then (λ (e : Entry). result_ok (action_of_word e.action)) (last_or None es)) (filter-append (λ (e : Entry). test e.name) seen (entry ∷ [])) ∙ last_by_test (test entry.name)
+  last_action-more = ap (λ (es : List ControlPair). option_and_then (λ (e : ControlPair). result_ok (action_of_word e.action)) (last_or None es)) (filter-append (λ (e : ControlPair). test e.name) seen (entry ∷ [])) ∙ last_by_test (test entry.name)
 
 -- a code's place is set, and no other
 named_with-set : (code : Code) (action : Option Action) (old : Code → Option Action)
@@ -100,7 +100,7 @@ code_of_folded folded = find (λ code. list_any (λ word. bytes_eq folded (str_t
 default-no_code : (name : List ℕ) → is_default name ≡ true → code_of_word name ≡ None
 default-no_code name e = ap code_of_folded ((bytes_eq-Decides (str_to_ascii_lowercase name) (codes_of_text "default")).0 e)
 
-module _ (seen : List Entry) (entry : Entry) where
+module _ (seen : List ControlPair) (entry : ControlPair) where
   abbrev old_table : List (Option Action)
   old_table = (table_of seen).named
 
@@ -134,28 +134,28 @@ as_ok control = Ok control
 
 -- ---- the loop: some entries of the whole list were read, and fill the table
 
-pub record Filled (whole left : List Entry) (table : Table) : Type 0 where
-  pub seen : List Entry
+pub record Filled (whole left : List ControlPair) (table : Table) : Type 0 where
+  pub seen : List ControlPair
   pub parts : whole ≡ seen ++ left
   pub fine : filter_map fault_of_entry seen ≡ []
   pub same : table ≡ table_of seen
 
-pub filled-none : (whole left : List Entry) (table : Table) → whole ≡ left → table ≡ table_of [] → Filled whole left table
+pub filled-none : (whole left : List ControlPair) (table : Table) → whole ≡ left → table ≡ table_of [] → Filled whole left table
 filled-none whole left table all same = record { seen = []; parts = all; fine = refl; same = same }
 
-module _ (whole left : List Entry) (table : Table) (so_far : Filled whole left table) where
+module _ (whole left : List ControlPair) (table : Table) (so_far : Filled whole left table) where
   pub filled-all : (control : List Action) → left ≡ [] → control ≡ settled table
       → ◌≡◌ {A = Result (List Action) ControlFault} (Ok control) (control_of_entries whole)
   filled-all control none is =
-      let all : whole ≡ so_far.seen = so_far.parts ∙ ap (λ (l : List Entry). so_far.seen ++ l) none ∙ append-nil so_far.seen in
+      let all : whole ≡ so_far.seen = so_far.parts ∙ ap (λ (l : List ControlPair). so_far.seen ++ l) none ∙ append-nil so_far.seen in
       let fine : filter_map fault_of_entry whole ≡ [] = ap (filter_map fault_of_entry) all ∙ so_far.fine in
-      let same : control ≡ map (action_among whole) all_codes = is ∙ ap settled so_far.same ∙ sym (ap (λ (es : List Entry). map (action_among es) all_codes) all) in
+      let same : control ≡ map (action_among whole) all_codes = is ∙ ap settled so_far.same ∙ sym (ap (λ (es : List ControlPair). map (action_among es) all_codes) all) in
       ap (λ (c : List Action). as_ok c) same ∙ sym (ap (λ (faults : List ControlFault). control_unless faults whole) fine)
 
-  module _ (entry : Entry) (more : List Entry) (cut : left ≡ entry ∷ more) where
+  module _ (entry : ControlPair) (more : List ControlPair) (cut : left ≡ entry ∷ more) where
     faults : filter_map fault_of_entry whole ≡ cons_option (fault_of_entry entry) (filter_map fault_of_entry more)
     faults =
-        ap (filter_map fault_of_entry) (so_far.parts ∙ ap (λ (l : List Entry). so_far.seen ++ l) cut) ∙ filter_map-append fault_of_entry so_far.seen (entry ∷ more)
+        ap (filter_map fault_of_entry) (so_far.parts ∙ ap (λ (l : List ControlPair). so_far.seen ++ l) cut) ∙ filter_map-append fault_of_entry so_far.seen (entry ∷ more)
         ∙ ap (λ (front : List ControlFault). front ++ filter_map fault_of_entry (entry ∷ more)) so_far.fine
 
     pub filled-fault : (fault : ControlFault) → fault_of_entry entry ≡ Some fault
@@ -167,7 +167,7 @@ module _ (whole left : List Entry) (table : Table) (so_far : Filled whole left t
     pub filled-more : (after : Table) → fault_of_entry entry ≡ None → after ≡ filled table entry → Filled whole more after
     filled-more after e is = record {
       seen = so_far.seen ++ entry ∷ [];
-      parts = so_far.parts ∙ ap (λ (l : List Entry). so_far.seen ++ l) cut ∙ sym (append_assoc so_far.seen (entry ∷ []) more);
+      parts = so_far.parts ∙ ap (λ (l : List ControlPair). so_far.seen ++ l) cut ∙ sym (append_assoc so_far.seen (entry ∷ []) more);
       fine = filter_map-append fault_of_entry so_far.seen (entry ∷ [])
           ∙ ap (λ (front : List ControlFault). front ++ filter_map fault_of_entry (entry ∷ [])) so_far.fine ∙ ap (λ (o : Option ControlFault). cons_option o []) e;
       same = is ∙ ap (λ (t : Table). filled t entry) so_far.same ∙ sym (table_of-more so_far.seen entry);

@@ -4,8 +4,8 @@ use Rattle.std.proofs.Common.{◌≡◌, ◌<◌, ℕ, suc, ◌+◌, Bool, true,
 use Rattle.std.specs.List.{before_first, list_all, position_or_len}
 use Rattle.std.proofs.lemmas.List.{append-nil}
 use Rattle.pam_base.specs.White.{is_white}
-use Rattle.control_words.specs.Entries.{Entry, FirstEntry, behind_space, ends_name, entries_in, first_entry, from_first, is_other, with_action, with_name}
-use Rattle.control_words.proofs.Cutting.{entries-behind_space, entries-first, from_first-here, from_first-later, none-left, not-true}
+use Rattle.control_words.specs.Entries.{ControlPair, FirstEntry, after_space, ends_name, entries_in, first_entry, from_first, is_other, with_action, with_name}
+use Rattle.control_words.proofs.Cutting.{entries-after_space, entries-first, from_first-here, from_first-later, none-left, not-true}
 
 -- ---- a run of bytes, and a byte that ends it
 
@@ -51,7 +51,7 @@ blank-run (b ∷ bs) e =
     let parts = both (is_white b) (list_all is_white bs) e in
     rw (no_other (is_white b) parts.0) (blank-run bs parts.1)
 
-pub behind_blank : (blank more : List ℕ) → list_all is_white blank ≡ true → stops is_other more ≡ true → behind_space (blank ++ more) ≡ more
+pub behind_blank : (blank more : List ℕ) → list_all is_white blank ≡ true → stops is_other more ≡ true → after_space (blank ++ more) ≡ more
 behind_blank blank more e ends = (up_to is_other blank more (blank-run blank e) ends).1
 
 neither-space : (b : Bool) (c : Bool) → not (b || c) ≡ true → not b ≡ true
@@ -62,8 +62,8 @@ neither-space false c e = refl
 
 pub entries-blank : (blank : List ℕ) → list_all is_white blank ≡ true → entries_in blank ≡ []
 entries-blank blank e =
-    let all : behind_space (blank ++ []) ≡ [] = behind_blank blank [] e refl in
-    entries-behind_space blank ∙ ap (λ (t : List ℕ). entries_in (behind_space t)) (sym (append-nil blank)) ∙ ap entries_in all ∙ none-left [] refl
+    let all : after_space (blank ++ []) ≡ [] = behind_blank blank [] e refl in
+    entries-after_space blank ∙ ap (λ (t : List ℕ). entries_in (after_space t)) (sym (append-nil blank)) ∙ ap entries_in all ∙ none-left [] refl
 
 -- ---- an entry is its name and its action, whatever white space is around them
 
@@ -90,14 +90,14 @@ module _ (before left right more : List ℕ) (n a : ℕ) (ns as_ : List ℕ) (be
   first_of_it : first_entry spelled ≡ record { entry = record { name = n ∷ ns; action = a ∷ as_ }; rest = more }
   first_of_it =
       let cut = up_to ends_name (n ∷ ns) (left ++ 61 ∷ behind_equals) named (left_ends left left_blank) in
-      let equals : behind_space (left ++ 61 ∷ behind_equals) ≡ 61 ∷ behind_equals = behind_blank left (61 ∷ behind_equals) left_blank refl in
-      let action : behind_space behind_equals ≡ (a ∷ as_) ++ more = behind_blank right ((a ∷ as_) ++ more) right_blank (both (is_other a) (list_all is_other as_) acting).0 in
-      let named_it : first_entry spelled ≡ with_name (n ∷ ns) (behind_space (left ++ 61 ∷ behind_equals)) = λ i. with_name (cut.0 i) (behind_space (cut.1 i)) in
+      let equals : after_space (left ++ 61 ∷ behind_equals) ≡ 61 ∷ behind_equals = behind_blank left (61 ∷ behind_equals) left_blank refl in
+      let action : after_space behind_equals ≡ (a ∷ as_) ++ more = behind_blank right ((a ∷ as_) ++ more) right_blank (both (is_other a) (list_all is_other as_) acting).0 in
+      let named_it : first_entry spelled ≡ with_name (n ∷ ns) (after_space (left ++ 61 ∷ behind_equals)) = λ i. with_name (cut.0 i) (after_space (cut.1 i)) in
       named_it ∙ ap (with_name (n ∷ ns)) equals ∙ ap (with_action (n ∷ ns)) action ∙ action_of_it
 
   pub entries-spelled : entries_in (before ++ spelled) ≡ record { name = n ∷ ns; action = a ∷ as_ } ∷ entries_in more
   entries-spelled =
       let some : 0 < length spelled = omega arith in
-      entries-behind_space (before ++ spelled) ∙ ap entries_in (behind_blank before spelled before_blank name_other) ∙ entries-first spelled some name_other
-      ∙ ap (λ (f : FirstEntry). f.entry ∷ entries_in (behind_space f.rest)) first_of_it
-      ∙ ap (λ (es : List Entry). record { name = n ∷ ns; action = a ∷ as_ } ∷ es) (sym (entries-behind_space more))
+      entries-after_space (before ++ spelled) ∙ ap entries_in (behind_blank before spelled before_blank name_other) ∙ entries-first spelled some name_other
+      ∙ ap (λ (f : FirstEntry). f.entry ∷ entries_in (after_space f.rest)) first_of_it
+      ∙ ap (λ (es : List ControlPair). record { name = n ∷ ns; action = a ∷ as_ } ∷ es) (sym (entries-after_space more))

@@ -14,7 +14,7 @@ use Rattle.pam_base.specs.declared.fault.FaultKind.TheVariants.{BadControl, BadR
 use Rattle.control_words.specs.declared.bracket.ControlFault.{ControlFault}
 use Rattle.control_words.specs.declared.control.Action.{Action}
 use Rattle.control_words.specs.declared.control.Action.TheVariants as actions
-use Rattle.control_words.specs.Entries.{Entry, entries_in}
+use Rattle.control_words.specs.Entries.{ControlPair, entries_in}
 use Rattle.control_words.specs.Keyword.{control_of_word}
 
 -- a fault by its kind (this project's own)
@@ -59,7 +59,7 @@ abbrev pub names : Code → List ℕ → Bool
 names code name = is_code code (code_of_word name)
 
 -- what is wrong with an entry; the order of the causes is this project's own
-abbrev pub fault_of_entry : Entry → Option ControlFault
+abbrev pub fault_of_entry : ControlPair → Option ControlFault
 fault_of_entry entry =
     if length entry.name == 0 || length entry.action == 0 then Some (fault BadControl)
     else if is_default entry.name || is_some (code_of_word entry.name)
@@ -67,27 +67,27 @@ fault_of_entry entry =
     else Some (fault BadReturnName)
 
 -- the action of the last entry whose name passes the test (that the last one holds is this project's own)
-abbrev pub last_action : (List ℕ → Bool) → List Entry → Option Action
+abbrev pub last_action : (List ℕ → Bool) → List ControlPair → Option Action
 last_action test entries =
     option_and_then (λ entry. result_ok (action_of_word entry.action))
     (last_or None (filter (λ entry. test entry.name) entries))
 
 -- the action of a code: that of the last entry that names it, else that of the last `default` (pam.conf(5)),
 -- else bad (this project's own)
-abbrev pub action_among : List Entry → Code → Action
+abbrev pub action_among : List ControlPair → Code → Action
 action_among entries code =
     unwrap_or (option_or (last_action (names code) entries) (last_action is_default entries))
     actions.Bad
 
 -- the control of some entries if none has a fault, else the first of the faults (this project's
 -- own)
-abbrev pub control_unless : List ControlFault → List Entry → Result (List Action) ControlFault
+abbrev pub control_unless : List ControlFault → List ControlPair → Result (List Action) ControlFault
 control_unless [] entries = Ok (map (action_among entries) all_codes)
 control_unless (first ∷ more) entries = Err first
 
 -- the control of some entries, each code looked up in all of them, or the fault of the first that has one
 -- (this project's own)
-abbrev pub control_of_entries : List Entry → Result (List Action) ControlFault
+abbrev pub control_of_entries : List ControlPair → Result (List Action) ControlFault
 control_of_entries entries = control_unless (filter_map fault_of_entry entries) entries
 
 -- the control that a token names, by whether it is bracketed and by its text (pam.conf(5)); a word

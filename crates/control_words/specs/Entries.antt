@@ -18,18 +18,18 @@ abbrev pub from_first : (ℕ → Bool) → List ℕ → List ℕ
 from_first test text = drop (position_or_len test text) text
 
 -- an entry as it is written (pam.conf(5)); without a `=`, its action is empty (this project's own)
-pub record Entry : Type 0 where
+pub record ControlPair : Type 0 where
   pub name : List ℕ
   pub action : List ℕ
 
 -- the entry at the beginning of a text, and what follows it (this project's own)
 pub record FirstEntry : Type 0 where
-  pub entry : Entry
+  pub entry : ControlPair
   pub rest : List ℕ
 
 -- a text without the white space at its beginning (this project's own)
-abbrev pub behind_space : List ℕ → List ℕ
-behind_space text = from_first is_other text
+abbrev pub after_space : List ℕ → List ℕ
+after_space text = from_first is_other text
 
 -- an action runs up to white space (this project's own)
 abbrev pub with_action : List ℕ → List ℕ → FirstEntry
@@ -43,17 +43,17 @@ with_action name text =
 -- project's own)
 abbrev pub with_name : List ℕ → List ℕ → FirstEntry
 with_name name [] = record { entry = record { name = name; action = [] }; rest = [] }
-with_name name (b ∷ bs) = if b == 61 then with_action name (behind_space bs)
+with_name name (b ∷ bs) = if b == 61 then with_action name (after_space bs)
     else record { entry = record { name = name; action = [] }; rest = b ∷ bs }
 
 -- the first entry of a text that begins with no white space (this project's own)
 abbrev pub first_entry : List ℕ → FirstEntry
 first_entry text = with_name (before_first ends_name text)
-    (behind_space (from_first ends_name text))
+    (after_space (from_first ends_name text))
 
 -- the entries after the first n bytes of a text, which were skipped; white space separates entries
 -- (pam.conf(5))
-unfoldable pub entries_behind : ℕ → List ℕ → List Entry
+unfoldable pub entries_behind : ℕ → List ℕ → List ControlPair
 entries_behind passed [] = []
 entries_behind (suc passed) (b ∷ bs) = entries_behind passed bs
 entries_behind zero (b ∷ bs) = elim (is_white b) [
@@ -63,5 +63,5 @@ entries_behind zero (b ∷ bs) = elim (is_white b) [
 ]
 
 -- the entries of a text, all of them (pam.conf(5))
-unfoldable pub entries_in : List ℕ → List Entry
+unfoldable pub entries_in : List ℕ → List ControlPair
 entries_in text = entries_behind 0 text

@@ -9,10 +9,10 @@ use Rattle.control_words.specs.declared.table.Table.{Table}
 use Rattle.control_words.specs.declared.control.Action.{Action}
 use Rattle.control_words.specs.declared.control.Action.TheVariants.{Bad}
 use Rattle.control_words.specs.Bracket.{action_of_word, is_default, last_action, names}
-use Rattle.control_words.specs.Entries.{Entry}
+use Rattle.control_words.specs.Entries.{ControlPair}
 
 -- the table of some entries: what the last entry of each name says
-abbrev pub table_of : List Entry → Table
+abbrev pub table_of : List ControlPair → Table
 table_of entries = record {
   named = map (λ code. last_action (names code) entries) all_codes;
   default = last_action is_default entries;
@@ -24,7 +24,7 @@ named_with None action named = named
 named_with (Some code) action named = slice_set named (number_of code) action
 
 -- the table after one more entry
-abbrev pub filled : Table → Entry → Table
+abbrev pub filled : Table → ControlPair → Table
 filled table entry =
     if is_default entry.name then record {
       named = table.named;

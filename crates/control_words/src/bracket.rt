@@ -3,7 +3,7 @@ ghost use Rattle.control_words.specs.Bracket.{control_of, control_of_entries};
 ghost use Rattle.control_words.specs.Entries.{entries_in};
 
 use crate::control::Control;
-use crate::entries::{behind_space, first_entry};
+use crate::entries::{after_space, first_entry};
 use crate::keywords::control_named;
 use crate::table::Table;
 use conf_lex::Token;
@@ -50,11 +50,11 @@ fn control_in_bracket(text: &[u8]) -> Result<Control, ControlFault>
     ensures { result ≡ control_of_entries (entries_in text.now) }
 {
     let mut table = Table::new();
-    let mut rest = behind_space(text);
+    let mut rest = after_space(text);
     while !rest.is_empty() {
         let entry = first_entry(rest);
         table.fill(entry.name, entry.action)?;
-        rest = behind_space(entry.rest);
+        rest = after_space(entry.rest);
     }
     Ok(table.control())
 }

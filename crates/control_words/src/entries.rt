@@ -1,32 +1,32 @@
 ghost use Rattle.std.specs.Prelude.{◌≡◌};
 ghost use Rattle.std.specs.List.{before_first, position};
 ghost use Rattle.pam_base.specs.White.{is_white};
-ghost use Rattle.control_words.specs.Entries.{behind_space, ends_name, first_entry, from_first, is_other};
+ghost use Rattle.control_words.specs.Entries.{after_space, ends_name, first_entry, from_first, is_other};
 
 use pam_base::is_white;
 
 /// An entry `name=action` as it is written, and the text after it. Without a `=` its action is
 /// empty.
 #[derive(Clone, Copy)]
-pub(crate) struct Entry<'a> {
+pub(crate) struct ControlPair<'a> {
     pub(crate) name: &'a [u8],
     pub(crate) action: &'a [u8],
     pub(crate) rest: &'a [u8],
 }
 
 /// The entry at the beginning of a text, whose first byte isn't white space.
-pub(crate) fn first_entry(text: &[u8]) -> Entry
+pub(crate) fn first_entry(text: &[u8]) -> ControlPair
     ensures name { result.name.now ≡ (first_entry text.now).entry.name }
     ensures action { result.action.now ≡ (first_entry text.now).entry.action }
     ensures rest { result.rest.now ≡ (first_entry text.now).rest }
 {
     let (name, behind) = up_to_name_end(text);
-    match behind_space(behind) {
+    match after_space(behind) {
         [b'=', behind @ ..] => {
-            let (action, rest) = up_to_space(behind_space(behind));
-            Entry { name, action, rest }
+            let (action, rest) = up_to_space(after_space(behind));
+            ControlPair { name, action, rest }
         }
-        rest => Entry {
+        rest => ControlPair {
             name,
             action: &[],
             rest,
@@ -35,8 +35,8 @@ pub(crate) fn first_entry(text: &[u8]) -> Entry
 }
 
 /// The text without the white space at its beginning.
-pub(crate) fn behind_space(text: &[u8]) -> &[u8]
-    ensures { result.now ≡ behind_space text.now }
+pub(crate) fn after_space(text: &[u8]) -> &[u8]
+    ensures { result.now ≡ after_space text.now }
 {
     let end = first_other(text).unwrap_or(text.len());
     &text[end..]

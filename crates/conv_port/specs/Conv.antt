@@ -70,14 +70,14 @@ state_after s messages =
     else record s { offers = without_mark s.offers; handed = s.handed ++ messages ∷ [] }
 
 -- an exchange: exactly that result; or memory ran out, and then nothing changed
-abbrev pub Talks : Result (List Reply) ConvFault → List Message → ConvState → ConvState → Type 0
-Talks (Ok replies) messages old new = (answer_to old messages ≡ Ok replies)
+abbrev pub Answers : Result (List Reply) ConvFault → List Message → ConvState → ConvState → Type 0
+Answers (Ok replies) messages old new = (answer_to old messages ≡ Ok replies)
     × (new ≡ state_after old messages)
-Talks (Err Gone) messages old new = (answer_to old messages ≡ Err Gone)
+Answers (Err Gone) messages old new = (answer_to old messages ≡ Err Gone)
     × (new ≡ state_after old messages)
-Talks (Err Again) messages old new = (answer_to old messages ≡ Err Again)
+Answers (Err Again) messages old new = (answer_to old messages ≡ Err Again)
     × (new ≡ state_after old messages)
-Talks (Err NoMemory) messages old new = new ≡ old
+Answers (Err NoMemory) messages old new = new ≡ old
 
 -- what a text offers: the six bytes \later are a mark
 abbrev pub offer_of : List ℕ → Offer

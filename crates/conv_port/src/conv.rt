@@ -1,7 +1,7 @@
 ghost use Rattle.std.specs.Prelude.{◌≡◌, ◌≢◌, ◌≤◌, ℕ, Bool, length, IsTrue, IfOk, Err};
 ghost use Rattle.pam_base.specs.Counts.{Rose};
 ghost use Rattle.conv_port.specs.Message.{AreReplies, HasPrompt, IsExchange};
-ghost use Rattle.conv_port.specs.Conv.{ConvState, TakesOffer, Talks};
+ghost use Rattle.conv_port.specs.Conv.{Answers, ConvState, TakesOffer};
 
 use crate::message::{Messages, Replies};
 use pam_base::{MAX_TEXT, NoMemory};
@@ -54,7 +54,7 @@ pub trait Conv: Drop {
         ensures replies { IfOk result (λ replies. AreReplies messages.now replies) }
         ensures tells { conv_tells self.new ≡ conv_tells self.old }
         ensures told { IsTrue (conv_tells self.old) →
-            Talks result messages.now (conv_holds self.old) (conv_holds self.new) }
+            Answers result messages.now (conv_holds self.old) (conv_holds self.new) }
         ensures faults { conv_faults self.old ≤ conv_faults self.new }
         ensures gone { result ≡ Err ConvFault.Gone →
             Rose (conv_faults self.old) (conv_faults self.new) }
@@ -89,7 +89,7 @@ pub fn talk_with(
     ensures replies { IfOk result (λ replies. AreReplies messages.now replies) }
     ensures tells { conv_tells conv.new ≡ conv_tells conv.old }
     ensures told { IsTrue (conv_tells conv.old) →
-        Talks result messages.now (conv_holds conv.old) (conv_holds conv.new) }
+        Answers result messages.now (conv_holds conv.old) (conv_holds conv.new) }
     ensures faults { conv_faults conv.old ≤ conv_faults conv.new }
     ensures gone { result ≡ Err ConvFault.Gone →
         Rose (conv_faults conv.old) (conv_faults conv.new) }

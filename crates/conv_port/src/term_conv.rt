@@ -3,7 +3,7 @@ ghost use Rattle.std.specs.Io.KnownBytes.{Appends, Consumes, IsAtEnd};
 ghost use Rattle.pam_base.specs.Counts.{Rose, next_count};
 ghost use Rattle.pam_base.specs.Style.{is_prompt};
 ghost use Rattle.conv_port.specs.Message.{AreReplies, HasPrompt, IsExchange, IsReply};
-ghost use Rattle.conv_port.specs.Conv.{TakesOffer, Talks};
+ghost use Rattle.conv_port.specs.Conv.{Answers, TakesOffer};
 ghost use Rattle.conv_port.specs.Terminal.{Types, TypesLine, all_shown, shown};
 
 use crate::conv::{Conv, ConvFault};
@@ -64,7 +64,7 @@ impl<R: Read + Drop, W: Write + Drop> Conv for TermConv<R, W> {
         ensures tells { ⟦<TermConv<R, W> as Conv>⟧.conv_tells self.new
             ≡ ⟦<TermConv<R, W> as Conv>⟧.conv_tells self.old }
         ensures told { IsTrue (⟦<TermConv<R, W> as Conv>⟧.conv_tells self.old) →
-            Talks result messages.now (⟦<TermConv<R, W> as Conv>⟧.conv_holds self.old)
+            Answers result messages.now (⟦<TermConv<R, W> as Conv>⟧.conv_holds self.old)
             (⟦<TermConv<R, W> as Conv>⟧.conv_holds self.new) }
         ensures faults { ⟦<TermConv<R, W> as Conv>⟧.conv_faults self.old
             ≤ ⟦<TermConv<R, W> as Conv>⟧.conv_faults self.new }

@@ -15,10 +15,10 @@ use Rattle.session_audit.specs.service_load.specs.Tree.{tree}
 use Rattle.explain_origins.specs.Placed.{sources_at}
 use Rattle.explain_report.specs.explain_lines.specs.declared.origin.Sources.{Sources}
 use Rattle.explain.specs.declared.explaining.Output.{Output}
-use Rattle.explain.specs.declared.input.Report.{Report}
-use Rattle.explain.specs.declared.input.Report.TheVariants.{Whole, TooLong, Unread}
+use Rattle.transcript_audit.specs.declared.transcript.Transcript.{Transcript}
+use Rattle.transcript_audit.specs.declared.transcript.Transcript.TheVariants.{Whole, TooLong, Unread}
 use Rattle.explain.specs.Explained.{Explains, ExplainsBy, IsExplained, OrUnread, Written, explained_of, refused_explained, unread_explained}
-use Rattle.explain.specs.Input.{IsRead, IsShort, is_unread}
+use Rattle.transcript_audit.specs.Transcript.{IsRead, IsShort, is_unread}
 use Rattle.explain.specs.Program.{Answers, Asked, Ends, Exits, ExplainsIf, ExplainsInput, ExplainsRead, ShowsInput, ShowsRead, too_long_written, usage_written}
 
 -- ---- what was read
@@ -31,7 +31,7 @@ module _ (old new : VaultState) (root service : List ℕ) (before now : ℕ) whe
       inl (subst (λ (b : Bool). ExplainsIf b (λ w. IsExplained e w) old root service left new) (sym fits)
       (subst (λ (l : List ℕ). Explains (λ w. IsExplained e w) old root service l new) same is))
 
-  pub given_by : {E : Type 0} (r : Result Output E) (report : Report) (left : List ℕ)
+  pub given_by : {E : Type 0} (r : Result Output E) (report : Transcript) (left : List ℕ)
       → IsRead report left → IsShort report → RisesIf (is_unread report) before now → IfOk r (λ e. ExplainsRead (λ w. IsExplained e w) report old root service new)
       → IfOk r (λ e. ExplainsInput (λ w. IsExplained e w) old root service left new before now)
   given_by (Ok e) (Whole text) left read short rises is = whole_input e text left read short is
@@ -40,7 +40,7 @@ module _ (old new : VaultState) (root service : List ℕ) (before now : ℕ) whe
   given_by (Ok e) Unread left read short rises is = inr (is, rises)
   given_by (Err x) report left read short rises is = tt
 
-pub shown_input : {E : Type 0} (r : Result Output E) (report : Report) (input_before input_now before now : ℕ) → RisesIf (is_unread report) input_before input_now
+pub shown_input : {E : Type 0} (r : Result Output E) (report : Transcript) (input_before input_now before now : ℕ) → RisesIf (is_unread report) input_before input_now
     → IfOk r (λ e. ShowsRead e report before now) → IfOk r (λ e. ShowsInput e input_before input_now before now)
 shown_input (Ok e) report input_before input_now before now rises shows = record { report = report; read = rises; shown = shows }
 shown_input (Err x) report input_before input_now before now rises shows = tt

@@ -10,10 +10,10 @@ use Rattle.session_audit.specs.Fits.{all_shut}
 use Rattle.session_audit.specs.Whole.{lines_read}
 use Rattle.explain_report.specs.Report.{explained_from}
 use Rattle.explain.specs.declared.explaining.Output.{Output}
-use Rattle.explain.specs.declared.input.Report.{Report}
-use Rattle.explain.specs.declared.input.Report.TheVariants.{Whole, TooLong, Unread}
+use Rattle.transcript_audit.specs.declared.transcript.Transcript.{Transcript}
+use Rattle.transcript_audit.specs.declared.transcript.Transcript.TheVariants.{Whole, TooLong, Unread}
 use Rattle.explain.specs.Explained.{IsExplained, Shows, ShowsBy, explained_by}
-use Rattle.explain.specs.Input.{is_unread}
+use Rattle.transcript_audit.specs.Transcript.{is_unread}
 use Rattle.explain.specs.Program.{Asked, Causes, Leaves, ShowsInput, ShowsRead, usage_written}
 
 module _ (input_before input_now before now : ℕ) where
@@ -62,7 +62,7 @@ module _ (input_before input_now before now : ℕ) where
   shown_status place e text (inr fault) =
       other_status place 3 e.status fault.refused.status (λ e. omega (arith, e)) (λ e. omega (arith, e)) (λ e. omega (arith, e)) (λ e. omega (arith, e))
 
-  read_status : (place : Asked) (e : Output) (report : Report) → RisesIf (is_unread report) input_before input_now → ShowsRead e report before now
+  read_status : (place : Asked) (e : Output) (report : Transcript) → RisesIf (is_unread report) input_before input_now → ShowsRead e report before now
       → Causes e.status (Some place) input_before input_now before now
   read_status place e (Whole text) rises shown = shown_status place e text shown
   read_status place e TooLong rises shown =

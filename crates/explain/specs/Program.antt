@@ -5,11 +5,11 @@ use Rattle.pam_outside.specs.Counts.{Rose, RisesIf}
 use Rattle.pam_outside.specs.Files.{VaultState}
 use Rattle.pam_outside.specs.Streams.{SinkState}
 use Rattle.explain.specs.declared.explaining.Output.{Output}
-use Rattle.explain.specs.declared.input.Report.{Report}
-use Rattle.explain.specs.declared.input.Report.TheVariants.{Whole, TooLong, Unread}
-use Rattle.explain.specs.declared.program.Place.{Place}
+use Rattle.transcript_audit.specs.declared.transcript.Transcript.{Transcript}
+use Rattle.transcript_audit.specs.declared.transcript.Transcript.TheVariants.{Whole, TooLong, Unread}
+use Rattle.explain.specs.declared.program.Target.{Target}
 use Rattle.explain.specs.Explained.{Written, written, IsExplained, Explains, Shows, unread_explained}
-use Rattle.explain.specs.Input.{is_unread}
+use Rattle.transcript_audit.specs.Transcript.{is_unread}
 
 -- ---- the arguments
 
@@ -24,7 +24,7 @@ asked_of (root ∷ service ∷ []) =
 asked_of words = None
 
 -- what was found in them
-abbrev pub asked : Option Place → Option Asked
+abbrev pub asked : Option Target → Option Asked
 asked None = None
 asked (Some place) = Some (record { root = place.root.now; service = place.service.now })
 
@@ -39,7 +39,7 @@ too_long_written = written 12 (codes "transcript too long\n")
 -- ---- with modelled objects: what is written has this property
 
 -- of what was read
-abbrev pub ExplainsRead : (Written → Type 0) → Report → VaultState → List ℕ → List ℕ → VaultState
+abbrev pub ExplainsRead : (Written → Type 0) → Transcript → VaultState → List ℕ → List ℕ → VaultState
     → Type 0
 ExplainsRead P (Whole text) old root service new = Explains P old root service text new
 ExplainsRead P TooLong old root service new = P too_long_written
@@ -83,14 +83,14 @@ Ends status words old input new before now out_old out_new =
 -- ---- with any objects
 
 -- of what was read, with the failures of the files before and after it
-abbrev pub ShowsRead : Output → Report → ℕ → ℕ → Type 0
+abbrev pub ShowsRead : Output → Transcript → ℕ → ℕ → Type 0
 ShowsRead e (Whole text) before now = Shows e text before now
 ShowsRead e TooLong before now = IsExplained e too_long_written × (now ≡ before)
 ShowsRead e Unread before now = IsExplained e unread_explained × (now ≡ before)
 
 -- of some report, with the failures of the input and of the files
 pub record ShowsInput (e : Output) (input_before input_now before now : ℕ) : Type 0 where
-  pub report : Report
+  pub report : Transcript
   pub read : RisesIf (is_unread report) input_before input_now
   pub shown : ShowsRead e report before now
 

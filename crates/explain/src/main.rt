@@ -4,11 +4,10 @@
 //! decided. A report that doesn't fit the service is named by its line, as `pamsess audit` does.
 //!
 //! Begin at program.rt, which has the program over any objects; explaining.rt has the explanation
-//! of a report, and input.rt reads one.
+//! of a report.
 #![tactic(auto)]
 
 mod explaining;
-mod input;
 mod program;
 
 ghost use Rattle.std.specs.Prelude.{◌≡◌, IfOk, OnErr};

@@ -1,15 +1,15 @@
 ghost use Rattle.std.specs.Prelude.{◌≡◌, ◌≢◌, ◌⊎◌, None, Some, IsTrue, IfOk};
 ghost use Rattle.pam_outside.specs.Counts.{Rose};
 ghost use Rattle.session_audit.specs.service_load.specs.Loading.{OnlyCalls};
+ghost use Rattle.transcript_audit.specs.Transcript.{IsShort};
 ghost use Rattle.explain.specs.Explained.{IsExplained, Written};
-ghost use Rattle.explain.specs.Input.{IsShort};
 ghost use Rattle.explain.specs.Program.{Answers, Causes, Ends, Exits, ExplainsInput, ExplainsRead, Leaves, ShowsInput, ShowsRead, asked, asked_of};
 
 use crate::explaining::{Output, explanation, line_by, unread};
-use crate::input::{Report, read_report};
 use pam_base::{Failed, NoMemory};
 use pam_outside::{Sink, Source, Vault, write_all};
 use std::alloc::Global;
+use transcript_audit::{Transcript, read_transcript};
 
 const USAGE: u8 = 2;
 
@@ -21,7 +21,7 @@ const TOO_LONG: u8 = 12;
 
 /// A root, and a service below it.
 #[derive(Clone, Copy)]
-pub struct Place<'a> {
+pub struct Target<'a> {
     pub root: &'a [u8],
     pub service: &'a [u8],
 }
@@ -95,11 +95,11 @@ fn output_for<S: Source>(
 }
 
 // What the arguments name; None unless there are exactly two.
-fn place_in(words: &[String]) -> Option<Place<'_>>
+fn place_in(words: &[String]) -> Option<Target<'_>>
     ensures { asked result ≡ asked_of words.now }
 {
     match words {
-        [root, service] => Some(Place {
+        [root, service] => Some(Target {
             root: root.as_bytes(),
             service: service.as_bytes(),
         }),
@@ -126,7 +126,7 @@ fn explained_input<S: Source>(
     ensures shows { IfOk result (λ output. ShowsInput output (S.source_faults source.old)
         (S.source_faults source.new) (vault_faults vault.old) (vault_faults vault.new)) }
 {
-    let report = read_report(alloc, source)?;
+    let report = read_transcript(alloc, source)?;
     explained_report(alloc, root, service, report, vault)
 }
 
@@ -135,7 +135,7 @@ fn explained_report(
     alloc: Global,
     root: &[u8],
     service: &[u8],
-    report: Report,
+    report: Transcript,
     vault: &mut dyn Vault,
 ) -> Result<Output, NoMemory>
     requires { IsShort report }
@@ -149,9 +149,9 @@ fn explained_report(
         ShowsRead output report (vault_faults vault.old) (vault_faults vault.new)) }
 {
     match report {
-        Report::Whole(text) => explanation(alloc, root, service, text.bytes(), vault),
-        Report::TooLong => line_by(alloc, TOO_LONG, "transcript too long\n"),
-        Report::Unread => Ok(unread(alloc)),
+        Transcript::Whole(text) => explanation(alloc, root, service, text.bytes(), vault),
+        Transcript::TooLong => line_by(alloc, TOO_LONG, "transcript too long\n"),
+        Transcript::Unread => Ok(unread(alloc)),
     }
 }
 

@@ -3,9 +3,9 @@ use Rattle.std.proofs.Common.{◌≡◌, ℕ, zero, suc, ◌+◌, Bool, true, fa
 use Rattle.std.proofs.lemmas.Bool.{eqb-true}
 use Rattle.control_words.specs.Stack.{Stack, none, line, sub, joined, count, lines_in}
 use Rattle.explain_origins.specs.Placed.{Placed, nothing, rule_at, within, behind, is_nothing, forgotten, places, content_placed, entry_placed, placed_of, placed, placed_from}
-use Rattle.service_load.specs.declared.entry.Content.{Content}
-use Rattle.service_load.specs.declared.entry.Content.TheVariants.{Line, Include, Substack}
-use Rattle.service_load.specs.declared.entry.Entry.{Entry}
+use Rattle.service_load.specs.declared.entry.RuleContent.{RuleContent}
+use Rattle.service_load.specs.declared.entry.RuleContent.TheVariants.{Line, Include, Substack}
+use Rattle.service_load.specs.declared.entry.ConfigEntry.{ConfigEntry}
 use Rattle.service_load.specs.declared.rule_file.RuleFile.{RuleFile}
 use Rattle.service_load.specs.declared.rule_type.RuleType.{RuleType}
 use Rattle.service_load.specs.Files.{plain_file, held, rules_held, entries_of, is_in_folder}
@@ -38,7 +38,7 @@ empty_too (within inner rest) = more_than_none (count (forgotten rest))
 -- ---- a file
 
 module _ (deeper : List ℕ → Placed) (stack : List ℕ → Stack) (same : (name : List ℕ) → forgotten (deeper name) ≡ stack name) where
-  content_forgotten : (name : List ℕ) (number : ℕ) (content : Content) → forgotten (content_placed deeper name number content) ≡ content_nodes stack content
+  content_forgotten : (name : List ℕ) (number : ℕ) (content : RuleContent) → forgotten (content_placed deeper name number content) ≡ content_nodes stack content
   content_forgotten name number (Line rule) = refl
   content_forgotten name number (Include file) = same file
   content_forgotten name number (Substack file) = ap (λ (s : Stack). sub s none) (same file)
@@ -47,11 +47,11 @@ module _ (deeper : List ℕ → Placed) (stack : List ℕ → Stack) (same : (na
   if_forgotten true p s is = is
   if_forgotten false p s is = refl
 
-  entry_forgotten : (type : RuleType) (name : List ℕ) (e : Entry) → forgotten (entry_placed deeper type name e) ≡ entry_nodes stack type e
+  entry_forgotten : (type : RuleType) (name : List ℕ) (e : ConfigEntry) → forgotten (entry_placed deeper type name e) ≡ entry_nodes stack type e
   entry_forgotten type name e =
       if_forgotten (serves type e.rule_type) (content_placed deeper name e.line e.content) (content_nodes stack e.content) (content_forgotten name e.line e.content)
 
-  all_forgotten : (type : RuleType) (name : List ℕ) (entries : List Entry) → forgotten (placed_of deeper type name entries) ≡ nodes_of stack type entries
+  all_forgotten : (type : RuleType) (name : List ℕ) (entries : List ConfigEntry) → forgotten (placed_of deeper type name entries) ≡ nodes_of stack type entries
   all_forgotten type name [] = refl
   all_forgotten type name (e ∷ es) =
       forgotten-behind (entry_placed deeper type name e) (placed_of deeper type name es)

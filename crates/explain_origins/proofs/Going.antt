@@ -11,9 +11,9 @@ use Rattle.explain_origins.specs.Placed.{Placed, nothing, rule_at, within, behin
 use Rattle.pam_base.specs.declared.fault.NoMemory.{NoMemory}
 use Rattle.explain_origins.specs.declared.files.Inclusion.{Inclusion}
 use Rattle.explain_origins.specs.Reading.{Adds, Takes, placed_at, step_at, step_by, step_of_rules}
-use Rattle.service_load.specs.declared.entry.Content.{Content}
-use Rattle.service_load.specs.declared.entry.Content.TheVariants as contents
-use Rattle.service_load.specs.declared.entry.Entry.{Entry}
+use Rattle.service_load.specs.declared.entry.RuleContent.{RuleContent}
+use Rattle.service_load.specs.declared.entry.RuleContent.TheVariants as contents
+use Rattle.service_load.specs.declared.entry.ConfigEntry.{ConfigEntry}
 use Rattle.service_load.specs.declared.rule_file.RuleFile.{RuleFile}
 use Rattle.service_load.specs.declared.rule_type.RuleType.{RuleType}
 use Rattle.service_load.specs.Entry.{entry_of}
@@ -69,12 +69,12 @@ module _ (deeper : List ℕ → Placed) (type : RuleType) (name : List ℕ) wher
   nothing_by (Line number) = false
   nothing_by (File inner as_substack) = not as_substack && is_nothing (deeper inner)
 
-  content_places : (number : ℕ) (content : Content) → places (content_placed deeper name number content) ≡ places_by (step_at number content)
+  content_places : (number : ℕ) (content : RuleContent) → places (content_placed deeper name number content) ≡ places_by (step_at number content)
   content_places number (contents.Line rule) = refl
   content_places number (contents.Include file) = refl
   content_places number (contents.Substack file) = append-nil (places (deeper file))
 
-  content_nothing : (number : ℕ) (content : Content) → is_nothing (content_placed deeper name number content) ≡ nothing_by (step_at number content)
+  content_nothing : (number : ℕ) (content : RuleContent) → is_nothing (content_placed deeper name number content) ≡ nothing_by (step_at number content)
   content_nothing number (contents.Line rule) = refl
   content_nothing number (contents.Include file) = refl
   content_nothing number (contents.Substack file) = refl
@@ -91,14 +91,14 @@ module _ (deeper : List ℕ → Placed) (type : RuleType) (name : List ℕ) wher
   abbrev pub of_rules : Bool → List RawRule → Placed
   of_rules in_folder rules = placed_of deeper type name (entries_of in_folder rules)
 
-  rule_places : (in_folder : Bool) (rule : RawRule) (rest : List RawRule) (said : Result Entry FaultKind) → entry_of in_folder rule ≡ said
+  rule_places : (in_folder : Bool) (rule : RawRule) (rest : List RawRule) (said : Result ConfigEntry FaultKind) → entry_of in_folder rule ≡ said
       → places (of_rules in_folder (rule ∷ rest)) ≡ places_by (step_by type said) ++ places (of_rules in_folder rest)
   rule_places in_folder rule rest (Ok e) is =
       rw is (places-behind (entry_placed deeper type name e) (of_rules in_folder rest)
       ∙ ap (λ (os : List Origin). os ++ places (of_rules in_folder rest)) (if_places (serves type e.rule_type) (content_placed deeper name e.line e.content) (step_at e.line e.content) (content_places e.line e.content)))
   rule_places in_folder rule rest (Err kind) is = rw is refl
 
-  rule_nothing : (in_folder : Bool) (rule : RawRule) (rest : List RawRule) (said : Result Entry FaultKind) → entry_of in_folder rule ≡ said
+  rule_nothing : (in_folder : Bool) (rule : RawRule) (rest : List RawRule) (said : Result ConfigEntry FaultKind) → entry_of in_folder rule ≡ said
       → is_nothing (of_rules in_folder (rule ∷ rest)) ≡ nothing_by (step_by type said) && is_nothing (of_rules in_folder rest)
   rule_nothing in_folder rule rest (Ok e) is =
       rw is (is_nothing-behind (entry_placed deeper type name e) (of_rules in_folder rest)

@@ -7,8 +7,8 @@ use Rattle.control_words.specs.conf_lex.specs.declared.token.Token.{Token}
 use Rattle.explain_origins.specs.declared.step.Step.{Step}
 use Rattle.explain_origins.specs.declared.step.Step.TheVariants.{Nothing}
 use Rattle.explain_origins.specs.Reading.{step_from, step_to, step_by, step_of_rules, is_type}
-use Rattle.service_load.specs.declared.entry.Content.{Content}
-use Rattle.service_load.specs.declared.entry.Content.TheVariants as contents
+use Rattle.service_load.specs.declared.entry.RuleContent.{RuleContent}
+use Rattle.service_load.specs.declared.entry.RuleContent.TheVariants as contents
 use Rattle.service_load.specs.declared.rule_type.RuleType.{RuleType}
 use Rattle.service_load.specs.declared.type_field.TypeField.{TypeField}
 use Rattle.service_load.specs.Answers.{result_map}
@@ -48,7 +48,7 @@ pub at_type : (line : ℕ) (in_folder : Bool) (t : Token) (ts : List Token) → 
 at_type line true t ts isnt = rw isnt refl
 at_type line false t ts isnt = refl
 
-own_type : (b : Bool) (line : ℕ) (content : Result Content FaultKind) (type own : RuleType) → same_type type own ≡ b
+own_type : (b : Bool) (line : ℕ) (content : Result RuleContent FaultKind) (type own : RuleType) → same_type type own ≡ b
     → step_by type (entry_at line (Some own) content) ≡ cond b (step_from line content) Nothing
 own_type true line (Ok content) type own is = rw is refl
 own_type false line (Ok content) type own is = rw is refl

@@ -5,9 +5,9 @@ use Rattle.control_words.specs.declared.nodes.Rule.{Rule}
 use Rattle.control_words.specs.Stack.{Stack, none, line, sub}
 use Rattle.explain_lines.specs.declared.origin.Origin.{Origin}
 use Rattle.explain_lines.specs.declared.origin.Sources.{Sources}
-use Rattle.service_load.specs.declared.entry.Content.{Content}
-use Rattle.service_load.specs.declared.entry.Content.TheVariants.{Line, Include, Substack}
-use Rattle.service_load.specs.declared.entry.Entry.{Entry}
+use Rattle.service_load.specs.declared.entry.RuleContent.{RuleContent}
+use Rattle.service_load.specs.declared.entry.RuleContent.TheVariants.{Line, Include, Substack}
+use Rattle.service_load.specs.declared.entry.ConfigEntry.{ConfigEntry}
 use Rattle.service_load.specs.declared.rule_file.RuleFile.{RuleFile}
 use Rattle.service_load.specs.declared.rule_type.RuleType.{RuleType}
 use Rattle.service_load.specs.declared.rule_type.RuleType.TheVariants.{Auth, Account, Password, Session}
@@ -44,19 +44,19 @@ places (rule_at origin rule rest) = origin ∷ places rest
 places (within inner rest) = places inner ++ places rest
 
 -- what an entry in a line of the file with this name adds, if `deeper` is what a file adds
-abbrev pub content_placed : (List ℕ → Placed) → List ℕ → ℕ → Content → Placed
+abbrev pub content_placed : (List ℕ → Placed) → List ℕ → ℕ → RuleContent → Placed
 content_placed deeper name number (Line rule) =
     rule_at (record { file = name; line = number }) rule nothing
 content_placed deeper name number (Include file) = deeper file
 content_placed deeper name number (Substack file) = within (deeper file) nothing
 
 -- and if it is for the type
-abbrev pub entry_placed : (List ℕ → Placed) → RuleType → List ℕ → Entry → Placed
+abbrev pub entry_placed : (List ℕ → Placed) → RuleType → List ℕ → ConfigEntry → Placed
 entry_placed deeper type name entry = if serves type entry.rule_type
     then content_placed deeper name entry.line entry.content else nothing
 
 -- what the entries of a file add, in order
-abbrev pub placed_of : (List ℕ → Placed) → RuleType → List ℕ → List Entry → Placed
+abbrev pub placed_of : (List ℕ → Placed) → RuleType → List ℕ → List ConfigEntry → Placed
 placed_of deeper type name [] = nothing
 placed_of deeper type name (e ∷ es) =
     behind (entry_placed deeper type name e) (placed_of deeper type name es)

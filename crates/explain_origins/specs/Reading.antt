@@ -13,9 +13,9 @@ use Rattle.explain_origins.specs.declared.files.Inclusion.{Inclusion}
 use Rattle.explain_origins.specs.declared.step.Step.{Step}
 use Rattle.explain_origins.specs.declared.step.Step.TheVariants.{Nothing, Line, File}
 use Rattle.explain_origins.specs.Placed.{Placed, is_nothing, placed, places}
-use Rattle.service_load.specs.declared.entry.Content.{Content}
-use Rattle.service_load.specs.declared.entry.Content.TheVariants as contents
-use Rattle.service_load.specs.declared.entry.Entry.{Entry}
+use Rattle.service_load.specs.declared.entry.RuleContent.{RuleContent}
+use Rattle.service_load.specs.declared.entry.RuleContent.TheVariants as contents
+use Rattle.service_load.specs.declared.entry.ConfigEntry.{ConfigEntry}
 use Rattle.service_load.specs.declared.rule_file.RuleFile.{RuleFile}
 use Rattle.service_load.specs.declared.rule_type.RuleType.{RuleType}
 use Rattle.service_load.specs.declared.type_field.TypeField.{TypeField}
@@ -42,13 +42,13 @@ ReadsRules (Ok None) service meant = meant ≡ []
 ReadsRules (Err x) service meant = Unit {0}
 
 -- what a rule in a line adds, by what it says
-abbrev pub step_at : ℕ → Content → Step
+abbrev pub step_at : ℕ → RuleContent → Step
 step_at line (contents.Line rule) = Line line
 step_at line (contents.Include name) = File name false
 step_at line (contents.Substack name) = File name true
 
 -- one with a fault adds nothing
-abbrev pub step_from : ℕ → Result Content FaultKind → Step
+abbrev pub step_from : ℕ → Result RuleContent FaultKind → Step
 step_from line (Ok content) = step_at line content
 step_from line (Err kind) = Nothing
 
@@ -58,7 +58,7 @@ step_to as_substack (Ok name) = File name as_substack
 step_to as_substack (Err kind) = Nothing
 
 -- and if it is for the type
-abbrev pub step_by : RuleType → Result Entry FaultKind → Step
+abbrev pub step_by : RuleType → Result ConfigEntry FaultKind → Step
 step_by type (Ok entry) =
     if serves type entry.rule_type then step_at entry.line entry.content else Nothing
 step_by type (Err kind) = Nothing

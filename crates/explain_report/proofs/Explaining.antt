@@ -15,12 +15,12 @@ use Rattle.stack_walk.specs.declared.seen.Seen.{Seen}
 use Rattle.report_lines.specs.Line.{Told, Result, block_of}
 use Rattle.report_reader.specs.declared.form.Form.{Form}
 use Rattle.report_reader.specs.declared.form.Form.TheVariants as forms
-use Rattle.report_reader.specs.declared.form.Outcome.{Outcome}
+use Rattle.report_reader.specs.declared.form.ReportedOutcome.{ReportedOutcome}
 use Rattle.report_reader.specs.Form.{told_of, result_of, says_of}
 use Rattle.report_reader.specs.Says.{Says, tells, results}
 use Rattle.session_audit.specs.Checked.{told_in, place_of}
-use Rattle.session_audit.specs.Fits.{Place, place_at, visits_told, is_refused_change, behind_block}
-use Rattle.session_audit.specs.declared.place.Place as held
+use Rattle.session_audit.specs.Fits.{SlotLog, place_at, visits_told, is_refused_change, behind_block}
+use Rattle.session_audit.specs.declared.place.SlotLog as held
 use Rattle.session_audit.specs.Whole.{formless}
 use Rattle.session_audit.proofs.Checking.{visits_are}
 use Rattle.session_audit.proofs.Taking.{get_some}
@@ -31,31 +31,31 @@ use Rattle.explain_report.specs.Report.{Takes, block_text, called_text, explaine
 
 module _ (stacks : Stacks) (sources : Sources) where
   -- a line before the result
-  pub told_more : (places : List Place) (told more : List (Option Seen)) (visit : Option Seen) (lines : List (Option Says)) → more ≡ told ++ visit ∷ []
+  pub told_more : (places : List SlotLog) (told more : List (Option Seen)) (visit : Option Seen) (lines : List (Option Says)) → more ≡ told ++ visit ∷ []
       → explained_from stacks sources places (told_in told ++ told_of visit ∷ []) lines ≡ explained_from stacks sources places (told_in more) lines
   told_more places told more visit lines is =
       ap (λ (ts : List Told). explained_from stacks sources places ts lines) (sym (map-append told_of told (visit ∷ [])) ∙ ap told_in (sym is))
 
   -- a result that fits
-  pub result_fits : (number : ℕ) (places behind : List Place) (told : List Told) (result : Result) (text after : List ℕ) (lines : List (Option Says))
+  pub result_fits : (number : ℕ) (places behind : List SlotLog) (told : List Told) (result : Result) (text after : List ℕ) (lines : List (Option Says))
       → after ≡ text ++ block_text stacks sources number (place_at places number) (visits_told told) result
       → behind_block stacks places (block_of number told result) ≡ Some behind
       → text ++ explained_from stacks sources places told (Some (results number result) ∷ lines) ≡ after ++ explained_from stacks sources behind [] lines
   result_fits number places behind told result text after lines adds fits =
       let own : List ℕ = block_text stacks sources number (place_at places number) (visits_told told) result in
-      let left : List Place → List ℕ = λ next. explained_from stacks sources next [] lines in
-      ap (λ (next : Option (List Place)). text ++ (own ++ text_behind stacks sources next left)) fits
+      let left : List SlotLog → List ℕ = λ next. explained_from stacks sources next [] lines in
+      ap (λ (next : Option (List SlotLog)). text ++ (own ++ text_behind stacks sources next left)) fits
       ∙ sym (append_assoc text own (left behind)) ∙ ap (λ (xs : List ℕ). xs ++ left behind) (sym adds)
 
   -- and one that doesn't
-  pub result_differs : (number : ℕ) (places : List Place) (told : List Told) (result : Result) (text after : List ℕ) (lines : List (Option Says))
+  pub result_differs : (number : ℕ) (places : List SlotLog) (told : List Told) (result : Result) (text after : List ℕ) (lines : List (Option Says))
       → after ≡ text ++ block_text stacks sources number (place_at places number) (visits_told told) result
       → behind_block stacks places (block_of number told result) ≡ None
       → text ++ explained_from stacks sources places told (Some (results number result) ∷ lines) ≡ after
   result_differs number places told result text after lines adds differs =
       let own : List ℕ = block_text stacks sources number (place_at places number) (visits_told told) result in
-      let left : List Place → List ℕ = λ next. explained_from stacks sources next [] lines in
-      ap (λ (next : Option (List Place)). text ++ (own ++ text_behind stacks sources next left)) differs
+      let left : List SlotLog → List ℕ = λ next. explained_from stacks sources next [] lines in
+      ap (λ (next : Option (List SlotLog)). text ++ (own ++ text_behind stacks sources next left)) differs
       ∙ ap (λ (xs : List ℕ). text ++ xs) (append-nil own) ∙ sym adds
 
   -- ---- what is left to write
@@ -84,7 +84,7 @@ module _ (stacks : Stacks) (sources : Sources) where
       ap (λ (l : Option Says). string_bytes old.text ++ left_of stacks sources old (l ∷ lines)) line_is
       ∙ append-nil (string_bytes old.text) ∙ sym text
 
-  pub takes_fits : (old new : Explainer) (number : ℕ) (outcome : Outcome)
+  pub takes_fits : (old new : Explainer) (number : ℕ) (outcome : ReportedOutcome)
       → string_bytes new.text ≡ string_bytes old.text ++ block_text stacks sources number (place_at (map place_of old.places.items) number) (visits_told (told_in old.told.items)) (result_of outcome)
       → behind_block stacks (map place_of old.places.items) (block_of number (told_in old.told.items) (result_of outcome)) ≡ Some (map place_of new.places.items)
       → new.told.items ≡ [] → Takes stacks sources old (Some (results number (result_of outcome))) true new
@@ -92,7 +92,7 @@ module _ (stacks : Stacks) (sources : Sources) where
       result_fits number (map place_of old.places.items) (map place_of new.places.items) (told_in old.told.items) (result_of outcome) (string_bytes old.text) (string_bytes new.text) lines adds fits
       ∙ ap (λ (ts : List (Option Seen)). string_bytes new.text ++ explained_from stacks sources (map place_of new.places.items) (told_in ts) lines) (sym none)
 
-  pub takes_differs : (old new : Explainer) (number : ℕ) (outcome : Outcome)
+  pub takes_differs : (old new : Explainer) (number : ℕ) (outcome : ReportedOutcome)
       → string_bytes new.text ≡ string_bytes old.text ++ block_text stacks sources number (place_at (map place_of old.places.items) number) (visits_told (told_in old.told.items)) (result_of outcome)
       → behind_block stacks (map place_of old.places.items) (block_of number (told_in old.told.items) (result_of outcome)) ≡ None
       → Takes stacks sources old (Some (results number (result_of outcome))) false new
@@ -119,7 +119,7 @@ module _ (stacks : Stacks) (sources : Sources) where
   nothing_left e (b ∷ rest) = refl
 
 -- the place of a number
-pub at_place : (places : List held.Place) (i number : ℕ) (p d : held.Place) → number ≡ suc i → i < length places → p ≡ get_or places i d
+pub at_place : (places : List held.SlotLog) (i number : ℕ) (p d : held.SlotLog) → number ≡ suc i → i < length places → p ≡ get_or places i d
     → Some (place_of p) ≡ place_at (map place_of places) number
 at_place places i number p d is within read =
     sym (ap (place_at (map place_of places)) is ∙ slice_get-map place_of places i ∙ ap (option_map place_of) (get_some places i p d within read))

@@ -9,7 +9,7 @@ use Rattle.pass_replay.specs.dispatch_core.specs.Calls.{Held}
 use Rattle.report_lines.specs.Line.{Told, shows_code, runs, Result, answered, closed_by_program, block_of}
 use Rattle.report_reader.specs.Says.{Says, tells, results, lasts}
 use Rattle.session_audit.specs.Checked.{told_in, place_of}
-use Rattle.session_audit.specs.Fits.{Place, shut, running, place_at, visits_told, is_refused_change, behind_block}
+use Rattle.session_audit.specs.Fits.{SlotLog, shut, running, place_at, visits_told, is_refused_change, behind_block}
 use Rattle.explain_lines.specs.declared.origin.Sources.{Sources}
 use Rattle.explain_report.specs.declared.explainer.Explainer.{Explainer}
 use Rattle.explain_calls.specs.Calls.{call_text, refused_text}
@@ -22,17 +22,17 @@ module _ (stacks : Stacks) (sources : Sources) where
       else call_text stacks sources number func h (telling vs)
 
   -- a block; only a stack call with a code of an open transaction has a text
-  abbrev pub block_text : ℕ → Option Place → List Seen → Result → List ℕ
+  abbrev pub block_text : ℕ → Option SlotLog → List Seen → Result → List ℕ
   block_text number (Some (running h)) vs (answered (runs func) (shows_code code)) =
       called_text number func code h vs
   block_text number place vs result = []
 
-  abbrev pub text_behind : Option (List Place) → (List Place → List ℕ) → List ℕ
+  abbrev pub text_behind : Option (List SlotLog) → (List SlotLog → List ℕ) → List ℕ
   text_behind None next = []
   text_behind (Some places) next = next places
 
   -- what some lines say, after places and the lines of the block that has begun
-  abbrev pub explained_from : List Place → List Told → List (Option Says) → List ℕ
+  abbrev pub explained_from : List SlotLog → List Told → List (Option Says) → List ℕ
   explained_from places told [] = []
   explained_from places told (None ∷ lines) = []
   explained_from places told (Some (lasts last) ∷ lines) = []

@@ -15,9 +15,9 @@ use explain_lines::Sources;
 use pam_base::{Code, Func, NoMemory};
 use pass_replay::first_visit;
 use pass_replay::held::Held;
-use report_reader::{Answer, Form, Outcome, Spoken, read_line};
+use report_reader::{Form, ReportedAnswer, ReportedOutcome, Spoken, read_line};
 use service_load::Trees;
-use session_audit::{Place, judge_at};
+use session_audit::{SlotLog, judge_at};
 use stack_walk::Seen;
 use std::alloc::Global;
 
@@ -25,7 +25,7 @@ use std::alloc::Global;
 /// begun, and the text.
 #[derive(Drop)]
 pub struct Explainer {
-    pub places: Vec<Place>,
+    pub places: Vec<SlotLog>,
     pub told: Vec<Option<Seen>>,
     pub text: String,
 }
@@ -63,7 +63,7 @@ impl Explainer {
         trees: &Trees,
         sources: &Sources,
         number: u32,
-        outcome: Outcome,
+        outcome: ReportedOutcome,
     ) -> Result<bool, NoMemory>
         requires bounded { AreBounded trees.now }
         ensures { IfOk result (λ goes_on. Takes (stacks_in trees.now) sources.now self.old
@@ -94,10 +94,10 @@ fn write_block(
     trees: &Trees,
     sources: &Sources,
     text: &mut String,
-    places: &[Place],
+    places: &[SlotLog],
     number: u32,
     told: &[Option<Seen>],
-    outcome: Outcome,
+    outcome: ReportedOutcome,
 ) -> Result<(), NoMemory>
     requires bounded { AreBounded trees.now }
     ensures { OnOk result (string_bytes text.new ≡ string_bytes text.old
@@ -118,10 +118,10 @@ fn write_at(
     trees: &Trees,
     sources: &Sources,
     text: &mut String,
-    place: &Place,
+    place: &SlotLog,
     number: u32,
     told: &[Option<Seen>],
-    outcome: Outcome,
+    outcome: ReportedOutcome,
 ) -> Result<(), NoMemory>
     requires bounded { AreBounded trees.now }
     ensures { OnOk result (string_bytes text.new ≡ string_bytes text.old
@@ -129,13 +129,13 @@ fn write_at(
         (visits_told (told_in told.now)) (result_of outcome)) }
 {
     match place {
-        Place::Open(held) => match outcome {
-            Outcome::Answered(Spoken::Run(func), Answer::Code(code)) => {
+        SlotLog::Open(held) => match outcome {
+            ReportedOutcome::Answered(Spoken::Run(func), ReportedAnswer::Code(code)) => {
                 write_called(alloc, trees, sources, text, held, number, func, code, told)
             }
             _ => Ok(()),
         },
-        Place::Closed => Ok(()),
+        SlotLog::Closed => Ok(()),
     }
 }
 

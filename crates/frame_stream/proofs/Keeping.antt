@@ -2,8 +2,8 @@
 use Rattle.std.proofs.Common.{◌≡◌, ℕ, zero, suc, ◌+◌, ◌≤◌, ◌<◌, inl, inr, Bool, true, false, cond, List, [], ◌∷◌, ◌++◌, length, take, drop, Option, Some, None, Result, Ok, Err, nat_le, refl, sym, ap, subst, ◌∙◌, arith, length-drop}
 use Rattle.std.proofs.lemmas.Bool.{le-leb, lt-leb, cases_lt}
 use Rattle.std.proofs.lemmas.List.{take-append-le, drop-append-le, nil_from_length}
-use Rattle.pam_wire.specs.declared.front.Front.{Front}
-use Rattle.pam_wire.specs.declared.front.Front.TheVariants.{Open, OutOfRange, Whole}
+use Rattle.pam_wire.specs.declared.front.FirstFrame.{FirstFrame}
+use Rattle.pam_wire.specs.declared.front.FirstFrame.TheVariants.{Open, OutOfRange, Whole}
 use Rattle.pam_wire.specs.Laws.{Settles, FrontSettles}
 use Rattle.pam_wire.specs.Read.{front_of, step_by, step_of}
 use Rattle.item_stream.specs.Cutting.{Cuts, Keeps}
@@ -24,12 +24,12 @@ looked-many n (b ∷ bs) ended ge some = rw (le-leb 65536 n ge) refl
 pub looked-out : (n : ℕ) (bytes : List ℕ) (ended : Bool) → n < 65536 → front_of bytes ≡ OutOfRange → looked n bytes ended ≡ bytes ∷ []
 unfolding looked looked_most
 looked-out n [] ended lt e = absurd cc
-looked-out n (b ∷ bs) ended lt e = rw (lt-leb 65536 n lt) (ap (λ (f : Front). looked_by f (b ∷ bs) ended (λ size. looked_most (length bs) (n + 1) (drop size (b ∷ bs)) ended)) e)
+looked-out n (b ∷ bs) ended lt e = rw (lt-leb 65536 n lt) (ap (λ (f : FirstFrame). looked_by f (b ∷ bs) ended (λ size. looked_most (length bs) (n + 1) (drop size (b ∷ bs)) ended)) e)
 
 pub looked-open : (n : ℕ) (bytes : List ℕ) (ended : Bool) → n < 65536 → front_of bytes ≡ Open → 0 < length bytes → looked n bytes ended ≡ cond ended (bytes ∷ []) []
 unfolding looked looked_most
 looked-open n [] ended lt e some = absurd (omega (arith, some))
-looked-open n (b ∷ bs) ended lt e some = rw (lt-leb 65536 n lt) (ap (λ (f : Front). looked_by f (b ∷ bs) ended (λ size. looked_most (length bs) (n + 1) (drop size (b ∷ bs)) ended)) e)
+looked-open n (b ∷ bs) ended lt e some = rw (lt-leb 65536 n lt) (ap (λ (f : FirstFrame). looked_by f (b ∷ bs) ended (λ size. looked_most (length bs) (n + 1) (drop size (b ∷ bs)) ended)) e)
 
 pub looked-none : (n : ℕ) (ended : Bool) → looked n [] ended ≡ []
 unfolding looked looked_most
@@ -53,7 +53,7 @@ module _ (settles : FrontSettles) where
   open_of bytes e = subst (λ f. Settles f bytes []) e (settles bytes [])
 
   -- no more frames than bytes have to be considered
-  same_by : (f g n : ℕ) (bytes : List ℕ) (ended : Bool) (front : Front) → front_of bytes ≡ front → ((size : ℕ) → 4 ≤ size → looked_most f (n + 1) (drop size bytes) ended ≡ looked_most g (n + 1) (drop size bytes) ended)
+  same_by : (f g n : ℕ) (bytes : List ℕ) (ended : Bool) (front : FirstFrame) → front_of bytes ≡ front → ((size : ℕ) → 4 ≤ size → looked_most f (n + 1) (drop size bytes) ended ≡ looked_most g (n + 1) (drop size bytes) ended)
       → looked_by front bytes ended (λ size. looked_most f (n + 1) (drop size bytes) ended) ≡ looked_by front bytes ended (λ size. looked_most g (n + 1) (drop size bytes) ended)
   same_by f g n bytes ended Open e same = refl
   same_by f g n bytes ended OutOfRange e same = refl
@@ -74,7 +74,7 @@ module _ (settles : FrontSettles) where
   looked-whole n [] size ended lt e = absurd cc
   looked-whole n (b ∷ bs) size ended lt e =
       rw (lt-leb 65536 n lt)
-      (ap (λ (f : Front). looked_by f (b ∷ bs) ended (λ size. looked_most (length bs) (n + 1) (drop size (b ∷ bs)) ended)) e
+      (ap (λ (f : FirstFrame). looked_by f (b ∷ bs) ended (λ size. looked_most (length bs) (n + 1) (drop size (b ∷ bs)) ended)) e
       ∙ ap (λ (z : List (List ℕ)). take size (b ∷ bs) ∷ z)
       (same_most (length bs) (length (drop size (b ∷ bs))) (n + 1) (drop size (b ∷ bs)) ended (omega (arith, length-drop size (b ∷ bs), (whole_of (b ∷ bs) size e).some)) (omega arith)))
 
@@ -98,7 +98,7 @@ module _ (settles : FrontSettles) where
       let no : ◌≡◌ {A = List (List ℕ)} (item ∷ items) [] = sym e ∙ f in
       absurd cc
 
-  rest_front : (n : ℕ) (held : List ℕ) (f : Front) → n < 65536 → front_of held ≡ f → looked n held false ≡ [] → 0 < length held → looked n held true ≡ held ∷ []
+  rest_front : (n : ℕ) (held : List ℕ) (f : FirstFrame) → n < 65536 → front_of held ≡ f → looked n held false ≡ [] → 0 < length held → looked n held true ≡ held ∷ []
   rest_front n held Open lt e none some = looked-open n held true lt e some
   rest_front n held OutOfRange lt e none some = absurd (no_item _ _ _ (looked-out n held false lt e) none)
   rest_front n held (Whole size) lt e none some = absurd (no_item _ _ _ (looked-whole n held size false lt e) none)
@@ -157,7 +157,7 @@ module _ (settles : FrontSettles) where
     after_refused n c (Err j) f g k h e = refl
 
     -- by what the bytes begin with, if fewer frames than the maximum come before it
-    stay_front : (n : ℕ) (c : State) (taken more : List ℕ) (ended : Bool) (kind : FrameFault) (f : Front) → n < 65536 → 0 < length taken → front_of taken ≡ f
+    stay_front : (n : ℕ) (c : State) (taken more : List ℕ) (ended : Bool) (kind : FrameFault) (f : FirstFrame) → n < 65536 → 0 < length taken → front_of taken ≡ f
         → (run_of looked (step_at answers) n c taken false).refused ≡ Some kind
         → ((size : ℕ) (d : State) → 4 ≤ size → (run_of looked (step_at answers) (n + 1) d (drop size taken) false).refused ≡ Some kind
         → run_of looked (step_at answers) (n + 1) d (drop size taken ++ more) ended ≡ run_of looked (step_at answers) (n + 1) d (drop size taken) false)
@@ -165,8 +165,8 @@ module _ (settles : FrontSettles) where
     stay_front n c taken more ended kind Open lt some e r behind = absurd (none_run n c taken kind (looked-open n taken false lt e some) r)
     stay_front n c taken more ended kind OutOfRange lt some e r behind =
         let o = (out_of taken more e).1 in
-        refused_run n c (taken ++ more) _ ended BadFrame (looked-out n (taken ++ more) ended lt o) (step-bad n c (taken ++ more) lt (ap (λ (f : Front). step_by f (taken ++ more)) o))
-        ∙ sym (refused_run n c taken _ false BadFrame (looked-out n taken false lt e) (step-bad n c taken lt (ap (λ (f : Front). step_by f taken) e)))
+        refused_run n c (taken ++ more) _ ended BadFrame (looked-out n (taken ++ more) ended lt o) (step-bad n c (taken ++ more) lt (ap (λ (f : FirstFrame). step_by f (taken ++ more)) o))
+        ∙ sym (refused_run n c taken _ false BadFrame (looked-out n taken false lt e) (step-bad n c taken lt (ap (λ (f : FirstFrame). step_by f taken) e)))
     stay_front n c taken more ended kind (Whole size) lt some e r behind =
         let i = frame_front n taken size lt e in
         let first = whole_run n c taken (take size taken) (drop size taken) false (looked-whole n taken size false lt e) in
@@ -203,4 +203,4 @@ module _ (settles : FrontSettles) where
   open_front n held lt some e = (looked-open n held false lt e some, open_of held e)
 
   pub out_front : (n : ℕ) (held : List ℕ) → n < 65536 → front_of held ≡ OutOfRange → (0 < length held) × (looked n held false ≡ held ∷ []) × refuses n held
-  out_front n held lt e = ((out_of held [] e).0, looked-out n held false lt e, inr (ap (λ (f : Front). step_by f held) e))
+  out_front n held lt e = ((out_of held [] e).0, looked-out n held false lt e, inr (ap (λ (f : FirstFrame). step_by f held) e))

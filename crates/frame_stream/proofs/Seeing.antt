@@ -3,8 +3,8 @@ use Rattle.std.proofs.Common.{◌≡◌, ℕ, ◌+◌, ◌≤◌, ◌<◌, Bool,
 use Rattle.std.proofs.Math.Seq.{take-append_seam, drop-append_seam}
 use Rattle.std.proofs.lemmas.Bool.{eqb-true}
 use Rattle.pam_base.specs.declared.call.Step.{Step}
-use Rattle.pam_wire.specs.declared.front.Front.{Front}
-use Rattle.pam_wire.specs.declared.front.Front.TheVariants.{Open, OutOfRange, Whole}
+use Rattle.pam_wire.specs.declared.front.FirstFrame.{FirstFrame}
+use Rattle.pam_wire.specs.declared.front.FirstFrame.TheVariants.{Open, OutOfRange, Whole}
 use Rattle.pam_wire.specs.Frame.{has_frame, frame_of, frames_of}
 use Rattle.pam_wire.specs.Laws.{FrontSettles, ReadsTable, Settles}
 use Rattle.pam_wire.specs.Read.{front_of, step_in, step_by, step_of}
@@ -18,7 +18,7 @@ size_by bytes step size true h e = eqb-true size (length bytes) h
 size_by bytes step size false h e = absurd cc
 
 -- what is read as a step is a complete frame
-whole_by : (bytes : List ℕ) (step : Step) (f : Front) → step_by f bytes ≡ Some step → f ≡ Whole (length bytes)
+whole_by : (bytes : List ℕ) (step : Step) (f : FirstFrame) → step_by f bytes ≡ Some step → f ≡ Whole (length bytes)
 whole_by bytes step Open e = absurd cc
 whole_by bytes step OutOfRange e = absurd cc
 whole_by bytes step (Whole size) e = ap (λ n. Whole n) (size_by bytes step size _ refl e)

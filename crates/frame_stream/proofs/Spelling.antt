@@ -6,8 +6,8 @@ use Rattle.std.proofs.lemmas.Bool.{cases_lt, le-leb, lt-leb}
 use Rattle.std.proofs.lemmas.List.{append-nil, take-append-drop}
 use Rattle.std.proofs.lemmas.List.Elements.{All-drop, All-same, All-take}
 use Rattle.pam_base.specs.declared.call.Step.{Step}
-use Rattle.pam_wire.specs.declared.front.Front.{Front}
-use Rattle.pam_wire.specs.declared.front.Front.TheVariants.{Open, OutOfRange, Whole}
+use Rattle.pam_wire.specs.declared.front.FirstFrame.{FirstFrame}
+use Rattle.pam_wire.specs.declared.front.FirstFrame.TheVariants.{Open, OutOfRange, Whole}
 use Rattle.pam_wire.specs.Frame.{AreBytes, IsFrame, has_frame, frame_of, frames_of}
 use Rattle.pam_wire.specs.Laws.{FrontSettles, OpensByTable, ReadsTable}
 use Rattle.pam_wire.specs.Read.{front_of, step_by, step_of}
@@ -22,24 +22,24 @@ use Rattle.frame_stream.specs.Spelled.{IsBehind, SpellsFrom, answers_to, state_b
 use Rattle.frame_stream.proofs.Keeping.{looked-many, looked-none, looked-open, looked-out, looked-whole, refused_run, step-bad, step-many, whole_of, whole_run}
 use Rattle.frame_stream.proofs.Seeing.{first, front_of-frame}
 
-not_both : (f : Front) (size : ℕ) → f ≡ Open → f ≡ Whole size → ⊥
+not_both : (f : FirstFrame) (size : ℕ) → f ≡ Open → f ≡ Whole size → ⊥
 not_both f size e w =
-    let no : ◌≡◌ {A = Front} Open (Whole size) = sym e ∙ w in
+    let no : ◌≡◌ {A = FirstFrame} Open (Whole size) = sym e ∙ w in
     absurd cc
 
-not_out : (f : Front) → f ≡ Open → f ≡ OutOfRange → ⊥
+not_out : (f : FirstFrame) → f ≡ Open → f ≡ OutOfRange → ⊥
 not_out f e o =
-    let no : ◌≡◌ {A = Front} Open OutOfRange = sym e ∙ o in
+    let no : ◌≡◌ {A = FirstFrame} Open OutOfRange = sym e ∙ o in
     absurd cc
 
-out_whole : (f : Front) (size : ℕ) → f ≡ OutOfRange → f ≡ Whole size → ⊥
+out_whole : (f : FirstFrame) (size : ℕ) → f ≡ OutOfRange → f ≡ Whole size → ⊥
 out_whole f size e w =
-    let no : ◌≡◌ {A = Front} OutOfRange (Whole size) = sym e ∙ w in
+    let no : ◌≡◌ {A = FirstFrame} OutOfRange (Whole size) = sym e ∙ w in
     absurd cc
 
-same_size : (f : Front) (a b : ℕ) → f ≡ Whole a → f ≡ Whole b → a ≡ b
+same_size : (f : FirstFrame) (a b : ℕ) → f ≡ Whole a → f ≡ Whole b → a ≡ b
 same_size f a b e w =
-    let same : ◌≡◌ {A = Front} (Whole a) (Whole b) = sym e ∙ w in
+    let same : ◌≡◌ {A = FirstFrame} (Whole a) (Whole b) = sym e ∙ w in
     cc
 
 not_none : (o : Option Step) (step : Step) → o ≡ Some step → o ≡ None → ⊥
@@ -50,7 +50,7 @@ not_none o step e n =
 module _ (settles : FrontSettles) where
   -- ---- all bytes are processed
 
-  all_front : (n : ℕ) (bytes : List ℕ) (f : Front) → n < 65536 → 0 < length bytes → front_of bytes ≡ f
+  all_front : (n : ℕ) (bytes : List ℕ) (f : FirstFrame) → n < 65536 → 0 < length bytes → front_of bytes ≡ f
       → ((size : ℕ) → 4 ≤ size → concat (looked (n + 1) (drop size bytes) true) ≡ drop size bytes) → concat (looked n bytes true) ≡ bytes
   all_front n bytes Open lt some e next = ap concat (looked-open n bytes true lt e some) ∙ append-nil bytes
   all_front n bytes OutOfRange lt some e next = ap concat (looked-out n bytes true lt e) ∙ append-nil bytes
@@ -158,7 +158,7 @@ module _ (settles : FrontSettles) (reads : ReadsTable) (opens : OpensByTable) wh
   spell_call n bytes ended size None lt all e s next = nothing n bytes ended (Some BadFrame) (omega (arith, lt)) (lt, call_none bytes size e s, inr (λ o. not_both (front_of bytes) size ((opens bytes).1 o) e))
   spell_call n bytes ended size (Some step) lt all e s next = one_more n bytes (drop size bytes) ended step (cut_of bytes size step all s) (next (All-drop (λ b. b < 256) size bytes all))
 
-  spell_front : (n : ℕ) (bytes : List ℕ) (ended : Bool) (f : Front) → n < 65536 → 0 < length bytes → AreBytes bytes → front_of bytes ≡ f
+  spell_front : (n : ℕ) (bytes : List ℕ) (ended : Bool) (f : FirstFrame) → n < 65536 → 0 < length bytes → AreBytes bytes → front_of bytes ≡ f
       → ((size : ℕ) → 4 ≤ size → AreBytes (drop size bytes) → Spelled (n + 1) (drop size bytes) ended) → Spelled n bytes ended
   spell_front n bytes ended Open lt some all e next = spell_open n bytes ended lt some all e
   spell_front n bytes ended OutOfRange lt some all e next =
@@ -205,14 +205,14 @@ module _ (settles : FrontSettles) (reads : ReadsTable) (opens : OpensByTable) wh
         → run_of looked (step_at answers) n s rest ended ≡ come_to [] s n (Some BadFrame)
     bad_open n s rest ended lt all e (inl h) =
         let seen : looked n rest ended ≡ rest ∷ [] = ap (looked n rest) h.0 ∙ looked-open n rest true lt e h.1 in
-        refused_run settles answers n s rest rest ended BadFrame seen (step-bad settles answers n s rest lt (ap (λ (f : Front). step_by f rest) e))
+        refused_run settles answers n s rest rest ended BadFrame seen (step-bad settles answers n s rest lt (ap (λ (f : FirstFrame). step_by f rest) e))
     bad_open n s rest ended lt all e (inr not_open) = absurd (not_open ((opens rest).0 all e))
 
-    bad_front : (n : ℕ) (s : State) (rest : List ℕ) (ended : Bool) (f : Front) → n < 65536 → AreBytes rest → HasNoFrame rest → front_of rest ≡ f → ((ended ≡ true) × (0 < length rest)) ⊎ (IsOpen rest → ⊥)
+    bad_front : (n : ℕ) (s : State) (rest : List ℕ) (ended : Bool) (f : FirstFrame) → n < 65536 → AreBytes rest → HasNoFrame rest → front_of rest ≡ f → ((ended ≡ true) × (0 < length rest)) ⊎ (IsOpen rest → ⊥)
         → run_of looked (step_at answers) n s rest ended ≡ come_to [] s n (Some BadFrame)
     bad_front n s rest ended Open lt all none e how = bad_open n s rest ended lt all e how
     bad_front n s rest ended OutOfRange lt all none e how =
-        refused_run settles answers n s rest rest ended BadFrame (looked-out n rest ended lt e) (step-bad settles answers n s rest lt (ap (λ (f : Front). step_by f rest) e))
+        refused_run settles answers n s rest rest ended BadFrame (looked-out n rest ended lt e) (step-bad settles answers n s rest lt (ap (λ (f : FirstFrame). step_by f rest) e))
     bad_front n s rest ended (Whole size) lt all none e how = bad_call n s rest ended size (step_of (take size rest)) lt all none e refl
 
     open_run : (n : ℕ) (s : State) (rest : List ℕ) (ended : Bool) → IsBehind n rest ended None → run_of looked (step_at answers) n s rest ended ≡ come_to [] s n None
@@ -305,12 +305,12 @@ module _ (settles : FrontSettles) (reads : ReadsTable) (opens : OpensByTable) wh
     open_item n bytes item true step others none e read = whole_item n bytes item true step others none (head_is [] others bytes item e).0 read
     open_item n bytes item false step others none e read = absurd (not_empty others item e)
 
-    item_front : (n : ℕ) (bytes item : List ℕ) (ended : Bool) (step : Step) (others : List (List ℕ)) (f : Front) → n < 65536 → 0 < length bytes → AreBytes bytes → front_of bytes ≡ f
+    item_front : (n : ℕ) (bytes item : List ℕ) (ended : Bool) (step : Step) (others : List (List ℕ)) (f : FirstFrame) → n < 65536 → 0 < length bytes → AreBytes bytes → front_of bytes ≡ f
         → looked n bytes ended ≡ item ∷ others → step_of item ≡ Some step → IsFront n bytes item ended step others
     item_front n bytes item ended step others Open lt some all e seen read =
-        open_item n bytes item ended step others (ap (λ (f : Front). step_by f bytes) e) (sym (looked-open n bytes ended lt e some) ∙ seen) read
+        open_item n bytes item ended step others (ap (λ (f : FirstFrame). step_by f bytes) e) (sym (looked-open n bytes ended lt e some) ∙ seen) read
     item_front n bytes item ended step others OutOfRange lt some all e seen read =
-        whole_item n bytes item ended step others (ap (λ (f : Front). step_by f bytes) e) (head_is [] others bytes item (sym (looked-out n bytes ended lt e) ∙ seen)).0 read
+        whole_item n bytes item ended step others (ap (λ (f : FirstFrame). step_by f bytes) e) (head_is [] others bytes item (sym (looked-out n bytes ended lt e) ∙ seen)).0 read
     item_front n bytes item ended step others (Whole size) lt some all e seen read =
         let h = head_is _ others _ item (sym (looked-whole settles n bytes size ended lt e) ∙ seen) in
         record { item_is = sym h.0 ∙ (frame_in bytes size step all (ap step_of h.0 ∙ read)).bytes_are; more = drop size bytes; cut = cut_of bytes size step all (ap step_of h.0 ∙ read); seen = h.1 }

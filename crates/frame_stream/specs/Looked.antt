@@ -1,12 +1,12 @@
 -- Which frames of a stream are processed, of the bytes read so far.
 use Rattle.std.specs.Prelude.{◌≡◌, ◌⊎◌, ℕ, zero, suc, ◌+◌, ◌≤◌, Bool, List, [], ◌∷◌, length, take, drop, None, nat_le, if◌then◌else◌}
-use Rattle.pam_wire.specs.declared.front.Front.{Front}
-use Rattle.pam_wire.specs.declared.front.Front.TheVariants.{Open, OutOfRange, Whole}
+use Rattle.pam_wire.specs.declared.front.FirstFrame.{FirstFrame}
+use Rattle.pam_wire.specs.declared.front.FirstFrame.TheVariants.{Open, OutOfRange, Whole}
 use Rattle.pam_wire.specs.Read.{front_of, step_of}
 
 -- A complete frame is read, and then what follows it. A length that no frame has is read with everything after it, and
 -- so is the beginning of a frame when the input has ended.
-abbrev pub looked_by : Front → List ℕ → Bool → (ℕ → List (List ℕ)) → List (List ℕ)
+abbrev pub looked_by : FirstFrame → List ℕ → Bool → (ℕ → List (List ℕ)) → List (List ℕ)
 looked_by Open bytes ended behind = if ended then bytes ∷ [] else []
 looked_by OutOfRange bytes ended behind = bytes ∷ []
 looked_by (Whole size) bytes ended behind = take size bytes ∷ behind size

@@ -3,7 +3,7 @@ ghost use Rattle.frame_stream.specs.Looked.{looked, refuses};
 
 use crate::limit::MAX_FRAMES;
 use item_stream::Front;
-use pam_wire::{Front as FrameFront, front_of, laws};
+use pam_wire::{FirstFrame, front_of, laws};
 
 /// What bytes begin with after n frames: a frame, which may not be a call; nothing yet; or a length
 /// that no frame has, or the first byte of one frame too many.
@@ -18,8 +18,8 @@ pub fn front_of_frames(before: u32, held: &[u8]) -> Front
         return Front::Last;
     }
     match front_of(held) {
-        FrameFront::Open => Front::Wait,
-        FrameFront::OutOfRange => Front::Last,
-        FrameFront::Whole(size) => Front::Item { length: size, size },
+        FirstFrame::Open => Front::Wait,
+        FirstFrame::OutOfRange => Front::Last,
+        FirstFrame::Whole(size) => Front::Item { length: size, size },
     }
 }

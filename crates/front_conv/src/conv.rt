@@ -3,7 +3,7 @@ ghost use Rattle.std.specs.Io.KnownBytes.{Appends};
 ghost use Rattle.pam_base.specs.Counts.{Rose, next_count};
 ghost use Rattle.conv_port.specs.declared.conv.ConvFault.{ConvFault};
 ghost use Rattle.conv_port.specs.Message.{AreReplies, HasPrompt, IsExchange};
-ghost use Rattle.conv_port.specs.Conv.{TakesOffer, Talks};
+ghost use Rattle.conv_port.specs.Conv.{Answers, TakesOffer};
 ghost use Rattle.front_conv.specs.Front.{FaultsBy, Takes, Writes, outcome};
 
 use crate::cause::Cause;
@@ -89,7 +89,7 @@ impl<R: Read + Drop, W: Write + Drop> Conv for FrontConv<R, W> {
         ensures tells { ⟦<FrontConv<R, W> as Conv>⟧.conv_tells self.new
             ≡ ⟦<FrontConv<R, W> as Conv>⟧.conv_tells self.old }
         ensures told { IsTrue (⟦<FrontConv<R, W> as Conv>⟧.conv_tells self.old) →
-            Talks result messages.now (⟦<FrontConv<R, W> as Conv>⟧.conv_holds self.old)
+            Answers result messages.now (⟦<FrontConv<R, W> as Conv>⟧.conv_holds self.old)
             (⟦<FrontConv<R, W> as Conv>⟧.conv_holds self.new) }
         ensures faults { ⟦<FrontConv<R, W> as Conv>⟧.conv_faults self.old
             ≤ ⟦<FrontConv<R, W> as Conv>⟧.conv_faults self.new }

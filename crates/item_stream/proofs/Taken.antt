@@ -6,8 +6,8 @@ use Rattle.pam_outside.specs.Streams.{SourceState}
 use Rattle.item_stream.specs.Run.{Looks, Refuses}
 use Rattle.item_stream.specs.Taking.{Fills, Finds, IsFound, LastGot}
 use Rattle.item_stream.specs.Cutting.{Cuts}
-use Rattle.item_stream.specs.declared.reader.Found.{Found}
-use Rattle.item_stream.specs.declared.reader.Found.TheVariants.{Rest, End}
+use Rattle.item_stream.specs.declared.reader.NextItem.{NextItem}
+use Rattle.item_stream.specs.declared.reader.NextItem.TheVariants.{Rest, End}
 
 -- some bytes were read, at least one by each call, and none at the end of the source
 pub record IsFinding (looked : Looks) (n : ℕ) (before held : List ℕ) (old new : SourceState) : Type 0 where

@@ -4,7 +4,7 @@ use Rattle.std.proofs.lemmas.List.{append-nil}
 use Rattle.std.specs.Prelude.{OnOk}
 use Rattle.pam_base.specs.declared.fault.Failed.{Failed}
 use Rattle.pam_outside.specs.Streams.{SourceState, SinkState}
-use Rattle.item_stream.specs.declared.reader.Found.TheVariants.{Item, Rest, End}
+use Rattle.item_stream.specs.declared.reader.NextItem.TheVariants.{Item, Rest, End}
 use Rattle.item_stream.specs.declared.ending.Ending.TheVariants.{Done, ReadFault}
 use Rattle.item_stream.specs.declared.ending.Stop.{Stop}
 use Rattle.item_stream.specs.declared.ending.Stop.TheVariants.{NoMemory, WriteFault}

@@ -2,7 +2,7 @@
 use Rattle.std.specs.Prelude.{◌≡◌, ℕ, List, [], take, Option, Some, None, Result, Ok, Err}
 use Rattle.pam_base.specs.declared.fault.Failed.{Failed}
 use Rattle.pam_outside.specs.Streams.{SourceState, SinkState, WritesWhole}
-use Rattle.item_stream.specs.declared.reader.Found.TheVariants.{Item, Rest, End}
+use Rattle.item_stream.specs.declared.reader.NextItem.TheVariants.{Item, Rest, End}
 use Rattle.item_stream.specs.declared.ending.Ending.{Ending}
 use Rattle.item_stream.specs.declared.ending.Ending.TheVariants.{Done, ReadFault}
 use Rattle.item_stream.specs.declared.ending.Stop.{Stop}

@@ -2,8 +2,8 @@
 use Rattle.std.specs.Prelude.{◌≡◌, ◌⊎◌, ℕ, ◌+◌, ◌≤◌, ◌<◌, Bool, true, false, List, [], ◌++◌, ◌∷◌, length, Result, Ok, Err, IfOk}
 use Rattle.pam_base.specs.declared.fault.Failed.{Failed}
 use Rattle.pam_outside.specs.Streams.{SourceState}
-use Rattle.item_stream.specs.declared.reader.Found.{Found}
-use Rattle.item_stream.specs.declared.reader.Found.TheVariants.{Item, Rest, End}
+use Rattle.item_stream.specs.declared.reader.NextItem.{NextItem}
+use Rattle.item_stream.specs.declared.reader.NextItem.TheVariants.{Item, Rest, End}
 use Rattle.item_stream.specs.Front.{IsItem}
 use Rattle.item_stream.specs.Run.{Looks, Refuses}
 
@@ -25,7 +25,7 @@ pub record Fills (result : Result ℕ Failed) (before held : List ℕ) (old new 
   pub ends_on : IfOk result (λ n. 0 < n → new.reads_at_end ≤ old.reads_at_end)
 
 -- the first item of the bytes held
-abbrev pub IsFound : Looks → Result Found Failed → ℕ → List ℕ → Type 0
+abbrev pub IsFound : Looks → Result NextItem Failed → ℕ → List ℕ → Type 0
 IsFound looked (Ok (Item item_size size)) n held = IsItem looked n item_size size held
 IsFound looked (Ok Rest) n held = 0 < length held
 IsFound looked (Ok End) n held = held ≡ []
@@ -39,14 +39,14 @@ pub record IsLast (looked : Looks) (refuses : Refuses) (n : ℕ) (held left : Li
   pub fits : (ended ≡ true) ⊎ refuses n held
 
 -- if the source has ended
-abbrev pub Ended : Looks → Refuses → Result Found Failed → ℕ → List ℕ → List ℕ → Type 0
+abbrev pub Ended : Looks → Refuses → Result NextItem Failed → ℕ → List ℕ → List ℕ → Type 0
 Ended looked refuses (Ok (Item item_size size)) n held left = Unit {0}
 Ended looked refuses (Ok Rest) n held left = IsLast looked refuses n held left
 Ended looked refuses (Ok End) n held left = left ≡ []
 Ended looked refuses (Err e) n held left = Unit {0}
 
 -- the one call that may return no byte
-abbrev pub more_calls : Result Found Failed → ℕ
+abbrev pub more_calls : Result NextItem Failed → ℕ
 more_calls (Ok (Item item_size size)) = 0
 more_calls r = 1
 
@@ -59,7 +59,7 @@ pub record LastGot (looked : Looks) (n : ℕ) (before got : List ℕ) : Type 0 w
   pub waited : looked n (before ++ early) false ≡ []
 
 -- the bytes read until an item is complete, or until the bytes held are refused
-pub record Finds (looked : Looks) (refuses : Refuses) (result : Result Found Failed) (n : ℕ)
+pub record Finds (looked : Looks) (refuses : Refuses) (result : Result NextItem Failed) (n : ℕ)
     (before held : List ℕ) (old new : SourceState) : Type 0 where
   pub got : List ℕ
   pub held_is : held ≡ before ++ got

@@ -8,5 +8,5 @@ mod reader;
 mod stepping;
 
 pub use ending::{Ending, Stop};
-pub use reader::{Found, Reader};
+pub use reader::{NextItem, Reader};
 pub use stepping::{Front, Stepping};

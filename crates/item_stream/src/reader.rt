@@ -46,7 +46,7 @@ impl Model for Reader {
 
 /// The first item of the bytes held.
 #[derive(Clone, Copy)]
-pub enum Found {
+pub enum NextItem {
     /// An item: the number of its bytes, and the number of bytes before the next one.
     Item { length: usize, size: usize },
     /// The last item: all bytes held.
@@ -86,7 +86,7 @@ impl Reader {
         &mut self,
         source: &mut S,
         before: u32,
-    ) -> Result<Found, Failed>
+    ) -> Result<NextItem, Failed>
         ensures found { IsFound R.looked result before self.new }
         ensures tells { S.source_tells source.new ≡ S.source_tells source.old }
         ensures told { IsTrue (S.source_tells source.old) →
@@ -98,8 +98,8 @@ impl Reader {
         R::cuts();
         loop {
             match R::front(before, self.bytes()) {
-                Front::Item { length, size } => return Ok(Found::Item { length, size }),
-                Front::Last => return Ok(Found::Rest),
+                Front::Item { length, size } => return Ok(NextItem::Item { length, size }),
+                Front::Last => return Ok(NextItem::Rest),
                 Front::Wait => {}
             }
             if self.fill(source)? == 0 {
@@ -109,13 +109,13 @@ impl Reader {
     }
 
     // What is found if the source has ended.
-    fn last(&self) -> Found
-        ensures { result ≡ (if length self.now == 0 then Found.End else Found.Rest) }
+    fn last(&self) -> NextItem
+        ensures { result ≡ (if length self.now == 0 then NextItem.End else NextItem.Rest) }
     {
         if self.bytes().is_empty() {
-            Found::End
+            NextItem::End
         } else {
-            Found::Rest
+            NextItem::Rest
         }
     }
 

@@ -1,7 +1,7 @@
 -- What is found one by one, before what follows.
 use Rattle.std.proofs.Common.{◌≡◌, ℕ, zero, suc, ◌<◌, ◌-◌, ◌==◌, Bool, true, false, cond, List, [], ◌∷◌, ◌++◌, length, Option, Some, None, refl, ap, sym, ◌∙◌, append_assoc, arith}
 use Rattle.std.proofs.lemmas.List.{append-nil}
-use Rattle.mod_env.specs.declared.conf.Entry.{Entry}
+use Rattle.mod_env.specs.declared.conf.EnvLine.{EnvLine}
 use Rattle.mod_env.specs.declared.conf.Key.{Key}
 use Rattle.mod_env.specs.declared.conf.Values.{Values}
 use Rattle.mod_env.specs.declared.marks.Mark.{Mark}
@@ -73,31 +73,31 @@ settings_out left values marks total false is e h = rw (is, ← e) at h
 
 -- ---- lines
 
-abbrev pub behind_entries : List Entry → Option (List Entry) → Option (List Entry)
+abbrev pub behind_entries : List EnvLine → Option (List EnvLine) → Option (List EnvLine)
 behind_entries front (Some more) = Some (front ++ more)
 behind_entries front None = None
 
-one_more_entry : (front : List Entry) (entry : Entry) (more : Option (List Entry)) → behind_entries (front ++ entry ∷ []) more ≡ behind_entries front (entry_in_front (Some entry) more)
-one_more_entry front entry (Some more) = ap (λ (p : List Entry). Some p) (append_assoc front (entry ∷ []) more)
+one_more_entry : (front : List EnvLine) (entry : EnvLine) (more : Option (List EnvLine)) → behind_entries (front ++ entry ∷ []) more ≡ behind_entries front (entry_in_front (Some entry) more)
+one_more_entry front entry (Some more) = ap (λ (p : List EnvLine). Some p) (append_assoc front (entry ∷ []) more)
 one_more_entry front entry None = refl
 
-pub no_entries : (more : Option (List Entry)) → behind_entries [] more ≡ more
+pub no_entries : (more : Option (List EnvLine)) → behind_entries [] more ≡ more
 no_entries (Some more) = refl
 no_entries None = refl
 
-module _ (front : List Entry) (line : List ℕ) (lines rest : List (List ℕ)) (total : Option (List Entry)) (is : lines ≡ line ∷ rest) (h : behind_entries front (entries_of lines) ≡ total) where
+module _ (front : List EnvLine) (line : List ℕ) (lines rest : List (List ℕ)) (total : Option (List EnvLine)) (is : lines ≡ line ∷ rest) (h : behind_entries front (entries_of lines) ≡ total) where
   pub line_passed : false ≡ counts (without_front line) → behind_entries front (entries_of rest) ≡ total
   line_passed e = rw (is, ← e) at h
 
-  pub line_taken : (entry : Entry) → true ≡ counts (without_front line) → Some entry ≡ entry_at (without_front line) → behind_entries (front ++ entry ∷ []) (entries_of rest) ≡ total
+  pub line_taken : (entry : EnvLine) → true ≡ counts (without_front line) → Some entry ≡ entry_at (without_front line) → behind_entries (front ++ entry ∷ []) (entries_of rest) ≡ total
   line_taken entry e f = one_more_entry front entry (entries_of rest) ∙ (rw (is, ← e, ← f) at h)
 
-  no_front : (more : Option (List Entry)) → behind_entries front (entry_in_front None more) ≡ None
+  no_front : (more : Option (List EnvLine)) → behind_entries front (entry_in_front None more) ≡ None
   no_front (Some more) = refl
   no_front None = refl
 
   pub line_broken : true ≡ counts (without_front line) → None ≡ entry_at (without_front line) → None ≡ total
   line_broken e f = sym (no_front (entries_of rest)) ∙ (rw (is, ← e, ← f) at h)
 
-pub lines_out : (front : List Entry) (lines : List (List ℕ)) (total : Option (List Entry)) → lines ≡ [] → behind_entries front (entries_of lines) ≡ total → Some front ≡ total
-lines_out front lines total is h = ap (λ (p : List Entry). Some p) (sym (append-nil front)) ∙ (rw is at h)
+pub lines_out : (front : List EnvLine) (lines : List (List ℕ)) (total : Option (List EnvLine)) → lines ≡ [] → behind_entries front (entries_of lines) ≡ total → Some front ≡ total
+lines_out front lines total is h = ap (λ (p : List EnvLine). Some p) (sym (append-nil front)) ∙ (rw is at h)

@@ -15,7 +15,7 @@ use Rattle.account_files.specs.pam_room.specs.State.{PlainProcess, Scene}
 use Rattle.account_files.specs.pam_room.specs.Stays.{Stays}
 use Rattle.account_files.specs.pam_room.specs.Module.{Played, with_played}
 use Rattle.account_files.specs.Accounts.{Known}
-use Rattle.account_files.specs.Act.{Act, Acts, stage_of, standing}
+use Rattle.account_files.specs.Act.{Act, Acts, stage_of, scene_at}
 use Rattle.mod_env.specs.Env.{put_in, puts_env, sees_env}
 use Rattle.mod_env.specs.Puts.{Puts}
 use Rattle.account_files.proofs.Acting.{carried}
@@ -25,7 +25,7 @@ unfolding sees_env
 seeing_env act known s code new a = carried (sees_env act) (act s.room.transaction.env) known known s s code new refl (λ p. refl) a
 
 module _ (text : List ℕ) (act : Act) (known : Known) (t u : Transaction) (conv : ConvState) (vault : VaultState) (clock : ClockState) (process : Process) (code : Code) (new : Scene) (puts : Puts t u) where
-  same_played : (p : Played) → with_played p (standing u conv vault clock process) ≡ with_played p (standing t conv vault clock process)
+  same_played : (p : Played) → with_played p (scene_at u conv vault clock process) ≡ with_played p (scene_at t conv vault clock process)
   same_played p =
       let datums = ap (λ (x : Transaction). x.datums) puts.others in
       let trail = ap (λ (x : Transaction). x.trail) puts.others in
@@ -33,7 +33,7 @@ module _ (text : List ℕ) (act : Act) (known : Known) (t u : Transaction) (conv
       let serving = ap (λ (x : Transaction). x.serving) puts.others in
       rw (datums, trail, handle, serving) refl
 
-  same_stage : u.env ≡ put_in text t.env → puts_env text act (stage_of known (standing t conv vault clock process)) ≡ act (stage_of known (standing u conv vault clock process))
+  same_stage : u.env ≡ put_in text t.env → puts_env text act (stage_of known (scene_at t conv vault clock process)) ≡ act (stage_of known (scene_at u conv vault clock process))
   unfolding puts_env
   same_stage e =
       let items = ap (λ (x : Transaction). x.items) puts.others in
@@ -45,7 +45,7 @@ module _ (text : List ℕ) (act : Act) (known : Known) (t u : Transaction) (conv
       let serving = ap (λ (x : Transaction). x.serving) puts.others in
       rw (items, datums, delay, said, put_off, handle, serving, e) refl
 
-  pub putting_env : u.env ≡ put_in text t.env → Acts act known (standing u conv vault clock process) code new → Acts (puts_env text act) known (standing t conv vault clock process) code new
+  pub putting_env : u.env ≡ put_in text t.env → Acts act known (scene_at u conv vault clock process) code new → Acts (puts_env text act) known (scene_at t conv vault clock process) code new
   putting_env e a = carried (puts_env text act) act known known _ _ code new (same_stage e) same_played a
 
 pub puts_nothing : (t : Transaction) → Puts t t

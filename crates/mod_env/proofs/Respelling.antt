@@ -15,7 +15,7 @@ use Rattle.mod_env.specs.declared.value.Piece.TheVariants.{Byte, Variable, Item}
 use Rattle.mod_env.specs.declared.conf.Key.{Key}
 use Rattle.mod_env.specs.declared.conf.Key.TheVariants.{Default, Override}
 use Rattle.mod_env.specs.declared.conf.Values.{Values}
-use Rattle.mod_env.specs.declared.conf.Entry.{Entry}
+use Rattle.mod_env.specs.declared.conf.EnvLine.{EnvLine}
 use Rattle.mod_env.specs.Marks.{begins_with, behind_white, is_byte, is_white_mark, marks_of, text_of}
 use Rattle.mod_env.specs.Value.{is_sigil, next_piece, one, pieces_of, pieces_within, place}
 use Rattle.mod_env.specs.Conf as conf
@@ -235,7 +235,7 @@ entry_by : (text name settings : List ℕ) (values : Values) → before_first is
     → has_byte 61 name ≡ false → values_of (marks_of settings) ≡ Some values → conf.entry_at text ≡ Some (record { name = name; values = values })
 entry_by text name settings values named behind none read = rw (named, behind, none, read) refl
 
-module _ (entry : Entry) (line : List ℕ) (s : SpellsEntry entry line) where
+module _ (entry : EnvLine) (line : List ℕ) (s : SpellsEntry entry line) where
   named :
       (before_first is_white (s.first ∷ s.others ++ s.tail) ≡ s.first ∷ s.others)
       × (after_first is_white (s.first ∷ s.others ++ s.tail) ≡ s.settings)
@@ -254,7 +254,7 @@ module _ (entry : Entry) (line : List ℕ) (s : SpellsEntry entry line) where
       ap conf.entry_at front
       ∙ entry_by (s.first ∷ s.others ++ s.tail) (s.first ∷ s.others) s.settings (settled s.given conf.no_values) named.0 named.1 s.unassigned
       (settings_are_read s.given (marks_of s.settings) s.spelled)
-      ∙ ap (λ (e : Entry). Some e) (sym s.entry_is)
+      ∙ ap (λ (e : EnvLine). Some e) (sym s.entry_is)
 
 by_comment : (comment : List ℕ) → (comment ≡ []) ⊎ ((more : List ℕ) × (comment ≡ 35 ∷ more)) → conf.counts (conf.without_front comment) ≡ false
 by_comment comment (inl e) = rw e refl
@@ -265,13 +265,13 @@ is_passed line s =
     ap (λ (l : List ℕ). conf.counts (conf.without_front l)) s.line_is ∙ ap conf.counts (front_skipped s.white s.comment s.is_blank)
     ∙ by_comment s.comment s.is_comment
 
-pub lines_are_read : (entries : List Entry) (lines : List (List ℕ)) → SpellsLines entries lines → conf.entries_of lines ≡ Some entries
+pub lines_are_read : (entries : List EnvLine) (lines : List (List ℕ)) → SpellsLines entries lines → conf.entries_of lines ≡ Some entries
 lines_are_read entries [] s = rw s refl
 lines_are_read entries (line ∷ lines) (inl s) = rw (is_passed line s.0) (lines_are_read entries lines s.1)
 lines_are_read entries (line ∷ lines) (inr s) = rw (s.2, it_counts s.0 line s.3, entry_is_read s.0 line s.3, lines_are_read s.1 lines s.4) refl
 
-pub conf_is_read : (entries : List Entry) (text : List ℕ) → SpellsConf entries text → conf.conf_of text ≡ Some entries
+pub conf_is_read : (entries : List EnvLine) (text : List ℕ) → SpellsConf entries text → conf.conf_of text ≡ Some entries
 conf_is_read entries text s = lines_are_read entries (lines_of text) s
 
-pub conf_is_one : (entries others : List Entry) (text : List ℕ) → SpellsConf entries text → SpellsConf others text → entries ≡ others
+pub conf_is_one : (entries others : List EnvLine) (text : List ℕ) → SpellsConf entries text → SpellsConf others text → entries ≡ others
 conf_is_one entries others text s t = let e = conf_is_read entries text s in let f = conf_is_read others text t in cc

@@ -8,7 +8,7 @@ use Rattle.account_files.specs.pam_room.specs.State.{Scene}
 use Rattle.account_db.specs.declared.passwd.Passwd.{Passwd}
 use Rattle.account_files.specs.Accounts.{Known, account_in, known_passwds}
 use Rattle.account_files.specs.Act.{Act, Acts, reads_passwds, sees_items}
-use Rattle.mod_env.specs.declared.conf.Entry.{Entry}
+use Rattle.mod_env.specs.declared.conf.EnvLine.{EnvLine}
 use Rattle.mod_env.specs.declared.expand.Expansion.{Expansion}
 use Rattle.mod_env.specs.declared.expand.Expansion.TheVariants.{TooLong, Puts}
 use Rattle.mod_env.specs.Env.{by_expansion, by_user, entry_in, entry_known, looks_if, puts_all, puts_env, sees_env, sets_all, sets_by, sets_variable}
@@ -24,7 +24,7 @@ sources_in s account = record { items = s.room.transaction.items; env = s.room.t
 
 module _ (items : (act : ItemTexts → Act) (known : Known) (s : Scene) (code : Code) (new : Scene) → Acts (act s.room.transaction.items) known s code new → Acts (sees_items act) known s code new)
     (env : (act : List Variable → Act) (known : Known) (s : Scene) (code : Code) (new : Scene) → Acts (act s.room.transaction.env) known s code new → Acts (sees_env act) known s code new)
-    (entry : Entry) (account : Option Passwd) (known : Known) (s : Scene) (found : Expansion) where
+    (entry : EnvLine) (account : Option Passwd) (known : Known) (s : Scene) (found : Expansion) where
   seen : (act : Bool → Act) (code : Code) (new : Scene) → found ≡ expansion_of entry (sources_in s account) → Acts (by_expansion found act) known s code new → Acts (sets_by entry account act) known s code new
   unfolding sets_by
   seen act code new e a =
@@ -39,13 +39,13 @@ module _ (items : (act : ItemTexts → Act) (known : Known) (s : Scene) (code : 
       → (act : Bool → Act) (code : Code) (end : Scene) → Acts (puts_env text (act true)) known s code end → Acts (sets_by entry account act) known s code end
   puts text e f act code end a = seen act code end e (rw f a)
 
-module _ (entry : Entry) (seen : Option Passwd) (known now : Known) (s mid : Scene)
+module _ (entry : EnvLine) (seen : Option Passwd) (known now : Known) (s mid : Scene)
     (look : (act : Option Passwd → Act) (code : Code) (end : Scene) → Acts (act seen) now mid code end → Acts (looks_if (asks_account entry) act) known s code end) where
   pub looked : (act : Bool → Act) (code : Code) (end : Scene) → Acts (sets_by entry seen act) now mid code end → Acts (sets_variable entry act) known s code end
   unfolding sets_variable
   looked act code end a = look (λ account. sets_by entry account act) code end a
 
-module _ (entries rest after : List Entry) (entry : Entry) (first known now : Known) (old s new : Scene) (is : rest ≡ entry ∷ after)
+module _ (entries rest after : List EnvLine) (entry : EnvLine) (first known now : Known) (old s new : Scene) (is : rest ≡ entry ∷ after)
     (told : (act : Bool → Act) (code : Code) (end : Scene) → Acts (sets_all rest act) known s code end → Acts (sets_all entries act) first old code end) where
   pub one_more : ((act : Bool → Act) (code : Code) (end : Scene) → Acts (act true) now new code end → Acts (sets_variable entry act) known s code end)
       → (act : Bool → Act) (code : Code) (end : Scene) → Acts (sets_all after act) now new code end → Acts (sets_all entries act) first old code end

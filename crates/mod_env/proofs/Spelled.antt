@@ -15,7 +15,7 @@ use Rattle.mod_env.specs.declared.value.Piece.TheVariants.{Byte}
 use Rattle.mod_env.specs.declared.conf.Key.{Key}
 use Rattle.mod_env.specs.declared.conf.Key.TheVariants.{Default, Override}
 use Rattle.mod_env.specs.declared.conf.Values.{Values}
-use Rattle.mod_env.specs.declared.conf.Entry.{Entry}
+use Rattle.mod_env.specs.declared.conf.EnvLine.{EnvLine}
 use Rattle.mod_env.specs.Marks.{begins_with, behind_white, is_byte, is_white_mark, marks_of, text_of}
 use Rattle.mod_env.specs.Value.{Next, broken, by_next, closed, ended, in_front, is_sigil, next_piece, one, pieces_of, pieces_within}
 use Rattle.mod_env.specs.Conf as conf
@@ -412,7 +412,7 @@ module _ (line white : List ℕ) (b : ℕ) (bs : List ℕ) (is : line ≡ white 
   name_front = rw (plain, one-add) refl
 
   by_values : has_byte 61 (before_first is_white (b ∷ bs)) ≡ false → (values : Option Values)
-      → SettlesTo conf.no_values values (marks_of (after_first is_white (b ∷ bs))) → (entry : Entry)
+      → SettlesTo conf.no_values values (marks_of (after_first is_white (b ∷ bs))) → (entry : EnvLine)
       → conf.with_values (before_first is_white (b ∷ bs)) values ≡ Some entry → SpellsEntry entry line
   by_values unassigned None t entry e = absurd cc
   by_values unassigned (Some values) t entry e =
@@ -435,14 +435,14 @@ module _ (line white : List ℕ) (b : ℕ) (bs : List ℕ) (is : line ≡ white 
         entry_is = cc (name_front, settled_is, e);
       }
 
-  by_name : (assigns : Bool) → has_byte 61 (before_first is_white (b ∷ bs)) ≡ assigns → (entry : Entry)
+  by_name : (assigns : Bool) → has_byte 61 (before_first is_white (b ∷ bs)) ≡ assigns → (entry : EnvLine)
       → cond assigns None (conf.with_values (before_first is_white (b ∷ bs)) (values_of (marks_of (after_first is_white (b ∷ bs))))) ≡ Some entry
       → SpellsEntry entry line
   by_name true at entry e = absurd cc
   by_name false at entry e =
       by_values at (values_of (marks_of (after_first is_white (b ∷ bs)))) (values_spelled (marks_of (after_first is_white (b ∷ bs)))) entry e
 
-by_head : (line : List ℕ) (entry : Entry) (f : Fronted line) → (conf.without_front line ≡ []) ⊎ ((b : ℕ) × (bs : List ℕ) × (conf.without_front line ≡ b ∷ bs) × (is_white b ≡ false))
+by_head : (line : List ℕ) (entry : EnvLine) (f : Fronted line) → (conf.without_front line ≡ []) ⊎ ((b : ℕ) × (bs : List ℕ) × (conf.without_front line ≡ b ∷ bs) × (is_white b ≡ false))
     → conf.counts (conf.without_front line) ≡ true → conf.entry_at (conf.without_front line) ≡ Some entry → SpellsEntry entry line
 by_head line entry f (inl none) e found = let not : false ≡ true = rw none at e in absurd cc
 by_head line entry f (inr h) e found =
@@ -451,25 +451,25 @@ by_head line entry f (inr h) e found =
     by_name line f.white h.0 h.1 (f.is ∙ ap (λ (t : List ℕ). f.white ++ t) h.2) f.is_blank h.3 (not_comment h.0 h.1 counted)
     (has_byte 61 (before_first is_white (h.0 ∷ h.1))) refl entry read
 
-entry_spelled : (line : List ℕ) (entry : Entry) → conf.counts (conf.without_front line) ≡ true → conf.entry_at (conf.without_front line) ≡ Some entry
+entry_spelled : (line : List ℕ) (entry : EnvLine) → conf.counts (conf.without_front line) ≡ true → conf.entry_at (conf.without_front line) ≡ Some entry
     → SpellsEntry entry line
 entry_spelled line entry e found = by_head line entry (fronted line) (fronted line).head e found
 
-abbrev pub LinesRead : Option (List Entry) → List (List ℕ) → Type 0
+abbrev pub LinesRead : Option (List EnvLine) → List (List ℕ) → Type 0
 LinesRead None lines = Unit {0}
 LinesRead (Some entries) lines = SpellsLines entries lines
 
-line_passed : (line : List ℕ) (lines : List (List ℕ)) → IsPassedOver line → (more : Option (List Entry)) → LinesRead more lines → LinesRead more (line ∷ lines)
+line_passed : (line : List ℕ) (lines : List (List ℕ)) → IsPassedOver line → (more : Option (List EnvLine)) → LinesRead more lines → LinesRead more (line ∷ lines)
 line_passed line lines s None t = tt
 line_passed line lines s (Some entries) t = inl (s, t)
 
-line_entry : (line : List ℕ) (lines : List (List ℕ)) (more : Option (List Entry)) → LinesRead more lines → (found : Option Entry)
-    → ((entry : Entry) → found ≡ Some entry → SpellsEntry entry line) → LinesRead (conf.in_front found more) (line ∷ lines)
+line_entry : (line : List ℕ) (lines : List (List ℕ)) (more : Option (List EnvLine)) → LinesRead more lines → (found : Option EnvLine)
+    → ((entry : EnvLine) → found ≡ Some entry → SpellsEntry entry line) → LinesRead (conf.in_front found more) (line ∷ lines)
 line_entry line lines more t None spelled = tt
 line_entry line lines None t (Some entry) spelled = tt
 line_entry line lines (Some entries) t (Some entry) spelled = inr (entry, entries, refl, spelled entry refl, t)
 
-line_spelled : (line : List ℕ) (lines : List (List ℕ)) (more : Option (List Entry)) → LinesRead more lines → (is : Bool) → conf.counts (conf.without_front line) ≡ is
+line_spelled : (line : List ℕ) (lines : List (List ℕ)) (more : Option (List EnvLine)) → LinesRead more lines → (is : Bool) → conf.counts (conf.without_front line) ≡ is
     → LinesRead (cond is (conf.in_front (conf.entry_at (conf.without_front line)) more) more) (line ∷ lines)
 line_spelled line lines more t true e =
     line_entry line lines more t (conf.entry_at (conf.without_front line)) (λ entry f. entry_spelled line entry e f)
@@ -479,5 +479,5 @@ lines_spelled : (lines : List (List ℕ)) → LinesRead (conf.entries_of lines) 
 lines_spelled [] = refl
 lines_spelled (line ∷ lines) = line_spelled line lines (conf.entries_of lines) (lines_spelled lines) (conf.counts (conf.without_front line)) refl
 
-pub conf_is_spelled : (entries : List Entry) (text : List ℕ) → conf.conf_of text ≡ Some entries → SpellsConf entries text
-conf_is_spelled entries text e = subst (λ (o : Option (List Entry)). LinesRead o (lines_of text)) e (lines_spelled (lines_of text))
+pub conf_is_spelled : (entries : List EnvLine) (text : List ℕ) → conf.conf_of text ≡ Some entries → SpellsConf entries text
+conf_is_spelled entries text e = subst (λ (o : Option (List EnvLine)). LinesRead o (lines_of text)) e (lines_spelled (lines_of text))

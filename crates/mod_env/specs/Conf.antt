@@ -9,7 +9,7 @@ use Rattle.mod_env.specs.declared.value.Piece.{Piece}
 use Rattle.mod_env.specs.declared.conf.Key.{Key}
 use Rattle.mod_env.specs.declared.conf.Key.TheVariants.{Default, Override}
 use Rattle.mod_env.specs.declared.conf.Values.{Values}
-use Rattle.mod_env.specs.declared.conf.Entry.{Entry}
+use Rattle.mod_env.specs.declared.conf.EnvLine.{EnvLine}
 use Rattle.mod_env.specs.declared.conf.Setting.{Setting as LentSetting}
 use Rattle.mod_env.specs.declared.conf.Setting.TheVariants as lent
 use Rattle.mod_env.specs.Marks.{begins_with, behind_white, is_byte, is_white_mark, marks_of}
@@ -96,29 +96,29 @@ abbrev pub counts : List ℕ → Bool
 counts [] = false
 counts (b ∷ bs) = if b == 35 then false else true
 
-abbrev pub with_values : List ℕ → Option Values → Option Entry
+abbrev pub with_values : List ℕ → Option Values → Option EnvLine
 with_values name (Some values) = Some (record { name = name; values = values })
 with_values name None = None
 
 -- a name ends at the first white space, and has no `=`
-abbrev pub entry_at : List ℕ → Option Entry
+abbrev pub entry_at : List ℕ → Option EnvLine
 entry_at text =
     if has_byte 61 (before_first is_white text) then None
     else with_values (before_first is_white text) (values_of (marks_of (after_first is_white text)))
 
-abbrev pub in_front : Option Entry → Option (List Entry) → Option (List Entry)
+abbrev pub in_front : Option EnvLine → Option (List EnvLine) → Option (List EnvLine)
 in_front (Some entry) (Some entries) = Some (entry ∷ entries)
 in_front (Some entry) None = None
 in_front None entries = None
 
 -- the variables of lines, if each line that counts is well formed
-abbrev pub entries_of : List (List ℕ) → Option (List Entry)
+abbrev pub entries_of : List (List ℕ) → Option (List EnvLine)
 entries_of [] = Some []
 entries_of (line ∷ lines) = if counts (without_front line)
     then in_front (entry_at (without_front line)) (entries_of lines) else entries_of lines
 
 -- the variables of a text
-abbrev pub conf_of : List ℕ → Option (List Entry)
+abbrev pub conf_of : List ℕ → Option (List EnvLine)
 conf_of text = entries_of (lines_of text)
 
 -- as the code has it

@@ -13,7 +13,7 @@ use Rattle.account_files.specs.declared.content.Content.{Content}
 use Rattle.account_files.specs.declared.content.Content.TheVariants.{Absent, Unreadable, Holds}
 use Rattle.account_files.specs.Accounts.{Account, Known, account_in, found, known_passwds, missing, unreadable}
 use Rattle.account_files.specs.Act.{Act, answers, finds_account, in_room, plays_by, reads_file, sees_items, unless_answered}
-use Rattle.mod_env.specs.declared.conf.Entry.{Entry}
+use Rattle.mod_env.specs.declared.conf.EnvLine.{EnvLine}
 use Rattle.mod_env.specs.declared.expand.Expansion.{Expansion}
 use Rattle.mod_env.specs.declared.expand.Expansion.TheVariants.{TooLong, Puts}
 use Rattle.mod_env.specs.Conf.{conf_of}
@@ -69,16 +69,16 @@ abbrev pub sees_sources : Option Passwd → (Sources → Act) → Act
 sees_sources entry act =
     sees_items (λ items. sees_env (λ env. act (record { items = items; env = env; entry = entry })))
 
-unfoldable pub sets_by : Entry → Option Passwd → (Bool → Act) → Act
+unfoldable pub sets_by : EnvLine → Option Passwd → (Bool → Act) → Act
 sets_by entry account act = sees_sources account (λ from. by_expansion (expansion_of entry from) act)
 
-unfoldable pub sets_variable : Entry → (Bool → Act) → Act
+unfoldable pub sets_variable : EnvLine → (Bool → Act) → Act
 sets_variable entry act = looks_if (asks_account entry) (λ account. sets_by entry account act)
 
 -- ---- both files
 
 -- the variables are set in order, up to one whose value is too long: whether all were
-abbrev pub sets_all : List Entry → (Bool → Act) → Act
+abbrev pub sets_all : List EnvLine → (Bool → Act) → Act
 sets_all [] act = act true
 sets_all (entry ∷ entries) act =
     sets_variable entry (λ fits. if fits then sets_all entries act else act false)
@@ -99,7 +99,7 @@ by_fits assignments true = puts_all assignments (answers returns.Success)
 by_fits assignments false = answers returns.BufErr
 
 -- a malformed line of pam_env.conf is SERVICE_ERR, and nothing is set
-abbrev pub by_entries : Option (List Entry) → List (List ℕ) → Act
+abbrev pub by_entries : Option (List EnvLine) → List (List ℕ) → Act
 by_entries (Some entries) assignments = sets_all entries (by_fits assignments)
 by_entries None assignments = answers returns.ServiceErr
 

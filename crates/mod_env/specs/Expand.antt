@@ -8,7 +8,7 @@ use Rattle.item_store.specs.Items.{ItemTexts}
 use Rattle.account_db.specs.declared.passwd.Passwd.{Passwd}
 use Rattle.mod_env.specs.declared.value.Piece.{Piece}
 use Rattle.mod_env.specs.declared.value.Piece.TheVariants as pieces
-use Rattle.mod_env.specs.declared.conf.Entry.{Entry}
+use Rattle.mod_env.specs.declared.conf.EnvLine.{EnvLine}
 use Rattle.mod_env.specs.declared.expand.Sources.{Sources as LentSources}
 use Rattle.mod_env.specs.declared.expand.Expansion.{Expansion}
 use Rattle.mod_env.specs.declared.expand.Expansion.TheVariants.{TooLong, Puts}
@@ -80,7 +80,7 @@ by_texts name (Some default) None = TooLong
 by_texts name None over = TooLong
 
 -- the result for a variable; a value that is too long counts even if it isn't taken
-unfoldable pub expansion_of : Entry → Sources → Expansion
+unfoldable pub expansion_of : EnvLine → Sources → Expansion
 expansion_of entry from = by_texts entry.name (value_text from entry.values.default)
     (value_text from entry.values.overriding)
 
@@ -97,7 +97,7 @@ value_names_account (Some value) = list_any names_account value
 value_names_account None = false
 
 -- one of the values does, used or not
-abbrev pub asks_account : Entry → Bool
+abbrev pub asks_account : EnvLine → Bool
 asks_account entry =
     value_names_account entry.values.default || value_names_account entry.values.overriding
 

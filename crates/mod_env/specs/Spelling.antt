@@ -12,7 +12,7 @@ use Rattle.mod_env.specs.declared.value.Piece.TheVariants.{Byte, Variable, Item}
 use Rattle.mod_env.specs.declared.conf.Key.{Key}
 use Rattle.mod_env.specs.declared.conf.Key.TheVariants.{Default, Override}
 use Rattle.mod_env.specs.declared.conf.Values.{Values}
-use Rattle.mod_env.specs.declared.conf.Entry.{Entry}
+use Rattle.mod_env.specs.declared.conf.EnvLine.{EnvLine}
 use Rattle.mod_env.specs.Marks.{is_byte, is_white_mark, marks_of, text_of}
 use Rattle.mod_env.specs.Value.{is_sigil}
 use Rattle.mod_env.specs.Conf.{no_values, with_value}
@@ -114,7 +114,7 @@ Follows text settings =
     ((text ≡ []) × (settings ≡ [])) ⊎ ((w : ℕ) × (text ≡ w ∷ settings) × (is_white w ≡ true))
 
 -- A line for a variable: its name, which has neither white space nor `=` and doesn't begin with `#`, and its settings.
-pub record SpellsEntry (entry : Entry) (line : List ℕ) : Type 0 where
+pub record SpellsEntry (entry : EnvLine) (line : List ℕ) : Type 0 where
   pub white : List ℕ
   pub first : ℕ
   pub others : List ℕ
@@ -139,13 +139,13 @@ pub record IsPassedOver (line : List ℕ) : Type 0 where
   pub is_comment : (comment ≡ []) ⊎ ((more : List ℕ) × (comment ≡ 35 ∷ more))
 
 -- the variables of lines, in order
-abbrev pub SpellsLines : List Entry → List (List ℕ) → Type 0
+abbrev pub SpellsLines : List EnvLine → List (List ℕ) → Type 0
 SpellsLines entries [] = entries ≡ []
 SpellsLines entries (line ∷ lines) =
     (IsPassedOver line × SpellsLines entries lines)
-    ⊎ ((entry : Entry) × (more : List Entry) × (entries ≡ entry ∷ more) × SpellsEntry entry line
+    ⊎ ((entry : EnvLine) × (more : List EnvLine) × (entries ≡ entry ∷ more) × SpellsEntry entry line
     × SpellsLines more lines)
 
 -- the variables of a text
-abbrev pub SpellsConf : List Entry → List ℕ → Type 0
+abbrev pub SpellsConf : List EnvLine → List ℕ → Type 0
 SpellsConf entries text = SpellsLines entries (lines_of text)

@@ -25,13 +25,13 @@ pub struct Values {
 
 /// A variable, and its values.
 #[derive(Debug, Drop)]
-pub struct Entry {
+pub struct EnvLine {
     pub name: Text,
     pub values: Values,
 }
 
 /// Variables, in the order of their lines.
-pub type Entries = Sequence<Entry>;
+pub type Entries = Sequence<EnvLine>;
 
 // How the settings of a line begin.
 #[derive(Clone, Copy)]
@@ -85,7 +85,7 @@ fn counts(line: &[u8]) -> bool
     }
 }
 
-fn entry_at(alloc: Global, text: &[u8]) -> Result<Option<Entry>, NoMemory>
+fn entry_at(alloc: Global, text: &[u8]) -> Result<Option<EnvLine>, NoMemory>
     ensures { IfOk result (λ entry. entry ≡ entry_at text.now) }
 {
     let name = name_at(text);
@@ -94,7 +94,7 @@ fn entry_at(alloc: Global, text: &[u8]) -> Result<Option<Entry>, NoMemory>
     }
     let marks = marks_of(alloc, behind_name(text))?;
     match values_of(alloc, &marks)? {
-        Some(values) => Ok(Some(Entry {
+        Some(values) => Ok(Some(EnvLine {
             name: Text::from_bytes(alloc, name)?,
             values,
         })),

@@ -4,7 +4,7 @@ ghost use Rattle.std.specs.List.{list_any};
 ghost use Rattle.std.specs.Option.{option_copied};
 ghost use Rattle.mod_env.specs.Expand.{asks_account, expanded, expansion_of, fitting, home_of, item_value, names_account, piece_text, plain_sources, put_default, put_text, shell_of, value_names_account, value_text};
 
-use crate::conf::Entry;
+use crate::conf::EnvLine;
 use crate::value::{Piece, Pieces};
 use account_db::Passwd;
 use account_files::pam_room::get_item;
@@ -34,7 +34,7 @@ pub struct Sources<'a> {
 }
 
 /// What becomes of a variable.
-pub fn expansion_of(alloc: Global, entry: &Entry, from: Sources) -> Result<Expansion, NoMemory>
+pub fn expansion_of(alloc: Global, entry: &EnvLine, from: Sources) -> Result<Expansion, NoMemory>
     ensures { IfOk result (λ made. made ≡ expansion_of entry.now (plain_sources from.entry)) }
 {
     let default = match value_text(alloc, from, &entry.values.default)? {
@@ -184,7 +184,7 @@ pub(crate) fn assignment(alloc: Global, name: &[u8], value: &[u8]) -> Result<Tex
 }
 
 /// Whether a value of the variable needs the user's account, used or not.
-pub fn asks_account(entry: &Entry) -> bool
+pub fn asks_account(entry: &EnvLine) -> bool
     ensures { result ≡ asks_account entry.now }
 {
     value_names_account(&entry.values.default) || value_names_account(&entry.values.overriding)

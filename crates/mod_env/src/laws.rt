@@ -9,7 +9,7 @@ ghost use Rattle.account_files.specs.pam_room.specs.State.{PlainProcess, Scene};
 ghost use Rattle.account_files.specs.pam_room.specs.Stays.{Stays};
 ghost use Rattle.account_files.specs.Accounts.{Known};
 ghost use Rattle.account_files.specs.Act.{Act, Acts};
-ghost use Rattle.mod_env.specs.declared.conf.Entry.{Entry};
+ghost use Rattle.mod_env.specs.declared.conf.EnvLine.{EnvLine};
 ghost use Rattle.mod_env.specs.Conf.{conf_of};
 ghost use Rattle.mod_env.specs.Env.{sees_env};
 ghost use Rattle.mod_env.specs.Puts.{Puts};
@@ -18,11 +18,11 @@ ghost use Rattle.mod_env.specs.Spelling.{SpellsConf};
 /// A text of `pam_env.conf(5)` has one reading: the variables that are read are those that its lines
 /// spell, and if they spell none, the text is malformed. No text spells two lists.
 pub fn a_text_has_one_reading()
-    ensures read { (entries : List Entry) (text : List ℕ) → SpellsConf entries text →
+    ensures read { (entries : List EnvLine) (text : List ℕ) → SpellsConf entries text →
         conf_of text ≡ Some entries }
-    ensures spelled { (entries : List Entry) (text : List ℕ) → conf_of text ≡ Some entries →
+    ensures spelled { (entries : List EnvLine) (text : List ℕ) → conf_of text ≡ Some entries →
         SpellsConf entries text }
-    ensures one { (entries others : List Entry) (text : List ℕ) → SpellsConf entries text →
+    ensures one { (entries others : List EnvLine) (text : List ℕ) → SpellsConf entries text →
         SpellsConf others text → entries ≡ others }
 {}
 

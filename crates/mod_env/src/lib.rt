@@ -11,7 +11,7 @@ mod pam_env;
 mod setting;
 mod value;
 
-pub use conf::{Entries, Entry, Key, Values, conf_of};
+pub use conf::{Entries, EnvLine, Key, Values, conf_of};
 pub use env_file::assignments_of;
 pub use pam_env::Env;
 pub use value::{Piece, Pieces};

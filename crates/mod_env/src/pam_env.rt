@@ -5,7 +5,7 @@ ghost use Rattle.pam_outside.specs.Time.{ClockState};
 ghost use Rattle.pam_base.specs.declared.code.Code.{Code};
 ghost use Rattle.account_files.specs.pam_room.specs.Module.{keeps_files, length_note};
 ghost use Rattle.account_files.specs.Accounts.{nothing_known};
-ghost use Rattle.account_files.specs.Act.{Acts, standing};
+ghost use Rattle.account_files.specs.Act.{Acts, scene_at};
 ghost use Rattle.mod_env.specs.Env.{at_once, by_entries, by_first, by_fits, by_texts, env_plays, is_zero, reads_first, reads_second, sets_all, text_in};
 ghost use Rattle.mod_env.specs.Conf.{conf_of};
 ghost use Rattle.mod_env.specs.EnvFile.{assignments_of};
@@ -99,8 +99,8 @@ fn read_first(
         (vault_holds vault.new).files ≡ (vault_holds vault.old).files }
     ensures told { IsTrue (vault_tells vault.old) → (conv : ConvState) (clock : ClockState) →
         IfOk result (λ code. Acts (reads_first call.now.args.now) nothing_known
-        (standing transaction.old conv (vault_holds vault.old) clock process.now) code
-        (standing transaction.new conv (vault_holds vault.new) clock process.now)) }
+        (scene_at transaction.old conv (vault_holds vault.old) clock process.now) code
+        (scene_at transaction.new conv (vault_holds vault.new) clock process.now)) }
     ensures puts { Puts transaction.old transaction.new }
 {
     laws::act_steps();
@@ -130,8 +130,8 @@ fn read_second(
         (vault_holds vault.new).files ≡ (vault_holds vault.old).files }
     ensures told { IsTrue (vault_tells vault.old) → (conv : ConvState) (clock : ClockState) →
         IfOk result (λ code. Acts (by_first call.now.args.now (Some conf.now)) nothing_known
-        (standing transaction.old conv (vault_holds vault.old) clock process.now) code
-        (standing transaction.new conv (vault_holds vault.new) clock process.now)) }
+        (scene_at transaction.old conv (vault_holds vault.old) clock process.now) code
+        (scene_at transaction.new conv (vault_holds vault.new) clock process.now)) }
     ensures puts { Puts transaction.old transaction.new }
 {
     crate::laws::puts_alone();
@@ -160,8 +160,8 @@ fn set_by_texts(
         (vault_holds vault.new).files ≡ (vault_holds vault.old).files }
     ensures told { IsTrue (vault_tells vault.old) → (conv : ConvState) (clock : ClockState) →
         IfOk result (λ code. Acts (by_texts conf.now env) nothing_known
-        (standing transaction.old conv (vault_holds vault.old) clock process.now) code
-        (standing transaction.new conv (vault_holds vault.new) clock process.now)) }
+        (scene_at transaction.old conv (vault_holds vault.old) clock process.now) code
+        (scene_at transaction.new conv (vault_holds vault.new) clock process.now)) }
     ensures puts { Puts transaction.old transaction.new }
 {
     laws::act_steps();
@@ -187,8 +187,8 @@ fn set_by_conf(
     ensures told { IsTrue (vault_tells vault.old) → (conv : ConvState) (clock : ClockState) →
         IfOk result (λ code. Acts (by_entries (conf_of conf.now)
         (assignments_of env.now)) nothing_known
-        (standing transaction.old conv (vault_holds vault.old) clock process.now) code
-        (standing transaction.new conv (vault_holds vault.new) clock process.now)) }
+        (scene_at transaction.old conv (vault_holds vault.old) clock process.now) code
+        (scene_at transaction.new conv (vault_holds vault.new) clock process.now)) }
     ensures puts { Puts transaction.old transaction.new }
 {
     laws::act_steps();
@@ -214,8 +214,8 @@ fn set_both(
     ensures told { IsTrue (vault_tells vault.old) → (conv : ConvState) (clock : ClockState) →
         IfOk result (λ code. Acts (sets_all entries.now (by_fits (assignments_of env.now)))
         nothing_known
-        (standing transaction.old conv (vault_holds vault.old) clock process.now) code
-        (standing transaction.new conv (vault_holds vault.new) clock process.now)) }
+        (scene_at transaction.old conv (vault_holds vault.old) clock process.now) code
+        (scene_at transaction.new conv (vault_holds vault.new) clock process.now)) }
     ensures puts { Puts transaction.old transaction.new }
 {
     laws::act_steps();

@@ -4,12 +4,12 @@ ghost use Rattle.conv_port.specs.Conv.{ConvState};
 ghost use Rattle.pam_outside.specs.Files.{VaultState};
 ghost use Rattle.pam_outside.specs.Time.{ClockState};
 ghost use Rattle.account_files.specs.pam_room.specs.declared.process.Process.{Process};
-ghost use Rattle.account_files.specs.Act.{Came, Leads, sees_items, standing};
-ghost use Rattle.account_files.specs.CameWith.{CameWith};
+ghost use Rattle.account_files.specs.Act.{Yields, Reaches, sees_items, scene_at};
+ghost use Rattle.account_files.specs.YieldsWith.{YieldsWith};
 ghost use Rattle.mod_env.specs.Env.{by_user, entry_known, entry_seen, looks_if, put_in, puts_all, puts_env, sets_all, sets_by, sets_variable};
 ghost use Rattle.mod_env.specs.Puts.{Puts};
 
-use crate::conf::{Entries, Entry};
+use crate::conf::{Entries, EnvLine};
 use crate::expand::{Expansion, Sources, asks_account, expansion_of};
 use account_db::Passwd;
 use account_files::pam_room::{Process, Transaction, get_item};
@@ -34,9 +34,9 @@ pub(crate) fn set_all(
         (vault_holds vault.new).files ≡ (vault_holds vault.old).files }
     ensures told { IsTrue (vault_tells vault.old) →
         (conv : ConvState) (clock : ClockState) →
-        IfOk result (λ fits. CameWith fits (sets_all entries.now) accounts.old
-        (standing transaction.old conv (vault_holds vault.old) clock process.now) accounts.new
-        (standing transaction.new conv (vault_holds vault.new) clock process.now)) }
+        IfOk result (λ fits. YieldsWith fits (sets_all entries.now) accounts.old
+        (scene_at transaction.old conv (vault_holds vault.old) clock process.now) accounts.new
+        (scene_at transaction.new conv (vault_holds vault.new) clock process.now)) }
     ensures puts { Puts transaction.old transaction.new }
 {
     crate::laws::puts_alone();
@@ -53,7 +53,7 @@ pub(crate) fn set_all(
 // Sets a variable; false if a value is too long.
 fn set_variable(
     alloc: Global,
-    entry: &Entry,
+    entry: &EnvLine,
     transaction: &mut Transaction,
     accounts: &mut Accounts,
     process: &Process,
@@ -64,9 +64,9 @@ fn set_variable(
         (vault_holds vault.new).files ≡ (vault_holds vault.old).files }
     ensures told { IsTrue (vault_tells vault.old) →
         (conv : ConvState) (clock : ClockState) →
-        IfOk result (λ fits. CameWith fits (sets_variable entry.now) accounts.old
-        (standing transaction.old conv (vault_holds vault.old) clock process.now) accounts.new
-        (standing transaction.new conv (vault_holds vault.new) clock process.now)) }
+        IfOk result (λ fits. YieldsWith fits (sets_variable entry.now) accounts.old
+        (scene_at transaction.old conv (vault_holds vault.old) clock process.now) accounts.new
+        (scene_at transaction.new conv (vault_holds vault.new) clock process.now)) }
     ensures puts { Puts transaction.old transaction.new }
 {
     crate::laws::puts_alone();
@@ -91,10 +91,10 @@ fn look(
         (vault_holds vault.new).files ≡ (vault_holds vault.old).files }
     ensures told { IsTrue (vault_tells vault.old) →
         (conv : ConvState) (clock : ClockState) →
-        OnOk result (CameWith (entry_seen asks transaction.now.items.user accounts.new)
+        OnOk result (YieldsWith (entry_seen asks transaction.now.items.user accounts.new)
         (looks_if asks) accounts.old
-        (standing transaction.now conv (vault_holds vault.old) clock process.now) accounts.new
-        (standing transaction.now conv (vault_holds vault.new) clock process.now)) }
+        (scene_at transaction.now conv (vault_holds vault.old) clock process.now) accounts.new
+        (scene_at transaction.now conv (vault_holds vault.new) clock process.now)) }
     ensures read { OnOk result (asks ≡ true → transaction.now.items.user ≢ None →
         accounts.new.passwds ≢ None) }
 {
@@ -118,10 +118,10 @@ fn look_user(
         (vault_holds vault.new).files ≡ (vault_holds vault.old).files }
     ensures told { IsTrue (vault_tells vault.old) →
         (conv : ConvState) (clock : ClockState) →
-        OnOk result (CameWith (entry_known transaction.now.items.user accounts.new)
+        OnOk result (YieldsWith (entry_known transaction.now.items.user accounts.new)
         (λ act. sees_items (λ items. by_user items.user act)) accounts.old
-        (standing transaction.now conv (vault_holds vault.old) clock process.now) accounts.new
-        (standing transaction.now conv (vault_holds vault.new) clock process.now)) }
+        (scene_at transaction.now conv (vault_holds vault.old) clock process.now) accounts.new
+        (scene_at transaction.now conv (vault_holds vault.new) clock process.now)) }
     ensures read { OnOk result (transaction.now.items.user ≢ None → accounts.new.passwds ≢ None) }
 {
     laws::act_steps();
@@ -160,15 +160,15 @@ fn found_entry(
 // Sets a variable by the user's entry; false if a value is too long.
 fn set_by(
     alloc: Global,
-    entry: &Entry,
+    entry: &EnvLine,
     account: Option<&Passwd>,
     transaction: &mut Transaction,
 ) -> Result<bool, NoMemory>
     ensures told { (conv : ConvState) (vault : VaultState) (clock : ClockState)
         (process : Process) →
-        IfOk result (λ fits. Came fits (sets_by entry.now (option_copied account.entry))
-        (standing transaction.old conv vault clock process)
-        (standing transaction.new conv vault clock process)) }
+        IfOk result (λ fits. Yields fits (sets_by entry.now (option_copied account.entry))
+        (scene_at transaction.old conv vault clock process)
+        (scene_at transaction.new conv vault clock process)) }
     ensures puts { Puts transaction.old transaction.new }
 {
     laws::act_steps();
@@ -192,9 +192,9 @@ fn set_by(
 pub(crate) fn put_all(texts: &Texts, transaction: &mut Transaction) -> Result<(), NoMemory>
     ensures told { (conv : ConvState) (vault : VaultState) (clock : ClockState)
         (process : Process) →
-        OnOk result (Leads (puts_all texts.now)
-        (standing transaction.old conv vault clock process)
-        (standing transaction.new conv vault clock process)) }
+        OnOk result (Reaches (puts_all texts.now)
+        (scene_at transaction.old conv vault clock process)
+        (scene_at transaction.new conv vault clock process)) }
     ensures puts { Puts transaction.old transaction.new }
 {
     crate::laws::puts_alone();
@@ -210,9 +210,9 @@ pub(crate) fn put_all(texts: &Texts, transaction: &mut Transaction) -> Result<()
 fn put(text: &[u8], transaction: &mut Transaction) -> Result<(), NoMemory>
     ensures told { (conv : ConvState) (vault : VaultState) (clock : ClockState)
         (process : Process) →
-        OnOk result (Leads (puts_env text.now)
-        (standing transaction.old conv vault clock process)
-        (standing transaction.new conv vault clock process)) }
+        OnOk result (Reaches (puts_env text.now)
+        (scene_at transaction.old conv vault clock process)
+        (scene_at transaction.new conv vault clock process)) }
     ensures puts { Puts transaction.old transaction.new }
 {
     put_in(text, &mut transaction.env)?;

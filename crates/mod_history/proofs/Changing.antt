@@ -16,101 +16,101 @@ use Rattle.pam_room.specs.declared.transaction.Transaction.{Transaction}
 use Rattle.account_db.specs.declared.shadow.Shadow.{Shadow}
 use Rattle.account_files.specs.declared.content.Content.{Content}
 use Rattle.account_files.specs.Accounts.{Known}
-use Rattle.account_files.specs.Act.{Act, Acts, Came, Leads, reads_file, replaces_file, stage_of}
-use Rattle.mod_unix.specs.module_acts.specs.Comes.{Comes, lent}
+use Rattle.account_files.specs.Act.{Act, Acts, Yields, Reaches, reads_file, replaces_file, stage_of}
+use Rattle.mod_unix.specs.module_acts.specs.Returns.{Returns, scene_of_parts}
 use Rattle.mod_unix.specs.module_acts.specs.Steps.{sees_caller}
-use Rattle.mod_unix.specs.declared.look.Look.{Look}
-use Rattle.mod_unix.specs.declared.look.Look.TheVariants.{Unknown, Unavailable, Plain, Shadowed}
-use Rattle.mod_unix.specs.Change.{by_done}
+use Rattle.mod_unix.specs.declared.look.KnownPassword.{KnownPassword}
+use Rattle.mod_unix.specs.declared.look.KnownPassword.TheVariants.{Unknown, Unavailable, Plain, Shadowed}
+use Rattle.mod_unix.specs.Change.{write_result}
 use Rattle.mod_history.specs.declared.history.Remembered.{Remembered}
 use Rattle.mod_history.specs.History.{history_text}
-use Rattle.mod_history.specs.Pwhistory.{by_history, by_length, by_look, by_remember, by_use, history_in, history_limit, history_name, is_refused, refuses_token, remember_of, remembers, renews, stores_text, unsets_item}
+use Rattle.mod_history.specs.Pwhistory.{remember_in_history, by_length, renew_if_known, by_remember, by_use, history_in, history_limit, history_name, is_refused, refuses_token, remember_of, remembers, renews, stores_text, unsets_item}
 use Rattle.mod_history.specs.Renewal.{hashes_of, renewed}
 
 -- ---- by what is known of the user
 
-module _ (call : PlainCall) (user : List ℕ) (look : Look) (s : Scene) where
-  pub by_unknown : look ≡ Unknown → Comes (Ok returns.UserUnknown) (by_look call user look) s s
-  unfolding by_look
-  by_unknown e = subst (λ (l : Look). Comes (Ok returns.UserUnknown) (by_look call user l) s s) (sym e) (λ act known c end rest. rest)
+module _ (call : PlainCall) (user : List ℕ) (look : KnownPassword) (s : Scene) where
+  pub by_unknown : look ≡ Unknown → Returns (Ok returns.UserUnknown) (renew_if_known call user look) s s
+  unfolding renew_if_known
+  by_unknown e = subst (λ (l : KnownPassword). Returns (Ok returns.UserUnknown) (renew_if_known call user l) s s) (sym e) (λ act known c end rest. rest)
 
-  pub by_unavailable : look ≡ Unavailable → Comes (Ok returns.AuthtokErr) (by_look call user look) s s
-  unfolding by_look
-  by_unavailable e = subst (λ (l : Look). Comes (Ok returns.AuthtokErr) (by_look call user l) s s) (sym e) (λ act known c end rest. rest)
+  pub by_unavailable : look ≡ Unavailable → Returns (Ok returns.AuthtokErr) (renew_if_known call user look) s s
+  unfolding renew_if_known
+  by_unavailable e = subst (λ (l : KnownPassword). Returns (Ok returns.AuthtokErr) (renew_if_known call user l) s s) (sym e) (λ act known c end rest. rest)
 
-  pub by_plain : (hash : List ℕ) (new : Scene) (r : Result Code (Refuse ConvErr)) → look ≡ Plain hash → Comes r (renews call user hash) s new → Comes r (by_look call user look) s new
-  unfolding by_look
-  by_plain hash new r e h = subst (λ (l : Look). Comes r (by_look call user l) s new) (sym e) h
+  pub by_plain : (hash : List ℕ) (new : Scene) (r : Result Code (Refuse ConvErr)) → look ≡ Plain hash → Returns r (renews call user hash) s new → Returns r (renew_if_known call user look) s new
+  unfolding renew_if_known
+  by_plain hash new r e h = subst (λ (l : KnownPassword). Returns r (renew_if_known call user l) s new) (sym e) h
 
-  pub by_shadow : (entry : Shadow) (new : Scene) (r : Result Code (Refuse ConvErr)) → look ≡ Shadowed entry → Comes r (renews call user entry.hash) s new → Comes r (by_look call user look) s new
-  unfolding by_look
-  by_shadow entry new r e h = subst (λ (l : Look). Comes r (by_look call user l) s new) (sym e) h
+  pub by_shadow : (entry : Shadow) (new : Scene) (r : Result Code (Refuse ConvErr)) → look ≡ Shadowed entry → Returns r (renews call user entry.hash) s new → Returns r (renew_if_known call user look) s new
+  unfolding renew_if_known
+  by_shadow entry new r e h = subst (λ (l : KnownPassword). Returns r (renew_if_known call user l) s new) (sym e) h
 
 -- ---- with the new token
 
 module _ (call : PlainCall) (user hash : List ℕ) (found : Option (List ℕ)) (s : Scene) where
-  pub no_token : found ≡ None → Came returns.AuthtokErr (remembers call user hash found) s s
+  pub no_token : found ≡ None → Yields returns.AuthtokErr (remembers call user hash found) s s
   unfolding remembers
-  no_token e = subst (λ (t : Option (List ℕ)). Came returns.AuthtokErr (remembers call user hash t) s s) (sym e) (λ act known c end rest. rest)
+  no_token e = subst (λ (t : Option (List ℕ)). Yields returns.AuthtokErr (remembers call user hash t) s s) (sym e) (λ act known c end rest. rest)
 
   module _ (token : List ℕ) (is : found ≡ Some token) where
-    by_zero : (code : Code) (new : Scene) (none : Bool) → (remember_of call.args == 0) ≡ none → Came code (by_remember none call (remember_of call.args) user hash token) s new → Came code (remembers call user hash found) s new
+    by_zero : (code : Code) (new : Scene) (none : Bool) → (remember_of call.args == 0) ≡ none → Yields code (by_remember none call (remember_of call.args) user hash token) s new → Yields code (remembers call user hash found) s new
     unfolding remembers
-    by_zero code new none e h = subst (λ (t : Option (List ℕ)). Came code (remembers call user hash t) s new) (sym is)
-        (subst (λ (b : Bool). Came code (by_remember b call (remember_of call.args) user hash token) s new) (sym e) h)
+    by_zero code new none e h = subst (λ (t : Option (List ℕ)). Yields code (remembers call user hash t) s new) (sym is)
+        (subst (λ (b : Bool). Yields code (by_remember b call (remember_of call.args) user hash token) s new) (sym e) h)
 
-    pub not_remembered : (remember_of call.args == 0) ≡ true → Came returns.Success (remembers call user hash found) s s
+    pub not_remembered : (remember_of call.args == 0) ≡ true → Yields returns.Success (remembers call user hash found) s s
     not_remembered e = by_zero returns.Success s true e (λ act known c end rest. rest)
 
-    pub remembered : (content : Content) (history : Option (List Remembered)) (code : Code) (mid new : Scene) → (remember_of call.args == 0) ≡ false → Came content (reads_file history_name history_limit) s mid
-        → history ≡ history_in content → Came code (by_history call (remember_of call.args) user hash token history) mid new → Came code (remembers call user hash found) s new
+    pub remembered : (content : Content) (history : Option (List Remembered)) (code : Code) (mid new : Scene) → (remember_of call.args == 0) ≡ false → Yields content (reads_file history_name history_limit) s mid
+        → history ≡ history_in content → Yields code (remember_in_history call (remember_of call.args) user hash token history) mid new → Yields code (remembers call user hash found) s new
     remembered content history code mid new e read h done = by_zero code new false e
-        (λ act known c end rest. read (λ k. by_history call (remember_of call.args) user hash token (history_in k) act) known c end
-        (subst (λ (o : Option (List Remembered)). Acts (by_history call (remember_of call.args) user hash token o act) known mid c end) h (done act known c end rest)))
+        (λ act known c end rest. read (λ k. remember_in_history call (remember_of call.args) user hash token (history_in k) act) known c end
+        (subst (λ (o : Option (List Remembered)). Acts (remember_in_history call (remember_of call.args) user hash token o act) known mid c end) h (done act known c end rest)))
 
 -- ---- with the history
 
 module _ (seeing : (act : ℕ → Act) (known : Known) (s : Scene) (code : Code) (new : Scene) → Acts (act s.process.caller) known s code new → Acts (sees_caller act) known s code new)
     (call : PlainCall) (remember : ℕ) (user hash token : List ℕ) (found : Option (List Remembered)) (s : Scene) where
-  pub no_history : found ≡ None → Came returns.AuthtokErr (by_history call remember user hash token found) s s
-  no_history e = subst (λ (o : Option (List Remembered)). Came returns.AuthtokErr (by_history call remember user hash token o) s s) (sym e) (λ act known c end rest. rest)
+  pub no_history : found ≡ None → Yields returns.AuthtokErr (remember_in_history call remember user hash token found) s s
+  no_history e = subst (λ (o : Option (List Remembered)). Yields returns.AuthtokErr (remember_in_history call remember user hash token o) s s) (sym e) (λ act known c end rest. rest)
 
   module _ (history : List Remembered) (is : found ≡ Some history) where
-    by_refusal : (code : Code) (new : Scene) (refused : Bool) → refused ≡ is_refused call.args s.process.caller token hash (hashes_of user history) → Came code (by_use refused remember user hash history) s new
-        → Came code (by_history call remember user hash token found) s new
-    by_refusal code new refused e h = subst (λ (o : Option (List Remembered)). Came code (by_history call remember user hash token o) s new) (sym is)
+    by_refusal : (code : Code) (new : Scene) (refused : Bool) → refused ≡ is_refused call.args s.process.caller token hash (hashes_of user history) → Yields code (by_use refused remember user hash history) s new
+        → Yields code (remember_in_history call remember user hash token found) s new
+    by_refusal code new refused e h = subst (λ (o : Option (List Remembered)). Yields code (remember_in_history call remember user hash token o) s new) (sym is)
         (λ act known c end rest. seeing (λ caller. by_use (is_refused call.args caller token hash (hashes_of user history)) remember user hash history act) known s c end
         (subst (λ (b : Bool). Acts (by_use b remember user hash history act) known s c end) e (h act known c end rest)))
 
-    pub used : (new : Scene) → true ≡ is_refused call.args s.process.caller token hash (hashes_of user history) → Came returns.AuthtokErr refuses_token s new → Came returns.AuthtokErr (by_history call remember user hash token found) s new
+    pub used : (new : Scene) → true ≡ is_refused call.args s.process.caller token hash (hashes_of user history) → Yields returns.AuthtokErr refuses_token s new → Yields returns.AuthtokErr (remember_in_history call remember user hash token found) s new
     used new e h = by_refusal returns.AuthtokErr new true e h
 
     pub not_used : (code : Code) (text : List ℕ) (new : Scene) → false ≡ is_refused call.args s.process.caller token hash (hashes_of user history) → text ≡ history_text (renewed remember user hash history)
-        → Came code (stores_text text) s new → Came code (by_history call remember user hash token found) s new
-    not_used code text new e is h = by_refusal code new false e (subst (λ (t : List ℕ). Came code (stores_text t) s new) is h)
+        → Yields code (stores_text text) s new → Yields code (remember_in_history call remember user hash token found) s new
+    not_used code text new e is h = by_refusal code new false e (subst (λ (t : List ℕ). Yields code (stores_text t) s new) is h)
 
 -- ---- the file
 
 module _ (text : List ℕ) (s : Scene) where
-  by_size : (code : Code) (new : Scene) (b : Bool) → nat_le (length text) history_limit ≡ b → Came code (by_length b text) s new → Came code (stores_text text) s new
+  by_size : (code : Code) (new : Scene) (b : Bool) → nat_le (length text) history_limit ≡ b → Yields code (by_length b text) s new → Yields code (stores_text text) s new
   unfolding stores_text
-  by_size code new b e h = subst (λ (x : Bool). Came code (by_length x text) s new) (sym e) h
+  by_size code new b e h = subst (λ (x : Bool). Yields code (by_length x text) s new) (sym e) h
 
-  pub too_long : nat_le (length text) history_limit ≡ false → Came returns.AuthtokErr (stores_text text) s s
+  pub too_long : nat_le (length text) history_limit ≡ false → Yields returns.AuthtokErr (stores_text text) s s
   too_long e = by_size returns.AuthtokErr s false e (λ act known c end rest. rest)
 
-  pub short : (done : Bool) (code : Code) (new : Scene) → nat_le (length text) history_limit ≡ true → Came done (replaces_file history_name text) s new → code ≡ by_done done → Came code (stores_text text) s new
-  short done code new e h is = by_size code new true e (λ act known c end rest. h (λ d. act (by_done d)) known c end (subst (λ (x : Code). Acts (act x) known new c end) is rest))
+  pub short : (done : Bool) (code : Code) (new : Scene) → nat_le (length text) history_limit ≡ true → Yields done (replaces_file history_name text) s new → code ≡ write_result done → Yields code (stores_text text) s new
+  short done code new e h is = by_size code new true e (λ act known c end rest. h (λ d. act (write_result d)) known c end (subst (λ (x : Code). Acts (act x) known new c end) is rest))
 
 -- ---- a token that was used before
 
 module _ (t u : Transaction) (conv : ConvState) (vault : VaultState) (clock : ClockState) (process : PlainProcess) where
-  pub unsetting : (item : ItemName) → u ≡ record t { items = with_text t.items item None } → Leads (unsets_item item) (lent t conv vault clock process) (lent u conv vault clock process)
+  pub unsetting : (item : ItemName) → u ≡ record t { items = with_text t.items item None } → Reaches (unsets_item item) (scene_of_parts t conv vault clock process) (scene_of_parts u conv vault clock process)
   unfolding unsets_item
   unsetting item n = λ act known code end rest.
-      let stage : unsets_item item act (stage_of known (lent t conv vault clock process)) ≡ act (stage_of known (lent u conv vault clock process)) = rw n refl in
-      let scene : (p : Played) → with_played p (lent u conv vault clock process) ≡ with_played p (lent t conv vault clock process) = λ p. rw n refl in
+      let stage : unsets_item item act (stage_of known (scene_of_parts t conv vault clock process)) ≡ act (stage_of known (scene_of_parts u conv vault clock process)) = rw n refl in
+      let scene : (p : Played) → with_played p (scene_of_parts u conv vault clock process) ≡ with_played p (scene_of_parts t conv vault clock process) = λ p. rw n refl in
       record {
         code_is = rest.code_is ∙ ap (λ (p : Played). p.code) (sym stage);
-        scene_is = rest.scene_is ∙ scene (act (stage_of known (lent u conv vault clock process))) ∙ ap (λ (p : Played). with_played p (lent t conv vault clock process)) (sym stage);
+        scene_is = rest.scene_is ∙ scene (act (stage_of known (scene_of_parts u conv vault clock process))) ∙ ap (λ (p : Played). with_played p (scene_of_parts t conv vault clock process)) (sym stage);
       }

@@ -20,14 +20,14 @@ use Rattle.account_files.specs.Accounts.{account_limit, nothing_known, passwds_i
 use Rattle.account_files.specs.Act.{Act, Stage, answers, asks_user, called, in_room, later, reads_file, replaced as seen_after, replaces_file, sees_items, shows, unless_answered}
 use Rattle.account_files.specs.Content.{content_of}
 use Rattle.mod_unix.specs.module_acts.specs.Steps.{exchanges, sees_caller, sets_item, with_replies}
-use Rattle.mod_unix.specs.declared.look.Look.{Look}
-use Rattle.mod_unix.specs.declared.look.Look.TheVariants.{Unknown, Unavailable, Plain, Shadowed}
+use Rattle.mod_unix.specs.declared.look.KnownPassword.{KnownPassword}
+use Rattle.mod_unix.specs.declared.look.KnownPassword.TheVariants.{Unknown, Unavailable, Plain, Shadowed}
 use Rattle.account_files.specs.Arguments.{has_argument}
-use Rattle.mod_unix.specs.Change.{by_authtok, by_done, new_prompts, same_reply, sets_new, takes_token, usable}
+use Rattle.mod_unix.specs.Change.{by_authtok, write_result, new_prompts, same_reply, sets_new, takes_token, usable}
 use Rattle.mod_unix.specs.Look.{by_field, by_x as by_password, field_among, field_in, field_or_missing, is_x, looks, shadow_in}
 use Rattle.mod_history.specs.declared.history.Remembered.{Remembered}
 use Rattle.mod_history.specs.History.{history_of, history_text}
-use Rattle.mod_history.specs.Pwhistory.{at_once, by_history, by_length, by_look, by_remember, by_use, checks_token, history_in, history_limit, history_name, is_refused, pwhistory_plays, refuses_token, remember_of, remembers, renews, stores_text, unsets_item}
+use Rattle.mod_history.specs.Pwhistory.{at_once, remember_in_history, by_length, renew_if_known, by_remember, by_use, checks_token, history_in, history_limit, history_name, is_refused, pwhistory_plays, refuses_token, remember_of, remembers, renews, stores_text, unsets_item}
 use Rattle.mod_history.specs.Renewal.{hashes_of, renewed}
 use Rattle.mod_history.specs.Standing.{Deed, left, replaced, Does, account_text, entry_hash, hash_by, hash_in, passwd_hash, present_hash, standing_in}
 use Rattle.mod_history.proofs.Renewed.{same}
@@ -72,7 +72,7 @@ module _ (path : List ℕ) (call : PlainCall) (room : SeenRoom) where
 
       -- a file is set, if nothing fails
       put : (stage : Stage) (standing : List Remembered) (fails : Bool) → Knows stage → standing_in (file_at (path_of stage.sight.root history_name) stage.sight.files) ≡ Some standing
-          → DoesOne stage.sight (called (answers (by_done (not fails)) (record stage { sight = seen_after fails (path_of stage.sight.root history_name) (history_text (renewed (remember_of call.args) user hash standing)) stage.sight })))
+          → DoesOne stage.sight (called (answers (write_result (not fails)) (record stage { sight = seen_after fails (path_of stage.sight.root history_name) (history_text (renewed (remember_of call.args) user hash standing)) stage.sight })))
       unfolding answers
       put stage standing true knows stood = (left, refl)
       put stage standing false knows stood = by (bytes_eq (path_of stage.sight.root history_name) path) refl
@@ -81,7 +81,7 @@ module _ (path : List ℕ) (call : PlainCall) (room : SeenRoom) where
           text = history_text (renewed (remember_of call.args) user hash standing)
 
           by : (t : Bool) → bytes_eq (path_of stage.sight.root history_name) path ≡ t
-              → DoesOne stage.sight (called (answers (by_done true) (record stage { sight = seen_after false (path_of stage.sight.root history_name) (history_text (renewed (remember_of call.args) user hash standing)) stage.sight })))
+              → DoesOne stage.sight (called (answers (write_result true) (record stage { sight = seen_after false (path_of stage.sight.root history_name) (history_text (renewed (remember_of call.args) user hash standing)) stage.sight })))
           by true e =
               let is : path_of stage.sight.root history_name ≡ path = (bytes_eq-Decides (path_of stage.sight.root history_name) path).0 e in
               let new = history_text (renewed (remember_of call.args) user hash standing) in (
@@ -111,18 +111,18 @@ module _ (path : List ℕ) (call : PlainCall) (room : SeenRoom) where
 
       module _ (token : List ℕ) where
         by_found : (stage : Stage) (found : Option (List Remembered)) → Knows stage → ((standing : List Remembered) → found ≡ Some standing → standing_in (file_at (path_of stage.sight.root history_name) stage.sight.files) ≡ Some standing)
-            → DoesOne stage.sight (by_history call (remember_of call.args) user hash token found answers stage)
+            → DoesOne stage.sight (remember_in_history call (remember_of call.args) user hash token found answers stage)
         unfolding answers sees_caller
         by_found stage None knows stood = (left, refl)
         by_found stage (Some standing) knows stood = used stage standing (is_refused call.args stage.sight.caller token hash (hashes_of user standing)) knows (stood standing refl)
 
         by_long : (stage : Stage) (long : Bool) (text : List ℕ) → Knows stage → file_at (path_of stage.sight.root history_name) stage.sight.files ≡ Some text
-            → DoesOne stage.sight (by_history call (remember_of call.args) user hash token (history_in (cond long content.Unreadable (content.Holds text))) answers stage)
+            → DoesOne stage.sight (remember_in_history call (remember_of call.args) user hash token (history_in (cond long content.Unreadable (content.Holds text))) answers stage)
         by_long stage true text knows at = by_found stage None knows (λ standing e. absurd cc)
         by_long stage false text knows at = by_found stage (history_of text) knows (λ standing e. ap standing_in at ∙ e)
 
         by_file : (stage : Stage) (o : Option (List ℕ)) (fails : Bool) → Knows stage → file_at (path_of stage.sight.root history_name) stage.sight.files ≡ o
-            → DoesOne stage.sight (by_history call (remember_of call.args) user hash token (history_in (content_of fails history_limit o)) answers stage)
+            → DoesOne stage.sight (remember_in_history call (remember_of call.args) user hash token (history_in (content_of fails history_limit o)) answers stage)
         unfolding content_of
         by_file stage o true knows at = by_found stage None knows (λ standing e. absurd cc)
         by_file stage None false knows at = by_found stage (Some []) knows (λ standing e. ap standing_in at ∙ e)
@@ -164,18 +164,18 @@ module _ (path : List ℕ) (call : PlainCall) (room : SeenRoom) where
 
     -- ---- what is known of the user's password
 
-    abbrev next : Look → Act
-    next look = by_look call user look answers
+    abbrev next : KnownPassword → Act
+    next look = renew_if_known call user look answers
 
-    looking : (look : Look) (stage : Stage) → present_hash stage.sight.root stage.sight.files user ≡ hash_in look → DoesOne stage.sight (next look stage)
-    unfolding by_look answers
+    looking : (look : KnownPassword) (stage : Stage) → present_hash stage.sight.root stage.sight.files user ≡ hash_in look → DoesOne stage.sight (next look stage)
+    unfolding renew_if_known answers
     looking Unknown stage is = (left, refl)
     looking Unavailable stage is = (left, refl)
     looking (Plain hash) stage is = renewing hash stage is
     looking (Shadowed entry) stage is = renewing entry.hash stage is
 
     failed : (stage : Stage) → DoesOne stage.sight (next Unavailable stage)
-    unfolding by_look answers
+    unfolding renew_if_known answers
     failed stage = (left, refl)
 
     abbrev shadow_at : Stage → Content

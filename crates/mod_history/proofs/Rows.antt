@@ -20,7 +20,7 @@ use Rattle.mod_unix.specs.Change.{takes_token}
 use Rattle.mod_unix.specs.Look.{looks}
 use Rattle.mod_history.specs.declared.history.Remembered.{Remembered}
 use Rattle.mod_history.specs.History.{history_of, history_text}
-use Rattle.mod_history.specs.Pwhistory.{by_look, checks_token, pwhistory_plays, remember_of, remembers, renews, stores_text}
+use Rattle.mod_history.specs.Pwhistory.{renew_if_known, checks_token, pwhistory_plays, remember_of, remembers, renews, stores_text}
 use Rattle.mod_history.specs.Renewal.{renewed, renewed_hashes}
 use Rattle.mod_history.specs.Securetty.{is_secure, securetty_plays}
 use Rattle.mod_history.specs.Wheel.{wheel_plays}
@@ -214,45 +214,45 @@ abbrev in_history : Played → Option (List ℕ)
 in_history p = file_at (codes "/r/etc/security/pamsess_history") p.files
 
 pwhistory_code : (second (codes "remember=2" ∷ []) (history ∷ []) []).code ≡ returns.Success
-unfolding answers asks_user checks_token looks by_look renews takes_token remembers remember_of reads_file sees_items sees_caller stores_text replaces_file history_of history_text content_of path_of failing_of entries_of parts_of lines_of cut
+unfolding answers asks_user checks_token looks renew_if_known renews takes_token remembers remember_of reads_file sees_items sees_caller stores_text replaces_file history_of history_text content_of path_of failing_of entries_of parts_of lines_of cut
 pwhistory_code = refl
 
 pwhistory_file : in_history (second (codes "remember=2" ∷ []) (history ∷ []) []) ≡ Some (codes "joe:B:H\nann\n")
-unfolding answers asks_user checks_token looks by_look renews takes_token remembers remember_of reads_file sees_items sees_caller stores_text replaces_file history_of history_text content_of path_of failing_of entries_of parts_of lines_of cut
+unfolding answers asks_user checks_token looks renew_if_known renews takes_token remembers remember_of reads_file sees_items sees_caller stores_text replaces_file history_of history_text content_of path_of failing_of entries_of parts_of lines_of cut
 pwhistory_file = refl
 
 pwhistory_new : in_history (second [] [] []) ≡ Some (codes "joe:H\n")
-unfolding answers asks_user checks_token looks by_look renews takes_token remembers remember_of reads_file sees_items sees_caller stores_text replaces_file history_of history_text content_of path_of failing_of entries_of parts_of lines_of cut
+unfolding answers asks_user checks_token looks renew_if_known renews takes_token remembers remember_of reads_file sees_items sees_caller stores_text replaces_file history_of history_text content_of path_of failing_of entries_of parts_of lines_of cut
 pwhistory_new = refl
 
 pwhistory_calls : (second [] (history ∷ []) []).calls ≡ 3
-unfolding answers asks_user checks_token looks by_look renews takes_token remembers remember_of reads_file sees_items sees_caller stores_text replaces_file history_of history_text content_of path_of failing_of entries_of parts_of lines_of cut
+unfolding answers asks_user checks_token looks renew_if_known renews takes_token remembers remember_of reads_file sees_items sees_caller stores_text replaces_file history_of history_text content_of path_of failing_of entries_of parts_of lines_of cut
 pwhistory_calls = refl
 
 -- nothing is read with remember=0
 pwhistory_none : (second (codes "remember=0" ∷ []) (history ∷ []) []).calls ≡ 1
-unfolding answers asks_user checks_token looks by_look renews takes_token remembers remember_of reads_file sees_items content_of path_of failing_of entries_of parts_of lines_of cut
+unfolding answers asks_user checks_token looks renew_if_known renews takes_token remembers remember_of reads_file sees_items content_of path_of failing_of entries_of parts_of lines_of cut
 pwhistory_none = refl
 
 -- each call fails in turn, and the file is as before
 pwhistory_first_call : (second [] (history ∷ []) (1 ∷ [])).code ≡ returns.AuthtokErr
-unfolding answers asks_user checks_token looks by_look reads_file content_of path_of failing_of
+unfolding answers asks_user checks_token looks renew_if_known reads_file content_of path_of failing_of
 pwhistory_first_call = refl
 
 pwhistory_second_call : (second [] (history ∷ []) (2 ∷ [])).code ≡ returns.AuthtokErr
-unfolding answers asks_user checks_token looks by_look renews takes_token remembers remember_of reads_file sees_items sees_caller content_of path_of failing_of entries_of parts_of lines_of cut
+unfolding answers asks_user checks_token looks renew_if_known renews takes_token remembers remember_of reads_file sees_items sees_caller content_of path_of failing_of entries_of parts_of lines_of cut
 pwhistory_second_call = refl
 
 pwhistory_third_call : (second [] (history ∷ []) (3 ∷ [])).code ≡ returns.AuthtokErr
-unfolding answers asks_user checks_token looks by_look renews takes_token remembers remember_of reads_file sees_items sees_caller stores_text replaces_file history_of history_text content_of path_of failing_of entries_of parts_of lines_of cut
+unfolding answers asks_user checks_token looks renew_if_known renews takes_token remembers remember_of reads_file sees_items sees_caller stores_text replaces_file history_of history_text content_of path_of failing_of entries_of parts_of lines_of cut
 pwhistory_third_call = refl
 
 pwhistory_third_file : in_history (second [] (history ∷ []) (3 ∷ [])) ≡ Some (codes "joe:A:B\nann")
-unfolding answers asks_user checks_token looks by_look renews takes_token remembers remember_of reads_file sees_items sees_caller stores_text replaces_file history_of history_text content_of path_of failing_of entries_of parts_of lines_of cut
+unfolding answers asks_user checks_token looks renew_if_known renews takes_token remembers remember_of reads_file sees_items sees_caller stores_text replaces_file history_of history_text content_of path_of failing_of entries_of parts_of lines_of cut
 pwhistory_third_file = refl
 
 pwhistory_damaged : (second [] (file (codes "/etc/security/pamsess_history") (codes "joe:A\n\n") ∷ []) []).code ≡ returns.AuthtokErr
-unfolding answers asks_user checks_token looks by_look renews takes_token remembers remember_of reads_file sees_items sees_caller history_of content_of path_of failing_of entries_of parts_of lines_of cut
+unfolding answers asks_user checks_token looks renew_if_known renews takes_token remembers remember_of reads_file sees_items sees_caller history_of content_of path_of failing_of entries_of parts_of lines_of cut
 pwhistory_damaged = refl
 
 -- with use_authtok the new password is AUTHTOK: it is set, and has 1 to 512 bytes
@@ -261,19 +261,19 @@ with_token token = let t = new_transaction 1 in
     play pwhistory_plays (call_of ChAuthTok (codes "use_authtok" ∷ [])) (room_of (record t { items = record no_texts { user = Some (codes "joe"); auth_tok = token } }) (record { offers = []; waits = false; handed = [] })) (passwd ∷ []) 0 []
 
 token_unset : (with_token None).code ≡ returns.AuthtokErr
-unfolding answers asks_user checks_token looks by_look renews takes_token remembers remember_of reads_file sees_items sees_caller stores_text replaces_file history_of history_text content_of path_of failing_of entries_of parts_of lines_of cut
+unfolding answers asks_user checks_token looks renew_if_known renews takes_token remembers remember_of reads_file sees_items sees_caller stores_text replaces_file history_of history_text content_of path_of failing_of entries_of parts_of lines_of cut
 token_unset = refl
 
 token_empty : (with_token (Some [])).code ≡ returns.AuthtokErr
-unfolding answers asks_user checks_token looks by_look renews takes_token remembers remember_of reads_file sees_items sees_caller stores_text replaces_file history_of history_text content_of path_of failing_of entries_of parts_of lines_of cut
+unfolding answers asks_user checks_token looks renew_if_known renews takes_token remembers remember_of reads_file sees_items sees_caller stores_text replaces_file history_of history_text content_of path_of failing_of entries_of parts_of lines_of cut
 token_empty = refl
 
 token_of_512 : (with_token (Some (replicate 512 110))).code ≡ returns.Success
-unfolding answers asks_user checks_token looks by_look renews takes_token remembers remember_of reads_file sees_items sees_caller stores_text replaces_file history_of history_text content_of path_of failing_of entries_of parts_of lines_of cut
+unfolding answers asks_user checks_token looks renew_if_known renews takes_token remembers remember_of reads_file sees_items sees_caller stores_text replaces_file history_of history_text content_of path_of failing_of entries_of parts_of lines_of cut
 token_of_512 = refl
 
 token_of_513 : (with_token (Some (replicate 513 110))).code ≡ returns.AuthtokErr
-unfolding answers asks_user checks_token looks by_look renews takes_token remembers remember_of reads_file sees_items sees_caller stores_text replaces_file history_of history_text content_of path_of failing_of entries_of parts_of lines_of cut
+unfolding answers asks_user checks_token looks renew_if_known renews takes_token remembers remember_of reads_file sees_items sees_caller stores_text replaces_file history_of history_text content_of path_of failing_of entries_of parts_of lines_of cut
 token_of_513 = refl
 
 -- the first pass

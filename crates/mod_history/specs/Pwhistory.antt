@@ -19,9 +19,9 @@ use Rattle.account_files.specs.Act.{Act, answers, asks_user, in_room, plays_by, 
 use Rattle.mod_unix.specs.module_acts.specs.Steps.{sees_caller}
 use Rattle.sha_crypt.specs.declared.setting.SettingFault.{SettingFault}
 use Rattle.sha_crypt.specs.Hash.{crypted}
-use Rattle.mod_unix.specs.declared.look.Look.{Look}
-use Rattle.mod_unix.specs.declared.look.Look.TheVariants.{Unknown, Unavailable, Plain, Shadowed}
-use Rattle.mod_unix.specs.Change.{by_done, takes_token}
+use Rattle.mod_unix.specs.declared.look.KnownPassword.{KnownPassword}
+use Rattle.mod_unix.specs.declared.look.KnownPassword.TheVariants.{Unknown, Unavailable, Plain, Shadowed}
+use Rattle.mod_unix.specs.Change.{write_result, takes_token}
 use Rattle.mod_unix.specs.Look.{looks}
 use Rattle.mod_history.specs.declared.history.Remembered.{Remembered}
 use Rattle.account_files.specs.Arguments.{has_argument}
@@ -89,7 +89,7 @@ history_in Unreadable = None
 history_in (Holds text) = history_of text
 
 abbrev pub by_length : Bool → List ℕ → (Code → Act) → Act
-by_length true text act = replaces_file history_name text (λ done. act (by_done done))
+by_length true text act = replaces_file history_name text (λ done. act (write_result done))
 by_length false text act = act AuthtokErr
 
 -- the file is replaced, unless it became too long
@@ -106,10 +106,10 @@ by_use false remember user hash history act =
 abbrev pub is_refused : List (List ℕ) → ℕ → List ℕ → List ℕ → List (List ℕ) → Bool
 is_refused args caller token hash hashes = is_enforced args caller && was_used token hash hashes
 
-abbrev pub by_history : PlainCall → ℕ → List ℕ → List ℕ → List ℕ → Option (List Remembered)
+abbrev pub remember_in_history : PlainCall → ℕ → List ℕ → List ℕ → List ℕ → Option (List Remembered)
     → (Code → Act) → Act
-by_history call remember user hash token None act = act AuthtokErr
-by_history call remember user hash token (Some history) act =
+remember_in_history call remember user hash token None act = act AuthtokErr
+remember_in_history call remember user hash token (Some history) act =
     sees_caller (λ caller. by_use (is_refused call.args caller token hash (hashes_of user history))
     remember user hash history act)
 
@@ -117,7 +117,7 @@ by_history call remember user hash token (Some history) act =
 abbrev pub by_remember : Bool → PlainCall → ℕ → List ℕ → List ℕ → List ℕ → (Code → Act) → Act
 by_remember true call remember user hash token act = act Success
 by_remember false call remember user hash token act =
-    reads_file history_name history_limit (λ content. by_history call remember user hash token
+    reads_file history_name history_limit (λ content. remember_in_history call remember user hash token
     (history_in content) act)
 
 abbrev pub by_token : PlainCall → List ℕ → List ℕ → Option (List ℕ) → (Code → Act) → Act
@@ -132,14 +132,14 @@ remembers call user hash token act = by_token call user hash token act
 unfoldable pub renews : PlainCall → List ℕ → List ℕ → (Code → Act) → Act
 renews call user hash act = takes_token call (λ token. remembers call user hash token act)
 
-unfoldable pub by_look : PlainCall → List ℕ → Look → (Code → Act) → Act
-by_look call user Unknown act = act UserUnknown
-by_look call user Unavailable act = act AuthtokErr
-by_look call user (Plain hash) act = renews call user hash act
-by_look call user (Shadowed entry) act = renews call user entry.hash act
+unfoldable pub renew_if_known : PlainCall → List ℕ → KnownPassword → (Code → Act) → Act
+renew_if_known call user Unknown act = act UserUnknown
+renew_if_known call user Unavailable act = act AuthtokErr
+renew_if_known call user (Plain hash) act = renews call user hash act
+renew_if_known call user (Shadowed entry) act = renews call user entry.hash act
 
 unfoldable pub checks_token : PlainCall → (Code → Act) → Act
-checks_token call act = asks_user (λ user. looks user (λ look. by_look call user look act))
+checks_token call act = asks_user (λ user. looks user (λ look. renew_if_known call user look act))
 
 -- ---- the module
 

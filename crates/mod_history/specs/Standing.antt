@@ -14,8 +14,8 @@ use Rattle.account_db.specs.declared.passwd.Passwd.{Passwd}
 use Rattle.account_db.specs.Passwd.{entry_of}
 use Rattle.account_files.specs.Accounts.{account_limit, passwds_in}
 use Rattle.account_files.specs.Content.{text_within}
-use Rattle.mod_unix.specs.declared.look.Look.{Look}
-use Rattle.mod_unix.specs.declared.look.Look.TheVariants.{Unknown, Unavailable, Plain, Shadowed}
+use Rattle.mod_unix.specs.declared.look.KnownPassword.{KnownPassword}
+use Rattle.mod_unix.specs.declared.look.KnownPassword.TheVariants.{Unknown, Unavailable, Plain, Shadowed}
 use Rattle.mod_unix.specs.Look.{is_x, shadow_in}
 use Rattle.mod_history.specs.declared.history.Remembered.{Remembered}
 use Rattle.mod_history.specs.History.{history_of, history_text}
@@ -29,7 +29,7 @@ standing_in (Some text) = history_of text
 
 -- ---- the present hash
 
-abbrev pub hash_in : Look → Option (List ℕ)
+abbrev pub hash_in : KnownPassword → Option (List ℕ)
 hash_in Unknown = None
 hash_in Unavailable = None
 hash_in (Plain hash) = Some hash

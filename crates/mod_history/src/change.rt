@@ -1,10 +1,10 @@
 ghost use Rattle.std.specs.Prelude.{◌≡◌, ◌≤◌, ◌<◌, IsTrue, IfOk, OnErr, IfSome, length};
 ghost use Rattle.pam_outside.specs.Time.{ClockState};
 ghost use Rattle.pam_room.specs.Plain.{plain_call, plain_process};
-ghost use Rattle.account_files.specs.Act.{Came};
-ghost use Rattle.mod_unix.specs.module_acts.specs.Comes.{Comes, lent};
-ghost use Rattle.mod_unix.specs.module_acts.specs.Talks.{Talks};
-ghost use Rattle.mod_history.specs.Pwhistory.{by_history, by_look, checks_token, remember_of, remembers, renews, short_number};
+ghost use Rattle.account_files.specs.Act.{Yields};
+ghost use Rattle.mod_unix.specs.module_acts.specs.Returns.{Returns, scene_of_parts};
+ghost use Rattle.mod_unix.specs.module_acts.specs.OnlyTalks.{OnlyTalks};
+ghost use Rattle.mod_history.specs.Pwhistory.{remember_in_history, renew_if_known, checks_token, remember_of, remembers, renews, short_number};
 
 use crate::file::{HISTORY_LIMIT, HISTORY_NAME, history_in, store_text};
 use crate::history::{History, hashes_of};
@@ -13,7 +13,7 @@ use crate::renewal::renewed_text;
 use account_files::{hold_named, read_named};
 use conv_port::Conv;
 use mod_unix::module_acts::{laws, require_user, user_of};
-use mod_unix::{Look, look_up, take_token};
+use mod_unix::{KnownPassword, look_up, take_token};
 use pam_base::{Code, ConvErr, NoMemory, Refuse, Text, number_in};
 use pam_outside::{Held, LockKind, Vault};
 use pam_room::{Call, Process, Transaction};
@@ -34,18 +34,18 @@ pub(crate) fn check_token(
         OnErr result ((vault_holds vault.new).files ≡ (vault_holds vault.old).files) }
     ensures told { IsTrue (conv_tells conv.old) → IsTrue (vault_tells vault.old) →
         (clock : ClockState) →
-        Comes result (checks_token (plain_call call.now))
-        (lent transaction.old (conv_holds conv.old) (vault_holds vault.old) clock
+        Returns result (checks_token (plain_call call.now))
+        (scene_of_parts transaction.old (conv_holds conv.old) (vault_holds vault.old) clock
         (plain_process process.now))
-        (lent transaction.new (conv_holds conv.new) (vault_holds vault.new) clock
+        (scene_of_parts transaction.new (conv_holds conv.new) (vault_holds vault.new) clock
         (plain_process process.now)) }
-    ensures talks { Talks transaction.old transaction.new }
+    ensures talks { OnlyTalks transaction.old transaction.new }
 {
     laws::talking();
     require_user(alloc, transaction, conv)?;
     let user = Text::from_bytes(alloc, user_of(transaction))?;
     let look = look_up(alloc, vault, process, user.bytes())?;
-    by_look(
+    renew_if_known(
         alloc,
         call,
         user.bytes(),
@@ -58,11 +58,11 @@ pub(crate) fn check_token(
 }
 
 // Goes on by what is known of the user's password.
-fn by_look(
+fn renew_if_known(
     alloc: Global,
     call: &Call,
     user: &[u8],
-    look: &Look,
+    look: &KnownPassword,
     transaction: &mut Transaction,
     process: &Process,
     conv: &mut dyn Conv,
@@ -74,18 +74,18 @@ fn by_look(
         OnErr result ((vault_holds vault.new).files ≡ (vault_holds vault.old).files) }
     ensures told { IsTrue (conv_tells conv.old) → IsTrue (vault_tells vault.old) →
         (clock : ClockState) →
-        Comes result (by_look (plain_call call.now) user.now look.now)
-        (lent transaction.old (conv_holds conv.old) (vault_holds vault.old) clock
+        Returns result (renew_if_known (plain_call call.now) user.now look.now)
+        (scene_of_parts transaction.old (conv_holds conv.old) (vault_holds vault.old) clock
         (plain_process process.now))
-        (lent transaction.new (conv_holds conv.new) (vault_holds vault.new) clock
+        (scene_of_parts transaction.new (conv_holds conv.new) (vault_holds vault.new) clock
         (plain_process process.now)) }
-    ensures talks { Talks transaction.old transaction.new }
+    ensures talks { OnlyTalks transaction.old transaction.new }
 {
     laws::talking();
     match look {
-        Look::Unknown => Ok(Code::UserUnknown),
-        Look::Unavailable => Ok(Code::AuthtokErr),
-        Look::Plain(hash) => renew(
+        KnownPassword::Unknown => Ok(Code::UserUnknown),
+        KnownPassword::Unavailable => Ok(Code::AuthtokErr),
+        KnownPassword::Plain(hash) => renew(
             alloc,
             call,
             user,
@@ -95,7 +95,7 @@ fn by_look(
             conv,
             vault,
         ),
-        Look::Shadowed(entry) => renew(
+        KnownPassword::Shadowed(entry) => renew(
             alloc,
             call,
             user,
@@ -125,12 +125,12 @@ fn renew(
         OnErr result ((vault_holds vault.new).files ≡ (vault_holds vault.old).files) }
     ensures told { IsTrue (conv_tells conv.old) → IsTrue (vault_tells vault.old) →
         (clock : ClockState) →
-        Comes result (renews (plain_call call.now) user.now hash.now)
-        (lent transaction.old (conv_holds conv.old) (vault_holds vault.old) clock
+        Returns result (renews (plain_call call.now) user.now hash.now)
+        (scene_of_parts transaction.old (conv_holds conv.old) (vault_holds vault.old) clock
         (plain_process process.now))
-        (lent transaction.new (conv_holds conv.new) (vault_holds vault.new) clock
+        (scene_of_parts transaction.new (conv_holds conv.new) (vault_holds vault.new) clock
         (plain_process process.now)) }
-    ensures talks { Talks transaction.old transaction.new }
+    ensures talks { OnlyTalks transaction.old transaction.new }
 {
     laws::talking();
     let token = take_token(alloc, call, transaction, conv)?;
@@ -168,12 +168,12 @@ fn remember(
         OnErr result ((vault_holds vault.new).files ≡ (vault_holds vault.old).files) }
     ensures told { IsTrue (conv_tells conv.old) → IsTrue (vault_tells vault.old) →
         (clock : ClockState) →
-        IfOk result (λ code. Came code (remembers (plain_call call.now) user.now hash.now token)
-        (lent transaction.old (conv_holds conv.old) (vault_holds vault.old) clock
+        IfOk result (λ code. Yields code (remembers (plain_call call.now) user.now hash.now token)
+        (scene_of_parts transaction.old (conv_holds conv.old) (vault_holds vault.old) clock
         (plain_process process.now))
-        (lent transaction.new (conv_holds conv.new) (vault_holds vault.new) clock
+        (scene_of_parts transaction.new (conv_holds conv.new) (vault_holds vault.new) clock
         (plain_process process.now))) }
-    ensures talks { Talks transaction.old transaction.new }
+    ensures talks { OnlyTalks transaction.old transaction.new }
 {
     laws::talking();
     let token = match token {
@@ -193,7 +193,7 @@ fn remember(
     };
     let content = read_named(alloc, vault, process, HISTORY_NAME, HISTORY_LIMIT)?;
     let history = history_in(alloc, content)?;
-    let code = by_history(
+    let code = remember_in_history(
         alloc,
         call,
         user,
@@ -211,7 +211,7 @@ fn remember(
 
 // Goes on by the history, unless it can't be read. The lock is released before the user gets any
 // message, so that nobody's terminal keeps others out.
-fn by_history(
+fn remember_in_history(
     alloc: Global,
     call: &Call,
     user: &[u8],
@@ -232,13 +232,13 @@ fn by_history(
         OnErr result ((vault_holds vault.new).files ≡ (vault_holds vault.old).files) }
     ensures told { IsTrue (conv_tells conv.old) → IsTrue (vault_tells vault.old) →
         (clock : ClockState) →
-        IfOk result (λ code. Came code (by_history (plain_call call.now)
+        IfOk result (λ code. Yields code (remember_in_history (plain_call call.now)
         (remember_of call.now.args.now) user.now hash.now token.now history)
-        (lent transaction.old (conv_holds conv.old) (vault_holds vault.old) clock
+        (scene_of_parts transaction.old (conv_holds conv.old) (vault_holds vault.old) clock
         (plain_process process.now))
-        (lent transaction.new (conv_holds conv.new) (vault_holds vault.new) clock
+        (scene_of_parts transaction.new (conv_holds conv.new) (vault_holds vault.new) clock
         (plain_process process.now))) }
-    ensures talks { Talks transaction.old transaction.new }
+    ensures talks { OnlyTalks transaction.old transaction.new }
 {
     laws::acting();
     laws::talking();

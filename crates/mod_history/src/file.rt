@@ -1,6 +1,6 @@
 ghost use Rattle.std.specs.Prelude.{◌≡◌, IsTrue, IfOk, OnErr};
 ghost use Rattle.account_files.specs.Act.{StepsTo};
-ghost use Rattle.mod_unix.specs.Change.{by_done};
+ghost use Rattle.mod_unix.specs.Change.{write_result};
 ghost use Rattle.mod_history.specs.Pwhistory.{history_in, stores_text};
 
 use crate::history::{History, read_history};
@@ -49,11 +49,11 @@ pub(crate) fn store_text(
         return Ok(Code::AuthtokErr);
     }
     let done = replace_named(alloc, vault, process, HISTORY_NAME, text)?;
-    Ok(by_done(done))
+    Ok(write_result(done))
 }
 
-fn by_done(done: bool) -> Code
-    ensures { result ≡ by_done done }
+fn write_result(done: bool) -> Code
+    ensures { result ≡ write_result done }
 {
     if done {
         Code::Success

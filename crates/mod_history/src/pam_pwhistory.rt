@@ -2,7 +2,7 @@ ghost use Rattle.std.specs.Prelude.{◌≡◌, IfOk, codes};
 ghost use Rattle.pam_room.specs.Module.{keeps_files, length_note};
 ghost use Rattle.pam_room.specs.Plain.{plain_call};
 ghost use Rattle.pam_room.specs.State.{Scene};
-ghost use Rattle.mod_unix.specs.module_acts.specs.Comes.{Comes, Goes};
+ghost use Rattle.mod_unix.specs.module_acts.specs.Returns.{Returns, Follows};
 ghost use Rattle.mod_history.specs.Pwhistory.{at_once, pwhistory_plays};
 
 use crate::change::check_token;

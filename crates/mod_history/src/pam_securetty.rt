@@ -4,9 +4,9 @@ ghost use Rattle.conv_port.specs.Conv.{ConvState};
 ghost use Rattle.pam_outside.specs.Time.{ClockState};
 ghost use Rattle.pam_room.specs.Module.{keeps_files, length_note};
 ghost use Rattle.account_files.specs.Accounts.{Known, nothing_known};
-ghost use Rattle.account_files.specs.Act.{Acts, standing};
-ghost use Rattle.mod_unix.specs.module_acts.specs.Comes.{Finishes};
-ghost use Rattle.mod_unix.specs.module_acts.specs.Talks.{Talks};
+ghost use Rattle.account_files.specs.Act.{Acts, scene_at};
+ghost use Rattle.mod_unix.specs.module_acts.specs.Returns.{Finishes};
+ghost use Rattle.mod_unix.specs.module_acts.specs.OnlyTalks.{OnlyTalks};
 ghost use Rattle.mod_unix.specs.module_acts.specs.Uncheck.{code_unchecked};
 ghost use Rattle.mod_history.specs.Securetty.{by_list, checks_root, checks_terminal, is_secure, is_terminal, securetty_plays, terminal_name};
 
@@ -89,9 +89,9 @@ fn check_terminal(
         (vault_holds vault.new).files ≡ (vault_holds vault.old).files }
     ensures told { IsTrue (conv_tells conv.old) → IsTrue (vault_tells vault.old) →
         (clock : ClockState) → Finishes result checks_terminal
-        (standing transaction.old (conv_holds conv.old) (vault_holds vault.old) clock process.now)
-        (standing transaction.new (conv_holds conv.new) (vault_holds vault.new) clock process.now) }
-    ensures talks { Talks transaction.old transaction.new }
+        (scene_at transaction.old (conv_holds conv.old) (vault_holds vault.old) clock process.now)
+        (scene_at transaction.new (conv_holds conv.new) (vault_holds vault.new) clock process.now) }
+    ensures talks { OnlyTalks transaction.old transaction.new }
 {
     laws::act_steps();
     require_user(alloc, transaction, conv)?;
@@ -123,8 +123,8 @@ fn check_root(
     ensures told { IsTrue (vault_tells vault.old) →
         (conv : ConvState) (clock : ClockState) (known : Known) →
         IfOk result (λ code. Acts checks_root known
-        (standing transaction.now conv (vault_holds vault.old) clock process.now) code
-        (standing transaction.now conv (vault_holds vault.new) clock process.now)) }
+        (scene_at transaction.now conv (vault_holds vault.old) clock process.now) code
+        (scene_at transaction.now conv (vault_holds vault.new) clock process.now)) }
 {
     laws::act_steps();
     match get_item(&transaction.items, ItemName::Tty) {

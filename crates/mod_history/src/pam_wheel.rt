@@ -3,9 +3,9 @@ ghost use Rattle.std.specs.Option.{option_copied};
 ghost use Rattle.pam_outside.specs.Time.{ClockState};
 ghost use Rattle.pam_room.specs.Module.{keeps_files, length_note};
 ghost use Rattle.account_files.specs.Accounts.{nothing_known};
-ghost use Rattle.account_files.specs.Act.{Acts, standing};
-ghost use Rattle.mod_unix.specs.module_acts.specs.Comes.{Finishes};
-ghost use Rattle.mod_unix.specs.module_acts.specs.Talks.{Talks};
+ghost use Rattle.account_files.specs.Act.{Acts, scene_at};
+ghost use Rattle.mod_unix.specs.module_acts.specs.Returns.{Finishes};
+ghost use Rattle.mod_unix.specs.module_acts.specs.OnlyTalks.{OnlyTalks};
 ghost use Rattle.mod_unix.specs.module_acts.specs.Uncheck.{code_unchecked};
 ghost use Rattle.mod_history.specs.Wheel.{by_group, by_membership, checks_wheel, code_by_groups, code_by_passwds, group_of_gid, is_passed_over, trusted, wheel_group, wheel_plays};
 
@@ -87,9 +87,9 @@ fn check_wheel(
         (vault_holds vault.new).files ≡ (vault_holds vault.old).files }
     ensures told { IsTrue (conv_tells conv.old) → IsTrue (vault_tells vault.old) →
         (clock : ClockState) → Finishes result (checks_wheel call.now.args.now process.now.caller)
-        (standing transaction.old (conv_holds conv.old) (vault_holds vault.old) clock process.now)
-        (standing transaction.new (conv_holds conv.new) (vault_holds vault.new) clock process.now) }
-    ensures talks { Talks transaction.old transaction.new }
+        (scene_at transaction.old (conv_holds conv.old) (vault_holds vault.old) clock process.now)
+        (scene_at transaction.new (conv_holds conv.new) (vault_holds vault.new) clock process.now) }
+    ensures talks { OnlyTalks transaction.old transaction.new }
 {
     laws::act_steps();
     require_user(alloc, transaction, conv)?;

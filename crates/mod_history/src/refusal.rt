@@ -4,9 +4,9 @@ ghost use Rattle.conv_port.specs.Conv.{ConvState};
 ghost use Rattle.pam_outside.specs.Files.{VaultState};
 ghost use Rattle.pam_outside.specs.Time.{ClockState};
 ghost use Rattle.pam_room.specs.State.{PlainProcess};
-ghost use Rattle.account_files.specs.Act.{Came, Leads};
-ghost use Rattle.mod_unix.specs.module_acts.specs.Comes.{lent};
-ghost use Rattle.mod_unix.specs.module_acts.specs.Talks.{Talks};
+ghost use Rattle.account_files.specs.Act.{Yields, Reaches};
+ghost use Rattle.mod_unix.specs.module_acts.specs.Returns.{scene_of_parts};
+ghost use Rattle.mod_unix.specs.module_acts.specs.OnlyTalks.{OnlyTalks};
 ghost use Rattle.mod_history.specs.Pwhistory.{has_hash, is_enforced, is_refused, refuses_token, unsets_item, was_used};
 
 use account_files::has_argument;
@@ -85,10 +85,10 @@ pub(crate) fn refuse_token(
     ensures tells { conv_tells conv.new ≡ conv_tells conv.old }
     ensures told { IsTrue (conv_tells conv.old) →
         (vault : VaultState) (clock : ClockState) (process : PlainProcess) →
-        OnOk result (Came Code.AuthtokErr refuses_token
-        (lent transaction.old (conv_holds conv.old) vault clock process)
-        (lent transaction.new (conv_holds conv.new) vault clock process)) }
-    ensures talks { Talks transaction.old transaction.new }
+        OnOk result (Yields Code.AuthtokErr refuses_token
+        (scene_of_parts transaction.old (conv_holds conv.old) vault clock process)
+        (scene_of_parts transaction.new (conv_holds conv.new) vault clock process)) }
+    ensures talks { OnlyTalks transaction.old transaction.new }
 {
     mod_unix::module_acts::laws::talking();
     unset_token(transaction);
@@ -106,9 +106,9 @@ pub(crate) fn refuse_token(
 pub(crate) fn unset_token(transaction: &mut Transaction)
     ensures told { (conv : ConvState) (vault : VaultState) (clock : ClockState)
         (process : PlainProcess) →
-        Leads (unsets_item ItemName.AuthTok) (lent transaction.old conv vault clock process)
-        (lent transaction.new conv vault clock process) }
-    ensures talks { Talks transaction.old transaction.new }
+        Reaches (unsets_item ItemName.AuthTok) (scene_of_parts transaction.old conv vault clock
+        process) (scene_of_parts transaction.new conv vault clock process) }
+    ensures talks { OnlyTalks transaction.old transaction.new }
 {
     unset(&mut transaction.items);
 }

@@ -3,8 +3,8 @@ ghost use Rattle.std.specs.Option.{option_copied};
 ghost use Rattle.conv_port.specs.Conv.{ConvState};
 ghost use Rattle.pam_outside.specs.Time.{ClockState};
 ghost use Rattle.account_files.specs.Accounts.{account_in, known_groups, known_passwds};
-ghost use Rattle.account_files.specs.Act.{LooksTo, standing};
-ghost use Rattle.account_files.specs.CameWith.{CameWith};
+ghost use Rattle.account_files.specs.Act.{LooksTo, scene_at};
+ghost use Rattle.account_files.specs.YieldsWith.{YieldsWith};
 ghost use Rattle.mod_lists.specs.Listfile.{group_values, reads_values, text_value, text_values, without_dev};
 
 use crate::list_settings::ListItem;
@@ -41,10 +41,10 @@ pub(crate) fn values_of(
         (vault_holds vault.new).files ≡ (vault_holds vault.old).files }
     ensures told { IsTrue (vault_tells vault.old) →
         (conv : ConvState) (clock : ClockState) →
-        IfOk result (λ values. CameWith values
+        IfOk result (λ values. YieldsWith values
         (reads_values item (unwrap_or transaction.now.items.user [])) accounts.old
-        (standing transaction.now conv (vault_holds vault.old) clock process.now) accounts.new
-        (standing transaction.now conv (vault_holds vault.new) clock process.now)) }
+        (scene_at transaction.now conv (vault_holds vault.old) clock process.now) accounts.new
+        (scene_at transaction.now conv (vault_holds vault.new) clock process.now)) }
 {
     laws::act_steps();
     let texts = &transaction.items;

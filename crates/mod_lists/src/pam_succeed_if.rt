@@ -4,9 +4,9 @@ ghost use Rattle.conv_port.specs.Conv.{ConvState};
 ghost use Rattle.pam_outside.specs.Time.{ClockState};
 ghost use Rattle.pam_room.specs.Module.{keeps_files, length_note};
 ghost use Rattle.account_files.specs.Accounts.{nothing_known};
-ghost use Rattle.account_files.specs.Act.{Acts, answers, standing};
-ghost use Rattle.module_acts.specs.Comes.{Finishes};
-ghost use Rattle.module_acts.specs.Talks.{Talks};
+ghost use Rattle.account_files.specs.Act.{Acts, answers, scene_at};
+ghost use Rattle.module_acts.specs.Returns.{Finishes};
+ghost use Rattle.module_acts.specs.OnlyTalks.{OnlyTalks};
 ghost use Rattle.mod_lists.specs.SucceedIf.{at_once, checks_conditions, conditions_in, is_about_log, meets_all, succeed_if_plays, uses_uid};
 
 use crate::condition::condition_of;
@@ -97,9 +97,9 @@ fn check_conditions(
         (vault_holds vault.new).files ≡ (vault_holds vault.old).files }
     ensures told { IsTrue (conv_tells conv.old) → IsTrue (vault_tells vault.old) →
         (clock : ClockState) → Finishes result (checks_conditions args.now)
-        (standing transaction.old (conv_holds conv.old) (vault_holds vault.old) clock process.now)
-        (standing transaction.new (conv_holds conv.new) (vault_holds vault.new) clock process.now) }
-    ensures talks { Talks transaction.old transaction.new }
+        (scene_at transaction.old (conv_holds conv.old) (vault_holds vault.old) clock process.now)
+        (scene_at transaction.new (conv_holds conv.new) (vault_holds vault.new) clock process.now) }
+    ensures talks { OnlyTalks transaction.old transaction.new }
 {
     laws::act_steps();
     module_acts::laws::talking();
@@ -160,8 +160,8 @@ fn meet_all(
     ensures told { IsTrue (vault_tells vault.old) → (conv : ConvState) (clock : ClockState) →
         IfOk result (λ code. Acts (meets_all conditions.now (unwrap_or transaction.now.items.user
         [])) nothing_known
-        (standing transaction.now conv (vault_holds vault.old) clock process.now) code
-        (standing transaction.now conv (vault_holds vault.new) clock process.now)) }
+        (scene_at transaction.now conv (vault_holds vault.old) clock process.now) code
+        (scene_at transaction.now conv (vault_holds vault.new) clock process.now)) }
 {
     laws::act_steps();
     let mut accounts = Accounts::new();

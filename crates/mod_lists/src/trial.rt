@@ -3,8 +3,8 @@ ghost use Rattle.std.specs.Option.{option_copied};
 ghost use Rattle.conv_port.specs.Conv.{ConvState};
 ghost use Rattle.pam_outside.specs.Time.{ClockState};
 ghost use Rattle.account_files.specs.Accounts.{entry_known, known_groups, known_passwds};
-ghost use Rattle.account_files.specs.Act.{LooksTo, reads_passwds, standing};
-ghost use Rattle.account_files.specs.CameWith.{CameWith};
+ghost use Rattle.account_files.specs.Act.{LooksTo, reads_passwds, scene_at};
+ghost use Rattle.account_files.specs.YieldsWith.{YieldsWith};
 ghost use Rattle.account_files.specs.Found.{plain_account};
 ghost use Rattle.mod_lists.specs.declared.truth.Truth.{Truth};
 ghost use Rattle.mod_lists.specs.Condition.{items_of, plain_condition, plain_test};
@@ -36,11 +36,11 @@ pub(crate) fn try_words(
         (vault_holds vault.new).files ≡ (vault_holds vault.old).files }
     ensures told { IsTrue (vault_tells vault.old) →
         (conv : ConvState) (clock : ClockState) →
-        IfOk result (λ truth. CameWith truth
+        IfOk result (λ truth. YieldsWith truth
         (tries_words (option_map plain_condition condition.entry)
         (unwrap_or transaction.now.items.user [])) accounts.old
-        (standing transaction.now conv (vault_holds vault.old) clock process.now) accounts.new
-        (standing transaction.now conv (vault_holds vault.new) clock process.now)) }
+        (scene_at transaction.now conv (vault_holds vault.old) clock process.now) accounts.new
+        (scene_at transaction.now conv (vault_holds vault.new) clock process.now)) }
 {
     laws::act_steps();
     let condition = match condition {

@@ -20,7 +20,7 @@ use Rattle.mod_tally.specs.declared.settings.Task.{Task}
 use Rattle.mod_tally.specs.declared.settings.Task.TheVariants.{Preauth, AuthFail, AuthSucc, Clear}
 use Rattle.mod_tally.specs.Settings.{PlainSettings, settings_of, task_among}
 use Rattle.mod_tally.specs.Tally.{counting, failures_of, is_locked, tally_text}
-use Rattle.mod_tally.specs.Faillock.{by_account, by_call, by_done, by_lock, by_name, by_spared, by_tally, by_task, clears, faillock_plays, failures_in, is_no_file, new_failure, reads_tally, records, sets_if, sets_text, spared_answer, tally_limit, tally_name, task_of, unless_locked}
+use Rattle.mod_tally.specs.Faillock.{by_account, by_call, write_result, by_lock, by_name, by_spared, by_tally, by_task, clears, faillock_plays, failures_in, is_no_file, new_failure, reads_tally, records, sets_if, sets_text, spared_answer, tally_limit, tally_name, task_of, unless_locked}
 use Rattle.mod_tally.specs.Recorded.{Deed, left, recorded, cleared, Does, DoesTo, IsOpen, standing_in}
 
 -- ---- a file that is set
@@ -89,13 +89,13 @@ module _ (path : List ℕ) (call : PlainCall) where
   -- a file is set, if nothing fails
   put : (stage : Stage) (name text : List ℕ) (code : Code) (d : Deed) (b : Bool)
       → (path_of stage.sight.root name ≡ path → DoesTo path call stage.sight.clock.moment stage.room.items stage.sight.files code (file_put (path_of stage.sight.root name) text stage.sight.files) d)
-      → DoesOne stage.sight (called (by_done code (not b) (record stage { sight = replaced b (path_of stage.sight.root name) text stage.sight })))
+      → DoesOne stage.sight (called (write_result code (not b) (record stage { sight = replaced b (path_of stage.sight.root name) text stage.sight })))
   unfolding answers
   put stage name text code d true does = (left, refl)
   put stage name text code d false does = by (bytes_eq (path_of stage.sight.root name) path) refl
     where
       by : (t : Bool) → bytes_eq (path_of stage.sight.root name) path ≡ t
-          → DoesOne stage.sight (called (by_done code true (record stage { sight = replaced false (path_of stage.sight.root name) text stage.sight })))
+          → DoesOne stage.sight (called (write_result code true (record stage { sight = replaced false (path_of stage.sight.root name) text stage.sight })))
       by true e = (d, does ((bytes_eq-Decides (path_of stage.sight.root name) path).0 e))
       by false e = (left, put_past (path_of stage.sight.root name) text path e stage.sight.files)
 

@@ -45,11 +45,11 @@ abbrev pub reads_tally : List ℕ → (Option (List Failure) → Act) → Act
 reads_tally name act = reads_file name tally_limit (λ content. act (failures_in content))
 
 -- if it can't be set, the result is SERVICE_ERR
-abbrev pub by_done : Code → Bool → Act
-by_done code done = answers (if done then code else returns.ServiceErr)
+abbrev pub write_result : Code → Bool → Act
+write_result code done = answers (if done then code else returns.ServiceErr)
 
 abbrev pub sets_if : Bool → List ℕ → List ℕ → Code → Act
-sets_if true name text code = replaces_file name text (by_done code)
+sets_if true name text code = replaces_file name text (write_result code)
 sets_if false name text code = answers returns.ServiceErr
 
 -- the file is replaced by one with this text, unless that is too long

@@ -8,7 +8,7 @@ use Rattle.module_acts.specs.pam_room.specs.Call.{value_among}
 use Rattle.module_acts.specs.account_files.specs.Arguments.{has_argument}
 use Rattle.mod_tally.specs.declared.settings.Task.{Task}
 use Rattle.mod_tally.specs.declared.settings.Task.TheVariants.{Preauth, AuthFail, AuthSucc}
-use Rattle.mod_tally.specs.declared.settings.Settings.{Settings}
+use Rattle.mod_tally.specs.declared.settings.TallySettings.{TallySettings}
 
 -- what an authentication is to do: `preauth`, `authfail` or `authsucc`; the last one holds
 abbrev pub task_word : List ℕ → Option Task
@@ -55,7 +55,7 @@ settings_of args = record {
   folder = unwrap_or (value_among (codes "dir=") args) (codes "/var/run/faillock");
 }
 
-abbrev pub plain_settings : Settings → PlainSettings
+abbrev pub plain_settings : TallySettings → PlainSettings
 plain_settings s = record {
   deny = s.deny;
   interval = s.interval;

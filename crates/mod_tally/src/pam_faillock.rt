@@ -2,13 +2,13 @@ ghost use Rattle.std.specs.Prelude.{◌≡◌, ◌≢◌, ◌==◌, ◌&&◌, no
 ghost use Rattle.conv_port.specs.Conv.{ConvState};
 ghost use Rattle.module_acts.specs.pam_room.specs.Module.{keeps_files, length_note};
 ghost use Rattle.module_acts.specs.account_files.specs.Accounts.{Known, nothing_known};
-ghost use Rattle.module_acts.specs.account_files.specs.Act.{Acts, standing};
-ghost use Rattle.module_acts.specs.Comes.{Finishes};
-ghost use Rattle.module_acts.specs.Talks.{Talks};
+ghost use Rattle.module_acts.specs.account_files.specs.Act.{Acts, scene_at};
+ghost use Rattle.module_acts.specs.Returns.{Finishes};
+ghost use Rattle.module_acts.specs.OnlyTalks.{OnlyTalks};
 ghost use Rattle.mod_tally.specs.Settings.{plain_settings};
 ghost use Rattle.mod_tally.specs.Faillock.{by_name, by_spared, checks_tally, faillock_plays, is_no_file, spared_answer, task_of};
 
-use crate::settings::{Settings, Task, settings_of, task_among};
+use crate::settings::{TallySettings, Task, settings_of, task_among};
 use crate::tally_file::{hold_tallies, is_no_file, read_tally, tally_name};
 use crate::task::by_task;
 use conv_port::Conv;
@@ -99,7 +99,7 @@ fn task_of(func: Func, mode: Option<Task>) -> Result<Task, Code>
 fn check_tally(
     alloc: Global,
     task: Task,
-    settings: &Settings<'_>,
+    settings: &TallySettings<'_>,
     transaction: &mut Transaction,
     process: &Process,
     conv: &mut dyn Conv,
@@ -113,11 +113,11 @@ fn check_tally(
     ensures told { IsTrue (conv_tells conv.old) → IsTrue (vault_tells vault.old) →
         IsTrue (clock_tells clock.now) →
         Finishes result (checks_tally task (plain_settings settings.now))
-        (standing transaction.old (conv_holds conv.old) (vault_holds vault.old)
+        (scene_at transaction.old (conv_holds conv.old) (vault_holds vault.old)
         (clock_holds clock.now) process.now)
-        (standing transaction.new (conv_holds conv.new) (vault_holds vault.new)
+        (scene_at transaction.new (conv_holds conv.new) (vault_holds vault.new)
         (clock_holds clock.now) process.now) }
-    ensures talks { Talks transaction.old transaction.new }
+    ensures talks { OnlyTalks transaction.old transaction.new }
 {
     module_acts::laws::talking();
     require_user(alloc, transaction, conv)?;
@@ -129,7 +129,7 @@ fn check_tally(
 fn check_user(
     alloc: Global,
     task: Task,
-    settings: &Settings<'_>,
+    settings: &TallySettings<'_>,
     transaction: &Transaction,
     process: &Process,
     vault: &mut dyn Vault,
@@ -144,9 +144,9 @@ fn check_user(
         IfOk result (λ code.
         let user = unwrap_or transaction.now.items.user [] in
         Acts (by_name (is_no_file user) task (plain_settings settings.now) user) nothing_known
-        (standing transaction.now conv (vault_holds vault.old) (clock_holds clock.now) process.now)
+        (scene_at transaction.now conv (vault_holds vault.old) (clock_holds clock.now) process.now)
         code
-        (standing transaction.now conv (vault_holds vault.new) (clock_holds clock.now)
+        (scene_at transaction.now conv (vault_holds vault.new) (clock_holds clock.now)
         process.now)) }
 {
     laws::act_steps();
@@ -199,7 +199,7 @@ fn by_spared(
     alloc: Global,
     spared: bool,
     task: Task,
-    settings: &Settings<'_>,
+    settings: &TallySettings<'_>,
     user: &[u8],
     transaction: &Transaction,
     process: &Process,
@@ -213,9 +213,9 @@ fn by_spared(
         (conv : ConvState) (known : Known) →
         IfOk result (λ code. Acts (by_spared spared task (plain_settings settings.now) user.now)
         known
-        (standing transaction.now conv (vault_holds vault.old) (clock_holds clock.now) process.now)
+        (scene_at transaction.now conv (vault_holds vault.old) (clock_holds clock.now) process.now)
         code
-        (standing transaction.now conv (vault_holds vault.new) (clock_holds clock.now)
+        (scene_at transaction.now conv (vault_holds vault.new) (clock_holds clock.now)
         process.now)) }
 {
     laws::act_steps();
@@ -244,7 +244,7 @@ fn by_spared(
 fn by_file(
     alloc: Global,
     task: Task,
-    settings: &Settings<'_>,
+    settings: &TallySettings<'_>,
     user: &[u8],
     transaction: &Transaction,
     process: &Process,
@@ -258,9 +258,9 @@ fn by_file(
         (conv : ConvState) (known : Known) →
         IfOk result (λ code. Acts (by_spared false task (plain_settings settings.now) user.now)
         known
-        (standing transaction.now conv (vault_holds vault.old) (clock_holds clock.now) process.now)
+        (scene_at transaction.now conv (vault_holds vault.old) (clock_holds clock.now) process.now)
         code
-        (standing transaction.now conv (vault_holds vault.new) (clock_holds clock.now)
+        (scene_at transaction.now conv (vault_holds vault.new) (clock_holds clock.now)
         process.now)) }
 {
     laws::act_steps();

@@ -22,7 +22,7 @@ pub enum Task {
 /// The arguments: how many failures lock, within which time they count, how long a lock lasts (0
 /// for ever), both in seconds, whether root may be locked, and the directory of the files.
 #[derive(Clone, Copy)]
-pub struct Settings<'a> {
+pub struct TallySettings<'a> {
     pub deny: u32,
     pub interval: u32,
     pub unlock: u32,
@@ -59,14 +59,14 @@ fn task_word(arg: &[u8]) -> Option<Task>
     }
 }
 
-pub(crate) fn settings_of<'a>(call: &'a Call<'_>) -> Settings<'a>
+pub(crate) fn settings_of<'a>(call: &'a Call<'_>) -> TallySettings<'a>
     ensures { plain_settings result ≡ settings_of call.now.args.now }
 {
     let folder = match call.value(b"dir=") {
         Some(folder) => folder,
         None => b"/var/run/faillock",
     };
-    Settings {
+    TallySettings {
         deny: number_among(b"deny=", 3, call),
         interval: number_among(b"fail_interval=", 900, call),
         unlock: unlock_among(call),

@@ -133,7 +133,7 @@ pub(crate) fn set_text(
         return Ok(Code::ServiceErr);
     }
     let done = replace_named(alloc, vault, process, name, text)?;
-    Ok(by_done(code, done))
+    Ok(write_result(code, done))
 }
 
 fn can_be_set(name: &[u8], text: &[u8]) -> bool
@@ -142,7 +142,7 @@ fn can_be_set(name: &[u8], text: &[u8]) -> bool
     is_rooted(name) && text.len() <= 65536
 }
 
-fn by_done(code: Code, done: bool) -> Code
+fn write_result(code: Code, done: bool) -> Code
     ensures { result ≡ (if done then code else Code.ServiceErr) }
 {
     if done { code } else { Code::ServiceErr }

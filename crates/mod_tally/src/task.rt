@@ -4,14 +4,14 @@ ghost use Rattle.pam_outside.specs.Time.{ClockState};
 ghost use Rattle.module_acts.specs.pam_room.specs.Plain.{plain_process};
 ghost use Rattle.module_acts.specs.pam_room.specs.State.{PlainRoom, scene_of};
 ghost use Rattle.module_acts.specs.account_files.specs.Accounts.{Known};
-ghost use Rattle.module_acts.specs.account_files.specs.Act.{Acts, standing};
+ghost use Rattle.module_acts.specs.account_files.specs.Act.{Acts, scene_at};
 ghost use Rattle.mod_tally.specs.Settings.{plain_settings};
 ghost use Rattle.mod_tally.specs.Tally.{counting, tally_text};
 ghost use Rattle.mod_tally.specs.Faillock.{by_task, clears, new_failure, writes_tally};
 
 use crate::counted::{counting_text, is_locked};
 use crate::failure::new_failure;
-use crate::settings::{Settings, Task};
+use crate::settings::{TallySettings, Task};
 use crate::tally::{Failure, Failures};
 use crate::tally_file::set_text;
 use module_acts::account_files::laws;
@@ -24,7 +24,7 @@ use std::alloc::Global;
 pub(crate) fn by_task(
     alloc: Global,
     task: Task,
-    settings: &Settings<'_>,
+    settings: &TallySettings<'_>,
     name: &[u8],
     failures: Failures,
     transaction: &Transaction,
@@ -39,9 +39,9 @@ pub(crate) fn by_task(
         (conv : ConvState) (known : Known) →
         IfOk result (λ code. Acts (by_task task (plain_settings settings.now) name.now failures)
         known
-        (standing transaction.now conv (vault_holds vault.old) (clock_holds clock.now) process.now)
+        (scene_at transaction.now conv (vault_holds vault.old) (clock_holds clock.now) process.now)
         code
-        (standing transaction.now conv (vault_holds vault.new) (clock_holds clock.now)
+        (scene_at transaction.now conv (vault_holds vault.new) (clock_holds clock.now)
         process.now)) }
 {
     laws::act_steps();

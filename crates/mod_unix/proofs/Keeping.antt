@@ -12,7 +12,7 @@ use Rattle.pam_room.specs.Plain.{plain_transaction}
 use Rattle.pam_room.specs.State.{PlainProcess}
 use Rattle.pam_room.specs.Stays.{Stays}
 use Rattle.pam_room.specs.declared.transaction.Transaction.{Transaction}
-use Rattle.module_acts.specs.Talks.{Talks}
+use Rattle.module_acts.specs.OnlyTalks.{OnlyTalks}
 use Rattle.mod_unix.specs.Unix.{code_numbered, payload_named}
 
 -- ---- data
@@ -75,7 +75,7 @@ numbered c.Incomplete = refl
 
 -- ---- with real objects too
 
-module _ (t u v : Transaction) (p q : PlainProcess) (talks : Talks t u) (others : v ≡ record u { datums = v.datums }) (handle : v.datums.handle ≡ u.datums.handle) (own : q ≡ record p { ledger = q.ledger }) where
+module _ (t u v : Transaction) (p q : PlainProcess) (talks : OnlyTalks t u) (others : v ≡ record u { datums = v.datums }) (handle : v.datums.handle ≡ u.datums.handle) (own : q ≡ record p { ledger = q.ledger }) where
   pub keeping_stays : Stays (plain_transaction t) (plain_transaction v) p q
   keeping_stays = record {
     handle = ap (λ (x : Transaction). x.handle) others ∙ ap (λ (x : Transaction). x.handle) talks.others;

@@ -5,11 +5,11 @@ use Rattle.pam_room.specs.State.{Scene}
 use Rattle.account_files.specs.Accounts.{Known, account_limit}
 use Rattle.account_files.specs.Act.{Act, Acts, reads_file}
 use Rattle.mod_unix.specs.declared.look.Field.TheVariants.{Holds}
-use Rattle.mod_unix.specs.declared.look.Look.{Look}
-use Rattle.mod_unix.specs.declared.look.Look.TheVariants.{Plain}
+use Rattle.mod_unix.specs.declared.look.KnownPassword.{KnownPassword}
+use Rattle.mod_unix.specs.declared.look.KnownPassword.TheVariants.{Plain}
 use Rattle.mod_unix.specs.Look.{by_field, by_x, is_x, shadow_in}
 
-module _ (user hash : List ℕ) (act : Look → Act) (known : Known) (s : Scene) (code : Code) (end : Scene) where
+module _ (user hash : List ℕ) (act : KnownPassword → Act) (known : Known) (s : Scene) (code : Code) (end : Scene) where
   not_x : (x : Bool) → false ≡ x → Acts (act (Plain hash)) known s code end → Acts (by_x x user hash act) known s code end
   not_x x e rest = rw (← e) rest
 

@@ -20,12 +20,12 @@ use Rattle.account_files.specs.Act.{Stage, answers, called, content_seen, draws_
 use Rattle.account_files.specs.Content.{content_of}
 use Rattle.module_acts.specs.Steps.{exchanges, sees_clock, sets_item, with_replies}
 use Rattle.mod_unix.specs.declared.look.Field.{Field}
-use Rattle.mod_unix.specs.declared.look.Look.{Look}
-use Rattle.mod_unix.specs.declared.look.Look.TheVariants.{Unknown, Unavailable, Plain, Shadowed}
+use Rattle.mod_unix.specs.declared.look.KnownPassword.{KnownPassword}
+use Rattle.mod_unix.specs.declared.look.KnownPassword.TheVariants.{Unknown, Unavailable, Plain, Shadowed}
 use Rattle.mod_unix.specs.Aging.{day_of}
 use Rattle.account_files.specs.Arguments.{has_argument}
 use Rattle.mod_unix.specs.Flags.{change_expired_authtok}
-use Rattle.mod_unix.specs.Change.{by_authtok, by_done, by_kept, by_pass, by_text, change_by, changed_by, changed_shadow, changes_entry, changes_shadow, is_kept, new_prompts, same_reply, sets_new, stores_token, takes_token, usable}
+use Rattle.mod_unix.specs.Change.{by_authtok, write_result, by_kept, by_pass, by_text, change_by, changed_by, changed_shadow, changes_entry, changes_shadow, is_kept, new_prompts, same_reply, sets_new, stores_token, takes_token, usable}
 use Rattle.mod_unix.specs.Look.{by_field, by_x, field_in, is_x, looks, shadow_among, shadow_in, shadowed}
 use Rattle.mod_unix.specs.NewHash.{hashed_token}
 use Rattle.mod_unix.specs.Stands.{shadow_path}
@@ -71,16 +71,16 @@ holds false limit None old e = absurd cc
 holds false limit (Some text) old e = holds_by (nat_lt limit (length text)) text old e
 
 module _ (user hash : List ℕ) (today : ℕ) where
-  put_by : (failing : Bool) (path text : List ℕ) (stage : Stage) → (answers (by_done (not failing)) (record stage { sight = replaced failing path text stage.sight })).code ≡ returns.Success
-      → ((answers (by_done (not failing)) (record stage { sight = replaced failing path text stage.sight })).files ≡ file_put path text stage.sight.files)
-      × ((answers (by_done (not failing)) (record stage { sight = replaced failing path text stage.sight })).room ≡ stage.room)
+  put_by : (failing : Bool) (path text : List ℕ) (stage : Stage) → (answers (write_result (not failing)) (record stage { sight = replaced failing path text stage.sight })).code ≡ returns.Success
+      → ((answers (write_result (not failing)) (record stage { sight = replaced failing path text stage.sight })).files ≡ file_put path text stage.sight.files)
+      × ((answers (write_result (not failing)) (record stage { sight = replaced failing path text stage.sight })).room ≡ stage.room)
   unfolding answers
   put_by true path text stage e = absurd cc
   put_by false path text stage e = (refl, refl)
 
   put : (old text : List ℕ) (es : List Shadow) (entry : Shadow) (stage : Stage) → file_at (shadow_path stage.sight.root) stage.sight.files ≡ Some old → shadows_of old ≡ Ok es → shadow_of user es ≡ Some entry → text ≡ with_hash user hash today old
-      → (replaces_file (codes "/etc/shadow") text (λ done. answers (by_done done)) stage).code ≡ returns.Success
-      → Replaced user hash stage.sight.root today stage.sight.files stage.room (replaces_file (codes "/etc/shadow") text (λ done. answers (by_done done)) stage)
+      → (replaces_file (codes "/etc/shadow") text (λ done. answers (write_result done)) stage).code ≡ returns.Success
+      → Replaced user hash stage.sight.root today stage.sight.files stage.room (replaces_file (codes "/etc/shadow") text (λ done. answers (write_result done)) stage)
   unfolding replaces_file
   put old text es entry stage at are is new e =
       let made = put_by (stage.sight.failing 0) (shadow_path stage.sight.root) text stage e in
@@ -223,7 +223,7 @@ module _ (call : PlainCall) (user : List ℕ) where
   by_keeping false today entry stage k distinct e = by_flag (has_flag call.flags prelim_check) today entry stage distinct e
 
   module _ (distinct : has_flag call.flags prelim_check ≡ false) where
-    by_looking : (look : Look) (stage : Stage) → (change_by call user look answers stage).code ≡ returns.Success → Ended stage (change_by call user look answers stage)
+    by_looking : (look : KnownPassword) (stage : Stage) → (change_by call user look answers stage).code ≡ returns.Success → Ended stage (change_by call user look answers stage)
     unfolding change_by changes_entry sees_clock answers
     by_looking Unknown stage e = absurd cc
     by_looking Unavailable stage e = absurd cc

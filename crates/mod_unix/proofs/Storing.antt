@@ -15,52 +15,52 @@ use Rattle.pam_room.specs.State.{PlainProcess, PlainRoom, Scene, scene_of}
 use Rattle.account_db.specs.declared.shadow.Shadow.{Shadow}
 use Rattle.account_files.specs.declared.content.Content.{Content}
 use Rattle.account_files.specs.Accounts.{Known, account_limit}
-use Rattle.account_files.specs.Act.{Act, Acts, Came, Leads, draws_word, reads_file, replaces_file, sees_items}
-use Rattle.module_acts.specs.Comes.{Comes, Ends, early, then}
+use Rattle.account_files.specs.Act.{Act, Acts, Yields, Reaches, draws_word, reads_file, replaces_file, sees_items}
+use Rattle.module_acts.specs.Returns.{Returns, Ends, early, then}
 use Rattle.module_acts.specs.Steps.{exchanges, sees_clock, sets_item}
-use Rattle.mod_unix.specs.declared.look.Look.{Look}
-use Rattle.mod_unix.specs.declared.look.Look.TheVariants.{Unknown, Unavailable, Plain, Shadowed}
+use Rattle.mod_unix.specs.declared.look.KnownPassword.{KnownPassword}
+use Rattle.mod_unix.specs.declared.look.KnownPassword.TheVariants.{Unknown, Unavailable, Plain, Shadowed}
 use Rattle.mod_unix.specs.Aging.{day_of}
 use Rattle.account_files.specs.Arguments.{has_argument}
 use Rattle.mod_unix.specs.NewHash.{hashed_token}
-use Rattle.mod_unix.specs.Change.{change_by, by_authtok, by_done, by_kept, by_pass, by_text, changed_shadow, changes_entry, changes_shadow, is_kept, new_prompts, same_reply, sets_new, stores_token, takes_token, tries_change, usable}
+use Rattle.mod_unix.specs.Change.{change_by, by_authtok, write_result, by_kept, by_pass, by_text, changed_shadow, changes_entry, changes_shadow, is_kept, new_prompts, same_reply, sets_new, stores_token, takes_token, tries_change, usable}
 
 -- ---- the new token
 
 module _ (call : PlainCall) (s new : Scene) where
-  by_use : (r : Result (Option (List ℕ)) (Refuse ConvErr)) (b : Bool) → b ≡ has_argument (codes "use_authtok") call.args → Comes r (by_authtok b) s new → Comes r (takes_token call) s new
+  by_use : (r : Result (Option (List ℕ)) (Refuse ConvErr)) (b : Bool) → b ≡ has_argument (codes "use_authtok") call.args → Returns r (by_authtok b) s new → Returns r (takes_token call) s new
   unfolding takes_token
-  by_use r b e h = subst (λ (x : Bool). Comes r (by_authtok x) s new) e h
+  by_use r b e h = subst (λ (x : Bool). Returns r (by_authtok x) s new) e h
 
   pub there : ((act : ItemTexts → Act) (known : Known) (s : Scene) (code : Code) (new : Scene) → Acts (act s.room.transaction.items) known s code new → Acts (sees_items act) known s code new)
-      → (token found : Option (List ℕ)) → true ≡ has_argument (codes "use_authtok") call.args → token ≡ usable found → found ≡ s.room.transaction.items.auth_tok → new ≡ s → Comes (Ok token) (takes_token call) s new
+      → (token found : Option (List ℕ)) → true ≡ has_argument (codes "use_authtok") call.args → token ≡ usable found → found ≡ s.room.transaction.items.auth_tok → new ≡ s → Returns (Ok token) (takes_token call) s new
   there seeing token found e f g same =
       let is : token ≡ usable s.room.transaction.items.auth_tok = f ∙ ap usable g in
       by_use (Ok token) true e (rw same (λ act known code end rest. seeing (λ items. act (usable items.auth_tok)) known s code end (subst (λ (x : Option (List ℕ)). Acts (act x) known s code end) is rest)))
 
-  pub not_replied : (e : Refuse ConvErr) → false ≡ has_argument (codes "use_authtok") call.args → Ends e (exchanges new_prompts) s new → Comes (Err e) (takes_token call) s new
+  pub not_replied : (e : Refuse ConvErr) → false ≡ has_argument (codes "use_authtok") call.args → Ends e (exchanges new_prompts) s new → Returns (Err e) (takes_token call) s new
   not_replied e u h = by_use (Err e) false u (early (exchanges new_prompts) (λ replies (act : Option (List ℕ) → Act). sets_new (same_reply replies) act) e s new h)
 
-  pub not_same : (replies : List Reply) → false ≡ has_argument (codes "use_authtok") call.args → Came replies (exchanges new_prompts) s new → None ≡ same_reply replies → Comes (Ok None) (takes_token call) s new
+  pub not_same : (replies : List Reply) → false ≡ has_argument (codes "use_authtok") call.args → Yields replies (exchanges new_prompts) s new → None ≡ same_reply replies → Returns (Ok None) (takes_token call) s new
   not_same replies u h e = by_use (Ok None) false u (λ act known code end rest.
       h (λ r. sets_new (same_reply r) act) known code end (subst (λ (x : Option (List ℕ)). Acts (sets_new x act) known new code end) e rest))
 
-  pub same : (replies : List Reply) (token : List ℕ) (mid : Scene) → false ≡ has_argument (codes "use_authtok") call.args → Came replies (exchanges new_prompts) s mid → Some token ≡ same_reply replies → Leads (sets_item AuthTok token) mid new
-      → Comes (Ok (Some token)) (takes_token call) s new
+  pub same : (replies : List Reply) (token : List ℕ) (mid : Scene) → false ≡ has_argument (codes "use_authtok") call.args → Yields replies (exchanges new_prompts) s mid → Some token ≡ same_reply replies → Reaches (sets_item AuthTok token) mid new
+      → Returns (Ok (Some token)) (takes_token call) s new
   same replies token mid u h e d = by_use (Ok (Some token)) false u (λ act known code end rest.
       h (λ r. sets_new (same_reply r) act) known code end (subst (λ (x : Option (List ℕ)). Acts (sets_new x act) known mid code end) e (d (act (Some token)) known code end rest)))
 
 -- ---- the new hash
 
-module _ (user hash : List ℕ) (today : ℕ) (content : Content) (s mid : Scene) (read : Came content (reads_file (codes "/etc/shadow") account_limit) s mid) where
-  pub not_changed : None ≡ changed_shadow user hash today content → Came returns.AuthtokErr (changes_shadow user hash today) s mid
+module _ (user hash : List ℕ) (today : ℕ) (content : Content) (s mid : Scene) (read : Yields content (reads_file (codes "/etc/shadow") account_limit) s mid) where
+  pub not_changed : None ≡ changed_shadow user hash today content → Yields returns.AuthtokErr (changes_shadow user hash today) s mid
   unfolding changes_shadow
   not_changed e = λ act known code end rest. read (λ c. by_text (changed_shadow user hash today c) act) known code end (subst (λ (x : Option (List ℕ)). Acts (by_text x act) known mid code end) e rest)
 
-  pub changed : (new : Scene) (text : List ℕ) (done : Bool) → Some text ≡ changed_shadow user hash today content → Came done (replaces_file (codes "/etc/shadow") text) mid new → Came (by_done done) (changes_shadow user hash today) s new
+  pub changed : (new : Scene) (text : List ℕ) (done : Bool) → Some text ≡ changed_shadow user hash today content → Yields done (replaces_file (codes "/etc/shadow") text) mid new → Yields (write_result done) (changes_shadow user hash today) s new
   unfolding changes_shadow
   changed new text done e d = λ act known code end rest. read (λ c. by_text (changed_shadow user hash today c) act) known code end
-      (subst (λ (x : Option (List ℕ)). Acts (by_text x act) known mid code end) e (d (λ b. act (by_done b)) known code end rest))
+      (subst (λ (x : Option (List ℕ)). Acts (by_text x act) known mid code end) e (d (λ b. act (write_result b)) known code end rest))
 
 -- a random word is taken for the salt
 module _ (seeing : (act : Time → Act) (known : Known) (s : Scene) (code : Code) (new : Scene) → Acts (act (time_of s.clock)) known s code new → Acts (sees_clock act) known s code new)
@@ -68,8 +68,8 @@ module _ (seeing : (act : Time → Act) (known : Known) (s : Scene) (code : Code
     → Acts (act clock.word) known (scene_of room vault (drawn clock) process) code new → Acts (draws_word act) known (scene_of room vault clock process) code new)
     (call : PlainCall) (user : List ℕ) (room : PlainRoom) (vault : VaultState) (clock : ClockState) (process : PlainProcess) (new : Scene)
     (token : List ℕ) (today word : ℕ) (day : today ≡ day_of clock.moment) (random : word ≡ clock.word) where
-  pub made : (hash : List ℕ) (code : Code) → hash ≡ hashed_token call.args word token → Came code (changes_shadow user hash today) (scene_of room vault (drawn clock) process) new
-      → Came code (stores_token call user (Some token)) (scene_of room vault clock process) new
+  pub made : (hash : List ℕ) (code : Code) → hash ≡ hashed_token call.args word token → Yields code (changes_shadow user hash today) (scene_of room vault (drawn clock) process) new
+      → Yields code (stores_token call user (Some token)) (scene_of room vault clock process) new
   unfolding stores_token
   made hash code e h = λ act known c end rest.
       let before = scene_of room vault (drawn clock) process in
@@ -79,17 +79,17 @@ module _ (seeing : (act : Time → Act) (known : Known) (s : Scene) (code : Code
       (drawing (λ w. changes_shadow user (hashed_token call.args w token) (day_of clock.moment) act) known room vault clock process c end written)
 
 module _ (seeing : (act : Time → Act) (known : Known) (s : Scene) (code : Code) (new : Scene) → Acts (act (time_of s.clock)) known s code new → Acts (sees_clock act) known s code new) (call : PlainCall) (user : List ℕ) (s new : Scene) where
-  pub no_token : new ≡ s → (token : Option (List ℕ)) → token ≡ None → Came returns.AuthtokErr (stores_token call user token) s new
+  pub no_token : new ≡ s → (token : Option (List ℕ)) → token ≡ None → Yields returns.AuthtokErr (stores_token call user token) s new
   unfolding stores_token
   no_token same token e = rw (e, same) (λ act known code end rest. rest)
 
-  pub with_token : (found : Option (List ℕ)) (token : List ℕ) (code : Code) → found ≡ Some token → Came code (stores_token call user (Some token)) s new → Came code (stores_token call user found) s new
-  with_token found token code e h = subst (λ (x : Option (List ℕ)). Came code (stores_token call user x) s new) (sym e) h
+  pub with_token : (found : Option (List ℕ)) (token : List ℕ) (code : Code) → found ≡ Some token → Yields code (stores_token call user (Some token)) s new → Yields code (stores_token call user found) s new
+  with_token found token code e h = subst (λ (x : Option (List ℕ)). Yields code (stores_token call user x) s new) (sym e) h
 
   -- ---- both passes
 
   module _ (entry : Shadow) (today : ℕ) (day : today ≡ day_of s.clock.moment) where
-    by_day : (r : Result Code (Refuse ConvErr)) (b : Bool) → b ≡ is_kept call today entry → Comes r (by_kept b call user today entry) s new → Comes r (changes_entry call user entry) s new
+    by_day : (r : Result Code (Refuse ConvErr)) (b : Bool) → b ≡ is_kept call today entry → Returns r (by_kept b call user today entry) s new → Returns r (changes_entry call user entry) s new
     unfolding changes_entry
     by_day (Ok v) b e h = λ act known c end rest. seeing (λ clock. by_kept (is_kept call (day_of clock.moment) entry) call user (day_of clock.moment) entry act) known s c end
         (subst (λ t. Acts (by_kept (is_kept call t entry) call user t entry act) known s c end) day (subst (λ (x : Bool). Acts (by_kept x call user today entry act) known s c end) e (h act known c end rest)))
@@ -97,37 +97,37 @@ module _ (seeing : (act : Time → Act) (known : Known) (s : Scene) (code : Code
         (subst (λ t. Acts (by_kept (is_kept call t entry) call user t entry act) known s returns.ConvErr new) day (subst (λ (x : Bool). Acts (by_kept x call user today entry act) known s returns.ConvErr new) e (h act known)))
     by_day (Err NoMemory) b e h = tt
 
-    pub kept : true ≡ is_kept call today entry → new ≡ s → Comes (Ok returns.Success) (changes_entry call user entry) s new
+    pub kept : true ≡ is_kept call today entry → new ≡ s → Returns (Ok returns.Success) (changes_entry call user entry) s new
     kept e same = by_day (Ok returns.Success) true e (rw same (λ act known c end rest. rest))
 
-    by_flag : (r : Result Code (Refuse ConvErr)) (b : Bool) → b ≡ has_flag call.flags prelim_check → Comes r (by_pass b call user today entry) s new → Comes r (by_kept false call user today entry) s new
-    by_flag r b e h = subst (λ (x : Bool). Comes r (by_pass x call user today entry) s new) e h
+    by_flag : (r : Result Code (Refuse ConvErr)) (b : Bool) → b ≡ has_flag call.flags prelim_check → Returns r (by_pass b call user today entry) s new → Returns r (by_kept false call user today entry) s new
+    by_flag r b e h = subst (λ (x : Bool). Returns r (by_pass x call user today entry) s new) e h
 
-    pub first_pass : (r : Result Code (Refuse ConvErr)) → false ≡ is_kept call today entry → true ≡ has_flag call.flags prelim_check → Comes r (tries_change today entry) s new → Comes r (changes_entry call user entry) s new
+    pub first_pass : (r : Result Code (Refuse ConvErr)) → false ≡ is_kept call today entry → true ≡ has_flag call.flags prelim_check → Returns r (tries_change today entry) s new → Returns r (changes_entry call user entry) s new
     first_pass r e f h = by_day r false e (by_flag r true f h)
 
-    pub not_taken : (e : Refuse ConvErr) → false ≡ is_kept call today entry → false ≡ has_flag call.flags prelim_check → Comes {A = Option (List ℕ)} (Err e) (takes_token call) s new → Comes (Err e) (changes_entry call user entry) s new
+    pub not_taken : (e : Refuse ConvErr) → false ≡ is_kept call today entry → false ≡ has_flag call.flags prelim_check → Returns {A = Option (List ℕ)} (Err e) (takes_token call) s new → Returns (Err e) (changes_entry call user entry) s new
     not_taken e k f h = by_day (Err e) false k (by_flag (Err e) false f (early (takes_token call) (λ token (act : Code → Act). stores_token call user token act) e s new h))
 
-    pub stored : (token : Option (List ℕ)) (code : Code) (mid : Scene) → false ≡ is_kept call today entry → false ≡ has_flag call.flags prelim_check → Comes (Ok token) (takes_token call) s mid → Came code (stores_token call user token) mid new
-        → Comes (Ok code) (changes_entry call user entry) s new
+    pub stored : (token : Option (List ℕ)) (code : Code) (mid : Scene) → false ≡ is_kept call today entry → false ≡ has_flag call.flags prelim_check → Returns (Ok token) (takes_token call) s mid → Yields code (stores_token call user token) mid new
+        → Returns (Ok code) (changes_entry call user entry) s new
     stored token code mid k f h d = by_day (Ok code) false k (by_flag (Ok code) false f (then (takes_token call) (λ t (act : Code → Act). stores_token call user t act) (Ok code) token s mid new h d))
 
 -- ---- by what is known of the user
 
-module _ (call : PlainCall) (user : List ℕ) (look : Look) (s : Scene) where
-  pub by_unknown : look ≡ Unknown → Comes (Ok returns.UserUnknown) (change_by call user look) s s
+module _ (call : PlainCall) (user : List ℕ) (look : KnownPassword) (s : Scene) where
+  pub by_unknown : look ≡ Unknown → Returns (Ok returns.UserUnknown) (change_by call user look) s s
   unfolding change_by
-  by_unknown e = subst (λ (l : Look). Comes (Ok returns.UserUnknown) (change_by call user l) s s) (sym e) (λ act known c end rest. rest)
+  by_unknown e = subst (λ (l : KnownPassword). Returns (Ok returns.UserUnknown) (change_by call user l) s s) (sym e) (λ act known c end rest. rest)
 
-  pub by_unavailable : look ≡ Unavailable → Comes (Ok returns.AuthinfoUnavail) (change_by call user look) s s
+  pub by_unavailable : look ≡ Unavailable → Returns (Ok returns.AuthinfoUnavail) (change_by call user look) s s
   unfolding change_by
-  by_unavailable e = subst (λ (l : Look). Comes (Ok returns.AuthinfoUnavail) (change_by call user l) s s) (sym e) (λ act known c end rest. rest)
+  by_unavailable e = subst (λ (l : KnownPassword). Returns (Ok returns.AuthinfoUnavail) (change_by call user l) s s) (sym e) (λ act known c end rest. rest)
 
-  pub by_plain : (hash : List ℕ) → look ≡ Plain hash → Comes (Ok returns.AuthtokErr) (change_by call user look) s s
+  pub by_plain : (hash : List ℕ) → look ≡ Plain hash → Returns (Ok returns.AuthtokErr) (change_by call user look) s s
   unfolding change_by
-  by_plain hash e = subst (λ (l : Look). Comes (Ok returns.AuthtokErr) (change_by call user l) s s) (sym e) (λ act known c end rest. rest)
+  by_plain hash e = subst (λ (l : KnownPassword). Returns (Ok returns.AuthtokErr) (change_by call user l) s s) (sym e) (λ act known c end rest. rest)
 
-  pub by_shadow : (entry : Shadow) (new : Scene) (r : Result Code (Refuse ConvErr)) → look ≡ Shadowed entry → Comes r (changes_entry call user entry) s new → Comes r (change_by call user look) s new
+  pub by_shadow : (entry : Shadow) (new : Scene) (r : Result Code (Refuse ConvErr)) → look ≡ Shadowed entry → Returns r (changes_entry call user entry) s new → Returns r (change_by call user look) s new
   unfolding change_by
-  by_shadow entry new r e h = subst (λ (l : Look). Comes r (change_by call user l) s new) (sym e) h
+  by_shadow entry new r e h = subst (λ (l : KnownPassword). Returns r (change_by call user l) s new) (sym e) h

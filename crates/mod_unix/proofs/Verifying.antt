@@ -5,7 +5,7 @@ use Rattle.pam_room.specs.State.{Scene}
 use Rattle.account_files.specs.Act.{Act, Acts}
 use Rattle.mod_unix.specs.declared.authenticate.Authenticated.{Authenticated}
 use Rattle.mod_unix.specs.declared.authenticate.Authenticated.TheVariants.{Kept}
-use Rattle.mod_unix.specs.declared.look.Look.{Look}
+use Rattle.mod_unix.specs.declared.look.KnownPassword.{KnownPassword}
 use Rattle.pam_base.specs.declared.code.Code.TheVariants.{AuthinfoUnavail}
 use Rattle.sha_crypt.specs.declared.setting.SettingFault.{SettingFault}
 use Rattle.sha_crypt.specs.Hash.{crypted}
@@ -17,6 +17,6 @@ unfolding hash_verified
 faulty hash token fault e f g = rw (e, f) (sym (ap (by_hash hash) g))
 
 -- the token that an item has was verified
-pub kept : (look : Look) (found : Option (List ℕ)) (token : List ℕ) (answer : Code) (act : Authenticated → Act) (known : Known) (s end : Scene) (code : Code) → Some token ≡ found → answer ≡ verified look token
+pub kept : (look : KnownPassword) (found : Option (List ℕ)) (token : List ℕ) (answer : Code) (act : Authenticated → Act) (known : Known) (s end : Scene) (code : Code) → Some token ≡ found → answer ≡ verified look token
     → Acts (act (Kept answer)) known s code end → Acts (act (Kept (verified look (unwrap_or found [])))) known s code end
 kept look found token answer act known s end code e f rest = rw (← e, ← f) rest

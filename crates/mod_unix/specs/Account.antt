@@ -3,12 +3,12 @@ use Rattle.pam_base.specs.declared.code.Code.{Code}
 use Rattle.pam_base.specs.declared.code.Code.TheVariants as returns
 use Rattle.account_files.specs.Act.{Act, asks_user}
 use Rattle.module_acts.specs.Steps.{sees_clock}
-use Rattle.mod_unix.specs.declared.look.Look.{Look}
-use Rattle.mod_unix.specs.declared.look.Look.TheVariants.{Unknown, Unavailable, Plain, Shadowed}
+use Rattle.mod_unix.specs.declared.look.KnownPassword.{KnownPassword}
+use Rattle.mod_unix.specs.declared.look.KnownPassword.TheVariants.{Unknown, Unavailable, Plain, Shadowed}
 use Rattle.mod_unix.specs.Aging.{aged, day_of}
 use Rattle.mod_unix.specs.Look.{looks}
 
-unfoldable pub account_by : Look → (Code → Act) → Act
+unfoldable pub account_by : KnownPassword → (Code → Act) → Act
 account_by Unknown act = act returns.UserUnknown
 account_by Unavailable act = act returns.AuthinfoUnavail
 account_by (Plain hash) act = act returns.Success

@@ -8,8 +8,8 @@ use Rattle.account_files.specs.Act.{Act, answers, asks_user, sees_items}
 use Rattle.module_acts.specs.Steps.{answers_keeping, asks_token, requests_delay}
 use Rattle.mod_unix.specs.declared.authenticate.Authenticated.{Authenticated}
 use Rattle.mod_unix.specs.declared.authenticate.Authenticated.TheVariants.{Kept, Unkept}
-use Rattle.mod_unix.specs.declared.look.Look.{Look}
-use Rattle.mod_unix.specs.declared.look.Look.TheVariants.{Unknown, Unavailable, Plain, Shadowed}
+use Rattle.mod_unix.specs.declared.look.KnownPassword.{KnownPassword}
+use Rattle.mod_unix.specs.declared.look.KnownPassword.TheVariants.{Unknown, Unavailable, Plain, Shadowed}
 use Rattle.account_files.specs.Arguments.{has_argument}
 use Rattle.mod_unix.specs.Flags.{disallow_null_authtok}
 use Rattle.mod_unix.specs.Look.{looks}
@@ -20,14 +20,14 @@ abbrev pub is_empty : List ℕ → Bool
 is_empty [] = true
 is_empty (b ∷ bs) = false
 
-abbrev pub has_empty_hash : Look → Bool
+abbrev pub has_empty_hash : KnownPassword → Bool
 has_empty_hash (Plain hash) = is_empty hash
 has_empty_hash (Shadowed entry) = is_empty entry.hash
 has_empty_hash Unknown = false
 has_empty_hash Unavailable = false
 
 -- with `nullok` a user without a password is let in, unless the application disallows it
-abbrev pub is_open : PlainCall → Look → Bool
+abbrev pub is_open : PlainCall → KnownPassword → Bool
 is_open call look = has_empty_hash look && has_argument (codes "nullok") call.args
     && not (has_flag call.flags disallow_null_authtok)
 
@@ -35,30 +35,30 @@ abbrev pub is_success : Code → Bool
 is_success code = number_of code == 0
 
 -- a token is asked for, and verified
-unfoldable pub asks_password : Look → (Authenticated → Act) → Act
+unfoldable pub asks_password : KnownPassword → (Authenticated → Act) → Act
 asks_password look act =
     asks_token false (codes "Password: ") (λ token. act (Kept (verified look token)))
 
 -- `use_first_pass`: the token that an earlier module asked for, and no other
-abbrev pub with_first : Look → Option (List ℕ) → (Authenticated → Act) → Act
+abbrev pub with_first : KnownPassword → Option (List ℕ) → (Authenticated → Act) → Act
 with_first look (Some token) act = act (Kept (verified look token))
 with_first look None act = act (Unkept returns.AuthErr)
 
 -- `try_first_pass`: that token first, if it is set
-abbrev pub unless_success : Bool → Look → (Authenticated → Act) → Act
+abbrev pub unless_success : Bool → KnownPassword → (Authenticated → Act) → Act
 unless_success true look act = act (Kept returns.Success)
 unless_success false look act = asks_password look act
 
-abbrev pub try_first : Look → Option (List ℕ) → (Authenticated → Act) → Act
+abbrev pub try_first : KnownPassword → Option (List ℕ) → (Authenticated → Act) → Act
 try_first look (Some token) act = unless_success (is_success (verified look token)) look act
 try_first look None act = asks_password look act
 
-abbrev pub by_pass : Bool → Bool → Look → (Authenticated → Act) → Act
+abbrev pub by_pass : Bool → Bool → KnownPassword → (Authenticated → Act) → Act
 by_pass true try look act = sees_items (λ items. with_first look items.auth_tok act)
 by_pass false true look act = sees_items (λ items. try_first look items.auth_tok act)
 by_pass false false look act = asks_password look act
 
-unfoldable pub verifies_token : PlainCall → Look → (Authenticated → Act) → Act
+unfoldable pub verifies_token : PlainCall → KnownPassword → (Authenticated → Act) → Act
 verifies_token call look act = by_pass (has_argument (codes "use_first_pass") call.args)
     (has_argument (codes "try_first_pass") call.args) look act
 
@@ -67,16 +67,16 @@ abbrev pub delays : Bool → Act → Act
 delays true act = act
 delays false act = requests_delay 2000000 act
 
-abbrev pub by_open : Bool → PlainCall → Look → (Authenticated → Act) → Act
+abbrev pub by_open : Bool → PlainCall → KnownPassword → (Authenticated → Act) → Act
 by_open true call look act = act (Kept returns.Success)
 by_open false call look act =
     delays (has_argument (codes "nodelay") call.args) (verifies_token call look act)
 
-unfoldable pub by_look : PlainCall → Look → (Authenticated → Act) → Act
-by_look call look act = by_open (is_open call look) call look act
+unfoldable pub judge_account : PlainCall → KnownPassword → (Authenticated → Act) → Act
+judge_account call look act = by_open (is_open call look) call look act
 
 unfoldable pub authenticates : PlainCall → (Authenticated → Act) → Act
-authenticates call act = asks_user (λ user. looks user (λ look. by_look call look act))
+authenticates call act = asks_user (λ user. looks user (λ look. judge_account call look act))
 
 -- the name of the data whose code setcred returns
 abbrev pub setcred_return : List ℕ

@@ -17,8 +17,8 @@ use Rattle.account_files.specs.declared.content.Content.TheVariants as content
 use Rattle.account_files.specs.Accounts.{account_limit}
 use Rattle.account_files.specs.Act.{Act, asks_user, draws_word, reads_file, sees_items, replaces_file}
 use Rattle.module_acts.specs.Steps.{asks_token, exchanges, sees_caller, sees_clock, sets_item}
-use Rattle.mod_unix.specs.declared.look.Look.{Look}
-use Rattle.mod_unix.specs.declared.look.Look.TheVariants.{Unknown, Unavailable, Plain, Shadowed}
+use Rattle.mod_unix.specs.declared.look.KnownPassword.{KnownPassword}
+use Rattle.mod_unix.specs.declared.look.KnownPassword.TheVariants.{Unknown, Unavailable, Plain, Shadowed}
 use Rattle.mod_unix.specs.Aging.{aged, day_of}
 use Rattle.account_files.specs.Arguments.{has_argument}
 use Rattle.mod_unix.specs.Flags.{change_expired_authtok}
@@ -89,7 +89,7 @@ takes_token call act = by_authtok (has_argument (codes "use_authtok") call.args)
 -- ---- the second pass: the new hash
 
 -- the text of shadow with the new hash, if the user has an entry
-abbrev pub changed_by : Look → Result (List ℕ) DbFault → Option (List ℕ)
+abbrev pub changed_by : KnownPassword → Result (List ℕ) DbFault → Option (List ℕ)
 changed_by (Shadowed entry) (Ok text) = Some text
 changed_by (Shadowed entry) (Err fault) = None
 changed_by Unknown text = None
@@ -102,12 +102,12 @@ changed_shadow user hash today content.Unreadable = None
 changed_shadow user hash today (content.Holds text) =
     changed_by (shadow_in user (content.Holds text)) (hash_replaced user hash today text)
 
-abbrev pub by_done : Bool → Code
-by_done true = returns.Success
-by_done false = returns.AuthtokErr
+abbrev pub write_result : Bool → Code
+write_result true = returns.Success
+write_result false = returns.AuthtokErr
 
 abbrev pub by_text : Option (List ℕ) → (Code → Act) → Act
-by_text (Some text) act = replaces_file (codes "/etc/shadow") text (λ done. act (by_done done))
+by_text (Some text) act = replaces_file (codes "/etc/shadow") text (λ done. act (write_result done))
 by_text None act = act returns.AuthtokErr
 
 -- shadow is read again, and replaced
@@ -144,7 +144,7 @@ unfoldable pub changes_entry : PlainCall → List ℕ → Shadow → (Code → A
 changes_entry call user entry act = sees_clock (λ clock.
     by_kept (is_kept call (day_of clock.moment) entry) call user (day_of clock.moment) entry act)
 
-unfoldable pub change_by : PlainCall → List ℕ → Look → (Code → Act) → Act
+unfoldable pub change_by : PlainCall → List ℕ → KnownPassword → (Code → Act) → Act
 change_by call user Unknown act = act returns.UserUnknown
 change_by call user Unavailable act = act returns.AuthinfoUnavail
 change_by call user (Plain hash) act = act returns.AuthtokErr

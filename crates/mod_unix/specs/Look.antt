@@ -12,8 +12,8 @@ use Rattle.account_files.specs.Accounts.{account_limit}
 use Rattle.account_files.specs.Act.{Act, reads_file}
 use Rattle.mod_unix.specs.declared.look.Field.{Field}
 use Rattle.mod_unix.specs.declared.look.Field.TheVariants as field
-use Rattle.mod_unix.specs.declared.look.Look.{Look}
-use Rattle.mod_unix.specs.declared.look.Look.TheVariants.{Unknown, Unavailable, Plain, Shadowed}
+use Rattle.mod_unix.specs.declared.look.KnownPassword.{KnownPassword}
+use Rattle.mod_unix.specs.declared.look.KnownPassword.TheVariants.{Unknown, Unavailable, Plain, Shadowed}
 
 -- the password field of the user's entry in passwd
 abbrev pub field_or_missing : Option Passwd → Field
@@ -30,21 +30,21 @@ field_in user content.Absent = field.Unreadable
 field_in user content.Unreadable = field.Unreadable
 
 -- the user's entry in shadow
-abbrev pub shadowed : Option Shadow → Look
+abbrev pub shadowed : Option Shadow → KnownPassword
 shadowed (Some entry) = Shadowed entry
 shadowed None = Unavailable
 
-abbrev pub shadow_among : List ℕ → Result (List Shadow) DbFault → Look
+abbrev pub shadow_among : List ℕ → Result (List Shadow) DbFault → KnownPassword
 shadow_among user (Ok entries) = shadowed (shadow_of user entries)
 shadow_among user (Err fault) = Unavailable
 
-abbrev pub shadow_in : List ℕ → Content → Look
+abbrev pub shadow_in : List ℕ → Content → KnownPassword
 shadow_in user (content.Holds text) = shadow_among user (shadows_of text)
 shadow_in user content.Absent = Unavailable
 shadow_in user content.Unreadable = Unavailable
 
 -- a password field `x` means that the hash is in shadow; any other is the hash
-abbrev pub by_x : Bool → List ℕ → List ℕ → (Look → Act) → Act
+abbrev pub by_x : Bool → List ℕ → List ℕ → (KnownPassword → Act) → Act
 by_x true user hash act =
     reads_file (codes "/etc/shadow") account_limit (λ c. act (shadow_in user c))
 by_x false user hash act = act (Plain hash)
@@ -52,12 +52,12 @@ by_x false user hash act = act (Plain hash)
 abbrev pub is_x : List ℕ → Bool
 is_x hash = bytes_eq hash (codes "x")
 
-abbrev pub by_field : List ℕ → Field → (Look → Act) → Act
+abbrev pub by_field : List ℕ → Field → (KnownPassword → Act) → Act
 by_field user field.Unreadable act = act Unavailable
 by_field user field.Missing act = act Unknown
 by_field user (field.Holds hash) act = by_x (is_x hash) user hash act
 
 -- what is known of a user's password is looked up
-unfoldable pub looks : List ℕ → (Look → Act) → Act
+unfoldable pub looks : List ℕ → (KnownPassword → Act) → Act
 looks user act =
     reads_file (codes "/etc/passwd") account_limit (λ c. by_field user (field_in user c) act)

@@ -5,8 +5,8 @@ use Rattle.pam_base.specs.declared.code.Code.{Code}
 use Rattle.pam_base.specs.declared.code.Code.TheVariants as returns
 use Rattle.sha_crypt.specs.declared.setting.SettingFault.{SettingFault}
 use Rattle.sha_crypt.specs.Hash.{crypted}
-use Rattle.mod_unix.specs.declared.look.Look.{Look}
-use Rattle.mod_unix.specs.declared.look.Look.TheVariants.{Unknown, Unavailable, Plain, Shadowed}
+use Rattle.mod_unix.specs.declared.look.KnownPassword.{KnownPassword}
+use Rattle.mod_unix.specs.declared.look.KnownPassword.TheVariants.{Unknown, Unavailable, Plain, Shadowed}
 
 -- a hash that is empty or begins with ! or * lets nobody in
 abbrev pub is_locked : List ℕ → Bool
@@ -23,7 +23,7 @@ unfoldable pub hash_verified : List ℕ → List ℕ → Code
 hash_verified hash token = if is_locked hash || nat_lt 512 (length token) then returns.AuthErr
     else by_hash hash (crypted hash token)
 
-abbrev pub verified : Look → List ℕ → Code
+abbrev pub verified : KnownPassword → List ℕ → Code
 verified Unknown token = returns.UserUnknown
 verified Unavailable token = returns.AuthinfoUnavail
 verified (Plain hash) token = hash_verified hash token

@@ -2,13 +2,13 @@ ghost use Rattle.std.specs.Prelude.{◌≡◌, IsTrue};
 ghost use Rattle.pam_outside.specs.Files.{VaultState};
 ghost use Rattle.pam_room.specs.Plain.{plain_process};
 ghost use Rattle.pam_room.specs.State.{PlainProcess, PlainRoom, scene_of};
-ghost use Rattle.account_files.specs.Act.{Came};
-ghost use Rattle.module_acts.specs.Comes.{Comes, lent};
-ghost use Rattle.module_acts.specs.Talks.{Talks};
+ghost use Rattle.account_files.specs.Act.{Yields};
+ghost use Rattle.module_acts.specs.Returns.{Returns, scene_of_parts};
+ghost use Rattle.module_acts.specs.OnlyTalks.{OnlyTalks};
 ghost use Rattle.mod_unix.specs.Account.{account_by, checks_account};
 
 use crate::aging::{aged, day_of};
-use crate::look::{Look, look_up};
+use crate::look::{KnownPassword, look_up};
 use conv_port::Conv;
 use module_acts::{laws, require_user, user_of};
 use pam_base::{Code, ConvErr, Refuse};
@@ -31,12 +31,12 @@ pub(crate) fn check_account(
         (vault_holds vault.new).files ≡ (vault_holds vault.old).files }
     ensures told { IsTrue (conv_tells conv.old) → IsTrue (vault_tells vault.old) →
         IsTrue (clock_tells clock.now) →
-        Comes result checks_account
-        (lent transaction.old (conv_holds conv.old) (vault_holds vault.old) (clock_holds clock.now)
-        (plain_process process.now))
-        (lent transaction.new (conv_holds conv.new) (vault_holds vault.new) (clock_holds clock.now)
-        (plain_process process.now)) }
-    ensures talks { Talks transaction.old transaction.new }
+        Returns result checks_account
+        (scene_of_parts transaction.old (conv_holds conv.old) (vault_holds vault.old)
+        (clock_holds clock.now) (plain_process process.now))
+        (scene_of_parts transaction.new (conv_holds conv.new) (vault_holds vault.new)
+        (clock_holds clock.now) (plain_process process.now)) }
+    ensures talks { OnlyTalks transaction.old transaction.new }
 {
     require_user(alloc, transaction, conv)?;
     let look = look_up(alloc, vault, process, user_of(transaction))?;
@@ -45,17 +45,17 @@ pub(crate) fn check_account(
 }
 
 // By what is known of the user's password.
-fn account_by(look: &Look, clock: &dyn Clock) -> Code
+fn account_by(look: &KnownPassword, clock: &dyn Clock) -> Code
     ensures told { IsTrue (clock_tells clock.now) →
         (room : PlainRoom) (vault : VaultState) (process : PlainProcess) →
-        Came result (account_by look.now) (scene_of room vault (clock_holds clock.now) process)
+        Yields result (account_by look.now) (scene_of room vault (clock_holds clock.now) process)
         (scene_of room vault (clock_holds clock.now) process) }
 {
     laws::acting();
     match look {
-        Look::Unknown => Code::UserUnknown,
-        Look::Unavailable => Code::AuthinfoUnavail,
-        Look::Plain(_) => Code::Success,
-        Look::Shadowed(entry) => aged(day_of(current_moment(clock)), entry),
+        KnownPassword::Unknown => Code::UserUnknown,
+        KnownPassword::Unavailable => Code::AuthinfoUnavail,
+        KnownPassword::Plain(_) => Code::Success,
+        KnownPassword::Shadowed(entry) => aged(day_of(current_moment(clock)), entry),
     }
 }

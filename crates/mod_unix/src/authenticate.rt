@@ -3,11 +3,11 @@ ghost use Rattle.pam_outside.specs.Files.{VaultState};
 ghost use Rattle.pam_outside.specs.Time.{ClockState};
 ghost use Rattle.pam_room.specs.Plain.{plain_call, plain_process};
 ghost use Rattle.pam_room.specs.State.{PlainProcess};
-ghost use Rattle.module_acts.specs.Comes.{Comes, lent};
-ghost use Rattle.module_acts.specs.Talks.{Talks};
-ghost use Rattle.mod_unix.specs.Authenticate.{asks_password, authenticates, by_look, has_empty_hash, is_open, is_success, verifies_token};
+ghost use Rattle.module_acts.specs.Returns.{Returns, scene_of_parts};
+ghost use Rattle.module_acts.specs.OnlyTalks.{OnlyTalks};
+ghost use Rattle.mod_unix.specs.Authenticate.{asks_password, authenticates, judge_account, has_empty_hash, is_open, is_success, verifies_token};
 
-use crate::look::{Look, look_up};
+use crate::look::{KnownPassword, look_up};
 use crate::verify::verify;
 use account_files::has_argument;
 use conv_port::Conv;
@@ -40,34 +40,34 @@ pub(crate) fn authenticate(
         (vault_holds vault.new).files ≡ (vault_holds vault.old).files }
     ensures told { IsTrue (conv_tells conv.old) → IsTrue (vault_tells vault.old) →
         (clock : ClockState) →
-        Comes result (authenticates (plain_call call.now))
-        (lent transaction.old (conv_holds conv.old) (vault_holds vault.old) clock
+        Returns result (authenticates (plain_call call.now))
+        (scene_of_parts transaction.old (conv_holds conv.old) (vault_holds vault.old) clock
         (plain_process process.now))
-        (lent transaction.new (conv_holds conv.new) (vault_holds vault.new) clock
+        (scene_of_parts transaction.new (conv_holds conv.new) (vault_holds vault.new) clock
         (plain_process process.now)) }
-    ensures talks { Talks transaction.old transaction.new }
+    ensures talks { OnlyTalks transaction.old transaction.new }
 {
     laws::talking();
     require_user(alloc, transaction, conv)?;
     let look = look_up(alloc, vault, process, user_of(transaction))?;
-    by_look(alloc, call, &look, transaction, conv)
+    judge_account(alloc, call, &look, transaction, conv)
 }
 
 // Decides by what is known of the user's password.
-fn by_look(
+fn judge_account(
     alloc: Global,
     call: &Call,
-    look: &Look,
+    look: &KnownPassword,
     transaction: &mut Transaction,
     conv: &mut dyn Conv,
 ) -> Result<Authenticated, Refuse<ConvErr>>
     ensures tells { conv_tells conv.new ≡ conv_tells conv.old }
     ensures told { IsTrue (conv_tells conv.old) →
         (vault : VaultState) (clock : ClockState) (process : PlainProcess) →
-        Comes result (by_look (plain_call call.now) look.now)
-        (lent transaction.old (conv_holds conv.old) vault clock process)
-        (lent transaction.new (conv_holds conv.new) vault clock process) }
-    ensures talks { Talks transaction.old transaction.new }
+        Returns result (judge_account (plain_call call.now) look.now)
+        (scene_of_parts transaction.old (conv_holds conv.old) vault clock process)
+        (scene_of_parts transaction.new (conv_holds conv.new) vault clock process) }
+    ensures talks { OnlyTalks transaction.old transaction.new }
 {
     laws::talking();
     if is_open(call, look) {
@@ -81,7 +81,7 @@ fn by_look(
 }
 
 // Whether a user without a password is let in.
-fn is_open(call: &Call, look: &Look) -> bool
+fn is_open(call: &Call, look: &KnownPassword) -> bool
     ensures { result ≡ is_open (plain_call call.now) look.now }
 {
     has_empty_hash(look)
@@ -89,13 +89,13 @@ fn is_open(call: &Call, look: &Look) -> bool
         && !call.has_flag(DISALLOW_NULL_AUTHTOK)
 }
 
-fn has_empty_hash(look: &Look) -> bool
+fn has_empty_hash(look: &KnownPassword) -> bool
     ensures { result ≡ has_empty_hash look.now }
 {
     match look {
-        Look::Plain(hash) => hash.is_empty(),
-        Look::Shadowed(entry) => entry.hash.is_empty(),
-        Look::Unknown | Look::Unavailable => false,
+        KnownPassword::Plain(hash) => hash.is_empty(),
+        KnownPassword::Shadowed(entry) => entry.hash.is_empty(),
+        KnownPassword::Unknown | KnownPassword::Unavailable => false,
     }
 }
 
@@ -103,17 +103,17 @@ fn has_empty_hash(look: &Look) -> bool
 fn verify_token(
     alloc: Global,
     call: &Call,
-    look: &Look,
+    look: &KnownPassword,
     transaction: &mut Transaction,
     conv: &mut dyn Conv,
 ) -> Result<Authenticated, Refuse<ConvErr>>
     ensures tells { conv_tells conv.new ≡ conv_tells conv.old }
     ensures told { IsTrue (conv_tells conv.old) →
         (vault : VaultState) (clock : ClockState) (process : PlainProcess) →
-        Comes result (verifies_token (plain_call call.now) look.now)
-        (lent transaction.old (conv_holds conv.old) vault clock process)
-        (lent transaction.new (conv_holds conv.new) vault clock process) }
-    ensures talks { Talks transaction.old transaction.new }
+        Returns result (verifies_token (plain_call call.now) look.now)
+        (scene_of_parts transaction.old (conv_holds conv.old) vault clock process)
+        (scene_of_parts transaction.new (conv_holds conv.new) vault clock process) }
+    ensures talks { OnlyTalks transaction.old transaction.new }
 {
     account_files::laws::act_steps();
     laws::talking();
@@ -145,17 +145,17 @@ fn is_success(code: Code) -> bool
 // Asks for a token, and verifies it.
 fn ask_password(
     alloc: Global,
-    look: &Look,
+    look: &KnownPassword,
     transaction: &mut Transaction,
     conv: &mut dyn Conv,
 ) -> Result<Authenticated, Refuse<ConvErr>>
     ensures tells { conv_tells conv.new ≡ conv_tells conv.old }
     ensures told { IsTrue (conv_tells conv.old) →
         (vault : VaultState) (clock : ClockState) (process : PlainProcess) →
-        Comes result (asks_password look.now)
-        (lent transaction.old (conv_holds conv.old) vault clock process)
-        (lent transaction.new (conv_holds conv.new) vault clock process) }
-    ensures talks { Talks transaction.old transaction.new }
+        Returns result (asks_password look.now)
+        (scene_of_parts transaction.old (conv_holds conv.old) vault clock process)
+        (scene_of_parts transaction.new (conv_holds conv.new) vault clock process) }
+    ensures talks { OnlyTalks transaction.old transaction.new }
 {
     require_token(alloc, transaction, conv, false, b"Password: ")?;
     match get_item(&transaction.items, ItemName::AuthTok) {

@@ -4,14 +4,14 @@ ghost use Rattle.pam_outside.specs.Files.{VaultState};
 ghost use Rattle.pam_outside.specs.Time.{ClockState, time_of};
 ghost use Rattle.pam_room.specs.Plain.{plain_call, plain_process};
 ghost use Rattle.pam_room.specs.State.{PlainProcess, PlainRoom, scene_of};
-ghost use Rattle.account_files.specs.Act.{Came};
-ghost use Rattle.module_acts.specs.Comes.{Comes, lent};
-ghost use Rattle.module_acts.specs.Talks.{Talks};
+ghost use Rattle.account_files.specs.Act.{Yields};
+ghost use Rattle.module_acts.specs.Returns.{Returns, scene_of_parts};
+ghost use Rattle.module_acts.specs.OnlyTalks.{OnlyTalks};
 ghost use Rattle.mod_unix.specs.Aging.{day_of};
 ghost use Rattle.mod_unix.specs.Change.{asks_old, change_by, changes_entry, changes_token, is_kept, is_too_early, takes_token, tries_change};
 
 use crate::aging::aged;
-use crate::look::{Look, look_up};
+use crate::look::{KnownPassword, look_up};
 use crate::new_token::take_token;
 use crate::store::store_token;
 use crate::verify::verify_hash;
@@ -45,12 +45,12 @@ pub(crate) fn change_token(
         time_of (clock_holds clock.new) ≡ time_of (clock_holds clock.old) }
     ensures told { IsTrue (conv_tells conv.old) → IsTrue (vault_tells vault.old) →
         IsTrue (clock_tells clock.old) → today ≡ day_of (clock_holds clock.old).moment →
-        Comes result (changes_token (plain_call call.now))
-        (lent transaction.old (conv_holds conv.old) (vault_holds vault.old) (clock_holds clock.old)
-        (plain_process process.now))
-        (lent transaction.new (conv_holds conv.new) (vault_holds vault.new) (clock_holds clock.new)
-        (plain_process process.now)) }
-    ensures talks { Talks transaction.old transaction.new }
+        Returns result (changes_token (plain_call call.now))
+        (scene_of_parts transaction.old (conv_holds conv.old) (vault_holds vault.old)
+        (clock_holds clock.old) (plain_process process.now))
+        (scene_of_parts transaction.new (conv_holds conv.new) (vault_holds vault.new)
+        (clock_holds clock.new) (plain_process process.now)) }
+    ensures talks { OnlyTalks transaction.old transaction.new }
 {
     laws::talking();
     require_user(alloc, transaction, conv)?;
@@ -76,7 +76,7 @@ fn change_by(
     call: &Call,
     today: u64,
     user: &[u8],
-    look: &Look,
+    look: &KnownPassword,
     transaction: &mut Transaction,
     process: &Process,
     conv: &mut dyn Conv,
@@ -92,19 +92,19 @@ fn change_by(
         time_of (clock_holds clock.new) ≡ time_of (clock_holds clock.old) }
     ensures told { IsTrue (conv_tells conv.old) → IsTrue (vault_tells vault.old) →
         IsTrue (clock_tells clock.old) → today ≡ day_of (clock_holds clock.old).moment →
-        Comes result (change_by (plain_call call.now) user.now look.now)
-        (lent transaction.old (conv_holds conv.old) (vault_holds vault.old) (clock_holds clock.old)
-        (plain_process process.now))
-        (lent transaction.new (conv_holds conv.new) (vault_holds vault.new) (clock_holds clock.new)
-        (plain_process process.now)) }
-    ensures talks { Talks transaction.old transaction.new }
+        Returns result (change_by (plain_call call.now) user.now look.now)
+        (scene_of_parts transaction.old (conv_holds conv.old) (vault_holds vault.old)
+        (clock_holds clock.old) (plain_process process.now))
+        (scene_of_parts transaction.new (conv_holds conv.new) (vault_holds vault.new)
+        (clock_holds clock.new) (plain_process process.now)) }
+    ensures talks { OnlyTalks transaction.old transaction.new }
 {
     laws::talking();
     match look {
-        Look::Unknown => Ok(Code::UserUnknown),
-        Look::Unavailable => Ok(Code::AuthinfoUnavail),
-        Look::Plain(_) => Ok(Code::AuthtokErr),
-        Look::Shadowed(entry) => change_entry(
+        KnownPassword::Unknown => Ok(Code::UserUnknown),
+        KnownPassword::Unavailable => Ok(Code::AuthinfoUnavail),
+        KnownPassword::Plain(_) => Ok(Code::AuthtokErr),
+        KnownPassword::Shadowed(entry) => change_entry(
             alloc,
             call,
             today,
@@ -141,12 +141,12 @@ fn change_entry(
         time_of (clock_holds clock.new) ≡ time_of (clock_holds clock.old) }
     ensures told { IsTrue (conv_tells conv.old) → IsTrue (vault_tells vault.old) →
         IsTrue (clock_tells clock.old) → today ≡ day_of (clock_holds clock.old).moment →
-        Comes result (changes_entry (plain_call call.now) user.now entry.now)
-        (lent transaction.old (conv_holds conv.old) (vault_holds vault.old) (clock_holds clock.old)
-        (plain_process process.now))
-        (lent transaction.new (conv_holds conv.new) (vault_holds vault.new) (clock_holds clock.new)
-        (plain_process process.now)) }
-    ensures talks { Talks transaction.old transaction.new }
+        Returns result (changes_entry (plain_call call.now) user.now entry.now)
+        (scene_of_parts transaction.old (conv_holds conv.old) (vault_holds vault.old)
+        (clock_holds clock.old) (plain_process process.now))
+        (scene_of_parts transaction.new (conv_holds conv.new) (vault_holds vault.new)
+        (clock_holds clock.new) (plain_process process.now)) }
+    ensures talks { OnlyTalks transaction.old transaction.new }
 {
     laws::acting();
     laws::talking();
@@ -180,10 +180,12 @@ fn try_change(
 ) -> Result<Code, Refuse<ConvErr>>
     ensures tells { conv_tells conv.new ≡ conv_tells conv.old }
     ensures told { IsTrue (conv_tells conv.old) → (vault : VaultState) (clock : ClockState) →
-        Comes result (tries_change today entry.now)
-        (lent transaction.old (conv_holds conv.old) vault clock (plain_process process.now))
-        (lent transaction.new (conv_holds conv.new) vault clock (plain_process process.now)) }
-    ensures talks { Talks transaction.old transaction.new }
+        Returns result (tries_change today entry.now)
+        (scene_of_parts transaction.old (conv_holds conv.old) vault clock
+        (plain_process process.now))
+        (scene_of_parts transaction.new (conv_holds conv.new) vault clock
+        (plain_process process.now)) }
+    ensures talks { OnlyTalks transaction.old transaction.new }
 {
     laws::acting();
     laws::talking();
@@ -221,10 +223,10 @@ fn ask_old(
     ensures tells { conv_tells conv.new ≡ conv_tells conv.old }
     ensures told { IsTrue (conv_tells conv.old) →
         (vault : VaultState) (clock : ClockState) (process : PlainProcess) →
-        Comes result (asks_old entry.now)
-        (lent transaction.old (conv_holds conv.old) vault clock process)
-        (lent transaction.new (conv_holds conv.new) vault clock process) }
-    ensures talks { Talks transaction.old transaction.new }
+        Returns result (asks_old entry.now)
+        (scene_of_parts transaction.old (conv_holds conv.old) vault clock process)
+        (scene_of_parts transaction.new (conv_holds conv.new) vault clock process) }
+    ensures talks { OnlyTalks transaction.old transaction.new }
 {
     require_token(alloc, transaction, conv, true, b"Password: ")?;
     match get_item(&transaction.items, ItemName::OldAuthTok) {

@@ -14,7 +14,7 @@ mod pam_unix;
 mod store;
 mod verify;
 
-pub use look::{Look, look_up};
+pub use look::{KnownPassword, look_up};
 pub use module_acts;
 pub use new_token::take_token;
 pub use pam_unix::Unix;

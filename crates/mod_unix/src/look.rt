@@ -16,7 +16,7 @@ pub(crate) const ACCOUNT_LIMIT: u32 = 1_048_576;
 
 /// What is known of a user's password.
 #[derive(Drop)]
-pub enum Look {
+pub enum KnownPassword {
     /// There is no such user.
     Unknown,
     /// The account files can't be read, or lack the user's entry in `shadow`.
@@ -42,7 +42,7 @@ pub fn look_up(
     vault: &mut dyn Vault,
     process: &Process,
     user: &[u8],
-) -> Result<Look, NoMemory>
+) -> Result<KnownPassword, NoMemory>
     ensures tells { vault_tells vault.new ≡ vault_tells vault.old }
     ensures files { IsTrue (vault_tells vault.old) →
         (vault_holds vault.new).files ≡ (vault_holds vault.old).files }
@@ -52,12 +52,12 @@ pub fn look_up(
 {
     let content = read_named(alloc, vault, process, b"/etc/passwd", ACCOUNT_LIMIT)?;
     let hash = match field_in(alloc, user, content)? {
-        Field::Unreadable => return Ok(Look::Unavailable),
-        Field::Missing => return Ok(Look::Unknown),
+        Field::Unreadable => return Ok(KnownPassword::Unavailable),
+        Field::Missing => return Ok(KnownPassword::Unknown),
         Field::Holds(hash) => hash,
     };
     if !is_x(hash.bytes()) {
-        return Ok(Look::Plain(hash));
+        return Ok(KnownPassword::Plain(hash));
     }
     let content = read_named(alloc, vault, process, b"/etc/shadow", ACCOUNT_LIMIT)?;
     let look = shadow_in(alloc, user, content)?;
@@ -88,20 +88,20 @@ fn field_in(alloc: Global, user: &[u8], content: Content) -> Result<Field, NoMem
     }
 }
 
-fn shadow_in(alloc: Global, user: &[u8], content: Content) -> Result<Look, NoMemory>
+fn shadow_in(alloc: Global, user: &[u8], content: Content) -> Result<KnownPassword, NoMemory>
     requires { IsWithin content account_limit }
     ensures { IfOk result (λ look. look ≡ shadow_in user.now content) }
 {
     let text = match content {
-        Content::Absent => return Ok(Look::Unavailable),
-        Content::Unreadable => return Ok(Look::Unavailable),
+        Content::Absent => return Ok(KnownPassword::Unavailable),
+        Content::Unreadable => return Ok(KnownPassword::Unavailable),
         Content::Holds(text) => text,
     };
     match shadows(text) {
         Ok(entries) => match shadow_of(alloc, user, &entries)? {
-            Some(entry) => Ok(Look::Shadowed(entry)),
-            None => Ok(Look::Unavailable),
+            Some(entry) => Ok(KnownPassword::Shadowed(entry)),
+            None => Ok(KnownPassword::Unavailable),
         },
-        Err(_) => Ok(Look::Unavailable),
+        Err(_) => Ok(KnownPassword::Unavailable),
     }
 }

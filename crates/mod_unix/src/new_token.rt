@@ -4,8 +4,8 @@ ghost use Rattle.pam_outside.specs.Files.{VaultState};
 ghost use Rattle.pam_outside.specs.Time.{ClockState};
 ghost use Rattle.pam_room.specs.Plain.{plain_call};
 ghost use Rattle.pam_room.specs.State.{PlainProcess};
-ghost use Rattle.module_acts.specs.Comes.{Comes, lent};
-ghost use Rattle.module_acts.specs.Talks.{Talks};
+ghost use Rattle.module_acts.specs.Returns.{Returns, scene_of_parts};
+ghost use Rattle.module_acts.specs.OnlyTalks.{OnlyTalks};
 ghost use Rattle.mod_unix.specs.Change.{new_prompts, same_reply, takes_token, usable};
 
 use account_files::has_argument;
@@ -26,11 +26,11 @@ pub fn take_token(
     ensures tells { conv_tells conv.new ≡ conv_tells conv.old }
     ensures told { IsTrue (conv_tells conv.old) →
         (vault : VaultState) (clock : ClockState) (process : PlainProcess) →
-        Comes result (takes_token (plain_call call.now))
-        (lent transaction.old (conv_holds conv.old) vault clock process)
-        (lent transaction.new (conv_holds conv.new) vault clock process) }
+        Returns result (takes_token (plain_call call.now))
+        (scene_of_parts transaction.old (conv_holds conv.old) vault clock process)
+        (scene_of_parts transaction.new (conv_holds conv.new) vault clock process) }
     ensures short { IfOk result (λ token. IfSome token (λ t. length t ≤ 512)) }
-    ensures talks { Talks transaction.old transaction.new }
+    ensures talks { OnlyTalks transaction.old transaction.new }
 {
     account_files::laws::act_steps();
     laws::talking();

@@ -7,7 +7,7 @@ ghost use Rattle.pam_room.specs.Module.{keeps_files, length_note, named_data};
 ghost use Rattle.pam_room.specs.Plain.{plain_process};
 ghost use Rattle.pam_room.specs.State.{Scene};
 ghost use Rattle.account_files.specs.Act.{Act};
-ghost use Rattle.module_acts.specs.Comes.{Comes, Goes, lent};
+ghost use Rattle.module_acts.specs.Returns.{Returns, Follows, scene_of_parts};
 ghost use Rattle.mod_unix.specs.declared.authenticate.Authenticated.{Authenticated};
 ghost use Rattle.mod_unix.specs.Authenticate.{keeps_for_setcred};
 ghost use Rattle.mod_unix.specs.Unix.{code_in, kept_code, payload_named, unix_plays};
@@ -109,9 +109,10 @@ fn keep_for_setcred(
     requires { transaction.old.datums.handle ≡ transaction.old.handle }
     ensures told { (step : (Authenticated → Act) → Act) (s : Scene) (conv : ConvState)
         (vault : VaultState) (clock : ClockState) →
-        Comes answer step s (lent transaction.old conv vault clock (plain_process process.old)) →
-        IfOk result (λ code. Goes (step keeps_for_setcred) s code (lent transaction.new conv vault
-        clock (plain_process process.new))) }
+        Returns answer step s (scene_of_parts transaction.old conv vault clock
+        (plain_process process.old)) →
+        IfOk result (λ code. Follows (step keeps_for_setcred) s code
+        (scene_of_parts transaction.new conv vault clock (plain_process process.new))) }
     ensures sets { Sets transaction.old.serving transaction.old.datums process.old.ledger
         transaction.new.datums process.new.ledger }
     ensures data_handle { transaction.new.datums.handle ≡ transaction.old.datums.handle }

@@ -4,9 +4,9 @@ ghost use Rattle.pam_room.specs.Plain.{plain_call, plain_process};
 ghost use Rattle.pam_room.specs.State.{PlainRoom, scene_of};
 ghost use Rattle.account_files.specs.Accounts.{account_limit};
 ghost use Rattle.account_files.specs.Content.{IsWithin};
-ghost use Rattle.account_files.specs.Act.{Came, StepsTo};
+ghost use Rattle.account_files.specs.Act.{Yields, StepsTo};
 ghost use Rattle.mod_unix.specs.Aging.{day_of};
-ghost use Rattle.mod_unix.specs.Change.{by_done, changed_shadow, changes_shadow, stores_token};
+ghost use Rattle.mod_unix.specs.Change.{write_result, changed_shadow, changes_shadow, stores_token};
 
 use crate::look::ACCOUNT_LIMIT;
 use crate::new_hash::hashed_token;
@@ -38,7 +38,7 @@ pub(crate) fn store_token(
         time_of (clock_holds clock.new) ≡ time_of (clock_holds clock.old) }
     ensures told { IsTrue (vault_tells vault.old) → IsTrue (clock_tells clock.old) →
         (room : PlainRoom) → today ≡ day_of (clock_holds clock.old).moment →
-        IfOk result (λ code. Came code (stores_token (plain_call call.now) user.now token)
+        IfOk result (λ code. Yields code (stores_token (plain_call call.now) user.now token)
         (scene_of room (vault_holds vault.old) (clock_holds clock.old) (plain_process process.now))
         (scene_of room (vault_holds vault.new) (clock_holds clock.new)
         (plain_process process.now))) }
@@ -101,11 +101,11 @@ fn change_held(
         None => return Ok(Code::AuthtokErr),
     };
     let done = replace_named(alloc, vault, process, b"/etc/shadow", text.bytes())?;
-    Ok(by_done(done))
+    Ok(write_result(done))
 }
 
-fn by_done(done: bool) -> Code
-    ensures { result ≡ by_done done }
+fn write_result(done: bool) -> Code
+    ensures { result ≡ write_result done }
 {
     if done {
         Code::Success

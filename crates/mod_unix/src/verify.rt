@@ -1,21 +1,21 @@
 ghost use Rattle.std.specs.Prelude.{◌≡◌, IfOk};
 ghost use Rattle.mod_unix.specs.Verify.{hash_verified, is_locked, verified};
 
-use crate::look::Look;
+use crate::look::KnownPassword;
 use pam_base::{Code, NoMemory, Refuse};
 use sha_crypt::crypt;
 use std::alloc::Global;
 
 /// Whether a token is the user's: SUCCESS or AUTH_ERR; USER_UNKNOWN or AUTHINFO_UNAVAIL if the
 /// user's password isn't known.
-pub(crate) fn verify(alloc: Global, look: &Look, token: &[u8]) -> Result<Code, NoMemory>
+pub(crate) fn verify(alloc: Global, look: &KnownPassword, token: &[u8]) -> Result<Code, NoMemory>
     ensures { IfOk result (λ code. code ≡ verified look.now token.now) }
 {
     match look {
-        Look::Unknown => Ok(Code::UserUnknown),
-        Look::Unavailable => Ok(Code::AuthinfoUnavail),
-        Look::Plain(hash) => verify_hash(alloc, hash.bytes(), token),
-        Look::Shadowed(entry) => verify_hash(alloc, entry.hash.bytes(), token),
+        KnownPassword::Unknown => Ok(Code::UserUnknown),
+        KnownPassword::Unavailable => Ok(Code::AuthinfoUnavail),
+        KnownPassword::Plain(hash) => verify_hash(alloc, hash.bytes(), token),
+        KnownPassword::Shadowed(entry) => verify_hash(alloc, entry.hash.bytes(), token),
     }
 }
 

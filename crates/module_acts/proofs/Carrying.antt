@@ -25,8 +25,8 @@ use Rattle.account_files.specs.pam_room.specs.State.{PlainProcess, PlainTransact
 use Rattle.account_files.specs.pam_room.specs.Module.{HasSet, NamedData, Played, SeenRoom, births_of, named_data, seen_of, with_played}
 use Rattle.account_files.specs.pam_room.specs.Say.{Asked, Asks, Says, asked, speak, token_asked, token_of, user_asked}
 use Rattle.account_files.specs.Accounts.{Known}
-use Rattle.account_files.specs.Act.{Act, Acts, Leads, Stage, answers, asks_user, in_room, shown, shows, stage_of}
-use Rattle.module_acts.specs.Comes.{Comes, ComesTo, Goes, lent}
+use Rattle.account_files.specs.Act.{Act, Acts, Reaches, Stage, answers, asks_user, in_room, shown, shows, stage_of}
+use Rattle.module_acts.specs.Returns.{Returns, ReturnsWith, Follows, scene_of_parts}
 use Rattle.module_acts.specs.Steps.{answers_keeping, asks_token, exchanges, requests_delay, sees_caller, sees_clock, sees_data, sets_item, with_replies}
 use Rattle.account_files.proofs.Acting.{carried}
 
@@ -59,7 +59,7 @@ module _ (t u : Transaction) (conv conv' : ConvState) (vault : VaultState) (cloc
   datums : u.datums ≡ t.datums
   datums = ap (λ (x : Transaction). x.datums) others
 
-  same_played : (p : Played) → with_played p (lent u conv' vault clock process) ≡ with_played p (lent t conv vault clock process)
+  same_played : (p : Played) → with_played p (scene_of_parts u conv' vault clock process) ≡ with_played p (scene_of_parts t conv vault clock process)
   same_played p =
       let trail = ap (λ (x : Transaction). x.trail) others in
       let handle = ap (λ (x : Transaction). x.handle) others in
@@ -67,7 +67,7 @@ module _ (t u : Transaction) (conv conv' : ConvState) (vault : VaultState) (cloc
       rw (datums, trail, handle, serving) refl
 
   pub asking_user : {T : Type 0} (r : Result T (Refuse NoReply)) → Asks r (user_asked (seen_of (room_of (plain_transaction t) conv))) (seen_of (room_of (plain_transaction u) conv'))
-      → ComesTo r (unwrap_or u.items.user []) asks_user (lent t conv vault clock process) (lent u conv' vault clock process)
+      → ReturnsWith r (unwrap_or u.items.user []) asks_user (scene_of_parts t conv vault clock process) (scene_of_parts u conv' vault clock process)
   unfolding asks_user answers
   asking_user (Ok done) h = λ act known code end rest.
       carried (asks_user act) (act (unwrap_or u.items.user [])) known known _ _ code end (rw (asked_is (user_asked (seen_of (room_of (plain_transaction t) conv))) false _ h, datums) refl) same_played rest
@@ -76,7 +76,7 @@ module _ (t u : Transaction) (conv conv' : ConvState) (vault : VaultState) (cloc
   asking_user (Err refusals.NoMemory) h = tt
 
   pub asking_token : {T : Type 0} (r : Result T (Refuse NoReply)) (old : Bool) (prompt : List ℕ) → Asks r (token_asked old prompt (seen_of (room_of (plain_transaction t) conv))) (seen_of (room_of (plain_transaction u) conv'))
-      → ComesTo r (unwrap_or (text_of u.items (token_of old)) []) (asks_token old prompt) (lent t conv vault clock process) (lent u conv' vault clock process)
+      → ReturnsWith r (unwrap_or (text_of u.items (token_of old)) []) (asks_token old prompt) (scene_of_parts t conv vault clock process) (scene_of_parts u conv' vault clock process)
   unfolding asks_token answers
   asking_token (Ok done) old prompt h = λ act known code end rest.
       carried (asks_token old prompt act) (act (unwrap_or (text_of u.items (token_of old)) [])) known known _ _ code end (rw (asked_is (token_asked old prompt (seen_of (room_of (plain_transaction t) conv))) false _ h, datums) refl) same_played rest
@@ -92,24 +92,24 @@ module _ (t u : Transaction) (conv conv' : ConvState) (vault : VaultState) (cloc
   none_replied (Ok replies) room act stage e = absurd cc
   none_replied (Err fault) room act stage e = refl
 
-  in_this : (room : SeenRoom) (act : Act) (known : Known) → seen_of (room_of (plain_transaction u) conv') ≡ room → act (in_room room (stage_of known (lent t conv vault clock process))) ≡ act (stage_of known (lent u conv' vault clock process))
+  in_this : (room : SeenRoom) (act : Act) (known : Known) → seen_of (room_of (plain_transaction u) conv') ≡ room → act (in_room room (stage_of known (scene_of_parts t conv vault clock process))) ≡ act (stage_of known (scene_of_parts u conv' vault clock process))
   in_this room act known e = rw (← e, datums) refl
 
   pub exchanging : (r : Result (List Reply) (Refuse NoReply)) (messages : List Message) → Says r (speak messages (seen_of (room_of (plain_transaction t) conv))) (seen_of (room_of (plain_transaction u) conv'))
-      → Comes r (exchanges messages) (lent t conv vault clock process) (lent u conv' vault clock process)
+      → Returns r (exchanges messages) (scene_of_parts t conv vault clock process) (scene_of_parts u conv' vault clock process)
   unfolding exchanges
   exchanging (Ok replies) messages h = λ act known code end rest.
       let spoken = speak messages (seen_of (room_of (plain_transaction t) conv)) in
       carried (exchanges messages act) (act replies) known known _ _ code end
-      (replied spoken.answer spoken.room act replies (stage_of known (lent t conv vault clock process)) h.0 ∙ in_this spoken.room (act replies) known h.1) same_played rest
+      (replied spoken.answer spoken.room act replies (stage_of known (scene_of_parts t conv vault clock process)) h.0 ∙ in_this spoken.room (act replies) known h.1) same_played rest
   exchanging (Err (refusals.Named e)) messages h = λ act known.
       let spoken = speak messages (seen_of (room_of (plain_transaction t) conv)) in
       carried (exchanges messages act) (answers ConvErr) known known _ _ ConvErr _
-      (none_replied spoken.answer spoken.room act (stage_of known (lent t conv vault clock process)) h.0 ∙ in_this spoken.room (answers ConvErr) known h.1) same_played (answering ConvErr known _)
+      (none_replied spoken.answer spoken.room act (stage_of known (scene_of_parts t conv vault clock process)) h.0 ∙ in_this spoken.room (answers ConvErr) known h.1) same_played (answering ConvErr known _)
   exchanging (Err refusals.NoMemory) messages h = tt
 
   pub showing : {T : Type 0} (r : Result T NoMemory) (style : Style) (text : List ℕ) → OnOk r (seen_of (room_of (plain_transaction u) conv') ≡ shown style text (seen_of (room_of (plain_transaction t) conv)))
-      → OnOk r (Leads (shows style text) (lent t conv vault clock process) (lent u conv' vault clock process))
+      → OnOk r (Reaches (shows style text) (scene_of_parts t conv vault clock process) (scene_of_parts u conv' vault clock process))
   unfolding shows
   showing (Ok done) style text e = λ act known code end rest. carried (shows style text act) act known known _ _ code end (rw (← e, datums) refl) same_played rest
   showing (Err none) style text e = tt
@@ -118,18 +118,18 @@ pub with_items : (t u : Transaction) → u ≡ record t { said = u.said; put_off
 with_items t u e = e ∙ ap (λ (i : ItemTexts). record t { items = i; said = u.said; put_off = u.put_off }) (sym (ap (λ (x : Transaction). x.items) e))
 
 module _ (t u : Transaction) (conv : ConvState) (vault : VaultState) (clock : ClockState) (process : PlainProcess) where
-  pub delaying : (micros delay : ℕ) → delay ≡ max (counted_request micros) t.delay → u ≡ record t { delay = delay } → Leads (requests_delay micros) (lent t conv vault clock process) (lent u conv vault clock process)
+  pub delaying : (micros delay : ℕ) → delay ≡ max (counted_request micros) t.delay → u ≡ record t { delay = delay } → Reaches (requests_delay micros) (scene_of_parts t conv vault clock process) (scene_of_parts u conv vault clock process)
   unfolding requests_delay
   delaying micros delay e n = λ act known code end rest.
       carried (requests_delay micros act) act known known _ _ code end (rw (n, e) refl) (λ p. rw n refl) rest
 
-  pub setting : (item : ItemName) (text : List ℕ) → u ≡ record t { items = with_text t.items item (Some text) } → Leads (sets_item item text) (lent t conv vault clock process) (lent u conv vault clock process)
+  pub setting : (item : ItemName) (text : List ℕ) → u ≡ record t { items = with_text t.items item (Some text) } → Reaches (sets_item item text) (scene_of_parts t conv vault clock process) (scene_of_parts u conv vault clock process)
   unfolding sets_item
   setting item text n = λ act known code end rest.
       carried (sets_item item text act) act known known _ _ code end (rw n refl) (λ p. rw n refl) rest
 
   pub keeping : (q : PlainProcess) (datum : NamedData) (code : Code) → t.datums.handle ≡ t.handle → u ≡ record t { datums = u.datums } → q ≡ record process { ledger = q.ledger }
-      → HasSet t.serving (datum ∷ []) t.datums process.ledger u.datums q.ledger → Goes (answers_keeping datum code) (lent t conv vault clock process) code (lent u conv vault clock q)
+      → HasSet t.serving (datum ∷ []) t.datums process.ledger u.datums q.ledger → Follows (answers_keeping datum code) (scene_of_parts t conv vault clock process) code (scene_of_parts u conv vault clock q)
   unfolding answers_keeping
   keeping q datum code same others own set =
       let births = births_of (length process.ledger.births) t.handle t.serving (datum ∷ []) in

@@ -9,12 +9,12 @@ use Rattle.account_files.specs.pam_room.specs.declared.transaction.Transaction.{
 use Rattle.account_files.specs.pam_room.specs.Plain.{plain_transaction}
 use Rattle.account_files.specs.pam_room.specs.State.{PlainProcess}
 use Rattle.account_files.specs.pam_room.specs.Stays.{Stays}
-use Rattle.module_acts.specs.Talks.{Talks}
+use Rattle.module_acts.specs.OnlyTalks.{OnlyTalks}
 
-pub talks_nothing : (t : Transaction) → Talks t t
+pub talks_nothing : (t : Transaction) → OnlyTalks t t
 talks_nothing t = record { service = refl; delay = omega arith; said = ([], sym (append-nil t.said)); others = refl }
 
-pub talks_more : (t u v : Transaction) → Talks t u → Talks u v → Talks t v
+pub talks_more : (t u v : Transaction) → OnlyTalks t u → OnlyTalks u v → OnlyTalks t v
 talks_more t u v s r = record {
   service = r.service ∙ s.service;
   delay = omega (arith, s.delay, r.delay);
@@ -22,7 +22,7 @@ talks_more t u v s r = record {
   others = r.others ∙ ap (λ (x : Transaction). record x { items = v.items; delay = v.delay; said = v.said; put_off = v.put_off }) s.others;
 }
 
-pub talking_stays : (t u : Transaction) (process : PlainProcess) → Talks t u → Stays (plain_transaction t) (plain_transaction u) process process
+pub talking_stays : (t u : Transaction) (process : PlainProcess) → OnlyTalks t u → Stays (plain_transaction t) (plain_transaction u) process process
 talking_stays t u process s = record {
   handle = ap (λ (x : Transaction). x.handle) s.others;
   data_handle = ap (λ (x : Transaction). x.datums.handle) s.others;
@@ -33,10 +33,10 @@ talking_stays t u process s = record {
   caller = refl;
 }
 
-pub talking_others : (t u : Transaction) → Talks t u → (u.serving ≡ t.serving) × (u.trail ≡ t.trail) × (u.handle ≡ t.handle) × (u.datums ≡ t.datums)
+pub talking_others : (t u : Transaction) → OnlyTalks t u → (u.serving ≡ t.serving) × (u.trail ≡ t.trail) × (u.handle ≡ t.handle) × (u.datums ≡ t.datums)
 talking_others t u s = (ap (λ (x : Transaction). x.serving) s.others, ap (λ (x : Transaction). x.trail) s.others, ap (λ (x : Transaction). x.handle) s.others, ap (λ (x : Transaction). x.datums) s.others)
 
-pub talking_sets : (t u : Transaction) (ledger : PlainLedger) → Talks t u → Sets t.serving t.datums ledger u.datums ledger
+pub talking_sets : (t u : Transaction) (ledger : PlainLedger) → OnlyTalks t u → Sets t.serving t.datums ledger u.datums ledger
 talking_sets t u ledger s = record {
   added = [];
   births = sym (append-nil ledger.births);
@@ -46,7 +46,7 @@ talking_sets t u ledger s = record {
 }
 
 -- what was shown was said
-pub spoken : (t u : Transaction) → (more : List Message) × (u.said ≡ t.said ++ more) → u ≡ record t { said = u.said; put_off = u.put_off } → Talks t u
+pub spoken : (t u : Transaction) → (more : List Message) × (u.said ≡ t.said ++ more) → u ≡ record t { said = u.said; put_off = u.put_off } → OnlyTalks t u
 spoken t u said others =
     let items : u.items ≡ t.items = ap (λ (x : Transaction). x.items) others in
     let delay : u.delay ≡ t.delay = ap (λ (x : Transaction). x.delay) others in

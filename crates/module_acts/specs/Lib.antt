@@ -1,7 +1,7 @@
 pub use Rattle.account_files.specs.account_db
 pub use Rattle.account_files
 pub use Rattle.account_files.specs.pam_room
-pub mod Comes
+pub mod Returns
 pub mod Steps
-pub mod Talks
+pub mod OnlyTalks
 pub mod Uncheck

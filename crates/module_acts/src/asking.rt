@@ -4,11 +4,11 @@ ghost use Rattle.conv_port.specs.Message.{AreReplies, IsExchange};
 ghost use Rattle.pam_outside.specs.Files.{VaultState};
 ghost use Rattle.pam_outside.specs.Time.{ClockState};
 ghost use Rattle.account_files.specs.pam_room.specs.State.{PlainProcess};
-ghost use Rattle.account_files.specs.pam_room.specs.Say.{Shows, signs, token_of};
+ghost use Rattle.account_files.specs.pam_room.specs.Say.{ConvErrIsCounted, signs, token_of};
 ghost use Rattle.account_files.specs.Act.{asks_user};
-ghost use Rattle.module_acts.specs.Comes.{Comes, ComesTo, lent};
+ghost use Rattle.module_acts.specs.Returns.{Returns, ReturnsWith, scene_of_parts};
 ghost use Rattle.module_acts.specs.Steps.{asks_token, exchanges};
-ghost use Rattle.module_acts.specs.Talks.{Talks};
+ghost use Rattle.module_acts.specs.OnlyTalks.{OnlyTalks};
 
 use account_files::pam_room::{Transaction, ask_token, get_user, say};
 use conv_port::{Conv, Messages, Replies};
@@ -24,17 +24,17 @@ pub fn require_user(
     ensures tells { conv_tells conv.new ≡ conv_tells conv.old }
     ensures told { IsTrue (conv_tells conv.old) →
         (vault : VaultState) (clock : ClockState) (process : PlainProcess) →
-        ComesTo result (unwrap_or transaction.new.items.user []) asks_user
-        (lent transaction.old (conv_holds conv.old) vault clock process)
-        (lent transaction.new (conv_holds conv.new) vault clock process) }
-    ensures shows { Shows result (signs (conv_faults conv.old)
+        ReturnsWith result (unwrap_or transaction.new.items.user []) asks_user
+        (scene_of_parts transaction.old (conv_holds conv.old) vault clock process)
+        (scene_of_parts transaction.new (conv_holds conv.new) vault clock process) }
+    ensures shows { ConvErrIsCounted result (signs (conv_faults conv.old)
         (conv_deferrals conv.old) transaction.old.put_off)
         (signs (conv_faults conv.new) (conv_deferrals conv.new) transaction.new.put_off) }
     ensures set { OnOk result (transaction.new.items.user ≢ None) }
     ensures was_set { transaction.old.items.user ≢ None →
         IsOk result × (transaction.new ≡ transaction.old) }
     ensures refused { OnErr result (transaction.new.items ≡ transaction.old.items) }
-    ensures talks { Talks transaction.old transaction.new }
+    ensures talks { OnlyTalks transaction.old transaction.new }
 {
     get_user(alloc, transaction, conv)
 }
@@ -51,16 +51,16 @@ pub fn require_token(
     ensures tells { conv_tells conv.new ≡ conv_tells conv.old }
     ensures told { IsTrue (conv_tells conv.old) →
         (vault : VaultState) (clock : ClockState) (process : PlainProcess) →
-        ComesTo result (unwrap_or (text_of transaction.new.items (token_of old)) [])
+        ReturnsWith result (unwrap_or (text_of transaction.new.items (token_of old)) [])
         (asks_token old prompt.now)
-        (lent transaction.old (conv_holds conv.old) vault clock process)
-        (lent transaction.new (conv_holds conv.new) vault clock process) }
-    ensures shows { Shows result (signs (conv_faults conv.old)
+        (scene_of_parts transaction.old (conv_holds conv.old) vault clock process)
+        (scene_of_parts transaction.new (conv_holds conv.new) vault clock process) }
+    ensures shows { ConvErrIsCounted result (signs (conv_faults conv.old)
         (conv_deferrals conv.old) transaction.old.put_off)
         (signs (conv_faults conv.new) (conv_deferrals conv.new) transaction.new.put_off) }
     ensures set { OnOk result (text_of transaction.new.items (token_of old) ≢ None) }
     ensures refused { OnErr result (transaction.new.items ≡ transaction.old.items) }
-    ensures talks { Talks transaction.old transaction.new }
+    ensures talks { OnlyTalks transaction.old transaction.new }
 {
     ask_token(alloc, transaction, conv, old, prompt)
 }
@@ -76,17 +76,17 @@ pub fn exchange(
     ensures tells { conv_tells conv.new ≡ conv_tells conv.old }
     ensures told { IsTrue (conv_tells conv.old) →
         (vault : VaultState) (clock : ClockState) (process : PlainProcess) →
-        Comes result (exchanges messages.now)
-        (lent transaction.old (conv_holds conv.old) vault clock process)
-        (lent transaction.new (conv_holds conv.new) vault clock process) }
+        Returns result (exchanges messages.now)
+        (scene_of_parts transaction.old (conv_holds conv.old) vault clock process)
+        (scene_of_parts transaction.new (conv_holds conv.new) vault clock process) }
     ensures untaken { IsTrue (conv_tells conv.old) → result ≡ Err Refuse.NoMemory →
         conv_holds conv.new ≡ conv_holds conv.old }
-    ensures shows { Shows result (signs (conv_faults conv.old)
+    ensures shows { ConvErrIsCounted result (signs (conv_faults conv.old)
         (conv_deferrals conv.old) transaction.old.put_off)
         (signs (conv_faults conv.new) (conv_deferrals conv.new) transaction.new.put_off) }
     ensures replies { IfOk result (λ replies. AreReplies messages.now replies) }
     ensures items { transaction.new.items ≡ transaction.old.items }
-    ensures talks { Talks transaction.old transaction.new }
+    ensures talks { OnlyTalks transaction.old transaction.new }
 {
     say(alloc, transaction, conv, messages)
 }

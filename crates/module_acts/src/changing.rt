@@ -5,10 +5,10 @@ ghost use Rattle.pam_outside.specs.Files.{VaultState};
 ghost use Rattle.pam_outside.specs.Time.{ClockState};
 ghost use Rattle.account_files.specs.pam_room.specs.State.{PlainProcess};
 ghost use Rattle.account_files.specs.pam_room.specs.Plain.{plain_process};
-ghost use Rattle.account_files.specs.Act.{Leads};
-ghost use Rattle.module_acts.specs.Comes.{Goes, lent};
+ghost use Rattle.account_files.specs.Act.{Reaches};
+ghost use Rattle.module_acts.specs.Returns.{Follows, scene_of_parts};
 ghost use Rattle.module_acts.specs.Steps.{answers_keeping, requests_delay, sets_item};
-ghost use Rattle.module_acts.specs.Talks.{Talks};
+ghost use Rattle.module_acts.specs.OnlyTalks.{OnlyTalks};
 
 use account_files::pam_room::{Process, Transaction, laws, set_item};
 use pam_base::{Code, ItemName, NoMemory};
@@ -18,9 +18,9 @@ use std::alloc::Global;
 pub fn request_delay(transaction: &mut Transaction, micros: u32)
     ensures told { (conv : ConvState) (vault : VaultState) (clock : ClockState)
         (process : PlainProcess) →
-        Leads (requests_delay micros) (lent transaction.old conv vault clock process)
-        (lent transaction.new conv vault clock process) }
-    ensures talks { Talks transaction.old transaction.new }
+        Reaches (requests_delay micros) (scene_of_parts transaction.old conv vault clock process)
+        (scene_of_parts transaction.new conv vault clock process) }
+    ensures talks { OnlyTalks transaction.old transaction.new }
     ensures items { transaction.new.items ≡ transaction.old.items }
 {
     transaction.delay.request(micros);
@@ -30,12 +30,13 @@ pub fn request_delay(transaction: &mut Transaction, micros: u32)
 pub fn set_token(transaction: &mut Transaction, token: &[u8]) -> Result<(), NoMemory>
     ensures told { (conv : ConvState) (vault : VaultState) (clock : ClockState)
         (process : PlainProcess) →
-        OnOk result (Leads (sets_item ItemName.AuthTok token.now) (lent transaction.old conv vault
-        clock process) (lent transaction.new conv vault clock process)) }
+        OnOk result (Reaches (sets_item ItemName.AuthTok token.now)
+        (scene_of_parts transaction.old conv vault clock process)
+        (scene_of_parts transaction.new conv vault clock process)) }
     ensures items { OnOk result (transaction.new.items
         ≡ record transaction.old.items { auth_tok = Some token.now }) }
     ensures err { OnErr result (transaction.new ≡ transaction.old) }
-    ensures talks { Talks transaction.old transaction.new }
+    ensures talks { OnlyTalks transaction.old transaction.new }
 {
     set_item(&mut transaction.items, ItemName::AuthTok, token)?;
     Ok(())
@@ -53,10 +54,10 @@ pub fn answer_and_keep(
 ) -> Result<Code, NoMemory>
     requires { transaction.old.datums.handle ≡ transaction.old.handle }
     ensures told { (conv : ConvState) (vault : VaultState) (clock : ClockState) →
-        IfOk result (λ answer. Goes (answers_keeping
+        IfOk result (λ answer. Follows (answers_keeping
         (record { name = name.now; payload = payload.now }) code)
-        (lent transaction.old conv vault clock (plain_process process.old)) answer
-        (lent transaction.new conv vault clock (plain_process process.new))) }
+        (scene_of_parts transaction.old conv vault clock (plain_process process.old)) answer
+        (scene_of_parts transaction.new conv vault clock (plain_process process.new))) }
     ensures err { OnErr result ((transaction.new ≡ transaction.old)
         × (process.new ≡ process.old)) }
     ensures sets { Sets transaction.old.serving transaction.old.datums process.old.ledger

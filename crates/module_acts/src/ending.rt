@@ -2,17 +2,17 @@ ghost use Rattle.std.specs.Prelude.{◌≡◌, Err, IfOk, OnErr};
 ghost use Rattle.pam_base.specs.declared.code.Code.{Code};
 ghost use Rattle.account_files.specs.pam_room.specs.State.{Scene};
 ghost use Rattle.account_files.specs.Act.{Act, answers};
-ghost use Rattle.module_acts.specs.Comes.{Comes, Finishes, Goes};
+ghost use Rattle.module_acts.specs.Returns.{Returns, Finishes, Follows};
 
 use account_files::laws;
 use pam_base::{Code, ConvErr, NoMemory, Refuse};
 
 /// The module's code, which is CONV_ERR if the conversation gave no reply.
 pub fn ended(answer: Result<Code, Refuse<ConvErr>>) -> Result<Code, NoMemory>
-    ensures told { (step : (Code → Act) → Act) (old new : Scene) → Comes answer step old new →
-        IfOk result (λ code. Goes (step answers) old code new) }
+    ensures told { (step : (Code → Act) → Act) (old new : Scene) → Returns answer step old new →
+        IfOk result (λ code. Follows (step answers) old code new) }
     ensures finished { (act : Act) (old new : Scene) → Finishes answer act old new →
-        IfOk result (λ code. Goes act old code new) }
+        IfOk result (λ code. Follows act old code new) }
     ensures memory { OnErr result (answer ≡ Err Refuse.NoMemory) }
 {
     laws::act_steps();

@@ -11,7 +11,7 @@ ghost use Rattle.account_files.specs.pam_room.specs.Stays.{Stays};
 ghost use Rattle.account_files.specs.Accounts.{Known};
 ghost use Rattle.account_files.specs.Act.{Act, Acts};
 ghost use Rattle.module_acts.specs.Steps.{sees_caller, sees_clock, sees_data};
-ghost use Rattle.module_acts.specs.Talks.{Talks};
+ghost use Rattle.module_acts.specs.OnlyTalks.{OnlyTalks};
 
 /// The laws of the steps that see something and make no call.
 pub fn acting()
@@ -28,12 +28,12 @@ pub fn acting()
 
 /// What holds for a module that talks, with real objects too.
 pub fn talking()
-    ensures none { (t : Transaction) → Talks t t }
-    ensures again { (t u v : Transaction) → Talks t u → Talks u v → Talks t v }
-    ensures stays { (t u : Transaction) (process : PlainProcess) → Talks t u →
+    ensures none { (t : Transaction) → OnlyTalks t t }
+    ensures again { (t u v : Transaction) → OnlyTalks t u → OnlyTalks u v → OnlyTalks t v }
+    ensures stays { (t u : Transaction) (process : PlainProcess) → OnlyTalks t u →
         Stays (plain_transaction t) (plain_transaction u) process process }
-    ensures others { (t u : Transaction) → Talks t u → (u.serving ≡ t.serving) × (u.trail ≡ t.trail)
-        × (u.handle ≡ t.handle) × (u.datums ≡ t.datums) }
-    ensures sets { (t u : Transaction) (ledger : PlainLedger) → Talks t u →
+    ensures others { (t u : Transaction) → OnlyTalks t u → (u.serving ≡ t.serving) ×
+        (u.trail ≡ t.trail) × (u.handle ≡ t.handle) × (u.datums ≡ t.datums) }
+    ensures sets { (t u : Transaction) (ledger : PlainLedger) → OnlyTalks t u →
         Sets t.serving t.datums ledger u.datums ledger }
 {}

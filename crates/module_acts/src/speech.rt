@@ -6,9 +6,9 @@ ghost use Rattle.account_files.specs.pam_room.specs.Say.{signs};
 ghost use Rattle.account_files.specs.pam_room.specs.State.{PlainProcess, room_of};
 ghost use Rattle.account_files.specs.pam_room.specs.Module.{seen_of};
 ghost use Rattle.account_files.specs.pam_room.specs.Plain.{plain_transaction};
-ghost use Rattle.account_files.specs.Act.{Leads, shown, shows};
-ghost use Rattle.module_acts.specs.Comes.{lent};
-ghost use Rattle.module_acts.specs.Talks.{Talks};
+ghost use Rattle.account_files.specs.Act.{Reaches, shown, shows};
+ghost use Rattle.module_acts.specs.Returns.{scene_of_parts};
+ghost use Rattle.module_acts.specs.OnlyTalks.{OnlyTalks};
 
 use account_files::pam_room::{Transaction, first_bytes, get_item, send};
 use conv_port::Conv;
@@ -39,16 +39,16 @@ pub fn show(
     ensures tells { conv_tells conv.new ≡ conv_tells conv.old }
     ensures told { IsTrue (conv_tells conv.old) →
         (vault : VaultState) (clock : ClockState) (process : PlainProcess) →
-        OnOk result (Leads (shows style text.now)
-        (lent transaction.old (conv_holds conv.old) vault clock process)
-        (lent transaction.new (conv_holds conv.new) vault clock process)) }
+        OnOk result (Reaches (shows style text.now)
+        (scene_of_parts transaction.old (conv_holds conv.old) vault clock process)
+        (scene_of_parts transaction.new (conv_holds conv.new) vault clock process)) }
     ensures untaken { IsTrue (conv_tells conv.old) →
         OnErr result (conv_holds conv.new ≡ conv_holds conv.old) }
     ensures no_fault { OnErr result (signs (conv_faults conv.new)
         (conv_deferrals conv.new) transaction.new.put_off
         ≡ signs (conv_faults conv.old) (conv_deferrals conv.old) transaction.old.put_off) }
     ensures items { transaction.new.items ≡ transaction.old.items }
-    ensures talks { Talks transaction.old transaction.new }
+    ensures talks { OnlyTalks transaction.old transaction.new }
 {
     put_forward(alloc, transaction, conv, style, text)
 }

@@ -10,7 +10,7 @@ use Rattle.pam_base.specs.declared.style.Style.{Style}
 use Rattle.pam_base.specs.declared.style.Style.TheVariants.{EchoOff, EchoOn}
 use Rattle.item_store.specs.Items.{with_text}
 use Rattle.pam_base.specs.Counts.{Rose}
-use Rattle.conv_port.specs.Conv.{answer_to, state_after}
+use Rattle.conv_port.specs.Conv.{ConvState, answer_to, state_after}
 use Rattle.conv_port.specs.declared.conv.ConvFault.{ConvFault}
 use Rattle.conv_port.specs.declared.conv.ConvFault.TheVariants as faults
 use Rattle.conv_port.specs.declared.message.Message.{Message}
@@ -79,10 +79,10 @@ pub record Deferred (old new : Signs) : Type 0 where
 
 -- With real objects too: CONV_ERR is returned if and only if the conversation failed or deferred, and nothing else is
 -- counted.
-abbrev pub Shows : {T : Type 0} → Result T (Refuse ConvErr) → Signs → Signs → Type 0
-Shows (Ok v) old new = new ≡ old
-Shows (Err refusals.NoMemory) old new = new ≡ old
-Shows (Err (refusals.Named e)) old new = Failed old new ⊎ Deferred old new
+abbrev pub ConvErrIsCounted : {T : Type 0} → Result T (Refuse ConvErr) → Signs → Signs → Type 0
+ConvErrIsCounted (Ok v) old new = new ≡ old
+ConvErrIsCounted (Err refusals.NoMemory) old new = new ≡ old
+ConvErrIsCounted (Err (refusals.Named e)) old new = Failed old new ⊎ Deferred old new
 
 -- ---- one prompt, whose reply becomes an item
 
@@ -135,3 +135,12 @@ abbrev pub Asks : {T : Type 0} → Result T (Refuse ConvErr) → Asked → SeenR
 Asks (Ok v) a new = (a.refused ≡ false) × (new ≡ a.room)
 Asks (Err (refusals.Named e)) a new = (a.refused ≡ true) × (new ≡ a.room)
 Asks (Err refusals.NoMemory) a new = Unit {0}
+
+-- a modelled conversation replied to this one prompt, and was asked nothing else
+pub record Replied (style : Style) (prompt : List ℕ) (old new : ConvState) : Type 0 where
+  pub reply : is_ok (answer_to old (record { style = style; text = prompt } ∷ [])) ≡ true
+  pub after : new ≡ state_after old (record { style = style; text = prompt } ∷ [])
+
+-- what such a call leaves of a modelled conversation if an allocation fails
+abbrev pub RepliedAtMostOnce : Style → List ℕ → ConvState → ConvState → Type 0
+RepliedAtMostOnce style prompt old new = (new ≡ old) ⊎ Replied style prompt old new

@@ -1,9 +1,9 @@
-ghost use Rattle.std.specs.Prelude.{◌≡◌, ◌≢◌, ◌≤◌, ◌⊎◌, ◌++◌, ◌∷◌, [], false, Some, None, Ok, IsOk, IsTrue, IfOk, OnOk, OnErr, length};
+ghost use Rattle.std.specs.Prelude.{◌≡◌, ◌≢◌, ◌≤◌, ◌⊎◌, ◌++◌, ◌∷◌, [], false, Some, None, Ok, Err, IsOk, IsTrue, IfOk, OnOk, OnErr, length};
 ghost use Rattle.item_store.specs.Items.{text_of, with_text};
 ghost use Rattle.item_store.specs.Access.{is_refused};
 ghost use Rattle.pam_room.specs.State.{room_of};
 ghost use Rattle.pam_room.specs.Module.{seen_of};
-ghost use Rattle.pam_room.specs.Say.{Asks, Shows, signs, ask_item, login_prompt, token_asked, token_of, user_asked};
+ghost use Rattle.pam_room.specs.Say.{Asks, ConvErrIsCounted, RepliedAtMostOnce, signs, ask_item, login_prompt, token_asked, token_of, user_asked};
 ghost use Rattle.pam_room.specs.Plain.{plain_transaction};
 ghost use Rattle.item_store.specs.declared.access.Access.TheVariants.{ModuleSets};
 
@@ -21,7 +21,8 @@ use std::alloc::Global;
 /// `login: `, and USER is set to the reply.
 ///
 /// ConvErr is returned if and only if `say` would return it. If an allocation fails, the question
-/// may be among the messages, and USER is as it was.
+/// may be among the messages, a modelled conversation is as it was or has replied to this question
+/// alone, and USER is as it was.
 pub fn get_user(
     alloc: Global,
     transaction: &mut Transaction,
@@ -32,7 +33,10 @@ pub fn get_user(
         Asks result
         (user_asked (seen_of (room_of (plain_transaction transaction.old) (conv_holds conv.old))))
         (seen_of (room_of (plain_transaction transaction.new) (conv_holds conv.new))) }
-    ensures shows { Shows result (signs (conv_faults conv.old)
+    ensures at_most_once { IsTrue (conv_tells conv.old) → result ≡ Err Refuse.NoMemory →
+        RepliedAtMostOnce Style.EchoOn (login_prompt transaction.old.items.user_prompt)
+        (conv_holds conv.old) (conv_holds conv.new) }
+    ensures shows { ConvErrIsCounted result (signs (conv_faults conv.old)
         (conv_deferrals conv.old) transaction.old.put_off)
         (signs (conv_faults conv.new) (conv_deferrals conv.new) transaction.new.put_off) }
     ensures set { OnOk result (transaction.new.items.user ≢ None) }
@@ -72,7 +76,8 @@ pub fn get_user(
 /// OLDAUTHTOK, to the reply (`pam_get_authtok(3)`).
 ///
 /// ConvErr is returned if and only if `say` would return it. If an allocation fails, the question
-/// may be among the messages, and the token is as it was.
+/// may be among the messages, a modelled conversation is as it was or has replied to this question
+/// alone, and the token is as it was.
 pub fn ask_token(
     alloc: Global,
     transaction: &mut Transaction,
@@ -87,7 +92,9 @@ pub fn ask_token(
         (token_asked old prompt.now
         (seen_of (room_of (plain_transaction transaction.old) (conv_holds conv.old))))
         (seen_of (room_of (plain_transaction transaction.new) (conv_holds conv.new))) }
-    ensures shows { Shows result (signs (conv_faults conv.old)
+    ensures at_most_once { IsTrue (conv_tells conv.old) → result ≡ Err Refuse.NoMemory →
+        RepliedAtMostOnce Style.EchoOff prompt.now (conv_holds conv.old) (conv_holds conv.new) }
+    ensures shows { ConvErrIsCounted result (signs (conv_faults conv.old)
         (conv_deferrals conv.old) transaction.old.put_off)
         (signs (conv_faults conv.new) (conv_deferrals conv.new) transaction.new.put_off) }
     ensures set { OnOk result (text_of transaction.new.items (token_of old) ≢ None) }
@@ -130,7 +137,9 @@ fn ask(
         (ask_item item style prompt
         (seen_of (room_of (plain_transaction transaction.old) (conv_holds conv.old))))
         (seen_of (room_of (plain_transaction transaction.new) (conv_holds conv.new))) }
-    ensures shows { Shows result (signs (conv_faults conv.old)
+    ensures at_most_once { IsTrue (conv_tells conv.old) → result ≡ Err Refuse.NoMemory →
+        RepliedAtMostOnce style prompt (conv_holds conv.old) (conv_holds conv.new) }
+    ensures shows { ConvErrIsCounted result (signs (conv_faults conv.old)
         (conv_deferrals conv.old) transaction.old.put_off)
         (signs (conv_faults conv.new) (conv_deferrals conv.new) transaction.new.put_off) }
     ensures set { OnOk result (text_of transaction.new.items item ≢ None) }

@@ -2,7 +2,7 @@ ghost use Rattle.std.specs.Prelude.{◌≡◌, ◌≢◌, ◌≤◌, ◌⊎◌, 
 ghost use Rattle.conv_port.specs.Message.{AreReplies, IsExchange, IsReply};
 ghost use Rattle.pam_room.specs.State.{room_of};
 ghost use Rattle.pam_room.specs.Module.{seen_of};
-ghost use Rattle.pam_room.specs.Say.{Says, Sends, Shows, signs, speak};
+ghost use Rattle.pam_room.specs.Say.{ConvErrIsCounted, Says, Sends, signs, speak};
 ghost use Rattle.pam_room.specs.Plain.{plain_transaction};
 
 use crate::transaction::Transaction;
@@ -34,7 +34,7 @@ pub fn say(
         (seen_of (room_of (plain_transaction transaction.new) (conv_holds conv.new))) }
     ensures untaken { IsTrue (conv_tells conv.old) → result ≡ Err Refuse.NoMemory →
         conv_holds conv.new ≡ conv_holds conv.old }
-    ensures shows { Shows result (signs (conv_faults conv.old)
+    ensures shows { ConvErrIsCounted result (signs (conv_faults conv.old)
         (conv_deferrals conv.old) transaction.old.put_off)
         (signs (conv_faults conv.new) (conv_deferrals conv.new) transaction.new.put_off) }
     ensures replies { IfOk result (λ replies. AreReplies messages.now replies) }
@@ -79,7 +79,7 @@ pub fn send(
         (seen_of (room_of (plain_transaction transaction.new) (conv_holds conv.new))) }
     ensures untaken { IsTrue (conv_tells conv.old) → result ≡ Err Refuse.NoMemory →
         conv_holds conv.new ≡ conv_holds conv.old }
-    ensures shows { Shows result (signs (conv_faults conv.old)
+    ensures shows { ConvErrIsCounted result (signs (conv_faults conv.old)
         (conv_deferrals conv.old) transaction.old.put_off)
         (signs (conv_faults conv.new) (conv_deferrals conv.new) transaction.new.put_off) }
     ensures reply { IfOk result (λ reply. IsReply (record { style = style; text = text }) reply) }

@@ -13,8 +13,8 @@ use Rattle.pam_base.specs.declared.call.AppCall.{AppCall}
 use Rattle.pam_base.specs.declared.call.AppCall.TheVariants as calls
 use Rattle.pam_base.specs.declared.call.Step.{Step}
 use Rattle.pam_base.specs.ServiceName.{is_name_byte, is_service_name}
-use Rattle.pam_wire.specs.declared.front.Front.{Front}
-use Rattle.pam_wire.specs.declared.front.Front.TheVariants.{Open, OutOfRange, Whole}
+use Rattle.pam_wire.specs.declared.front.FirstFrame.{FirstFrame}
+use Rattle.pam_wire.specs.declared.front.FirstFrame.TheVariants.{Open, OutOfRange, Whole}
 use Rattle.pam_wire.specs.declared.kind.Kind.{Kind}
 use Rattle.pam_wire.specs.declared.next.Next.{Next}
 use Rattle.pam_wire.specs.declared.next.Next.TheVariants as next
@@ -122,7 +122,7 @@ front-size body more =
 pub frame-read : (step : Step) (more : List ℕ) → has_frame step ≡ true → next_of (frame_of step ++ more) ≡ next.Frame step (length (body_of step) + 2)
 frame-read step more e =
     let whole = sized-whole (body_of step) more (body-size step e) in
-    ap (λ (f : Front). next_by f (frame_of step ++ more)) whole
+    ap (λ (f : FirstFrame). next_by f (frame_of step ++ more)) whole
     ∙ ap (λ (b : List ℕ). next_in (step_in b) (length (body_of step) + 2)) (front-size (body_of step) more)
     ∙ ap (λ (o : Option Step). next_in o (length (body_of step) + 2)) (step-read step e)
 
@@ -141,7 +141,7 @@ record IsSaid (a b : ℕ) (more : List ℕ) (size : ℕ) : Type 0 where
   size_is : size ≡ suc (suc said)
   fits : said ≤ length more
 
-abbrev whole_size : Front → ℕ
+abbrev whole_size : FirstFrame → ℕ
 whole_size (Whole size) = size
 whole_size f = 0
 
@@ -212,7 +212,7 @@ in_by rest step size n (Some s) all w h e =
     let s_is : s ≡ step = ap (step_or s) e in
     subst (λ t. IsFrameOf rest t size) s_is (subst (λ z. IsFrameOf rest s z) n_is (whole-written rest s n all w h))
 
-front_is : (rest : List ℕ) (step : Step) (size : ℕ) (f : Front) → AreBytes rest → front_of rest ≡ f → next_by f rest ≡ next.Frame step size → IsFrameOf rest step size
+front_is : (rest : List ℕ) (step : Step) (size : ℕ) (f : FirstFrame) → AreBytes rest → front_of rest ≡ f → next_by f rest ≡ next.Frame step size → IsFrameOf rest step size
 front_is rest step size Open all w e = absurd cc
 front_is rest step size OutOfRange all w e = absurd cc
 front_is rest step size (Whole n) all w e = in_by rest step size n _ all w refl e
@@ -235,7 +235,7 @@ size_by : (o : Option Step) (n : ℕ) (step : Step) (size : ℕ) → next_in o n
 size_by None n step size e = absurd cc
 size_by (Some s) n step size e = ap size_of e
 
-fits_by : (rest : List ℕ) (step : Step) (size : ℕ) (f : Front) → front_of rest ≡ f → next_by f rest ≡ next.Frame step size → size ≤ length rest
+fits_by : (rest : List ℕ) (step : Step) (size : ℕ) (f : FirstFrame) → front_of rest ≡ f → next_by f rest ≡ next.Frame step size → size ≤ length rest
 fits_by rest step size Open w e = absurd cc
 fits_by rest step size OutOfRange w e = absurd cc
 fits_by rest step size (Whole n) w e = let is = size_by _ n step size e in omega (arith, is, whole_fits rest n w)

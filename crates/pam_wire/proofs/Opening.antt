@@ -5,8 +5,8 @@ use Rattle.std.proofs.lemmas.List.{length-replicate}
 use Rattle.std.proofs.lemmas.List.Elements.{All-head, All-tail}
 use Rattle.std.specs.Int.{w16, from_be_bytes, to_be_bytes}
 use Rattle.pam_base.specs.declared.call.Step.{Step}
-use Rattle.pam_wire.specs.declared.front.Front.{Front}
-use Rattle.pam_wire.specs.declared.front.Front.TheVariants.{Open, OutOfRange, Whole}
+use Rattle.pam_wire.specs.declared.front.FirstFrame.{FirstFrame}
+use Rattle.pam_wire.specs.declared.front.FirstFrame.TheVariants.{Open, OutOfRange, Whole}
 use Rattle.pam_wire.specs.declared.next.Next.{Next}
 use Rattle.pam_wire.specs.declared.next.Next.TheVariants as next
 use Rattle.pam_wire.specs.Frame.{AreBytes, sized, frame_of}
@@ -96,7 +96,7 @@ next_open : (o : Option Step) (n : ℕ) → next_in o n ≡ next.Open → ⊥
 next_open None n e = absurd cc
 next_open (Some step) n e = absurd cc
 
-front_by_next : (f : Front) (rest : List ℕ) → next_by f rest ≡ next.Open → f ≡ Open
+front_by_next : (f : FirstFrame) (rest : List ℕ) → next_by f rest ≡ next.Open → f ≡ Open
 front_by_next Open rest e = refl
 front_by_next OutOfRange rest e = absurd cc
 front_by_next (Whole n) rest e = absurd (next_open _ n e)
@@ -106,7 +106,7 @@ next-open rest all e = front-open rest all (front_by_next (front_of rest) rest e
 
 pub bad-not_open : (rest : List ℕ) → next_of rest ≡ next.Bad → IsOpen rest → ⊥
 bad-not_open rest e o =
-    let is : next_of rest ≡ next.Open = ap (λ (f : Front). next_by f rest) (open-front rest o) in
+    let is : next_of rest ≡ next.Open = ap (λ (f : FirstFrame). next_by f rest) (open-front rest o) in
     let no : ◌≡◌ {A = Next} next.Open next.Bad = sym is ∙ e in
     absurd cc
 

@@ -2,13 +2,13 @@
 use Rattle.std.proofs.Common.{◌≡◌, ℕ, suc, ◌+◌, ◌≤◌, Bool, true, false, ◌||◌, cond, List, [], ◌∷◌, ◌++◌, length, nat_lt, nat_le, refl, arith, length-append}
 use Rattle.std.proofs.lemmas.Bool.{leb-true, leb-false, ltb-true, ltb-false, le-leb, lt-ltb}
 use Rattle.std.specs.Int.{w16, from_be_bytes}
-use Rattle.pam_wire.specs.declared.front.Front.{Front}
-use Rattle.pam_wire.specs.declared.front.Front.TheVariants.{Open, OutOfRange, Whole}
+use Rattle.pam_wire.specs.declared.front.FirstFrame.{FirstFrame}
+use Rattle.pam_wire.specs.declared.front.FirstFrame.TheVariants.{Open, OutOfRange, Whole}
 use Rattle.pam_wire.specs.Read.{front_by, front_of}
 use Rattle.pam_wire.specs.Laws.{Settles, FrontSettles}
 
 -- by a length, if n bytes follow, and others after them
-unfoldable SettlesBy : Front → ℕ → ℕ → ℕ → Type 0
+unfoldable SettlesBy : FirstFrame → ℕ → ℕ → ℕ → Type 0
 SettlesBy (Whole size) said follow all = (4 ≤ size) × (size ≤ suc (suc follow)) × (front_by said all ≡ Whole size)
 SettlesBy OutOfRange said follow all = front_by said all ≡ OutOfRange
 SettlesBy Open said follow all = follow ≤ 579
@@ -30,7 +30,7 @@ by_length said follow all false false false le h k l =
 by_said : (said follow all : ℕ) → follow ≤ all → SettlesBy (front_by said follow) said follow all
 by_said said follow all le = by_length said follow all _ _ _ le refl refl refl
 
-settles_two : (f : Front) (a b : ℕ) (bytes more : List ℕ) → SettlesBy f (from_be_bytes w16 (a ∷ b ∷ [])) (length bytes) (length (bytes ++ more)) → Settles f (a ∷ b ∷ bytes) more
+settles_two : (f : FirstFrame) (a b : ℕ) (bytes more : List ℕ) → SettlesBy f (from_be_bytes w16 (a ∷ b ∷ [])) (length bytes) (length (bytes ++ more)) → Settles f (a ∷ b ∷ bytes) more
 unfolding SettlesBy
 settles_two (Whole size) a b bytes more s = (s.0, omega (arith, s.1), s.2)
 settles_two OutOfRange a b bytes more s = (omega arith, s)
@@ -43,7 +43,7 @@ one_over a (b ∷ more) e =
     let high : nat_lt 580 (from_be_bytes w16 (a ∷ b ∷ [])) ≡ true = lt-ltb 580 _ (omega (arith, above)) in
     by_high (nat_lt (from_be_bytes w16 (a ∷ b ∷ [])) 2) (cond (nat_le (from_be_bytes w16 (a ∷ b ∷ [])) (length more)) (Whole (from_be_bytes w16 (a ∷ b ∷ []) + 2)) Open) high
   where
-    by_high : (t : Bool) (other : Front) → nat_lt 580 (from_be_bytes w16 (a ∷ b ∷ [])) ≡ true → cond (t || nat_lt 580 (from_be_bytes w16 (a ∷ b ∷ []))) OutOfRange other ≡ OutOfRange
+    by_high : (t : Bool) (other : FirstFrame) → nat_lt 580 (from_be_bytes w16 (a ∷ b ∷ [])) ≡ true → cond (t || nat_lt 580 (from_be_bytes w16 (a ∷ b ∷ []))) OutOfRange other ≡ OutOfRange
     by_high true other h = refl
     by_high false other h = rw h refl
 

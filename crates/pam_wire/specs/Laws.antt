@@ -1,8 +1,8 @@
 -- What holds of frames, in words that no reader uses (this project's own).
 use Rattle.std.specs.Prelude.{◌≡◌, ◌<◌, ◌≤◌, ℕ, List, [], ◌++◌, length, Some}
 use Rattle.pam_base.specs.declared.call.Step.{Step}
-use Rattle.pam_wire.specs.declared.front.Front.{Front}
-use Rattle.pam_wire.specs.declared.front.Front.TheVariants.{Open, OutOfRange, Whole}
+use Rattle.pam_wire.specs.declared.front.FirstFrame.{FirstFrame}
+use Rattle.pam_wire.specs.declared.front.FirstFrame.TheVariants.{Open, OutOfRange, Whole}
 use Rattle.pam_wire.specs.Frame.{IsFrame, AreBytes}
 use Rattle.pam_wire.specs.Read.{front_of, step_of}
 use Rattle.pam_wire.specs.Stream.{AreFramesOf, HasNoFrame, IsOpen}
@@ -36,7 +36,7 @@ HasOneReading = (bytes : List ℕ) (steps others : List Step) (rest left : List 
 
 -- What some bytes begin with stays, whatever follows them: a frame, or a length that no frame has.
 -- The beginning of a frame that isn't whole has at most 581 bytes.
-abbrev pub Settles : Front → List ℕ → List ℕ → Type 0
+abbrev pub Settles : FirstFrame → List ℕ → List ℕ → Type 0
 Settles (Whole size) bytes more =
     (4 ≤ size) × (size ≤ length bytes) × (front_of (bytes ++ more) ≡ Whole size)
 Settles OutOfRange bytes more = (0 < length bytes) × (front_of (bytes ++ more) ≡ OutOfRange)

@@ -10,8 +10,8 @@ use Rattle.pam_base.specs.Item.{item_number, all_items}
 use Rattle.pam_base.specs.ServiceName.{is_service_name}
 use Rattle.pam_wire.specs.declared.kind.Kind.{Kind}
 use Rattle.pam_wire.specs.declared.kind.Kind.TheVariants as kinds
-use Rattle.pam_wire.specs.declared.front.Front.{Front}
-use Rattle.pam_wire.specs.declared.front.Front.TheVariants.{Open, OutOfRange, Whole}
+use Rattle.pam_wire.specs.declared.front.FirstFrame.{FirstFrame}
+use Rattle.pam_wire.specs.declared.front.FirstFrame.TheVariants.{Open, OutOfRange, Whole}
 use Rattle.pam_wire.specs.Frame.{is_text, is_name}
 use Rattle.pam_wire.specs.Kind.{kind_of_number}
 
@@ -100,21 +100,21 @@ step_in body = None
 -- ---- how long a frame is
 
 -- By the length that it begins with, and by how many bytes follow: from 2 to 580 may be said.
-abbrev pub front_by : ℕ → ℕ → Front
+abbrev pub front_by : ℕ → ℕ → FirstFrame
 front_by said follow =
     if nat_lt said 2 || nat_lt 580 said then OutOfRange
     else if nat_le said follow then Whole (said + 2) else Open
 
 -- what some bytes begin with; if there is one byte, a length that it begins is at least 256 times
 -- it
-abbrev pub front_of : List ℕ → Front
+abbrev pub front_of : List ℕ → FirstFrame
 front_of [] = Open
 front_of (a ∷ []) = if nat_lt 2 a then OutOfRange else Open
 front_of (a ∷ b ∷ more) = front_by (from_be_bytes w16 (a ∷ b ∷ [])) (length more)
 
 -- ---- the step of a frame
 
-abbrev pub step_by : Front → List ℕ → Option Step
+abbrev pub step_by : FirstFrame → List ℕ → Option Step
 step_by (Whole size) bytes = if size == length bytes then step_in (drop 2 bytes) else None
 step_by other bytes = None
 

@@ -4,8 +4,8 @@ use Rattle.std.specs.List.{AllByRecursion}
 use Rattle.pam_base.specs.declared.call.Step.{Step}
 use Rattle.pam_base.specs.declared.fault.Refuse.{Refuse}
 use Rattle.pam_base.specs.declared.fault.Refuse.TheVariants.{NoMemory, Named}
-use Rattle.pam_wire.specs.declared.front.Front.{Front}
-use Rattle.pam_wire.specs.declared.front.Front.TheVariants.{Open, OutOfRange, Whole}
+use Rattle.pam_wire.specs.declared.front.FirstFrame.{FirstFrame}
+use Rattle.pam_wire.specs.declared.front.FirstFrame.TheVariants.{Open, OutOfRange, Whole}
 use Rattle.pam_wire.specs.declared.frames.BadFrame.{BadFrame}
 use Rattle.pam_wire.specs.declared.next.Next.{Next}
 use Rattle.pam_wire.specs.declared.next.Next.TheVariants as next
@@ -24,7 +24,7 @@ abbrev pub next_in : Option Step → ℕ → Next
 next_in None size = next.Bad
 next_in (Some step) size = next.Frame step size
 
-abbrev pub next_by : Front → List ℕ → Next
+abbrev pub next_by : FirstFrame → List ℕ → Next
 next_by Open rest = next.Open
 next_by OutOfRange rest = next.Bad
 next_by (Whole size) rest = next_in (step_in (take (size - 2) (drop 2 rest))) size

@@ -11,7 +11,7 @@ pub(crate) const LENGTH: usize = 2;
 
 /// What some bytes begin with.
 #[derive(Clone, Copy, Debug, PartialEq, Eq)]
-pub enum Front {
+pub enum FirstFrame {
     /// Nothing, or the beginning of a frame.
     Open,
     /// A length that no frame has.
@@ -21,16 +21,16 @@ pub enum Front {
 }
 
 /// What some bytes begin with, judged by the length alone.
-pub fn front_of(bytes: &[u8]) -> Front
+pub fn front_of(bytes: &[u8]) -> FirstFrame
     ensures { result ≡ front_of bytes.now }
 {
     match bytes {
-        [] => Front::Open,
+        [] => FirstFrame::Open,
         [high] => {
             if *high > 2 {
-                Front::OutOfRange
+                FirstFrame::OutOfRange
             } else {
-                Front::Open
+                FirstFrame::Open
             }
         }
         [high, low, more @ ..] => {
@@ -39,14 +39,14 @@ pub fn front_of(bytes: &[u8]) -> Front
     }
 }
 
-fn front_by(said: usize, follow: usize) -> Front
+fn front_by(said: usize, follow: usize) -> FirstFrame
     ensures { result ≡ front_by said follow }
 {
     if said < MIN_BODY || MAX_BODY < said {
-        Front::OutOfRange
+        FirstFrame::OutOfRange
     } else if said <= follow {
-        Front::Whole(said + LENGTH)
+        FirstFrame::Whole(said + LENGTH)
     } else {
-        Front::Open
+        FirstFrame::Open
     }
 }

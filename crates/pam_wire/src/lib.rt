@@ -13,6 +13,6 @@ mod step;
 pub use conv_port::WireConv;
 pub use frame::{answer_of, frame_of};
 pub use frames::{BadFrame, Frames};
-pub use front::{Front, front_of};
+pub use front::{FirstFrame, front_of};
 pub use next::Next;
 pub use step::step_of;

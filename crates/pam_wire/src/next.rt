@@ -1,7 +1,7 @@
 ghost use Rattle.std.specs.Prelude.{◌≡◌, IfOk, OnErr};
 ghost use Rattle.pam_wire.specs.Stream.{IsStep, next_of};
 
-use crate::front::{Front, LENGTH, front_of};
+use crate::front::{FirstFrame, LENGTH, front_of};
 use crate::step::step_in;
 use pam_base::{NoMemory, Step};
 use std::alloc::Global;
@@ -22,9 +22,9 @@ pub(crate) fn next_of(alloc: Global, bytes: &[u8]) -> Result<Next, NoMemory>
     ensures memory { OnErr result (IsStep (next_of bytes.now)) }
 {
     match front_of(bytes) {
-        Front::Open => Ok(Next::Open),
-        Front::OutOfRange => Ok(Next::Bad),
-        Front::Whole(size) => match step_in(alloc, &bytes[LENGTH..size])? {
+        FirstFrame::Open => Ok(Next::Open),
+        FirstFrame::OutOfRange => Ok(Next::Bad),
+        FirstFrame::Whole(size) => match step_in(alloc, &bytes[LENGTH..size])? {
             Some(step) => Ok(Next::Frame(step, size)),
             None => Ok(Next::Bad),
         },

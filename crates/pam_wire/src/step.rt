@@ -2,7 +2,7 @@ ghost use Rattle.std.specs.Prelude.{◌≡◌, IfOk, IfSome, IsTrue, OnErr, is_s
 ghost use Rattle.pam_base.specs.Call.{is_fit};
 ghost use Rattle.pam_wire.specs.Read.{number_in, text_in, name_in, value_in, switch_in, item_in, item_of_number, setting_in, start_in, list_in, call_in, step_in, step_of};
 
-use crate::front::{Front, LENGTH, front_of};
+use crate::front::{FirstFrame, LENGTH, front_of};
 use crate::kind::Kind;
 use pam_base::{ALL_ITEMS, AppCall, ItemName, NoMemory, Step, Text, is_service_name};
 use std::alloc::Global;
@@ -20,14 +20,14 @@ pub fn step_of(alloc: Global, frame: &[u8]) -> Result<Option<Step>, NoMemory>
     ensures fit { IfOk result (λ found. IfSome found (λ step. IsTrue (is_fit step.call))) }
 {
     match front_of(frame) {
-        Front::Whole(size) => {
+        FirstFrame::Whole(size) => {
             if size == frame.len() {
                 step_in(alloc, &frame[LENGTH..])
             } else {
                 Ok(None)
             }
         }
-        Front::Open | Front::OutOfRange => Ok(None),
+        FirstFrame::Open | FirstFrame::OutOfRange => Ok(None),
     }
 }
 

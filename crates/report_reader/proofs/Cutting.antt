@@ -5,7 +5,7 @@ use Rattle.std.proofs.lemmas.Grind.{common_steps}
 use Rattle.std.proofs.Math.Seq.{drop-cons}
 use Rattle.std.proofs.lemmas.List.{reverse-append, take-append-drop, drop_more}
 use Rattle.pam_base.specs.Bytes.{has_byte, IsFirstPlace}
-use Rattle.report_reader.specs.Words.{before_space, behind_space, last_word, before_last}
+use Rattle.report_reader.specs.Words.{before_space, after_space, last_word, before_last}
 
 pub neither : (a b : Bool) → (a || b) ≡ false → (a ≡ false) × (b ≡ false)
 neither true b e = absurd (cc)
@@ -17,11 +17,11 @@ before_space-word (b ∷ word) rest none =
     let both = neither (eqb b 32) (has_byte 32 word) none in
     ap (λ (c : Bool). if c then [] else b ∷ before_space (word ++ 32 ∷ rest)) both.0 ∙ ap (λ (w : List ℕ). b ∷ w) (before_space-word word rest both.1)
 
-pub behind_space-word : (word rest : List ℕ) → has_byte 32 word ≡ false → behind_space (word ++ 32 ∷ rest) ≡ rest
-behind_space-word [] rest none = refl
-behind_space-word (b ∷ word) rest none =
+pub after_space-word : (word rest : List ℕ) → has_byte 32 word ≡ false → after_space (word ++ 32 ∷ rest) ≡ rest
+after_space-word [] rest none = refl
+after_space-word (b ∷ word) rest none =
     let both = neither (eqb b 32) (has_byte 32 word) none in
-    ap (λ (c : Bool). if c then word ++ 32 ∷ rest else behind_space (word ++ 32 ∷ rest)) both.0 ∙ behind_space-word word rest both.1
+    ap (λ (c : Bool). if c then word ++ 32 ∷ rest else after_space (word ++ 32 ∷ rest)) both.0 ∙ after_space-word word rest both.1
 
 pub before_space-all : (word : List ℕ) → has_byte 32 word ≡ false → before_space word ≡ word
 before_space-all [] none = refl
@@ -29,19 +29,19 @@ before_space-all (b ∷ word) none =
     let both = neither (eqb b 32) (has_byte 32 word) none in
     ap (λ (c : Bool). if c then [] else b ∷ before_space word) both.0 ∙ ap (λ (w : List ℕ). b ∷ w) (before_space-all word both.1)
 
-pub behind_space-all : (word : List ℕ) → has_byte 32 word ≡ false → behind_space word ≡ []
-behind_space-all [] none = refl
-behind_space-all (b ∷ word) none =
+pub after_space-all : (word : List ℕ) → has_byte 32 word ≡ false → after_space word ≡ []
+after_space-all [] none = refl
+after_space-all (b ∷ word) none =
     let both = neither (eqb b 32) (has_byte 32 word) none in
-    ap (λ (c : Bool). if c then word else behind_space word) both.0 ∙ behind_space-all word both.1
+    ap (λ (c : Bool). if c then word else after_space word) both.0 ∙ after_space-all word both.1
 
 -- a text that has a space is what is around it
-cut_if : (b : ℕ) (text : List ℕ) (c : Bool) → eqb b 32 ≡ c → (has_byte 32 text ≡ true → before_space text ++ 32 ∷ behind_space text ≡ text) → (c || has_byte 32 text) ≡ true
-    → (if c then [] else b ∷ before_space text) ++ 32 ∷ (if c then text else behind_space text) ≡ b ∷ text
+cut_if : (b : ℕ) (text : List ℕ) (c : Bool) → eqb b 32 ≡ c → (has_byte 32 text ≡ true → before_space text ++ 32 ∷ after_space text ≡ text) → (c || has_byte 32 text) ≡ true
+    → (if c then [] else b ∷ before_space text) ++ 32 ∷ (if c then text else after_space text) ≡ b ∷ text
 cut_if b text true is more has = ap (λ (n : ℕ). n ∷ text) (sym (eqb-true b 32 is))
 cut_if b text false is more has = ap (λ (t : List ℕ). b ∷ t) (more has)
 
-pub cut_again : (text : List ℕ) → has_byte 32 text ≡ true → before_space text ++ 32 ∷ behind_space text ≡ text
+pub cut_again : (text : List ℕ) → has_byte 32 text ≡ true → before_space text ++ 32 ∷ after_space text ≡ text
 cut_again [] has = absurd (cc)
 cut_again (b ∷ text) has = cut_if b text (eqb b 32) refl (cut_again text) has
 
@@ -50,8 +50,8 @@ cut_again (b ∷ text) has = cut_if b text (eqb b 32) refl (cut_again text) has
 pub before-first : (text : List ℕ) (n : ℕ) → IsFirstPlace (Some n) 32 text → take n text ≡ before_space text
 before-first text n first = sym (ap before_space first.2 ∙ before_space-word (take n text) (drop (n + 1) text) first.1)
 
-pub behind-first : (text : List ℕ) (n : ℕ) → IsFirstPlace (Some n) 32 text → drop (n + 1) text ≡ behind_space text
-behind-first text n first = sym (ap behind_space first.2 ∙ behind_space-word (take n text) (drop (n + 1) text) first.1)
+pub behind-first : (text : List ℕ) (n : ℕ) → IsFirstPlace (Some n) 32 text → drop (n + 1) text ≡ after_space text
+behind-first text n first = sym (ap after_space first.2 ∙ after_space-word (take n text) (drop (n + 1) text) first.1)
 
 -- ---- at the last
 
@@ -82,13 +82,13 @@ last_word-cut front word none =
 
 pub before_last-cut : (front word : List ℕ) → has_byte 32 word ≡ false → before_last (front ++ 32 ∷ word) ≡ front
 before_last-cut front word none =
-    ap (λ (x : List ℕ). reverse (behind_space x)) (turned front word) ∙ ap reverse (behind_space-word (reverse word) (reverse front) (has-reverse 32 word none)) ∙ twice front
+    ap (λ (x : List ℕ). reverse (after_space x)) (turned front word) ∙ ap reverse (after_space-word (reverse word) (reverse front) (has-reverse 32 word none)) ∙ twice front
 
 pub last_word-all : (word : List ℕ) → has_byte 32 word ≡ false → last_word word ≡ word
 last_word-all word none = ap reverse (before_space-all (reverse word) (has-reverse 32 word none)) ∙ twice word
 
 pub before_last-all : (word : List ℕ) → has_byte 32 word ≡ false → before_last word ≡ []
-before_last-all word none = ap reverse (behind_space-all (reverse word) (has-reverse 32 word none))
+before_last-all word none = ap reverse (after_space-all (reverse word) (has-reverse 32 word none))
 
 -- ---- of a slice
 

@@ -17,9 +17,9 @@ use Rattle.report_lines.specs.service_load.specs.FirstFault.{fault_at}
 use Rattle.stack_walk.specs.Retell.{Seen, seen_at}
 use Rattle.report_lines.specs.Line.{Cleanup, Told, told_message, told_visit, told_cleanup, told_wait, told_missing, told_variable, Shown, shows_code, shows_fault, shows_value, shows_count, shows_not_open, shows_already_open, shows_bad_number, shows_pending, Result, answered, closed_by_program, command_word, number_words, code_words, status_words, shown_words, refused_words, pending_words, told_text, result_text, AreBytes, IsSeen, IsTold, IsShown}
 use Rattle.report_reader.specs.Says.{bare_told}
-use Rattle.report_reader.specs.Words.{before_space, behind_space, last_word, before_last, guessed_number, guessed_status, unquoted, guessed_code, guessed_style, guessed_fault}
+use Rattle.report_reader.specs.Words.{before_space, after_space, last_word, before_last, guessed_number, guessed_status, unquoted, guessed_code, guessed_style, guessed_fault}
 use Rattle.report_reader.specs.Guess.{guessed_message, guessed_seen, guessed_cleanup, guessed_wait, guessed_told, guessed_by, guessed_shown, answer_by, by_keyword, has_form}
-use Rattle.report_reader.proofs.Cutting.{before_space-word, behind_space-word, before_space-all, behind_space-all, cut_again, last_word-cut, before_last-cut}
+use Rattle.report_reader.proofs.Cutting.{before_space-word, after_space-word, before_space-all, after_space-all, cut_again, last_word-cut, before_last-cut}
 use Rattle.report_reader.proofs.Numbers.{Numeral, writes, numbered, Status, status_read}
 use Rattle.report_reader.proofs.Unquoting.{unquoted-quoted, quoted-append}
 use Rattle.report_reader.proofs.Known.{KnownCode, known_code, KnownFault, known_fault, KnownStyle, known_style, known_func}
@@ -68,8 +68,8 @@ message_is style text bytes =
     let k : KnownStyle style = known_style style in
     let few : style_number style < 64 = ltb-true (style_number style) 64 k.small in
     let n : Numeral (style_number style) (decimal (style_number style)) = writes (style_number style) (omega arith) in
-    ap (λ (x : List ℕ). told_message (guessed_style (guessed_number x)) (unquoted (behind_space (told_words (told_message style text))))) (before_space-word (decimal (style_number style)) (quoted_text text) n.one)
-    ∙ ap (λ (x : List ℕ). told_message (guessed_style (guessed_number (decimal (style_number style)))) (unquoted x)) (behind_space-word (decimal (style_number style)) (quoted_text text) n.one)
+    ap (λ (x : List ℕ). told_message (guessed_style (guessed_number x)) (unquoted (after_space (told_words (told_message style text))))) (before_space-word (decimal (style_number style)) (quoted_text text) n.one)
+    ∙ ap (λ (x : List ℕ). told_message (guessed_style (guessed_number (decimal (style_number style)))) (unquoted x)) (after_space-word (decimal (style_number style)) (quoted_text text) n.one)
     ∙ ap (λ (x : ℕ). told_message (guessed_style x) (unquoted (quoted_text text))) n.value ∙ ap (λ (x : Style). told_message x (unquoted (quoted_text text))) k.back
     ∙ ap (λ (x : List ℕ). told_message style x) (unquoted-quoted text bytes)
 
@@ -86,8 +86,8 @@ seen_is v is =
     let w : List ℕ = name_of v.answer in
     let tail : List ℕ = q ++ 32 ∷ (w ++ 32 ∷ decimal (number_of v.answer)) in
     let words : List ℕ = number_words v.place ++ 32 ∷ tail in
-    let named : before_last (behind_space words) ≡ q ++ 32 ∷ w =
-    ap before_last (behind_space-word (number_words v.place) tail p.one ∙ regrouped q w (decimal (number_of v.answer))) ∙ before_last-cut (q ++ 32 ∷ w) (decimal (number_of v.answer)) d.one in
+    let named : before_last (after_space words) ≡ q ++ 32 ∷ w =
+    ap before_last (after_space-word (number_words v.place) tail p.one ∙ regrouped q w (decimal (number_of v.answer))) ∙ before_last-cut (q ++ 32 ∷ w) (decimal (number_of v.answer)) d.one in
     ap (λ (x : List ℕ). seen_at (guessed_number (before_space words)) (unquoted (before_last x)) (guessed_code (last_word x))) named
     ∙ ap (λ (x : List ℕ). seen_at (guessed_number x) (unquoted (before_last (q ++ 32 ∷ w))) (guessed_code (last_word (q ++ 32 ∷ w)))) (before_space-word (number_words v.place) tail p.one)
     ∙ ap (λ (x : ℕ). seen_at x (unquoted (before_last (q ++ 32 ∷ w))) (guessed_code (last_word (q ++ 32 ∷ w)))) p.value
@@ -97,7 +97,7 @@ seen_is v is =
 
 -- the names of a cleanup, cut anew
 abbrev recut : Cleanup → Cleanup
-recut c = record { id = c.id; status = c.status; note = c.note; owner = before_space (c.owner ++ 32 ∷ c.datum); datum = behind_space (c.owner ++ 32 ∷ c.datum) }
+recut c = record { id = c.id; status = c.status; note = c.note; owner = before_space (c.owner ++ 32 ∷ c.datum); datum = after_space (c.owner ++ 32 ∷ c.datum) }
 
 bytes_two : (one two : List ℕ) → AreBytes one → AreBytes two → AreBytes (one ++ two)
 bytes_two [] two first second = second
@@ -109,7 +109,7 @@ names_is owner datum first second =
     ap unquoted (sym (quoted-append owner (32 ∷ datum))) ∙ unquoted-quoted (owner ++ 32 ∷ datum) (bytes_two owner (32 ∷ datum) first (space, second))
 
 abbrev cleanup_of : ℕ → ℕ → ℕ → List ℕ → Cleanup
-cleanup_of id status note names = record { id = id; status = status; note = note; owner = before_space names; datum = behind_space names }
+cleanup_of id status note names = record { id = id; status = status; note = note; owner = before_space names; datum = after_space names }
 
 cleanup_is : (c : Cleanup) → IsTold (told_cleanup c) → guessed_cleanup (told_words (told_cleanup c)) ≡ recut c
 cleanup_is c is =
@@ -120,16 +120,16 @@ cleanup_is c is =
     let three : List ℕ = number_words c.note ++ 32 ∷ names in
     let two : List ℕ = status_words c.status ++ 32 ∷ three in
     let words : List ℕ = number_words c.id ++ 32 ∷ two in
-    let e1 : behind_space words ≡ two = behind_space-word (number_words c.id) two i.one in
-    let e2 : behind_space (behind_space words) ≡ three = ap behind_space e1 ∙ behind_space-word (status_words c.status) three s.one in
-    let e3 : behind_space (behind_space (behind_space words)) ≡ names = ap behind_space e2 ∙ behind_space-word (number_words c.note) names n.one in
+    let e1 : after_space words ≡ two = after_space-word (number_words c.id) two i.one in
+    let e2 : after_space (after_space words) ≡ three = ap after_space e1 ∙ after_space-word (status_words c.status) three s.one in
+    let e3 : after_space (after_space (after_space words)) ≡ names = ap after_space e2 ∙ after_space-word (number_words c.note) names n.one in
     let id : guessed_number (before_space words) ≡ c.id = ap guessed_number (before_space-word (number_words c.id) two i.one) ∙ i.value in
-    let status : guessed_status (before_space (behind_space words)) ≡ c.status = ap (λ (x : List ℕ). guessed_status (before_space x)) e1 ∙ ap guessed_status (before_space-word (status_words c.status) three s.one) ∙ s.value in
-    let note : guessed_number (before_space (behind_space (behind_space words))) ≡ c.note = ap (λ (x : List ℕ). guessed_number (before_space x)) e2 ∙ ap guessed_number (before_space-word (number_words c.note) names n.one) ∙ n.value in
-    let all : unquoted (behind_space (behind_space (behind_space words))) ≡ c.owner ++ 32 ∷ c.datum = ap unquoted e3 ∙ names_is c.owner c.datum is.3 is.4 in
-    ap (λ (x : ℕ). cleanup_of x (guessed_status (before_space (behind_space words))) (guessed_number (before_space (behind_space (behind_space words)))) (unquoted (behind_space (behind_space (behind_space words))))) id
-    ∙ ap (λ (x : ℕ). cleanup_of c.id x (guessed_number (before_space (behind_space (behind_space words)))) (unquoted (behind_space (behind_space (behind_space words))))) status
-    ∙ ap (λ (x : ℕ). cleanup_of c.id c.status x (unquoted (behind_space (behind_space (behind_space words))))) note ∙ ap (λ (x : List ℕ). cleanup_of c.id c.status c.note x) all
+    let status : guessed_status (before_space (after_space words)) ≡ c.status = ap (λ (x : List ℕ). guessed_status (before_space x)) e1 ∙ ap guessed_status (before_space-word (status_words c.status) three s.one) ∙ s.value in
+    let note : guessed_number (before_space (after_space (after_space words))) ≡ c.note = ap (λ (x : List ℕ). guessed_number (before_space x)) e2 ∙ ap guessed_number (before_space-word (number_words c.note) names n.one) ∙ n.value in
+    let all : unquoted (after_space (after_space (after_space words))) ≡ c.owner ++ 32 ∷ c.datum = ap unquoted e3 ∙ names_is c.owner c.datum is.3 is.4 in
+    ap (λ (x : ℕ). cleanup_of x (guessed_status (before_space (after_space words))) (guessed_number (before_space (after_space (after_space words)))) (unquoted (after_space (after_space (after_space words))))) id
+    ∙ ap (λ (x : ℕ). cleanup_of c.id x (guessed_number (before_space (after_space (after_space words)))) (unquoted (after_space (after_space (after_space words))))) status
+    ∙ ap (λ (x : ℕ). cleanup_of c.id c.status x (unquoted (after_space (after_space (after_space words))))) note ∙ ap (λ (x : List ℕ). cleanup_of c.id c.status c.note x) all
 
 or_true : (a b : Bool) → b ≡ true → (a || b) ≡ true
 or_true true b is = refl
@@ -141,7 +141,7 @@ has_middle byte (b ∷ one) two = or_true (eqb b byte) (has_byte byte (one ++ by
 
 recut_text : (number : ℕ) (c : Cleanup) → told_text number (told_cleanup (recut c)) ≡ told_text number (told_cleanup c)
 recut_text number c =
-    let whole : before_space (c.owner ++ 32 ∷ c.datum) ++ 32 ∷ behind_space (c.owner ++ 32 ∷ c.datum) ≡ c.owner ++ 32 ∷ c.datum = cut_again (c.owner ++ 32 ∷ c.datum) (has_middle 32 c.owner c.datum) in
+    let whole : before_space (c.owner ++ 32 ∷ c.datum) ++ 32 ∷ after_space (c.owner ++ 32 ∷ c.datum) ≡ c.owner ++ 32 ∷ c.datum = cut_again (c.owner ++ 32 ∷ c.datum) (has_middle 32 c.owner c.datum) in
     let names : quoted_text (recut c).owner ++ 32 ∷ quoted_text (recut c).datum ≡ quoted_text c.owner ++ 32 ∷ quoted_text c.datum =
     sym (quoted-append (recut c).owner (32 ∷ (recut c).datum)) ∙ ap quoted_text whole ∙ quoted-append c.owner (32 ∷ c.datum) in
     told_ends number (told_cleanup (recut c))
@@ -157,13 +157,13 @@ wait_is code asked wait is =
     let tail : List ℕ = number_words asked ++ 32 ∷ number_words wait in
     let behind : List ℕ = decimal (number_of code) ++ 32 ∷ tail in
     let words : List ℕ = name_of code ++ 32 ∷ behind in
-    let e : behind_space (behind_space words) ≡ tail = ap behind_space (behind_space-word (name_of code) behind k.one) ∙ behind_space-word (decimal (number_of code)) tail d.one in
-    ap (λ (x : List ℕ). told_wait (guessed_code (before_space words)) (guessed_number (before_space x)) (guessed_number (behind_space x))) e
-    ∙ ap (λ (x : List ℕ). told_wait (guessed_code x) (guessed_number (before_space tail)) (guessed_number (behind_space tail))) (before_space-word (name_of code) behind k.one)
-    ∙ ap (λ (x : Code). told_wait x (guessed_number (before_space tail)) (guessed_number (behind_space tail))) k.back
-    ∙ ap (λ (x : List ℕ). told_wait code (guessed_number x) (guessed_number (behind_space tail))) (before_space-word (number_words asked) (number_words wait) a.one)
-    ∙ ap (λ (x : ℕ). told_wait code x (guessed_number (behind_space tail))) a.value
-    ∙ ap (λ (x : List ℕ). told_wait code asked (guessed_number x)) (behind_space-word (number_words asked) (number_words wait) a.one) ∙ ap (λ (x : ℕ). told_wait code asked x) w.value
+    let e : after_space (after_space words) ≡ tail = ap after_space (after_space-word (name_of code) behind k.one) ∙ after_space-word (decimal (number_of code)) tail d.one in
+    ap (λ (x : List ℕ). told_wait (guessed_code (before_space words)) (guessed_number (before_space x)) (guessed_number (after_space x))) e
+    ∙ ap (λ (x : List ℕ). told_wait (guessed_code x) (guessed_number (before_space tail)) (guessed_number (after_space tail))) (before_space-word (name_of code) behind k.one)
+    ∙ ap (λ (x : Code). told_wait x (guessed_number (before_space tail)) (guessed_number (after_space tail))) k.back
+    ∙ ap (λ (x : List ℕ). told_wait code (guessed_number x) (guessed_number (after_space tail))) (before_space-word (number_words asked) (number_words wait) a.one)
+    ∙ ap (λ (x : ℕ). told_wait code x (guessed_number (after_space tail))) a.value
+    ∙ ap (λ (x : List ℕ). told_wait code asked (guessed_number x)) (after_space-word (number_words asked) (number_words wait) a.one) ∙ ap (λ (x : ℕ). told_wait code asked x) w.value
 
 -- what is guessed is printed alike, has a form, and is the same except for contents that don't
 -- count
@@ -211,7 +211,7 @@ code_is code =
     let k : KnownCode code = known_code code in
     let d = small_code code in
     let words : List ℕ = code_words code in
-    let behind : behind_space (behind_space words) ≡ [] = ap behind_space (behind_space-word (name_of code) (decimal (number_of code)) k.one) ∙ behind_space-all (decimal (number_of code)) d.one in
+    let behind : after_space (after_space words) ≡ [] = ap after_space (after_space-word (name_of code) (decimal (number_of code)) k.one) ∙ after_space-all (decimal (number_of code)) d.one in
     ap (by_words words) (before_space-word (name_of code) (decimal (number_of code)) k.one) ∙ k.shown words
     ∙ ap (answer_by words) behind ∙ ap (λ (x : List ℕ). shows_code (guessed_code x)) (before_space-word (name_of code) (decimal (number_of code)) k.one) ∙ ap shows_code k.back
 
@@ -224,7 +224,7 @@ pending_is func =
     let tail : List ℕ = codes "pending " ++ word_of_func func in
     let words : List ℕ = name ++ 32 ∷ (number ++ 32 ∷ tail) in
     let regroup : pending_words func ≡ words = append_assoc name (32 ∷ number) (32 ∷ tail) in
-    let behind : behind_space (behind_space words) ≡ tail = ap behind_space (behind_space-word name (number ++ 32 ∷ tail) k.one) ∙ behind_space-word number tail d.one in
+    let behind : after_space (after_space words) ≡ tail = ap after_space (after_space-word name (number ++ 32 ∷ tail) k.one) ∙ after_space-word number tail d.one in
     ap guessed_shown regroup ∙ ap (by_words words) (before_space-word name (number ++ 32 ∷ tail) k.one) ∙ k.shown words ∙ ap (answer_by words) behind ∙ ap shows_pending (known_func func).back
 
 refusal_is : (fault : LoadFault) → IsShown (shows_fault fault) → guessed_shown (refused_words fault) ≡ shows_fault fault

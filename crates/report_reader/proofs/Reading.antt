@@ -19,9 +19,9 @@ use Rattle.pam_base.specs.Style.{style_number}
 use Rattle.script_lang.specs.Command.{word_of_func}
 use Rattle.report_lines.specs.Line.{Told, told_message, told_visit, told_cleanup, told_wait, told_missing, told_variable, Shown, shows_code, shows_fault, shows_value, shows_count, shows_not_open, shows_already_open, shows_bad_number, shows_pending, Result, answered, closed_by_program, Last, unread, refused_at, command_word, number_words, code_words, status_words, shown_words, script_text, AreBytes, IsSeen, IsVariable, IsTold, IsShown, IsResult, IsLast}
 use Rattle.report_reader.specs.Says.{Says, tells, results, lasts, says_text, IsSays, ReadAs, ReadsLines}
-use Rattle.report_reader.specs.Words.{before_space, behind_space, before_last, last_word, guessed_number, guessed_code, guessed_script_fault, guessed_func, guessed_command, unquoted}
+use Rattle.report_reader.specs.Words.{before_space, after_space, before_last, last_word, guessed_number, guessed_code, guessed_script_fault, guessed_func, guessed_command, unquoted}
 use Rattle.report_reader.specs.Guess.{guessed_message, guessed_seen, guessed_cleanup, guessed_wait, guessed_told, guessed_refusal, guessed_answer, by_keyword, guessed_result, guessed_shown, guessed_last, has_form, if_printed, told_or, read_numbered, read_line}
-use Rattle.report_reader.proofs.Cutting.{before_space-word, behind_space-word, has-append}
+use Rattle.report_reader.proofs.Cutting.{before_space-word, after_space-word, has-append}
 use Rattle.report_reader.proofs.Numbers.{Numeral, writes, numbered, status_read}
 use Rattle.report_reader.proofs.Unquoting.{unquoted_bytes, quoted_line}
 use Rattle.report_reader.proofs.Known.{known_code, known_fault, known_script, known_style, known_func, known_command}
@@ -68,13 +68,13 @@ numbered_line number word words small one =
     let line : List ℕ = line_of number word words in
     let rest : List ℕ = word ++ 32 ∷ words in
     let first : before_space line ≡ decimal number = before_space-word (decimal number) rest n.one in
-    let behind : behind_space line ≡ rest = behind_space-word (decimal number) rest n.one in
-    ap (λ (x : List ℕ). if list_all is_ascii_digit x then read_numbered line (guessed_number x) (before_space (behind_space line)) (behind_space (behind_space line)) else if_printed line (lasts (guessed_last line))) first
-    ∙ ap (λ (b : Bool). if b then read_numbered line (guessed_number (decimal number)) (before_space (behind_space line)) (behind_space (behind_space line)) else if_printed line (lasts (guessed_last line))) n.all
-    ∙ ap (λ (x : ℕ). read_numbered line x (before_space (behind_space line)) (behind_space (behind_space line))) n.value
-    ∙ ap (λ (x : List ℕ). read_numbered line number (before_space x) (behind_space x)) behind
-    ∙ ap (λ (x : List ℕ). read_numbered line number x (behind_space rest)) (before_space-word word words one)
-    ∙ ap (λ (x : List ℕ). read_numbered line number word x) (behind_space-word word words one)
+    let behind : after_space line ≡ rest = after_space-word (decimal number) rest n.one in
+    ap (λ (x : List ℕ). if list_all is_ascii_digit x then read_numbered line (guessed_number x) (before_space (after_space line)) (after_space (after_space line)) else if_printed line (lasts (guessed_last line))) first
+    ∙ ap (λ (b : Bool). if b then read_numbered line (guessed_number (decimal number)) (before_space (after_space line)) (after_space (after_space line)) else if_printed line (lasts (guessed_last line))) n.all
+    ∙ ap (λ (x : ℕ). read_numbered line x (before_space (after_space line)) (after_space (after_space line))) n.value
+    ∙ ap (λ (x : List ℕ). read_numbered line number (before_space x) (after_space x)) behind
+    ∙ ap (λ (x : List ℕ). read_numbered line number x (after_space rest)) (before_space-word word words one)
+    ∙ ap (λ (x : List ℕ). read_numbered line number word x) (after_space-word word words one)
     ∙ ap (λ (b : Bool). if b then told_or line number (guessed_told word words) (guessed_result word words) else None) (lt-ltb number (2 ^ 32) small)
 
 told_one : (t : Told) → has_byte 32 (told_word t) ≡ false
@@ -145,9 +145,9 @@ script_is n kind lt =
     let w : Numeral n (number_words n) = numbered n lt in
     let k = known_script kind in
     let rest : List ℕ = script_fault_name kind ++ 32 ∷ decimal (script_fault_number kind) in
-    ap (λ (x : List ℕ). refused_at (guessed_number x) (guessed_script_fault (before_space (behind_space (script_words n kind))))) (before_space-word (number_words n) rest w.one)
-    ∙ ap (λ (x : ℕ). refused_at x (guessed_script_fault (before_space (behind_space (script_words n kind))))) w.value
-    ∙ ap (λ (x : List ℕ). refused_at n (guessed_script_fault (before_space x))) (behind_space-word (number_words n) rest w.one)
+    ap (λ (x : List ℕ). refused_at (guessed_number x) (guessed_script_fault (before_space (after_space (script_words n kind))))) (before_space-word (number_words n) rest w.one)
+    ∙ ap (λ (x : ℕ). refused_at x (guessed_script_fault (before_space (after_space (script_words n kind))))) w.value
+    ∙ ap (λ (x : List ℕ). refused_at n (guessed_script_fault (before_space x))) (after_space-word (number_words n) rest w.one)
     ∙ ap (λ (x : List ℕ). refused_at n (guessed_script_fault x)) (before_space-word (script_fault_name kind) (decimal (script_fault_number kind)) k.one) ∙ ap (refused_at n) k.back
 
 -- ---- the line of a form
@@ -258,11 +258,11 @@ before_bytes : (text : List ℕ) → AreBytes text → AreBytes (before_space te
 before_bytes [] all = tt
 before_bytes (b ∷ text) all = before_if b text (eqb b 32) all.0 (before_bytes text all.1)
 
-behind_if : (text : List ℕ) (c : Bool) → AreBytes text → AreBytes (behind_space text) → AreBytes (if c then text else behind_space text)
+behind_if : (text : List ℕ) (c : Bool) → AreBytes text → AreBytes (after_space text) → AreBytes (if c then text else after_space text)
 behind_if text true all more = all
 behind_if text false all more = more
 
-behind_bytes : (text : List ℕ) → AreBytes text → AreBytes (behind_space text)
+behind_bytes : (text : List ℕ) → AreBytes text → AreBytes (after_space text)
 behind_bytes [] all = tt
 behind_bytes (b ∷ text) all = behind_if text (eqb b 32) all.1 (behind_bytes text all.1)
 
@@ -290,20 +290,20 @@ some_same x t is = cc
 
 cleanup_range : (words : List ℕ) → IsTold (told_cleanup (guessed_cleanup words))
 cleanup_range words =
-    let names : List ℕ = unquoted (behind_space (behind_space (behind_space words))) in
-    let all : AreBytes names = unquoted_all (behind_space (behind_space (behind_space words))) in
-    (long (before_space words), fold_short (before_space (behind_space words)) 0 (lit< tt), long (before_space (behind_space (behind_space words))), before_bytes names all, behind_bytes names all)
+    let names : List ℕ = unquoted (after_space (after_space (after_space words))) in
+    let all : AreBytes names = unquoted_all (after_space (after_space (after_space words))) in
+    (long (before_space words), fold_short (before_space (after_space words)) 0 (lit< tt), long (before_space (after_space (after_space words))), before_bytes names all, behind_bytes names all)
 
 told_by : (words : List ℕ) (a b c d e f : Bool) (t : Told) →
-    (if a then Some (guessed_message words) else if b then Some (told_visit (guessed_seen words)) else if c then Some (told_cleanup (guessed_cleanup words)) else if d then Some (guessed_wait words) else if e then Some (told_missing (unquoted (behind_space words))) else if f then Some (told_variable (unquoted words)) else None) ≡ Some t
+    (if a then Some (guessed_message words) else if b then Some (told_visit (guessed_seen words)) else if c then Some (told_cleanup (guessed_cleanup words)) else if d then Some (guessed_wait words) else if e then Some (told_missing (unquoted (after_space words))) else if f then Some (told_variable (unquoted words)) else None) ≡ Some t
     → has_form t ≡ true → IsTold t
-told_by words true b c d e f t is formed = subst IsTold (some_same (guessed_message words) t is) (unquoted_all (behind_space words))
+told_by words true b c d e f t is formed = subst IsTold (some_same (guessed_message words) t is) (unquoted_all (after_space words))
 told_by words false true c d e f t is formed =
-    subst IsTold (some_same (told_visit (guessed_seen words)) t is) (let s : IsSeen (guessed_seen words) = record { place = long (before_space words); name = unquoted_all (before_last (before_last (behind_space words))) } in s)
+    subst IsTold (some_same (told_visit (guessed_seen words)) t is) (let s : IsSeen (guessed_seen words) = record { place = long (before_space words); name = unquoted_all (before_last (before_last (after_space words))) } in s)
 told_by words false false true d e f t is formed = subst IsTold (some_same (told_cleanup (guessed_cleanup words)) t is) (cleanup_range words)
 told_by words false false false true e f t is formed =
-    subst IsTold (some_same (guessed_wait words) t is) (long (before_space (behind_space (behind_space words))), long (behind_space (behind_space (behind_space words))))
-told_by words false false false false true f t is formed = subst IsTold (some_same (told_missing (unquoted (behind_space words))) t is) (unquoted_all (behind_space words))
+    subst IsTold (some_same (guessed_wait words) t is) (long (before_space (after_space (after_space words))), long (after_space (after_space (after_space words))))
+told_by words false false false false true f t is formed = subst IsTold (some_same (told_missing (unquoted (after_space words))) t is) (unquoted_all (after_space words))
 told_by words false false false false false true t is formed =
     let same : told_variable (unquoted words) ≡ t = some_same (told_variable (unquoted words)) t is in
     subst IsTold same (variable_is (unquoted words) (unquoted_all words) (ap has_form same ∙ formed))
@@ -313,19 +313,19 @@ told_range : (word words : List ℕ) (t : Told) → guessed_told word words ≡ 
 told_range word words t is formed =
     told_by words (bytes_eq word (codes "say")) (bytes_eq word (codes "line")) (bytes_eq word (codes "clean")) (bytes_eq word (codes "wait")) (bytes_eq word (codes "note")) (bytes_eq word (codes "env")) t is formed
 
-answer_if : (words behind : List ℕ) (a : Bool) → IsShown (if a then shows_pending (guessed_func (behind_space behind)) else shows_code (guessed_code (before_space words)))
+answer_if : (words behind : List ℕ) (a : Bool) → IsShown (if a then shows_pending (guessed_func (after_space behind)) else shows_code (guessed_code (before_space words)))
 answer_if words behind true = tt
 answer_if words behind false = tt
 
 keyword_if : (words : List ℕ) (a b c d e f : Bool) →
-    IsShown (if a then shows_fault (guessed_refusal (behind_space words)) else if b then shows_value (Some (unquoted (behind_space words))) else if c then shows_value None else if d then shows_not_open else if e then shows_already_open else if f then shows_bad_number else guessed_answer words)
-keyword_if words true b c d e f = (unquoted_all (before_last (before_last (before_last (behind_space words)))), long (last_word (before_last (before_last (behind_space words)))))
-keyword_if words false true c d e f = unquoted_all (behind_space words)
+    IsShown (if a then shows_fault (guessed_refusal (after_space words)) else if b then shows_value (Some (unquoted (after_space words))) else if c then shows_value None else if d then shows_not_open else if e then shows_already_open else if f then shows_bad_number else guessed_answer words)
+keyword_if words true b c d e f = (unquoted_all (before_last (before_last (before_last (after_space words)))), long (last_word (before_last (before_last (after_space words)))))
+keyword_if words false true c d e f = unquoted_all (after_space words)
 keyword_if words false false true d e f = tt
 keyword_if words false false false true e f = tt
 keyword_if words false false false false true f = tt
 keyword_if words false false false false false true = tt
-keyword_if words false false false false false false = answer_if words (behind_space (behind_space words)) (bytes_eq (before_space (behind_space (behind_space words))) (codes "pending"))
+keyword_if words false false false false false false = answer_if words (after_space (after_space words)) (bytes_eq (before_space (after_space (after_space words))) (codes "pending"))
 
 by_if : (word words : List ℕ) (a : Bool) → IsShown (if a then shows_count (guessed_number word) else by_keyword word words)
 by_if word words true = long word
@@ -335,7 +335,7 @@ result_if : (word words : List ℕ) (a : Bool) → IsResult (if a then closed_by
 result_if word words true = tt
 result_if word words false = by_if (before_space words) words (list_all is_ascii_digit (before_space words))
 
-last_if : (words : List ℕ) (a : Bool) → IsLast (Some (if a then unread else refused_at (guessed_number (before_space words)) (guessed_script_fault (before_space (behind_space words)))))
+last_if : (words : List ℕ) (a : Bool) → IsLast (Some (if a then unread else refused_at (guessed_number (before_space words)) (guessed_script_fault (before_space (after_space words)))))
 last_if words true = tt
 last_if words false = long (before_space words)
 
@@ -364,10 +364,10 @@ number_if line number word words found true lt is =
 number_if line number word words found false lt is = absurd (cc)
 
 line_if : (line : List ℕ) (found : Says) (b : Bool) →
-    (if b then read_numbered line (guessed_number (before_space line)) (before_space (behind_space line)) (behind_space (behind_space line)) else if_printed line (lasts (guessed_last line))) ≡ Some found → Sound line found
+    (if b then read_numbered line (guessed_number (before_space line)) (before_space (after_space line)) (after_space (after_space line)) else if_printed line (lasts (guessed_last line))) ≡ Some found → Sound line found
 line_if line found true is =
-    number_if line (guessed_number (before_space line)) (before_space (behind_space line)) (behind_space (behind_space line)) found (nat_lt (guessed_number (before_space line)) (2 ^ 32)) refl is
-line_if line found false is = sound_from line (lasts (guessed_last line)) found (last_if (behind_space line) (bytes_eq line (codes "read fault"))) is
+    number_if line (guessed_number (before_space line)) (before_space (after_space line)) (after_space (after_space line)) found (nat_lt (guessed_number (before_space line)) (2 ^ 32)) refl is
+line_if line found false is = sound_from line (lasts (guessed_last line)) found (last_if (after_space line) (bytes_eq line (codes "read fault"))) is
 
 pub reads_lines : ReadsLines read_line
 reads_lines = record {

@@ -11,10 +11,10 @@ use Rattle.stack_walk.specs.Seen.{seen_of}
 use Rattle.report_lines.specs.Line as lines
 use Rattle.report_reader.specs.declared.form.Spoken.{Spoken}
 use Rattle.report_reader.specs.declared.form.Spoken.TheVariants as spoken
-use Rattle.report_reader.specs.declared.form.Answer.{Answer}
-use Rattle.report_reader.specs.declared.form.Answer.TheVariants as answers
-use Rattle.report_reader.specs.declared.form.Outcome.{Outcome}
-use Rattle.report_reader.specs.declared.form.Outcome.TheVariants as outcomes
+use Rattle.report_reader.specs.declared.form.ReportedAnswer.{ReportedAnswer}
+use Rattle.report_reader.specs.declared.form.ReportedAnswer.TheVariants as answers
+use Rattle.report_reader.specs.declared.form.ReportedOutcome.{ReportedOutcome}
+use Rattle.report_reader.specs.declared.form.ReportedOutcome.TheVariants as outcomes
 use Rattle.report_reader.specs.declared.form.Form.{Form}
 use Rattle.report_reader.specs.declared.form.Form.TheVariants as forms
 use Rattle.report_reader.specs.Says.{Says, tells, results, lasts, bare}
@@ -38,7 +38,7 @@ all_spoken = spoken.Start ∷ spoken.End ∷ spoken.Run funcs.Authenticate ∷ s
     ∷ spoken.Run funcs.ChAuthTok ∷ spoken.SetItem ∷ spoken.GetItem ∷ spoken.PutEnv ∷ spoken.GetEnv
     ∷ spoken.EnvList ∷ spoken.FailDelay ∷ spoken.DelayFn ∷ spoken.Reply ∷ []
 
-abbrev pub shown_of : Answer → lines.Shown
+abbrev pub shown_of : ReportedAnswer → lines.Shown
 shown_of (answers.Code code) = lines.shows_code code
 shown_of answers.Fault = lines.shows_fault (fault_at [] 0 OpenBracket)
 shown_of answers.Value = lines.shows_value None
@@ -48,7 +48,7 @@ shown_of answers.AlreadyOpen = lines.shows_already_open
 shown_of answers.BadNumber = lines.shows_bad_number
 shown_of (answers.Pending func) = lines.shows_pending func
 
-abbrev pub result_of : Outcome → lines.Result
+abbrev pub result_of : ReportedOutcome → lines.Result
 result_of (outcomes.Answered command answer) = lines.answered (command_of command) (shown_of answer)
 result_of outcomes.Closed = lines.closed_by_program codes.Success
 

@@ -10,42 +10,42 @@ use Rattle.report_lines.specs.service_load.specs.FirstFault.{fault_at}
 use Rattle.stack_walk.specs.Retell.{Seen, seen_at}
 use Rattle.report_lines.specs.Line.{Cleanup, Told, told_message, told_visit, told_cleanup, told_wait, told_missing, told_variable, Shown, shows_code, shows_fault, shows_value, shows_count, shows_not_open, shows_already_open, shows_bad_number, shows_pending, Result, answered, closed_by_program, Last, unread, refused_at}
 use Rattle.report_reader.specs.Says.{Says, tells, results, lasts, says_text}
-use Rattle.report_reader.specs.Words.{before_space, behind_space, last_word, before_last, guessed_number, guessed_status, unquoted, guessed_code, guessed_style, guessed_fault, guessed_script_fault, guessed_func, guessed_command}
+use Rattle.report_reader.specs.Words.{before_space, after_space, last_word, before_last, guessed_number, guessed_status, unquoted, guessed_code, guessed_style, guessed_fault, guessed_script_fault, guessed_func, guessed_command}
 
 -- ---- what is reported before a result, after H and the line's word
 
 -- STYLE TEXT
 abbrev pub guessed_message : List ℕ → Told
 guessed_message words = told_message (guessed_style (guessed_number (before_space words)))
-    (unquoted (behind_space words))
+    (unquoted (after_space words))
 
 -- PLACE MODULE NAME NUMBER; the module's name may hold spaces, so what follows it is cut off from the end
 abbrev pub guessed_seen : List ℕ → Seen
 guessed_seen words =
-    let named = before_last (behind_space words) in
+    let named = before_last (after_space words) in
     seen_at (guessed_number (before_space words)) (unquoted (before_last named))
     (guessed_code (last_word named))
 
 -- ID STATUS NOTE MODULE DATUM; if a name has spaces, any of them may separate the two
 abbrev pub guessed_cleanup : List ℕ → Cleanup
 guessed_cleanup words =
-    let behind_id = behind_space words in
-    let behind_status = behind_space behind_id in
-    let names = unquoted (behind_space behind_status) in
+    let behind_id = after_space words in
+    let behind_status = after_space behind_id in
+    let names = unquoted (after_space behind_status) in
     record {
       id = guessed_number (before_space words);
       status = guessed_status (before_space behind_id);
       note = guessed_number (before_space behind_status);
       owner = before_space names;
-      datum = behind_space names;
+      datum = after_space names;
     }
 
 -- NAME NUMBER ASKED WAIT
 abbrev pub guessed_wait : List ℕ → Told
 guessed_wait words =
-    let behind_code = behind_space (behind_space words) in
+    let behind_code = after_space (after_space words) in
     told_wait (guessed_code (before_space words)) (guessed_number (before_space behind_code))
-    (guessed_number (behind_space behind_code))
+    (guessed_number (after_space behind_code))
 
 -- by the line's word; None if the line is another one
 abbrev pub guessed_told : List ℕ → List ℕ → Option Told
@@ -54,7 +54,7 @@ guessed_told word words =
     else if bytes_eq word (codes "line") then Some (told_visit (guessed_seen words))
     else if bytes_eq word (codes "clean") then Some (told_cleanup (guessed_cleanup words))
     else if bytes_eq word (codes "wait") then Some (guessed_wait words)
-    else if bytes_eq word (codes "note") then Some (told_missing (unquoted (behind_space words)))
+    else if bytes_eq word (codes "note") then Some (told_missing (unquoted (after_space words)))
     else if bytes_eq word (codes "env") then Some (told_variable (unquoted words))
     else None
 
@@ -72,16 +72,16 @@ guessed_refusal words =
 abbrev pub answer_by : List ℕ → List ℕ → Shown
 answer_by words behind_code =
     if bytes_eq (before_space behind_code) (codes "pending")
-    then shows_pending (guessed_func (behind_space behind_code))
+    then shows_pending (guessed_func (after_space behind_code))
     else shows_code (guessed_code (before_space words))
 
 abbrev pub guessed_answer : List ℕ → Shown
-guessed_answer words = answer_by words (behind_space (behind_space words))
+guessed_answer words = answer_by words (after_space (after_space words))
 
 abbrev pub by_keyword : List ℕ → List ℕ → Shown
 by_keyword word words =
-    if bytes_eq word (codes "refused") then shows_fault (guessed_refusal (behind_space words))
-    else if bytes_eq word (codes "set") then shows_value (Some (unquoted (behind_space words)))
+    if bytes_eq word (codes "refused") then shows_fault (guessed_refusal (after_space words))
+    else if bytes_eq word (codes "set") then shows_value (Some (unquoted (after_space words)))
     else if bytes_eq word (codes "unset") then shows_value None
     else if bytes_eq word (codes "not") then shows_not_open
     else if bytes_eq word (codes "already") then shows_already_open
@@ -107,8 +107,8 @@ guessed_result word words =
 abbrev pub guessed_last : List ℕ → Last
 guessed_last line =
     if bytes_eq line (codes "read fault") then unread
-    else (let words = behind_space line in refused_at (guessed_number (before_space words))
-    (guessed_script_fault (before_space (behind_space words))))
+    else (let words = after_space line in refused_at (guessed_number (before_space words))
+    (guessed_script_fault (before_space (after_space words))))
 
 -- ---- a line, without its newline
 
@@ -132,8 +132,8 @@ read_numbered line number word words =
 
 abbrev pub read_line : List ℕ → Option Says
 read_line line =
-    let behind_number = behind_space line in
+    let behind_number = after_space line in
     if list_all is_ascii_digit (before_space line)
     then read_numbered line (guessed_number (before_space line)) (before_space behind_number)
-    (behind_space behind_number)
+    (after_space behind_number)
     else if_printed line (lasts (guessed_last line))

@@ -26,16 +26,16 @@ abbrev pub before_space : List ℕ → List ℕ
 before_space [] = []
 before_space (b ∷ bs) = if nat_eq b 32 then [] else b ∷ before_space bs
 
-abbrev pub behind_space : List ℕ → List ℕ
-behind_space [] = []
-behind_space (b ∷ bs) = if nat_eq b 32 then bs else behind_space bs
+abbrev pub after_space : List ℕ → List ℕ
+after_space [] = []
+after_space (b ∷ bs) = if nat_eq b 32 then bs else after_space bs
 
 -- what follows the last space, and before it
 abbrev pub last_word : List ℕ → List ℕ
 last_word text = reverse (before_space (reverse text))
 
 abbrev pub before_last : List ℕ → List ℕ
-before_last text = reverse (behind_space (reverse text))
+before_last text = reverse (after_space (reverse text))
 
 -- the number of 64 bits that decimal digits may mean, and the one of 32 bits that hexadecimal
 -- digits may

@@ -20,7 +20,7 @@ pub enum Spoken {
 /// The result of a command. What is only checked for its format is left out: why a start was
 /// refused, the value, the count.
 #[derive(Clone, Copy, Debug, PartialEq, Eq)]
-pub enum Answer {
+pub enum ReportedAnswer {
     Code(Code),
     Fault,
     Value,
@@ -33,8 +33,8 @@ pub enum Answer {
 
 /// The result of a command, or of a transaction that the program ended.
 #[derive(Clone, Copy, Debug, PartialEq, Eq)]
-pub enum Outcome {
-    Answered(Spoken, Answer),
+pub enum ReportedOutcome {
+    Answered(Spoken, ReportedAnswer),
     Closed,
 }
 
@@ -43,8 +43,14 @@ pub enum Outcome {
 pub enum Form {
     /// A line before the result, of the transaction with this number: a line of a stack that was
     /// run, or another.
-    Told { number: u32, visit: Option<Seen> },
-    Result { number: u32, outcome: Outcome },
+    Told {
+        number: u32,
+        visit: Option<Seen>,
+    },
+    Result {
+        number: u32,
+        outcome: ReportedOutcome,
+    },
     /// The last line of a run that ended early.
     Last,
 }

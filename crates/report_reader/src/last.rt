@@ -7,7 +7,7 @@ ghost use Rattle.report_reader.specs.Says.{lasts};
 use crate::form::Form;
 use crate::names::script_fault_in;
 use crate::printed::if_printed;
-use crate::words::{before_space, behind_space, number_of};
+use crate::words::{after_space, before_space, number_of};
 use pam_base::{NoMemory, ScriptKind};
 use report_lines::read_fault_line;
 use std::alloc::Global;
@@ -19,8 +19,8 @@ pub fn read_last(alloc: Global, line: &[u8]) -> Result<Option<Form>, NoMemory>
     if line == b"read fault".as_slice() {
         return Ok(if_printed(read_fault_line(), line, Form::Last));
     }
-    let words = behind_space(line);
-    let kind = script_fault_in(before_space(behind_space(words)));
+    let words = after_space(line);
+    let kind = script_fault_in(before_space(after_space(words)));
     let text = script_line(alloc, number_of(before_space(words)), kind)?;
     Ok(if_printed(text.as_str(), line, Form::Last))
 }

@@ -7,6 +7,7 @@ mod last;
 pub mod laws;
 mod line;
 mod names;
+mod numbered;
 mod outcome;
 mod printed;
 mod quoted;
@@ -14,5 +15,5 @@ mod shown;
 mod told;
 mod words;
 
-pub use form::{Answer, Form, Outcome, Spoken};
+pub use form::{Form, ReportedAnswer, ReportedOutcome, Spoken};
 pub use line::read_line;

@@ -4,9 +4,10 @@ ghost use Rattle.report_reader.specs.Guess.{guessed_result, guessed_told, read_l
 
 use crate::form::Form;
 use crate::last::read_last;
+use crate::numbered::NumberedLine;
 use crate::outcome::read_result;
 use crate::told::{read_cleanup, read_message, read_missing, read_variable, read_visit, read_wait};
-use crate::words::{before_space, behind_space, number_of};
+use crate::words::{after_space, before_space, number_of};
 use pam_base::{NoMemory, are_digits};
 use std::alloc::Global;
 
@@ -19,13 +20,13 @@ pub fn read_line(alloc: Global, line: &[u8]) -> Result<Option<Form>, NoMemory>
         return read_last(alloc, line);
     }
     let number = number_of(before_space(line));
-    let behind_number = behind_space(line);
+    let behind_number = after_space(line);
     read_numbered(
         alloc,
         line,
         number,
         before_space(behind_number),
-        behind_space(behind_number),
+        after_space(behind_number),
     )
 }
 
@@ -41,34 +42,34 @@ fn read_numbered(
     if number > u64::from(u32::MAX) {
         return Ok(None);
     }
-    read_words(alloc, line, number as u32, word, words)
+    let number = number as u32;
+    let line = NumberedLine {
+        bytes: line,
+        number,
+        words,
+    };
+    read_words(alloc, line, word)
 }
 
 // Reads a line of a transaction, by its word.
-fn read_words(
-    alloc: Global,
-    line: &[u8],
-    number: u32,
-    word: &[u8],
-    words: &[u8],
-) -> Result<Option<Form>, NoMemory>
+fn read_words(alloc: Global, line: NumberedLine, word: &[u8]) -> Result<Option<Form>, NoMemory>
     ensures { Reads result
-        (told_or line.now number (guessed_told word.now words.now)
-        (guessed_result word.now words.now)) }
+        (told_or line.bytes.now line.number (guessed_told word.now line.words.now)
+        (guessed_result word.now line.words.now)) }
 {
     if word == b"say".as_slice() {
-        read_message(alloc, line, number, words)
+        read_message(alloc, line)
     } else if word == b"line".as_slice() {
-        read_visit(alloc, line, number, words)
+        read_visit(alloc, line)
     } else if word == b"clean".as_slice() {
-        read_cleanup(alloc, line, number, words)
+        read_cleanup(alloc, line)
     } else if word == b"wait".as_slice() {
-        read_wait(alloc, line, number, words)
+        read_wait(alloc, line)
     } else if word == b"note".as_slice() {
-        read_missing(alloc, line, number, words)
+        read_missing(alloc, line)
     } else if word == b"env".as_slice() {
-        read_variable(alloc, line, number, words)
+        read_variable(alloc, line)
     } else {
-        read_result(alloc, line, number, word, words)
+        read_result(alloc, line, word)
     }
 }

@@ -1,7 +1,7 @@
 ghost use Rattle.std.specs.Prelude.{◌≡◌, ◌≤◌, ◌<◌, ◌-◌, false, length, drop, slice_index};
 ghost use Rattle.std.specs.Char.{digit_value};
 ghost use Rattle.pam_base.specs.Bytes.{has_byte};
-ghost use Rattle.report_reader.specs.Words.{before_last, before_space, behind_space, guessed_number, guessed_status, last_word};
+ghost use Rattle.report_reader.specs.Words.{before_last, before_space, after_space, guessed_number, guessed_status, last_word};
 
 use pam_base::first_place;
 
@@ -16,8 +16,8 @@ pub fn before_space(text: &[u8]) -> &[u8]
 }
 
 /// What follows the first space; nothing if there is none.
-pub fn behind_space(text: &[u8]) -> &[u8]
-    ensures { result.now ≡ behind_space text.now }
+pub fn after_space(text: &[u8]) -> &[u8]
+    ensures { result.now ≡ after_space text.now }
 {
     match first_place(b' ', text) {
         Some(n) => &text[n + 1..],

@@ -12,7 +12,7 @@ use Rattle.script_lang.specs.declared.command.Command.{Command}
 use Rattle.script_lang.specs.declared.command.Command.TheVariants as commands
 use Rattle.script_lang.specs.declared.line.Line.TheVariants.{Blank, Step}
 use Rattle.script_lang.specs.declared.place.Form.TheVariants as forms
-use Rattle.script_lang.specs.declared.place.Place.TheVariants.{Wanted}
+use Rattle.script_lang.specs.declared.place.Position.TheVariants.{Wanted}
 use Rattle.script_lang.specs.Call.{line_made, step}
 use Rattle.script_lang.specs.Command.{row_of, command_of_word}
 use Rattle.script_lang.specs.Cut.{first_word, has_its_words, word_at}

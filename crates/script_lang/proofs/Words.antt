@@ -2,7 +2,7 @@
 use Rattle.std.proofs.Common.{◌≡◌, ℕ, zero, suc, ◌+◌, ◌-◌, ◌<◌, ◌≤◌, Bool, true, false, ◌||◌, List, [], ◌∷◌, ◌++◌, length, take, drop, slice_get, get_or, Option, Some, None, option_map, nat_lt, nat_le, inl, inr, not, All, refl, sym, ap, ◌∙◌, arith, eqb, length-drop}
 use Rattle.std.proofs.lemmas.Bool.{lt-ltb, le-ltb, lt-leb, le-leb, cases_lt}
 use Rattle.std.specs.Option.{is_some, unwrap_or}
-use Rattle.script_lang.specs.declared.place.Place.{Place}
+use Rattle.script_lang.specs.declared.place.Position.{Position}
 use Rattle.script_lang.specs.Place.{is_text}
 use Rattle.script_lang.specs.Cut.{first_word, word_at, wanted_of, most_of, has_its_words, IsBehind}
 use Rattle.std.proofs.lemmas.List.{take_all, drop-drop}
@@ -95,7 +95,7 @@ first_of [] lt = absurd (omega arith)
 first_of (w ∷ ws) lt = refl
 
 -- the word at a place, if this is left after the words before it
-module _ (place : Place) (before : ℕ) (line rest : List ℕ) (is : words_of rest ≡ drop before (words_of line)) where
+module _ (place : Position) (before : ℕ) (line rest : List ℕ) (is : words_of rest ≡ drop before (words_of line)) where
   within : nat_lt before (length (words_of line)) ≡ true
   within = lt-ltb before (length (words_of line)) (omega (arith, has_word rest, ap length is, length-drop before (words_of line)))
 
@@ -106,7 +106,7 @@ module _ (place : Place) (before : ℕ) (line rest : List ℕ) (is : words_of re
   word_at-other e = rw e (first_of (words_of rest) (has_word rest) ∙ ap (λ (words : List (List ℕ)). slice_get words 0) is ∙ get-drop (words_of line) before)
 
 -- whether a line has its words, by what follows the wanted ones and after the most
-module _ (places : List Place) (line : List ℕ) (wanted : ℕ) (least : Option (List ℕ)) (is_wanted : wanted ≡ wanted_of places) (behind : IsBehind least wanted (words_of line)) where
+module _ (places : List Position) (line : List ℕ) (wanted : ℕ) (least : Option (List ℕ)) (is_wanted : wanted ≡ wanted_of places) (behind : IsBehind least wanted (words_of line)) where
   enough : is_some least ≡ nat_lt (wanted_of places) (length (words_of line))
   enough = is_behind least line wanted behind ∙ ap (λ (n : ℕ). nat_lt n (length (words_of line))) is_wanted
 

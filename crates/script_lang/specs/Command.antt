@@ -8,18 +8,18 @@ use Rattle.pam_base.specs.declared.call.Func.{Func}
 use Rattle.pam_base.specs.declared.call.Func.TheVariants as funcs
 use Rattle.script_lang.specs.declared.place.Form.{Form}
 use Rattle.script_lang.specs.declared.place.Form.TheVariants.{Number, Moment, Random, Service, Name, Item, Switch, Text}
-use Rattle.script_lang.specs.declared.place.Place.{Place}
-use Rattle.script_lang.specs.declared.place.Place.TheVariants.{Wanted, Optional, Nothing}
+use Rattle.script_lang.specs.declared.place.Position.{Position}
+use Rattle.script_lang.specs.declared.place.Position.TheVariants.{Wanted, Optional, Nothing}
 use Rattle.script_lang.specs.declared.command.Command.{Command}
 use Rattle.script_lang.specs.declared.command.Command.TheVariants as commands
 
 -- a command's word, and which words may follow it
 pub record Row : Type 0 where
   pub word : List ℕ
-  pub places : List Place
+  pub places : List Position
 
 -- a call, whose first word is the transaction's number
-abbrev pub call_row : List ℕ → Place → Place → Row
+abbrev pub call_row : List ℕ → Position → Position → Row
 call_row word second third = record { word = word; places = Wanted Number ∷ second ∷ third ∷ [] }
 
 -- a setting of the world, with its value

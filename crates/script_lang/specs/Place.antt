@@ -4,8 +4,8 @@ use Rattle.pam_base.specs.declared.fault.ScriptKind.{ScriptKind}
 use Rattle.pam_base.specs.declared.fault.ScriptKind.TheVariants.{BadWord, BadNumeral}
 use Rattle.script_lang.specs.declared.place.Form.{Form}
 use Rattle.script_lang.specs.declared.place.Form.TheVariants as forms
-use Rattle.script_lang.specs.declared.place.Place.{Place}
-use Rattle.script_lang.specs.declared.place.Place.TheVariants.{Wanted, Optional, Nothing}
+use Rattle.script_lang.specs.declared.place.Position.{Position}
+use Rattle.script_lang.specs.declared.place.Position.TheVariants.{Wanted, Optional, Nothing}
 
 -- the fault of a word that isn't of a form
 abbrev pub fault_of : Form → ScriptKind
@@ -19,12 +19,12 @@ fault_of forms.Switch = BadWord
 fault_of forms.Text = BadWord
 
 -- the form of the word at a place, if it allows one
-abbrev pub form_of : Place → Option Form
+abbrev pub form_of : Position → Option Form
 form_of (Wanted form) = Some form
 form_of (Optional form) = Some form
 form_of Nothing = None
 
-abbrev pub is_wanted : Place → Bool
+abbrev pub is_wanted : Position → Bool
 is_wanted (Wanted form) = true
 is_wanted (Optional form) = false
 is_wanted Nothing = false
@@ -35,5 +35,5 @@ takes_rest (Some forms.Text) = true
 takes_rest (Some form) = false
 takes_rest None = false
 
-abbrev pub is_text : Place → Bool
+abbrev pub is_text : Position → Bool
 is_text place = takes_rest (form_of place)

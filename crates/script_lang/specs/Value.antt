@@ -8,8 +8,8 @@ use Rattle.pam_base.specs.declared.item.ItemName.TheVariants as items
 use Rattle.pam_base.specs.Item.{item_of_word}
 use Rattle.script_lang.specs.declared.place.Form.{Form}
 use Rattle.script_lang.specs.declared.place.Form.TheVariants as forms
-use Rattle.script_lang.specs.declared.place.Place.{Place}
-use Rattle.script_lang.specs.declared.place.Place.TheVariants.{Nothing}
+use Rattle.script_lang.specs.declared.place.Position.{Position}
+use Rattle.script_lang.specs.declared.place.Position.TheVariants.{Nothing}
 use Rattle.script_lang.specs.declared.value.Value.{Value}
 use Rattle.script_lang.specs.declared.value.Value.TheVariants as values
 use Rattle.script_lang.specs.declared.value.Values.{Values}
@@ -80,10 +80,10 @@ meaning_of_word (Some form) None = Ok absent
 meaning_of_word None word = Ok absent
 
 -- place i, from 0
-abbrev pub place_at : List Place → ℕ → Place
+abbrev pub place_at : List Position → ℕ → Position
 place_at places i = slice_index_or places i Nothing
 
-abbrev pub meaning_at : Place → ℕ → List (List ℕ) → Result Meaning ScriptKind
+abbrev pub meaning_at : Position → ℕ → List (List ℕ) → Result Meaning ScriptKind
 meaning_at place before words = meaning_of_word (form_of place) (word_at place before words)
 
 -- all three, or the leftmost fault
@@ -97,7 +97,7 @@ all_of (Ok first) (Ok second) (Ok third) =
 
 -- the values of the words at a command's places, or the fault of the leftmost word that isn't of
 -- its form
-abbrev pub meanings_at : List Place → List (List ℕ) → Result Meanings ScriptKind
+abbrev pub meanings_at : List Position → List (List ℕ) → Result Meanings ScriptKind
 meanings_at places words =
     all_of (meaning_at (place_at places 0) 1 words) (meaning_at (place_at places 1) 2 words)
     (meaning_at (place_at places 2) 3 words)

@@ -3,7 +3,7 @@ ghost use Rattle.std.specs.Str.{bytes_eq};
 ghost use Rattle.script_lang.specs.Command.{row_of, call_row, setting_row, command_of_word, command_of_call, command_of_func, word_of_call, word_of_func};
 
 use crate::place::Form::{self, Item, Moment, Name, Number, Random, Service, Switch, Text};
-use crate::place::Place::{self, Nothing, Optional, Wanted};
+use crate::place::Position::{self, Nothing, Optional, Wanted};
 use pam_base::{AppCall, Func};
 
 /// A command of the script.
@@ -56,7 +56,7 @@ const ALL_COMMANDS: [Command; 19] = [
 #[derive(Clone, Copy)]
 pub(crate) struct Row {
     pub(crate) word: &'static str,
-    pub(crate) places: [Place; 3],
+    pub(crate) places: [Position; 3],
 }
 
 impl Command {
@@ -97,7 +97,7 @@ impl Command {
 
 impl Row {
     // The transaction's number comes first.
-    fn of_call(word: &'static str, second: Place, third: Place) -> Self
+    fn of_call(word: &'static str, second: Position, third: Position) -> Self
         ensures word { result.word.now ≡ word.now }
         ensures places { result.places ≡ (call_row word.now second third).places }
     {

@@ -4,7 +4,7 @@ ghost use Rattle.pam_base.specs.Words.{words_of};
 ghost use Rattle.script_lang.specs.Place.{is_text};
 ghost use Rattle.script_lang.specs.Cut.{first_word, word_at, wanted_of, most_of, has_its_words, IsBehind};
 
-use crate::place::Place;
+use crate::place::Position;
 use pam_base::first_place;
 
 /// The word of a line's command, empty if the line begins with a space.
@@ -18,7 +18,7 @@ pub(crate) fn first_word(line: &[u8]) -> &[u8]
 }
 
 /// The word after n others in the line; None if and only if the line has no more words.
-pub(crate) fn word_at(place: Place, before: usize, line: &[u8]) -> Option<&[u8]>
+pub(crate) fn word_at(place: Position, before: usize, line: &[u8]) -> Option<&[u8]>
     ensures { option_map (λ word. word.now) result ≡ word_at place before (words_of line.now) }
 {
     let rest = behind_words(before, line)?;
@@ -30,7 +30,7 @@ pub(crate) fn word_at(place: Place, before: usize, line: &[u8]) -> Option<&[u8]>
 }
 
 /// Whether the line has as many words after its command as these places require.
-pub(crate) fn has_its_words(places: [Place; 3], line: &[u8]) -> bool
+pub(crate) fn has_its_words(places: [Position; 3], line: &[u8]) -> bool
     ensures { result ≡ has_its_words places (words_of line.now) }
 {
     behind_words(wanted(places), line).is_some()
@@ -56,20 +56,20 @@ fn behind_word(line: &[u8]) -> Option<&[u8]>
 }
 
 // How many of the places require a word.
-fn wanted(places: [Place; 3]) -> usize
+fn wanted(places: [Position; 3]) -> usize
     ensures { result ≡ wanted_of places }
 {
     places.iter().filter(|place| place.is_wanted()).count()
 }
 
 // How many of the places allow a word.
-fn most(places: [Place; 3]) -> usize
+fn most(places: [Position; 3]) -> usize
     ensures { result ≡ most_of places }
 {
     places.iter().filter(|place| place.form().is_some()).count()
 }
 
-fn has_text(places: [Place; 3]) -> bool
+fn has_text(places: [Position; 3]) -> bool
     ensures { result ≡ list_any is_text places }
 {
     places.iter().any(|place| place.is_text())

@@ -26,7 +26,7 @@ pub(crate) enum Form {
 
 /// A place after the word of a command.
 #[derive(Clone, Copy, Debug, PartialEq, Eq)]
-pub(crate) enum Place {
+pub(crate) enum Position {
     Wanted(Form),
     /// Optional: no word has to follow.
     Optional(Form),
@@ -46,20 +46,20 @@ impl Form {
     }
 }
 
-impl Place {
+impl Position {
     pub(crate) fn form(self) -> Option<Form>
         ensures { result ≡ form_of self }
     {
         match self {
-            Place::Wanted(form) | Place::Optional(form) => Some(form),
-            Place::Nothing => None,
+            Position::Wanted(form) | Position::Optional(form) => Some(form),
+            Position::Nothing => None,
         }
     }
 
     pub(crate) fn is_wanted(self) -> bool
         ensures { result ≡ is_wanted self }
     {
-        matches!(self, Place::Wanted(_))
+        matches!(self, Position::Wanted(_))
     }
 
     pub(crate) fn is_text(self) -> bool

@@ -4,7 +4,7 @@ ghost use Rattle.script_lang.specs.Value.{carried, carried_all, meaning_of, mean
 
 use crate::cut::word_at;
 use crate::number::{moment_in, number_in, random_in};
-use crate::place::{Form, Place};
+use crate::place::{Form, Position};
 use pam_base::{ItemName, NoMemory, ScriptKind, Text, is_service_name, item_named};
 use std::alloc::Global;
 
@@ -30,7 +30,7 @@ pub(crate) struct Values<'a> {
 }
 
 /// The values of the words at some places of a line, or the fault of the leftmost word that isn't of its form.
-pub(crate) fn values_at(places: [Place; 3], line: &[u8]) -> Result<Values<'_>, ScriptKind>
+pub(crate) fn values_at(places: [Position; 3], line: &[u8]) -> Result<Values<'_>, ScriptKind>
     ensures { carried_all result ≡ meanings_at places (words_of line.now) }
 {
     let first = value_at(places[0], 1, line);
@@ -44,7 +44,7 @@ pub(crate) fn values_at(places: [Place; 3], line: &[u8]) -> Result<Values<'_>, S
     })
 }
 
-fn value_at(place: Place, before: usize, line: &[u8]) -> Result<Value<'_>, ScriptKind>
+fn value_at(place: Position, before: usize, line: &[u8]) -> Result<Value<'_>, ScriptKind>
     ensures { carried result ≡ meaning_at place before (words_of line.now) }
 {
     match (place.form(), word_at(place, before, line)) {

@@ -2,7 +2,7 @@
 use Rattle.std.proofs.Common.{◌≡◌, ℕ, ◌+◌, ◌-◌, ◌≤◌, ◌^◌, min, Bool, true, false, cond, leb, ltb, List, [], ◌∷◌, Option, Result, Ok, Err, refl, sym, arith}
 use Rattle.pam_base.specs.declared.fault.FaultKind.{FaultKind}
 use Rattle.pam_outside.specs.Counts.{fails_next}
-use Rattle.service_load.specs.declared.entry.Entry.{Entry}
+use Rattle.service_load.specs.declared.entry.ConfigEntry.{ConfigEntry}
 use Rattle.service_load.specs.declared.rule_file.RuleFile.{RuleFile}
 use Rattle.service_load.specs.Entry.{entry_of}
 use Rattle.service_load.specs.Files.{Held, absent, faulty, holds, held, is_in_folder}
@@ -34,7 +34,7 @@ module _ (texts : List ℕ → Option (List ℕ)) (fails : List ℕ) where
       held_passes (asked counts) c file opener (held texts file)
       (otherwise (fails_next counts.calls fails) _ _ c (otherwise (leb 256 counts.openings) _ _ c (otherwise (ltb 16 level) _ _ c e)))
 
-  checked_passes : (counts c : Counts) (name : List ℕ) (line : ℕ) (x : Result Entry FaultKind) → checked_rule counts name line x ≡ Ok c → c ≡ counts
+  checked_passes : (counts c : Counts) (name : List ℕ) (line : ℕ) (x : Result ConfigEntry FaultKind) → checked_rule counts name line x ≡ Ok c → c ≡ counts
   checked_passes counts c name line (Ok entry) e = sym (passed counts c e)
   checked_passes counts c name line (Err kind) e = absurd cc
 

@@ -8,9 +8,9 @@ use Rattle.pam_base.specs.declared.fault.FaultKind.TheVariants.{TooManyLines}
 use Rattle.pam_outside.specs.Files.{VaultState}
 use Rattle.control_words.specs.declared.nodes.Rule.{Rule}
 use Rattle.control_words.specs.Stack.{Stack, none, line, sub, joined, lines_in, depth}
-use Rattle.service_load.specs.declared.entry.Content.{Content}
-use Rattle.service_load.specs.declared.entry.Content.TheVariants.{Line, Include, Substack}
-use Rattle.service_load.specs.declared.entry.Entry.{Entry}
+use Rattle.service_load.specs.declared.entry.RuleContent.{RuleContent}
+use Rattle.service_load.specs.declared.entry.RuleContent.TheVariants.{Line, Include, Substack}
+use Rattle.service_load.specs.declared.entry.ConfigEntry.{ConfigEntry}
 use Rattle.service_load.specs.declared.inclusion.Inclusion.{Inclusion}
 use Rattle.service_load.specs.declared.load_fault.LoadFault.{LoadFault}
 use Rattle.service_load.specs.declared.loader.Loader.{Loader}
@@ -47,12 +47,12 @@ depth-joined n (sub inner rest) b la lb = omega (arith, la, depth-joined n rest 
 -- ---- the loop over a file's entries
 
 -- no entry is left
-pub nothing_left : (left : List Entry) (n : ℕ) → n ≡ 0 → n ≡ length left → left ≡ []
+pub nothing_left : (left : List ConfigEntry) (n : ℕ) → n ≡ 0 → n ≡ length left → left ≡ []
 nothing_left [] n zero counted = refl
 nothing_left (e ∷ es) n zero counted = absurd (omega (arith, zero, counted))
 
 -- one entry fewer is left
-pub more_left : (old left : List Entry) (e : Entry) (n m : ℕ) → old ≡ e ∷ left → m + 1 ≡ n → n ≡ length old → m ≡ length left
+pub more_left : (old left : List ConfigEntry) (e : ConfigEntry) (n m : ℕ) → old ≡ e ∷ left → m + 1 ≡ n → n ≡ length old → m ≡ length left
 more_left old left e n m steps fewer counted = omega (arith, ap length steps, fewer, counted)
 
 -- ---- with real objects too
@@ -124,11 +124,11 @@ module _ (texts : List ℕ → Option (List ℕ)) (fails : List ℕ) where
   look_stops counts s xs ys stops = look-append counts xs ys ∙ rw stops refl
 
   -- what all entries bring is what was added so far and what those that are left bring
-  pub record Going (was is : Counts) (level : ℕ) (type : RuleType) (name : List ℕ) (all left : List Entry) (before now : Stack) : Type 0 where
+  pub record Going (was is : Counts) (level : ℕ) (type : RuleType) (name : List ℕ) (all left : List ConfigEntry) (before now : Stack) : Type 0 where
     pub looks : look texts fails was (entries_items texts level type name all) ≡ look texts fails is (entries_items texts level type name left)
     pub nodes : joined before (entries_nodes texts level type all) ≡ joined now (entries_nodes texts level type left)
 
-  module _ (was is : Counts) (level : ℕ) (type : RuleType) (name : List ℕ) (all left : List Entry) (before now : Stack) (e : Entry) where
+  module _ (was is : Counts) (level : ℕ) (type : RuleType) (name : List ℕ) (all left : List ConfigEntry) (before now : Stack) (e : ConfigEntry) where
     abbrev its_items : List Item
     its_items = entry_items_at texts level type name e
 
@@ -166,7 +166,7 @@ module _ (texts : List ℕ → Option (List ℕ)) (fails : List ℕ) where
   file_stops refusals.NoMemory is on items its same looks = tt
 
   -- if one entry stops the load, so do all
-  pub all_stop : (r : Refuse LoadFault) (was is on : Counts) (level : ℕ) (type : RuleType) (name : List ℕ) (all left : List Entry) (before now : Stack) (e : Entry)
+  pub all_stop : (r : Refuse LoadFault) (was is on : Counts) (level : ℕ) (type : RuleType) (name : List ℕ) (all left : List ConfigEntry) (before now : Stack) (e : ConfigEntry)
       → Going was is level type name all (e ∷ left) before now
       → Looks {A = Option Inclusion} (Err r) (look texts fails is (entry_items_at texts level type name e)) on → Looks {A = Bool} (Err r) (look texts fails was (entries_items texts level type name all)) on
   all_stop (refusals.Named f) was is on level type name all left before now e g looks = going_stops was is level type name all left before now e (record { fault = f; calls = on.calls }) g looks
@@ -180,13 +180,13 @@ module _ (texts : List ℕ → Option (List ℕ)) (fails : List ℕ) where
 
   -- an entry that is refused, one that is passed with its line, and one that brings in a file
   module _ (vault : VaultState) (was is : Loader) (before after : Stack) (level : ℕ) (type : RuleType) (name : List ℕ) (number : ℕ) where
-    abbrev items_if : Bool → Content → List Item
+    abbrev items_if : Bool → RuleContent → List Item
     items_if serving content = cond serving (content_items (items_at texts (level + 1) type) name number content) []
 
-    abbrev nodes_if : Bool → Content → Stack
+    abbrev nodes_if : Bool → RuleContent → Stack
     nodes_if serving content = cond serving (content_nodes (λ file. nodes_at texts (level + 1) type (plain_file file)) content) none
 
-    pub taking_stops : (serving : Bool) (content : Content) (r : Refuse LoadFault)
+    pub taking_stops : (serving : Bool) (content : RuleContent) (r : Refuse LoadFault)
         → TakesContent serving content (Err r) was is before after name number
         → Looks {A = Option Inclusion} (Err r) (look texts fails (counts_of was vault) (items_if serving content)) (counts_of is vault)
     taking_stops false content r takes = absurd cc
@@ -194,7 +194,7 @@ module _ (texts : List ℕ → Option (List ℕ)) (fails : List ℕ) where
     taking_stops true (Include file) r takes = absurd cc
     taking_stops true (Substack file) r takes = absurd cc
 
-    pub taking_looks : (serving : Bool) (content : Content) → TakesContent serving content (Ok None) was is before after name number
+    pub taking_looks : (serving : Bool) (content : RuleContent) → TakesContent serving content (Ok None) was is before after name number
         → look texts fails (counts_of was vault) (items_if serving content) ≡ Ok (counts_of is vault)
     unfolding look
     taking_looks false content takes = rw takes.1 refl
@@ -202,14 +202,14 @@ module _ (texts : List ℕ → Option (List ℕ)) (fails : List ℕ) where
     taking_looks true (Include file) takes = absurd cc
     taking_looks true (Substack file) takes = absurd cc
 
-    pub taking_adds : (serving : Bool) (content : Content) → TakesContent serving content (Ok None) was is before after name number
+    pub taking_adds : (serving : Bool) (content : RuleContent) → TakesContent serving content (Ok None) was is before after name number
         → after ≡ joined before (nodes_if serving content)
     taking_adds false content takes = takes.2 ∙ sym (joined-none before)
     taking_adds true (Line rule) takes = takes.0.2
     taking_adds true (Include file) takes = absurd cc
     taking_adds true (Substack file) takes = absurd cc
 
-    pub taking_grows : (serving : Bool) (content : Content) → level ≤ 16 → TakesContent serving content (Ok None) was is before after name number
+    pub taking_grows : (serving : Bool) (content : RuleContent) → level ≤ 16 → TakesContent serving content (Ok None) was is before after name number
         → Grows level was is before after
     taking_grows false content low takes = rw (takes.1, takes.2) (grows_none level was before low)
     taking_grows true (Line rule) low takes = rw (takes.0.1, takes.0.2) (grows_line level was before rule low takes.0.0)
@@ -217,7 +217,7 @@ module _ (texts : List ℕ → Option (List ℕ)) (fails : List ℕ) where
     taking_grows true (Substack file) low takes = absurd cc
 
     -- what such an entry brings is what the file brings
-    pub record BringsIn (serving : Bool) (content : Content) (i : Inclusion) : Type 0 where
+    pub record BringsIn (serving : Bool) (content : RuleContent) (i : Inclusion) : Type 0 where
       pub items : items_if serving content ≡ items_at texts (level + 1) type (by_rule name i.line) i.file
       pub nodes : nodes_if serving content ≡ brought_in i.as_substack (nodes_at texts (level + 1) type i.file)
       pub loader : is ≡ was
@@ -226,19 +226,19 @@ module _ (texts : List ℕ → Option (List ℕ)) (fails : List ℕ) where
     same_inclusion : (i j : Inclusion) → ◌≡◌ {A = Result (Option Inclusion) (Refuse LoadFault)} (Ok (Some i)) (Ok (Some j)) → i ≡ j
     same_inclusion i j e = cc
 
-    pub taking_file : (serving : Bool) (content : Content) (i : Inclusion)
+    pub taking_file : (serving : Bool) (content : RuleContent) (i : Inclusion)
         → TakesContent serving content (Ok (Some i)) was is before after name number → BringsIn serving content i
     taking_file false content i takes = absurd cc
     taking_file true (Line rule) i takes = absurd cc
     taking_file true (Include file) i takes = let same = same_inclusion i (record { line = number; file = plain_file file; as_substack = false }) takes.0 in record { items = rw same refl; nodes = rw same refl; loader = takes.1; stack = takes.2 }
     taking_file true (Substack file) i takes = let same = same_inclusion i (record { line = number; file = plain_file file; as_substack = true }) takes.0 in record { items = rw same refl; nodes = rw same refl; loader = takes.1; stack = takes.2 }
 
-  pub going_none : (was : Counts) (level : ℕ) (type : RuleType) (name : List ℕ) (all : List Entry) (before : Stack)
+  pub going_none : (was : Counts) (level : ℕ) (type : RuleType) (name : List ℕ) (all : List ConfigEntry) (before : Stack)
       → Going was was level type name all all before before
   going_none was level type name all before = record { looks = refl; nodes = refl }
 
   -- all entries were gone through
-  going_end : (was is : Counts) (level : ℕ) (type : RuleType) (name : List ℕ) (all : List Entry) (before now : Stack)
+  going_end : (was is : Counts) (level : ℕ) (type : RuleType) (name : List ℕ) (all : List ConfigEntry) (before now : Stack)
       → Going was is level type name all [] before now → look texts fails was (entries_items texts level type name all) ≡ Ok is
   unfolding look
   going_end was is level type name all before now g = g.looks
@@ -269,7 +269,7 @@ file_since r root first old new was is level type name i inner =
 
 -- ---- a file
 
-module _ (root : List ℕ) (first old now : VaultState) (was opened is : Loader) (level : ℕ) (type : RuleType) (opener : Opener) (file : RuleFile) (entries : List Entry) (before after : Stack) where
+module _ (root : List ℕ) (first old now : VaultState) (was opened is : Loader) (level : ℕ) (type : RuleType) (opener : Opener) (file : RuleFile) (entries : List ConfigEntry) (before after : Stack) where
   -- it was opened
   abbrev IsOpened : Type 0
   IsOpened = Opens (texts_of root first) (Ok (Some entries)) first.fails (counts_of was first) (counts_of opened old) level type opener file

@@ -11,7 +11,7 @@ use Rattle.control_words.specs.declared.control.Action.{Action}
 use Rattle.control_words.specs.declared.control.Action.TheVariants as actions
 use Rattle.control_words.specs.declared.bracket.ControlFault.{ControlFault}
 use Rattle.control_words.specs.Bracket.{named_action, jump_of, is_default, action_of_word, fault_of_entry, control_unless, control_of}
-use Rattle.control_words.specs.Entries.{Entry, entries_in}
+use Rattle.control_words.specs.Entries.{ControlPair, entries_in}
 use Rattle.control_words.specs.Keyword.{control_of_word}
 use Rattle.service_load.specs.Kinds.{is_read_failed}
 
@@ -40,7 +40,7 @@ named_other None b n = if_action b (jump_of n) (Err (record { kind = BadAction }
 word_other : (word : List ℕ) → is_other (result_err (action_of_word word)) ≡ true
 word_other word = named_other (named_action word) (not (eqb (length word) 0) && list_all is_ascii_digit word) (value_of_digits word)
 
-entry_other : (entry : Entry) → is_other (fault_of_entry entry) ≡ true
+entry_other : (entry : ControlPair) → is_other (fault_of_entry entry) ≡ true
 entry_other entry =
     if_other (eqb (length entry.name) 0 || eqb (length entry.action) 0) (Some (record { kind = BadControl })) _ refl
     (if_other (is_default entry.name || is_some (code_of_word entry.name)) (result_err (action_of_word entry.action)) (Some (record { kind = BadReturnName })) (word_other entry.action) refl)
@@ -52,13 +52,13 @@ not-true false e = refl
 same_fault : (g f : ControlFault) → ◌≡◌ {A = Result (List Action) ControlFault} (Err g) (Err f) → g ≡ f
 same_fault g f e = cc
 
-first_other : (o : Option ControlFault) (rest : List ControlFault) (all : List Entry) (f : ControlFault) → is_other o ≡ true
+first_other : (o : Option ControlFault) (rest : List ControlFault) (all : List ControlPair) (f : ControlFault) → is_other o ≡ true
     → (control_unless rest all ≡ Err f → is_read_failed f.kind ≡ false) → control_unless (cons_option o rest) all ≡ Err f
     → is_read_failed f.kind ≡ false
 first_other None rest all f other more e = more e
 first_other (Some g) rest all f other more e = rw (← same_fault g f e) (not-true (is_read_failed g.kind) other)
 
-unless_other : (all entries : List Entry) (f : ControlFault) → control_unless (filter_map fault_of_entry entries) all ≡ Err f → is_read_failed f.kind ≡ false
+unless_other : (all entries : List ControlPair) (f : ControlFault) → control_unless (filter_map fault_of_entry entries) all ≡ Err f → is_read_failed f.kind ≡ false
 unless_other all [] f e = absurd cc
 unless_other all (entry ∷ entries) f e = first_other (fault_of_entry entry) (filter_map fault_of_entry entries) all f (entry_other entry) (unless_other all entries f) e
 

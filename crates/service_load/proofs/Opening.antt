@@ -12,7 +12,7 @@ use Rattle.pam_outside.specs.Files.{VaultState, counted}
 use Rattle.control_words.specs.conf_lex.specs.Answer.{answer_to}
 use Rattle.control_words.specs.conf_lex.specs.declared.token.RawRule.{RawRule}
 use Rattle.control_words.specs.conf_lex.specs.declared.token.LexFault.{LexFault}
-use Rattle.service_load.specs.declared.entry.Entry.{Entry}
+use Rattle.service_load.specs.declared.entry.ConfigEntry.{ConfigEntry}
 use Rattle.service_load.specs.declared.load_fault.LoadFault.{LoadFault}
 use Rattle.service_load.specs.declared.loader.Loader.{Loader}
 use Rattle.service_load.specs.declared.opener.Opener.{Opener as Because}
@@ -37,7 +37,7 @@ held_long service None long = absurd long
 
 pub long_answers : (type : RuleType) (b in_folder : Bool) (name : List ℕ) (service text : Option (List ℕ)) (r : Refuse LoadFault) → b ≡ false
     → IsSomeAnd text (λ bytes. 65536 < length bytes) → IsRefusal r (fault_at name 0 FileTooLong)
-    → Answers {A = Option (List Entry)} (Err r) (opened_answer b name (result_map (option_map (served type)) (entries_held in_folder (held_text service text))))
+    → Answers {A = Option (List ConfigEntry)} (Err r) (opened_answer b name (result_map (option_map (served type)) (entries_held in_folder (held_text service text))))
 long_answers type b in_folder name service text (refusals.Named f) fine long refused = rw (fine, held_long service text long, refused) refl
 long_answers type b in_folder name service text refusals.NoMemory fine long refused = tt
 
@@ -53,8 +53,8 @@ pub asked_is : (was is : Loader) (old new : VaultState) → is ≡ record was { 
 asked_is was is old new one called = rw (one, called) refl
 
 pub asked_if : (r : Refuse LoadFault) (was is : Loader) (old new : VaultState) → is ≡ record was { openings = was.openings + 1 }
-    → IfCalled {A = Option (List Entry)} (Err r) (new ≡ counted old)
-    → IfCalled {A = Option (List Entry)} (Err r) (counts_of is new ≡ asked (counts_of was old))
+    → IfCalled {A = Option (List ConfigEntry)} (Err r) (new ≡ counted old)
+    → IfCalled {A = Option (List ConfigEntry)} (Err r) (counts_of is new ≡ asked (counts_of was old))
 asked_if (refusals.Named f) was is old new one called = asked_is was is old new one called
 asked_if refusals.NoMemory was is old new one called = tt
 
@@ -68,14 +68,14 @@ module _ (texts : List ℕ → Option (List ℕ)) (fails : List ℕ) where
   going_nowhere (Err s) = refl
 
 module _ (texts : List ℕ → Option (List ℕ)) (fails : List ℕ) (file : RuleFile) where
-  fine_on : (line : ℕ) (x : Result Entry FaultKind) (more : Result (List Entry) LexFault) (es : List Entry) → with_entry line x more ≡ Ok es
-      → (e : Entry) × (fs : List Entry) × (x ≡ Ok e) × (more ≡ Ok fs) × (es ≡ e ∷ fs)
+  fine_on : (line : ℕ) (x : Result ConfigEntry FaultKind) (more : Result (List ConfigEntry) LexFault) (es : List ConfigEntry) → with_entry line x more ≡ Ok es
+      → (e : ConfigEntry) × (fs : List ConfigEntry) × (x ≡ Ok e) × (more ≡ Ok fs) × (es ≡ e ∷ fs)
   fine_on line (Ok e) (Ok fs) es is = (e, fs, refl, refl, cc)
   fine_on line (Ok e) (Err f) es is = absurd cc
   fine_on line (Err kind) more es is = absurd cc
 
   -- rules without a fault are passed
-  look_fine : (counts : Counts) (rules : List RawRule) (es : List Entry) (more : List Item) → checked_entries (is_in_folder file) rules ≡ Ok es
+  look_fine : (counts : Counts) (rules : List RawRule) (es : List ConfigEntry) (more : List Item) → checked_entries (is_in_folder file) rules ≡ Ok es
       → look texts fails counts (map (checked file) rules ++ more) ≡ look texts fails counts more
   unfolding look
   look_fine counts [] es more is = refl
@@ -83,26 +83,26 @@ module _ (texts : List ℕ → Option (List ℕ)) (fails : List ℕ) (file : Rul
       let first = fine_on r.line (entry_of (is_in_folder file) r) (checked_entries (is_in_folder file) rs) es is in
       rw first.2 (look_fine counts rs first.1 more first.3)
 
-  all_are_fine : (rules : List RawRule) (es : List Entry) → checked_entries (is_in_folder file) rules ≡ Ok es → all_fine (is_in_folder file) rules ≡ true
+  all_are_fine : (rules : List RawRule) (es : List ConfigEntry) → checked_entries (is_in_folder file) rules ≡ Ok es → all_fine (is_in_folder file) rules ≡ true
   all_are_fine [] es is = refl
   all_are_fine (r ∷ rs) es is =
       let first = fine_on r.line (entry_of (is_in_folder file) r) (checked_entries (is_in_folder file) rs) es is in
       rw first.2 (all_are_fine rs first.1 first.3)
 
-  nil_is : (es : List Entry) → ◌≡◌ {A = Result (List Entry) LexFault} (Ok []) (Ok es) → [] ≡ es
+  nil_is : (es : List ConfigEntry) → ◌≡◌ {A = Result (List ConfigEntry) LexFault} (Ok []) (Ok es) → [] ≡ es
   nil_is es is = cc
 
-  entries_are : (rules : List RawRule) (es : List Entry) → checked_entries (is_in_folder file) rules ≡ Ok es → entries_of (is_in_folder file) rules ≡ es
+  entries_are : (rules : List RawRule) (es : List ConfigEntry) → checked_entries (is_in_folder file) rules ≡ Ok es → entries_of (is_in_folder file) rules ≡ es
   entries_are [] es is = nil_is es is
   entries_are (r ∷ rs) es is =
       let first = fine_on r.line (entry_of (is_in_folder file) r) (checked_entries (is_in_folder file) rs) es is in
-      rw first.2 (ap (λ (l : List Entry). first.0 ∷ l) (entries_are rs first.1 first.3) ∙ sym first.4)
+      rw first.2 (ap (λ (l : List ConfigEntry). first.0 ∷ l) (entries_are rs first.1 first.3) ∙ sym first.4)
 
   -- the first rule with a fault stops the look
-  same_fault : (f g : LexFault) → ◌≡◌ {A = Result (List Entry) LexFault} (Err g) (Err f) → f ≡ g
+  same_fault : (f g : LexFault) → ◌≡◌ {A = Result (List ConfigEntry) LexFault} (Err g) (Err f) → f ≡ g
   same_fault f g is = cc
 
-  fault_on : (counts : Counts) (line : ℕ) (x : Result Entry FaultKind) (more : Result (List Entry) LexFault) (f : LexFault) (rest : Counts → Result Counts Stop)
+  fault_on : (counts : Counts) (line : ℕ) (x : Result ConfigEntry FaultKind) (more : Result (List ConfigEntry) LexFault) (f : LexFault) (rest : Counts → Result Counts Stop)
       → with_entry line x more ≡ Err f
       → (more ≡ Err f → rest counts ≡ Err (record { fault = fault_at file.name f.line f.kind; calls = counts.calls }))
       → going_on (checked_rule counts file.name line x) rest ≡ Err (record { fault = fault_at file.name f.line f.kind; calls = counts.calls })
@@ -185,7 +185,7 @@ module _ (texts : List ℕ → Option (List ℕ)) (fails : List ℕ) (file : Rul
           → look texts fails was (items_at texts level type opener file) ≡ absent_file (asked was) opener
       look_absent low few fine in_it = look_asked absent low few fine in_it ∙ going_nowhere texts fails (absent_file (asked was) opener)
 
-      look_rules : (rules : List RawRule) (es : List Entry) → level ≤ 16 → was.openings < 256 → fails_next was.calls fails ≡ false
+      look_rules : (rules : List RawRule) (es : List ConfigEntry) → level ≤ 16 → was.openings < 256 → fails_next was.calls fails ≡ false
           → held texts file ≡ holds rules → checked_entries (is_in_folder file) rules ≡ Ok es
           → look texts fails was (items_at texts level type opener file) ≡ look texts fails (asked was) (entries_items texts level type file.name es)
       look_rules rules es low few fine in_it checks =
@@ -193,8 +193,8 @@ module _ (texts : List ℕ → Option (List ℕ)) (fails : List ℕ) (file : Rul
           ∙ rw (all_are_fine rules es checks, entries_are rules es checks) (look_fine (asked was) rules es (entries_items texts level type file.name es) checks)
 
       -- the result of a read is the file's entries
-      rules_some : (es : List Entry) (rules : List RawRule) (x : Result (List Entry) LexFault) → checked_entries (is_in_folder file) rules ≡ x
-          → ◌≡◌ {A = Result (Option (List Entry)) LexFault} (result_map Some x) (Ok (Some es)) → checked_entries (is_in_folder file) rules ≡ Ok es
+      rules_some : (es : List ConfigEntry) (rules : List RawRule) (x : Result (List ConfigEntry) LexFault) → checked_entries (is_in_folder file) rules ≡ x
+          → ◌≡◌ {A = Result (Option (List ConfigEntry)) LexFault} (result_map Some x) (Ok (Some es)) → checked_entries (is_in_folder file) rules ≡ Ok es
       rules_some es rules (Ok fs) checks e = checks ∙ (let same : fs ≡ es = cc in ap Ok same)
       rules_some es rules (Err f) checks e = absurd cc
 
@@ -202,7 +202,7 @@ module _ (texts : List ℕ → Option (List ℕ)) (fails : List ℕ) (file : Rul
       as_lex (Ok y) x e = let same : y ≡ x = cc in ap Ok same
       as_lex (Err f) x e = absurd cc
 
-      some_by : (b : Bool) (h : Held) (es : List Entry) → level ≤ 16 → was.openings < 256 → is ≡ asked was → fails_next was.calls fails ≡ b
+      some_by : (b : Bool) (h : Held) (es : List ConfigEntry) → level ≤ 16 → was.openings < 256 → is ≡ asked was → fails_next was.calls fails ≡ b
           → held texts file ≡ h → opened_answer b file.name (entries_held (is_in_folder file) h) ≡ Ok (Some es)
           → Opens texts (Ok (Some es)) fails was is level type opener file
       some_by true h es low few same failing in_it e = absurd cc
@@ -215,13 +215,13 @@ module _ (texts : List ℕ → Option (List ℕ)) (fails : List ℕ) (file : Rul
             rw in_it refl,
           )
 
-      pub opens_some : (es : List Entry) → level ≤ 16 → was.openings < 256 → is ≡ asked was
+      pub opens_some : (es : List ConfigEntry) → level ≤ 16 → was.openings < 256 → is ≡ asked was
           → opened_answer (fails_next was.calls fails) file.name (entries_held (is_in_folder file) (held texts file)) ≡ Ok (Some es)
           → Opens texts (Ok (Some es)) fails was is level type opener file
       opens_some es low few same e = some_by (fails_next was.calls fails) (held texts file) es low few same refl refl e
 
       -- the file isn't there
-      none_map : (x : Result (List Entry) LexFault) → ◌≡◌ {A = Result (Option (List Entry)) LexFault} (result_map Some x) (Ok None) → ⊥
+      none_map : (x : Result (List ConfigEntry) LexFault) → ◌≡◌ {A = Result (Option (List ConfigEntry)) LexFault} (result_map Some x) (Ok None) → ⊥
       none_map (Ok es) e = cc
       none_map (Err f) e = cc
 
@@ -255,8 +255,8 @@ module _ (texts : List ℕ → Option (List ℕ)) (fails : List ℕ) (file : Rul
       opens_absent r f low few same e stops refused = stopped r f refused (looked_absent low few e ∙ stops ∙ rw same refl)
 
       -- the file couldn't be read, or has a fault
-      rules_err : (f : LexFault) (rules : List RawRule) (x : Result (List Entry) LexFault) → checked_entries (is_in_folder file) rules ≡ x
-          → ◌≡◌ {A = Result (Option (List Entry)) LexFault} (result_map Some x) (Err f) → checked_entries (is_in_folder file) rules ≡ Err f
+      rules_err : (f : LexFault) (rules : List RawRule) (x : Result (List ConfigEntry) LexFault) → checked_entries (is_in_folder file) rules ≡ x
+          → ◌≡◌ {A = Result (Option (List ConfigEntry)) LexFault} (result_map Some x) (Err f) → checked_entries (is_in_folder file) rules ≡ Err f
       rules_err f rules (Ok fs) checks e = absurd cc
       rules_err f rules (Err g) checks e = checks ∙ (let same : g ≡ f = cc in ap Err same)
 
@@ -281,8 +281,8 @@ module _ (texts : List ℕ → Option (List ℕ)) (fails : List ℕ) (file : Rul
           let read = lex_err (entries_held (is_in_folder file) (held texts file)) f e in
           err_held (held texts file) read.0 low few fine refl read.1 ∙ ap (λ (fault : LoadFault). Err (record { fault = fault; calls = (asked was).calls })) (sym read.2)
 
-      pub opens_err : (r : Refuse LoadFault) → level ≤ 16 → was.openings < 256 → IfCalled {A = Option (List Entry)} (Err r) (is ≡ asked was)
-          → Answers {A = Option (List Entry)} (Err r) (opened_answer (fails_next was.calls fails) file.name (entries_held (is_in_folder file) (held texts file)))
+      pub opens_err : (r : Refuse LoadFault) → level ≤ 16 → was.openings < 256 → IfCalled {A = Option (List ConfigEntry)} (Err r) (is ≡ asked was)
+          → Answers {A = Option (List ConfigEntry)} (Err r) (opened_answer (fails_next was.calls fails) file.name (entries_held (is_in_folder file) (held texts file)))
           → Opens texts (Err r) fails was is level type opener file
       opens_err refusals.NoMemory low few same e = tt
       opens_err (refusals.Named f) low few same e = err_by (fails_next was.calls fails) f low few refl e ∙ rw same refl
@@ -290,24 +290,24 @@ module _ (texts : List ℕ → Option (List ℕ)) (fails : List ℕ) (file : Rul
 -- ---- the entries that serve a type alone
 
 module _ (type : RuleType) (name : List ℕ) where
-  some_served : (b : Bool) (found : Result (Option (List Entry)) LexFault) (es : List Entry)
+  some_served : (b : Bool) (found : Result (Option (List ConfigEntry)) LexFault) (es : List ConfigEntry)
       → opened_answer b name (result_map (option_map (served type)) found) ≡ Ok (Some es)
-      → (all : List Entry) × (opened_answer b name found ≡ Ok (Some all)) × (es ≡ served type all)
+      → (all : List ConfigEntry) × (opened_answer b name found ≡ Ok (Some all)) × (es ≡ served type all)
   some_served true found es e = absurd cc
   some_served false (Ok None) es e = absurd cc
   some_served false (Ok (Some all)) es e = (all, refl, sym cc)
   some_served false (Err f) es e = absurd cc
 
-  pub none_served : (b : Bool) (found : Result (Option (List Entry)) LexFault)
+  pub none_served : (b : Bool) (found : Result (Option (List ConfigEntry)) LexFault)
       → opened_answer b name (result_map (option_map (served type)) found) ≡ Ok None → opened_answer b name found ≡ Ok None
   none_served true found e = absurd cc
   none_served false (Ok None) e = refl
   none_served false (Ok (Some all)) e = absurd cc
   none_served false (Err f) e = absurd cc
 
-  pub err_served : (b : Bool) (found : Result (Option (List Entry)) LexFault) (r : Refuse LoadFault)
-      → Answers {A = Option (List Entry)} (Err r) (opened_answer b name (result_map (option_map (served type)) found))
-      → Answers {A = Option (List Entry)} (Err r) (opened_answer b name found)
+  pub err_served : (b : Bool) (found : Result (Option (List ConfigEntry)) LexFault) (r : Refuse LoadFault)
+      → Answers {A = Option (List ConfigEntry)} (Err r) (opened_answer b name (result_map (option_map (served type)) found))
+      → Answers {A = Option (List ConfigEntry)} (Err r) (opened_answer b name found)
   err_served true found (refusals.Named f) e = let same : fault_at name 0 ReadFailed ≡ f = cc in ap Err same
   err_served false (Ok None) (refusals.Named f) e = absurd cc
   err_served false (Ok (Some all)) (refusals.Named f) e = absurd cc
@@ -316,28 +316,28 @@ module _ (type : RuleType) (name : List ℕ) where
 
 -- an entry that doesn't serve the type brings nothing
 module _ (texts : List ℕ → Option (List ℕ)) (level : ℕ) (type : RuleType) where
-  items_by : (b : Bool) (name : List ℕ) (e : Entry) (es all : List Entry) → serves type e.rule_type ≡ b
+  items_by : (b : Bool) (name : List ℕ) (e : ConfigEntry) (es all : List ConfigEntry) → serves type e.rule_type ≡ b
       → entries_items texts level type name es ≡ entries_items texts level type name all
       → entries_items texts level type name (cond b (e ∷ es) es) ≡ entries_items texts level type name (e ∷ all)
   items_by true name e es all is same = rw same refl
   items_by false name e es all is same = rw is same
 
-  items_served : (name : List ℕ) (entries : List Entry)
+  items_served : (name : List ℕ) (entries : List ConfigEntry)
       → entries_items texts level type name (served type entries) ≡ entries_items texts level type name entries
   items_served name [] = refl
   items_served name (e ∷ es) = items_by (serves type e.rule_type) name e (served type es) es refl (items_served name es)
 
-  nodes_by : (b : Bool) (e : Entry) (es all : List Entry) → serves type e.rule_type ≡ b
+  nodes_by : (b : Bool) (e : ConfigEntry) (es all : List ConfigEntry) → serves type e.rule_type ≡ b
       → entries_nodes texts level type es ≡ entries_nodes texts level type all
       → entries_nodes texts level type (cond b (e ∷ es) es) ≡ entries_nodes texts level type (e ∷ all)
   nodes_by true e es all is same = rw same refl
   nodes_by false e es all is same = rw is same
 
-  nodes_served : (entries : List Entry) → entries_nodes texts level type (served type entries) ≡ entries_nodes texts level type entries
+  nodes_served : (entries : List ConfigEntry) → entries_nodes texts level type (served type entries) ≡ entries_nodes texts level type entries
   nodes_served [] = refl
   nodes_served (e ∷ es) = nodes_by (serves type e.rule_type) e (served type es) es refl (nodes_served es)
 
-  pub opens_served : (fails : List ℕ) (was is : Counts) (opener : Opener) (file : RuleFile) (es : List Entry) → level ≤ 16 → was.openings < 256 → is ≡ asked was
+  pub opens_served : (fails : List ℕ) (was is : Counts) (opener : Opener) (file : RuleFile) (es : List ConfigEntry) → level ≤ 16 → was.openings < 256 → is ≡ asked was
       → opened_answer (fails_next was.calls fails) file.name (result_map (option_map (served type)) (entries_held (is_in_folder file) (held texts file))) ≡ Ok (Some es)
       → Opens texts (Ok (Some es)) fails was is level type opener file
   opens_served fails was is opener file es low few same e =

@@ -5,7 +5,7 @@ use Rattle.pam_base.specs.declared.fault.FaultKind.{FaultKind}
 use Rattle.control_words.specs.conf_lex.specs.declared.token.Token.{Token}
 use Rattle.control_words.specs.conf_lex.specs.declared.token.RawRule.{RawRule}
 use Rattle.control_words.specs.conf_lex.specs.declared.token.LexFault.{LexFault}
-use Rattle.service_load.specs.declared.entry.Entry.{Entry}
+use Rattle.service_load.specs.declared.entry.ConfigEntry.{ConfigEntry}
 use Rattle.service_load.specs.declared.rule_type.RuleType.{RuleType}
 use Rattle.service_load.specs.Answers.{result_map}
 use Rattle.service_load.specs.Entry.{entry_of}
@@ -13,19 +13,19 @@ use Rattle.service_load.specs.Files.{Held, absent, faulty, holds}
 use Rattle.service_load.specs.Tree.{serves}
 
 -- an entry before those of the rules after it, or the fault of the rule in this line
-abbrev pub with_entry : ℕ → Result Entry FaultKind → Result (List Entry) LexFault
-    → Result (List Entry) LexFault
+abbrev pub with_entry : ℕ → Result ConfigEntry FaultKind → Result (List ConfigEntry) LexFault
+    → Result (List ConfigEntry) LexFault
 with_entry line (Ok entry) more = result_map (λ es. entry ∷ es) more
 with_entry line (Err kind) more = Err (record { line = line; kind = kind })
 
 -- what some rules say, or the fault of the first that has one
-abbrev pub checked_entries : Bool → List RawRule → Result (List Entry) LexFault
+abbrev pub checked_entries : Bool → List RawRule → Result (List ConfigEntry) LexFault
 checked_entries in_folder [] = Ok []
 checked_entries in_folder (r ∷ rs) =
     with_entry r.line (entry_of in_folder r) (checked_entries in_folder rs)
 
 -- what the rules of a file say, if it is there, or its first fault
-abbrev pub entries_held : Bool → Held → Result (Option (List Entry)) LexFault
+abbrev pub entries_held : Bool → Held → Result (Option (List ConfigEntry)) LexFault
 entries_held in_folder absent = Ok None
 entries_held in_folder (faulty fault) = Err fault
 entries_held in_folder (holds rules) = result_map Some (checked_entries in_folder rules)
@@ -36,5 +36,5 @@ GivesFields None line own = own ≡ []
 GivesFields (Some tokens) line own = own ≡ record { line = line; tokens = tokens } ∷ []
 
 -- the entries that serve a type (pam.conf(5))
-abbrev pub served : RuleType → List Entry → List Entry
+abbrev pub served : RuleType → List ConfigEntry → List ConfigEntry
 served type entries = filter (λ e. serves type e.rule_type) entries

@@ -8,9 +8,9 @@ use Rattle.control_words.specs.declared.control.Action.{Action}
 use Rattle.control_words.specs.declared.nodes.Rule.{Rule}
 use Rattle.control_words.specs.declared.bracket.ControlFault.{ControlFault}
 use Rattle.control_words.specs.Bracket.{control_of}
-use Rattle.service_load.specs.declared.entry.Content.{Content}
-use Rattle.service_load.specs.declared.entry.Content.TheVariants.{Line, Include, Substack}
-use Rattle.service_load.specs.declared.entry.Entry.{Entry}
+use Rattle.service_load.specs.declared.entry.RuleContent.{RuleContent}
+use Rattle.service_load.specs.declared.entry.RuleContent.TheVariants.{Line, Include, Substack}
+use Rattle.service_load.specs.declared.entry.ConfigEntry.{ConfigEntry}
 use Rattle.service_load.specs.declared.rule_type.RuleType.{RuleType}
 use Rattle.service_load.specs.declared.type_field.TypeField.{TypeField}
 use Rattle.service_load.specs.Answers.{result_map}
@@ -39,13 +39,13 @@ rule_of silent control (t ∷ ts) =
 
 -- a control and what follows it (pam.conf(5))
 abbrev pub with_control : Bool → Result (List Action) ControlFault → List Token
-    → Result Content FaultKind
+    → Result RuleContent FaultKind
 with_control silent (Ok control) tokens = result_map Line (rule_of silent control tokens)
 with_control silent (Err fault) tokens = Err fault.kind
 
 -- what follows the type: `include` or `substack` with a file, or a control with a module (pam.conf(5)); a field that
 -- is wanted and missing is a fault (this project's own)
-abbrev pub behind_type : Bool → List Token → Result Content FaultKind
+abbrev pub behind_type : Bool → List Token → Result RuleContent FaultKind
 behind_type silent [] = Err MissingField
 behind_type silent (t ∷ ts) =
     if is_word (codes "include") t then result_map Include (file_field ts)
@@ -53,19 +53,19 @@ behind_type silent (t ∷ ts) =
     else with_control silent (control_of t.bracketed t.text) ts
 
 -- an entry in this line, for one type or for all (this project's own)
-abbrev pub entry_at : ℕ → Option RuleType → Result Content FaultKind → Result Entry FaultKind
+abbrev pub entry_at : ℕ → Option RuleType → Result RuleContent FaultKind → Result ConfigEntry FaultKind
 entry_at line rule_type content =
     result_map (λ c. record { line = line; rule_type = rule_type; content = c }) content
 
 -- a rule with this type field (pam.conf(5)); another first field is a fault (this project's own)
-abbrev pub with_type : ℕ → Option TypeField → List Token → Result Entry FaultKind
+abbrev pub with_type : ℕ → Option TypeField → List Token → Result ConfigEntry FaultKind
 with_type line None tokens = Err BadType
 with_type line (Some field) tokens =
     entry_at line (Some field.rule_type) (behind_type field.silent tokens)
 
 -- what a rule of these tokens says; `@include`, Debian's addition, is only in files of the form of
 -- `/etc/pam.d` (this project's own)
-abbrev pub entry_of_tokens : ℕ → Bool → List Token → Result Entry FaultKind
+abbrev pub entry_of_tokens : ℕ → Bool → List Token → Result ConfigEntry FaultKind
 entry_of_tokens line in_folder [] = Err MissingField
 entry_of_tokens line true (t ∷ ts) = if is_word (codes "@include") t
     then entry_at line None (result_map Include (file_field ts))
@@ -74,5 +74,5 @@ entry_of_tokens line false (t ∷ ts) = with_type line (type_field_of t) ts
 
 -- what a rule says, in a file of the form of `/etc/pam.d` (pam.d(5)) or in pam.conf after its
 -- service (pam.conf(5))
-unfoldable pub entry_of : Bool → RawRule → Result Entry FaultKind
+unfoldable pub entry_of : Bool → RawRule → Result ConfigEntry FaultKind
 entry_of in_folder rule = entry_of_tokens rule.line in_folder rule.tokens

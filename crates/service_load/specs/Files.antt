@@ -9,7 +9,7 @@ use Rattle.control_words.specs.conf_lex.specs.Answer.{answer_to}
 use Rattle.control_words.specs.conf_lex.specs.declared.token.Token.{Token}
 use Rattle.control_words.specs.conf_lex.specs.declared.token.RawRule.{RawRule}
 use Rattle.control_words.specs.conf_lex.specs.declared.token.LexFault.{LexFault}
-use Rattle.service_load.specs.declared.entry.Entry.{Entry}
+use Rattle.service_load.specs.declared.entry.ConfigEntry.{ConfigEntry}
 use Rattle.service_load.specs.declared.rule_file.RuleFile.{RuleFile}
 use Rattle.service_load.specs.Entry.{entry_of}
 use Rattle.service_load.specs.RuleType.{is_word}
@@ -90,7 +90,7 @@ abbrev pub is_in_folder : RuleFile → Bool
 is_in_folder file = is_none file.service
 
 -- what the rules of a file say; a rule with a fault says nothing
-abbrev pub entries_of : Bool → List RawRule → List Entry
+abbrev pub entries_of : Bool → List RawRule → List ConfigEntry
 entries_of in_folder rules = filter_map (λ r. result_ok (entry_of in_folder r)) rules
 
 -- whether no rule has a fault

@@ -3,7 +3,7 @@ use Rattle.std.specs.Prelude.{ℕ, ◌+◌, List, [], ◌∷◌, Option, Result,
 use Rattle.pam_base.specs.declared.fault.FaultKind.{FaultKind}
 use Rattle.pam_base.specs.declared.fault.FaultKind.TheVariants.{IncludeAbsent, TooDeep, TooManyLines, TooManyFiles, NoService, ReadFailed}
 use Rattle.pam_outside.specs.Counts.{next_count, fails_next}
-use Rattle.service_load.specs.declared.entry.Entry.{Entry}
+use Rattle.service_load.specs.declared.entry.ConfigEntry.{ConfigEntry}
 use Rattle.service_load.specs.declared.load_fault.LoadFault.{LoadFault}
 use Rattle.service_load.specs.declared.rule_file.RuleFile.{RuleFile}
 use Rattle.service_load.specs.Entry.{entry_of}
@@ -57,7 +57,7 @@ asked counts = record {
   lines = counts.lines;
 }
 
-abbrev pub checked_rule : Counts → List ℕ → ℕ → Result Entry FaultKind → Result Counts Stop
+abbrev pub checked_rule : Counts → List ℕ → ℕ → Result ConfigEntry FaultKind → Result Counts Stop
 checked_rule counts name line (Ok entry) = Ok counts
 checked_rule counts name line (Err kind) = stop counts name line kind
 

@@ -8,9 +8,9 @@ use Rattle.control_words.specs.conf_lex.specs.declared.token.LexFault.{LexFault}
 use Rattle.control_words.specs.Stack.{Stack, none, line, sub, joined, lines_in, depth, stack_of}
 use Rattle.control_words.specs.declared.nodes.Nodes.{Nodes}
 use Rattle.control_words.specs.declared.nodes.Rule.{Rule}
-use Rattle.service_load.specs.declared.entry.Content.{Content}
-use Rattle.service_load.specs.declared.entry.Content.TheVariants.{Line, Include, Substack}
-use Rattle.service_load.specs.declared.entry.Entry.{Entry}
+use Rattle.service_load.specs.declared.entry.RuleContent.{RuleContent}
+use Rattle.service_load.specs.declared.entry.RuleContent.TheVariants.{Line, Include, Substack}
+use Rattle.service_load.specs.declared.entry.ConfigEntry.{ConfigEntry}
 use Rattle.service_load.specs.declared.inclusion.Inclusion.{Inclusion}
 use Rattle.service_load.specs.declared.load_fault.LoadFault.{LoadFault}
 use Rattle.service_load.specs.declared.loader.Loader.{Loader}
@@ -82,7 +82,7 @@ AddsLine (Err (Named f)) was is before after name number rule = (4096 ≤ was.li
 AddsLine (Err NoMemory) was is before after name number rule = Unit {0}
 
 -- an entry was taken, which serves the type or doesn't: its line was added, or it gives the file that it brings in
-abbrev pub TakesContent : Bool → Content → Result (Option Inclusion) (Refuse LoadFault) → Loader
+abbrev pub TakesContent : Bool → RuleContent → Result (Option Inclusion) (Refuse LoadFault) → Loader
     → Loader → Stack → Stack → List ℕ → ℕ → Type 0
 TakesContent false content result was is before after name number = (result ≡ Ok None) × (is ≡ was)
     × (after ≡ before)
@@ -96,7 +96,7 @@ TakesContent true (Substack file) result was is before after name number =
     × (is ≡ was) × (after ≡ before)
 
 abbrev pub TakesEntry : Result (Option Inclusion) (Refuse LoadFault) → Loader → Loader → Stack
-    → Stack → RuleType → List ℕ → Entry → Type 0
+    → Stack → RuleType → List ℕ → ConfigEntry → Type 0
 TakesEntry result was is before after type name entry =
     TakesContent (serves type entry.rule_type) entry.content result was is before after name
     entry.line
@@ -115,32 +115,32 @@ module _ (texts : List ℕ → Option (List ℕ)) where
   nodes_at level type file = nodes texts (17 - level) type file
 
   -- what an entry of the file with this name brings, at this level
-  abbrev pub entry_items_at : ℕ → RuleType → List ℕ → Entry → List Item
+  abbrev pub entry_items_at : ℕ → RuleType → List ℕ → ConfigEntry → List Item
   entry_items_at level type name entry = entry_items (items_at (level + 1) type) type name entry
 
-  abbrev pub entry_nodes_at : ℕ → RuleType → Entry → Stack
+  abbrev pub entry_nodes_at : ℕ → RuleType → ConfigEntry → Stack
   entry_nodes_at level type entry =
       entry_nodes (λ name. nodes_at (level + 1) type (plain_file name)) type entry
 
   -- what the entries of a file at this level bring
-  abbrev pub entries_items : ℕ → RuleType → List ℕ → List Entry → List Item
+  abbrev pub entries_items : ℕ → RuleType → List ℕ → List ConfigEntry → List Item
   entries_items level type name entries = items_of (items_at (level + 1) type) type name entries
 
-  abbrev pub entries_nodes : ℕ → RuleType → List Entry → Stack
+  abbrev pub entries_nodes : ℕ → RuleType → List ConfigEntry → Stack
   entries_nodes level type entries =
       nodes_of (λ name. nodes_at (level + 1) type (plain_file name)) type entries
 
   -- what is left of a file once it was opened at this level: what its entries bring; an absent one brings nothing
-  abbrev pub left_items : ℕ → RuleType → RuleFile → Option (List Entry) → List Item
+  abbrev pub left_items : ℕ → RuleType → RuleFile → Option (List ConfigEntry) → List Item
   left_items level type file None = []
   left_items level type file (Some entries) = entries_items level type file.name entries
 
-  abbrev pub left_nodes : ℕ → RuleType → Option (List Entry) → Stack
+  abbrev pub left_nodes : ℕ → RuleType → Option (List ConfigEntry) → Stack
   left_nodes level type None = none
   left_nodes level type (Some entries) = entries_nodes level type entries
 
   -- unless memory ran out, a file was opened, with the fault of that or with what it then brings
-  abbrev pub Opens : Result (Option (List Entry)) (Refuse LoadFault) → List ℕ → Counts → Counts → ℕ
+  abbrev pub Opens : Result (Option (List ConfigEntry)) (Refuse LoadFault) → List ℕ → Counts → Counts → ℕ
       → RuleType → Opener → RuleFile → Type 0
   Opens (Ok entries) fails was is level type opener file =
       (look texts fails was (items_at level type opener file)

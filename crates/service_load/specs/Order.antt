@@ -4,9 +4,9 @@ use Rattle.std.specs.Prelude.{ℕ, zero, suc, ◌+◌, ◌-◌, Bool, List, [], 
 use Rattle.std.specs.List.{flat_map}
 use Rattle.control_words.specs.conf_lex.specs.declared.token.RawRule.{RawRule}
 use Rattle.control_words.specs.Stack.{count}
-use Rattle.service_load.specs.declared.entry.Content.{Content}
-use Rattle.service_load.specs.declared.entry.Content.TheVariants.{Line, Include, Substack}
-use Rattle.service_load.specs.declared.entry.Entry.{Entry}
+use Rattle.service_load.specs.declared.entry.RuleContent.{RuleContent}
+use Rattle.service_load.specs.declared.entry.RuleContent.TheVariants.{Line, Include, Substack}
+use Rattle.service_load.specs.declared.entry.ConfigEntry.{ConfigEntry}
 use Rattle.service_load.specs.declared.rule_file.RuleFile.{RuleFile}
 use Rattle.service_load.specs.declared.rule_type.RuleType.{RuleType}
 use Rattle.service_load.specs.Files.{plain_file, service_file, held, rules_held, is_absent, entries_of, all_fine, is_in_folder}
@@ -36,18 +36,18 @@ openings_in (opening file level opener ∷ is) = openings_in is + 1
 openings_in (i ∷ is) = openings_in is
 
 -- what an entry of the file with this name adds, if `deeper` is what an opened file adds
-abbrev pub content_items : (Opener → RuleFile → List Item) → List ℕ → ℕ → Content → List Item
+abbrev pub content_items : (Opener → RuleFile → List Item) → List ℕ → ℕ → RuleContent → List Item
 content_items deeper name line (Line rule) = made name line ∷ []
 content_items deeper name line (Include file) = deeper (by_rule name line) (plain_file file)
 content_items deeper name line (Substack file) = deeper (by_rule name line) (plain_file file)
 
 -- and if it is for the type
-abbrev pub entry_items : (Opener → RuleFile → List Item) → RuleType → List ℕ → Entry → List Item
+abbrev pub entry_items : (Opener → RuleFile → List Item) → RuleType → List ℕ → ConfigEntry → List Item
 entry_items deeper type name entry = if serves type entry.rule_type
     then content_items deeper name entry.line entry.content else []
 
 -- what some entries bring, in order
-abbrev pub items_of : (Opener → RuleFile → List Item) → RuleType → List ℕ → List Entry → List Item
+abbrev pub items_of : (Opener → RuleFile → List Item) → RuleType → List ℕ → List ConfigEntry → List Item
 items_of deeper type name entries = flat_map (entry_items deeper type name) entries
 
 -- all rules of a file are checked first; if one has a fault nothing follows

@@ -1,9 +1,9 @@
 -- The stack of a service for a type (pam.conf(5), pam.d(5)): a recursion on the files, without counts, limits or reads.
 use Rattle.std.specs.Prelude.{ℕ, zero, suc, Bool, true, List, [], ◌∷◌, Option, Some, None, codes, ◌==◌, if◌then◌else◌}
 use Rattle.control_words.specs.Stack.{Stack, none, line, sub, joined, count}
-use Rattle.service_load.specs.declared.entry.Content.{Content}
-use Rattle.service_load.specs.declared.entry.Content.TheVariants.{Line, Include, Substack}
-use Rattle.service_load.specs.declared.entry.Entry.{Entry}
+use Rattle.service_load.specs.declared.entry.RuleContent.{RuleContent}
+use Rattle.service_load.specs.declared.entry.RuleContent.TheVariants.{Line, Include, Substack}
+use Rattle.service_load.specs.declared.entry.ConfigEntry.{ConfigEntry}
 use Rattle.service_load.specs.declared.rule_file.RuleFile.{RuleFile}
 use Rattle.service_load.specs.declared.rule_type.RuleType.{RuleType}
 use Rattle.service_load.specs.Files.{plain_file, service_file, held, rules_held, entries_of, is_in_folder}
@@ -16,18 +16,18 @@ serves type (Some own) = same_type type own
 
 -- what an entry adds, if `deeper` is the nodes of a file (pam.conf(5), on include and substack): a
 -- line, the nodes of a file, or a substack of them
-abbrev pub content_nodes : (List ℕ → Stack) → Content → Stack
+abbrev pub content_nodes : (List ℕ → Stack) → RuleContent → Stack
 content_nodes deeper (Line rule) = line rule none
 content_nodes deeper (Include file) = deeper file
 content_nodes deeper (Substack file) = sub (deeper file) none
 
 -- and if it is for the type
-abbrev pub entry_nodes : (List ℕ → Stack) → RuleType → Entry → Stack
+abbrev pub entry_nodes : (List ℕ → Stack) → RuleType → ConfigEntry → Stack
 entry_nodes deeper type entry = if serves type entry.rule_type
     then content_nodes deeper entry.content else none
 
 -- what some entries bring, in order (pam.conf(5))
-abbrev pub nodes_of : (List ℕ → Stack) → RuleType → List Entry → Stack
+abbrev pub nodes_of : (List ℕ → Stack) → RuleType → List ConfigEntry → Stack
 nodes_of deeper type [] = none
 nodes_of deeper type (e ∷ es) = joined (entry_nodes deeper type e) (nodes_of deeper type es)
 

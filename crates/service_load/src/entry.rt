@@ -14,7 +14,7 @@ use std::alloc::Global;
 
 /// What a rule adds to a stack.
 #[derive(Debug, Drop)]
-pub enum Content {
+pub enum RuleContent {
     /// A line of its own.
     Line(Rule),
     /// The nodes of the file with this name.
@@ -25,18 +25,18 @@ pub enum Content {
 
 /// A rule as it is read.
 #[derive(Debug, Drop)]
-pub struct Entry {
+pub struct ConfigEntry {
     /// The number of its first physical line, from 1.
     pub line: u32,
     /// Its type; None if it is for all four, as `@include` is.
     pub rule_type: Option<RuleType>,
-    pub content: Content,
+    pub content: RuleContent,
 }
 
 /// What the rules of a file say, in order.
-pub(crate) type Entries = Sequence<Entry>;
+pub(crate) type Entries = Sequence<ConfigEntry>;
 
-impl Entry {
+impl ConfigEntry {
     /// What the tokens of a rule in this line say, in a file of `/etc/pam.d` or, after its service,
     /// in `pam.conf(5)`; or the fault of the first field that isn't as it should be.
     pub(crate) fn of(
@@ -44,7 +44,7 @@ impl Entry {
         line: u32,
         in_folder: bool,
         tokens: &[Token],
-    ) -> Result<Entry, Refuse<FaultKind>>
+    ) -> Result<ConfigEntry, Refuse<FaultKind>>
         ensures answer { Answers result (entry_of_tokens line in_folder tokens.now) }
         ensures kinds { IfNamed result (λ kind. is_read_failed kind ≡ false) }
     {
@@ -53,14 +53,14 @@ impl Entry {
         };
         if in_folder && is_word(b"@include", first) {
             let name = file_field(alloc, rest)?;
-            return Ok(Entry {
+            return Ok(ConfigEntry {
                 line,
                 rule_type: None,
-                content: Content::Include(name),
+                content: RuleContent::Include(name),
             });
         }
         match TypeField::of(first) {
-            Some(field) => Ok(Entry {
+            Some(field) => Ok(ConfigEntry {
                 line,
                 rule_type: Some(field.rule_type),
                 content: content_of(alloc, field.silent, rest)?,
@@ -79,10 +79,10 @@ impl Entry {
         }
     }
 
-    pub(crate) fn copied(&self, alloc: Global) -> Result<Entry, NoMemory>
+    pub(crate) fn copied(&self, alloc: Global) -> Result<ConfigEntry, NoMemory>
         ensures { IfOk result (λ copy. copy ≡ self.now) }
     {
-        Ok(Entry {
+        Ok(ConfigEntry {
             line: self.line,
             rule_type: self.rule_type,
             content: self.content.copied(alloc)?,
@@ -90,15 +90,18 @@ impl Entry {
     }
 }
 
-impl Content {
-    fn copied(&self, alloc: Global) -> Result<Content, NoMemory>
+impl RuleContent {
+    fn copied(&self, alloc: Global) -> Result<RuleContent, NoMemory>
         ensures { IfOk result (λ copy. copy ≡ self.now) }
     {
         match self {
-            Content::Line(rule) => Ok(Content::Line(copy_of_rule(alloc, rule)?)),
-            Content::Include(name) => Ok(Content::Include(Text::from_bytes(alloc, name.bytes())?)),
-            Content::Substack(name) => {
-                Ok(Content::Substack(Text::from_bytes(alloc, name.bytes())?))
+            RuleContent::Line(rule) => Ok(RuleContent::Line(copy_of_rule(alloc, rule)?)),
+            RuleContent::Include(name) => Ok(RuleContent::Include(Text::from_bytes(
+                alloc,
+                name.bytes(),
+            )?)),
+            RuleContent::Substack(name) => {
+                Ok(RuleContent::Substack(Text::from_bytes(alloc, name.bytes())?))
             }
         }
     }
@@ -126,7 +129,11 @@ fn copy_of_texts(alloc: Global, texts: &Texts) -> Result<Texts, NoMemory>
 }
 
 // What follows the type.
-fn content_of(alloc: Global, silent: bool, tokens: &[Token]) -> Result<Content, Refuse<FaultKind>>
+fn content_of(
+    alloc: Global,
+    silent: bool,
+    tokens: &[Token],
+) -> Result<RuleContent, Refuse<FaultKind>>
     ensures answer { Answers result (behind_type silent tokens.now) }
     ensures kinds { IfNamed result (λ kind. is_read_failed kind ≡ false) }
 {
@@ -134,13 +141,13 @@ fn content_of(alloc: Global, silent: bool, tokens: &[Token]) -> Result<Content, 
         return Err(Refuse::Named(FaultKind::MissingField));
     };
     if is_word(b"include", first) {
-        return Ok(Content::Include(file_field(alloc, rest)?));
+        return Ok(RuleContent::Include(file_field(alloc, rest)?));
     }
     if is_word(b"substack", first) {
-        return Ok(Content::Substack(file_field(alloc, rest)?));
+        return Ok(RuleContent::Substack(file_field(alloc, rest)?));
     }
     match control_of(first) {
-        Ok(control) => Ok(Content::Line(rule_of(alloc, silent, control, rest)?)),
+        Ok(control) => Ok(RuleContent::Line(rule_of(alloc, silent, control, rest)?)),
         Err(fault) => Err(Refuse::Named(fault.kind)),
     }
 }

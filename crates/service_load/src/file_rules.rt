@@ -4,7 +4,7 @@ ghost use Rattle.service_load.specs.Files.{own_rule, held_text, is_in_folder};
 ghost use Rattle.service_load.specs.Kinds.{IfNamed, is_read_failed};
 ghost use Rattle.service_load.specs.Checking.{checked_entries, entries_held, GivesFields};
 
-use crate::entry::{Entries, Entry};
+use crate::entry::{ConfigEntry, Entries};
 use crate::rule_file::RuleFile;
 use crate::type_field::is_word;
 use control_words::conf_lex::{LexFault, RawRule, Token, rules};
@@ -47,7 +47,7 @@ fn add_rule(
     let Some(fields) = fields_of(file, rule) else {
         return Ok(());
     };
-    match Entry::of(alloc, rule.line, file.is_in_folder(), fields) {
+    match ConfigEntry::of(alloc, rule.line, file.is_in_folder(), fields) {
         Ok(entry) => {
             entries.push(entry)?;
             Ok(())

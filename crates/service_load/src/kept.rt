@@ -5,7 +5,7 @@ ghost use Rattle.service_load.specs.Checking.{entries_held, served};
 ghost use Rattle.service_load.specs.Files.{held_text, is_in_folder};
 ghost use Rattle.service_load.specs.Kinds.{IfNamed, is_read_failed};
 
-use crate::entry::{Entries, Entry};
+use crate::entry::{ConfigEntry, Entries};
 use crate::file_rules::entries_in;
 use crate::rule_file::RuleFile;
 use crate::rule_type::RuleType;
@@ -153,7 +153,7 @@ fn copy_of(alloc: Global, text: &Option<Text>) -> Result<Option<Text>, NoMemory>
 }
 
 // A copy of the entries for a type.
-fn served(alloc: Global, rule_type: RuleType, entries: &[Entry]) -> Result<Entries, NoMemory>
+fn served(alloc: Global, rule_type: RuleType, entries: &[ConfigEntry]) -> Result<Entries, NoMemory>
     ensures { IfOk result (λ copy. copy ≡ served rule_type entries.now) }
 {
     let count = entries

@@ -19,7 +19,7 @@ mod trees;
 mod type_field;
 
 pub use control_words;
-pub use entry::{Content, Entry};
+pub use entry::{ConfigEntry, RuleContent};
 pub use kept::KeptTexts;
 pub use load_fault::LoadFault;
 pub use loading::{load, load_with};

@@ -12,7 +12,7 @@ ghost use Rattle.service_load.specs.Order.{as_last, as_other, trees_items};
 ghost use Rattle.service_load.specs.Tree.{tree_from};
 ghost use Rattle.service_load.specs.Loading.{AddsLine, Brings, CountsFaults, Grows, IfCalled, IsBounded, Makes, OnlyCalls, Opens, TakesEntry, counts_of, items_at, nodes_at, opened_answer, opener_of, texts_of};
 
-use crate::entry::{Content, Entries, Entry};
+use crate::entry::{ConfigEntry, Entries, RuleContent};
 use crate::inclusion::Inclusion;
 use crate::kept::KeptTexts;
 use crate::load_fault::{LoadFault, refused};
@@ -159,7 +159,7 @@ impl Loader {
         alloc: Global,
         rule_type: RuleType,
         name: &[u8],
-        entry: Entry,
+        entry: ConfigEntry,
         nodes: &mut Nodes,
     ) -> Result<Option<Inclusion>, Refuse<LoadFault>>
         ensures { TakesEntry result self.old self.new (stack_of nodes.old.vec.items)
@@ -169,14 +169,14 @@ impl Loader {
         if !entry.serves(rule_type) {
             return Ok(None);
         }
-        let Entry { line, content, .. } = entry;
+        let ConfigEntry { line, content, .. } = entry;
         let (included, as_substack) = match content {
-            Content::Line(rule) => {
+            RuleContent::Line(rule) => {
                 self.add_line(alloc, name, line, rule, nodes)?;
                 return Ok(None);
             }
-            Content::Include(included) => (included, false),
-            Content::Substack(included) => (included, true),
+            RuleContent::Include(included) => (included, false),
+            RuleContent::Substack(included) => (included, true),
         };
         Ok(Some(Inclusion {
             line,

@@ -15,9 +15,9 @@ use Rattle.control_words.specs.declared.control.Action.TheVariants as actions
 use Rattle.control_words.specs.declared.bracket.ControlFault.{ControlFault}
 use Rattle.control_words.specs.Control.{action_at}
 use Rattle.control_words.specs.Bracket.{action_of_word, is_default, names, last_action, action_among, fault_of_entry, control_unless, control_of_entries, control_of}
-use Rattle.control_words.specs.Entries.{Entry, FirstEntry, ends_name, from_first, first_entry, with_name, with_action, entries_behind, entries_in}
-use Rattle.control_words.specs.Entries.{behind_space as behind_white}
-use Rattle.service_print.specs.Tokens.{behind_space, spaced}
+use Rattle.control_words.specs.Entries.{ControlPair, FirstEntry, ends_name, from_first, first_entry, with_name, with_action, entries_behind, entries_in}
+use Rattle.control_words.specs.Entries.{after_space as behind_white}
+use Rattle.service_print.specs.Tokens.{after_space, spaced}
 use Rattle.service_print.specs.Controls.{action_word, same_action, entry_text, has_entry, entries_among}
 use Rattle.service_print.proofs.Actions.{same_action-equal, is_name, is_action, code_at, code_word-named, code_word-name, code_word-other, begins_some, code_word-some, is_fine, action_reads}
 
@@ -84,11 +84,11 @@ one_entry first more name action rest is black found =
     ap (λ (t : List ℕ). entries_behind 0 (t ++ rest)) is
     ∙ black_first first (more ++ rest) (record { entry = record { name = name; action = action }; rest = rest }) black read
     ∙ ap (λ n. record { name = name; action = action } ∷ entries_behind n (more ++ rest)) left
-    ∙ (ap (λ (es : List Entry). record { name = name; action = action } ∷ es) (behind_front more rest))
+    ∙ (ap (λ (es : List ControlPair). record { name = name; action = action } ∷ es) (behind_front more rest))
 
 -- ---- the entries of a control
 
-abbrev entry_record : List Action → Code → Entry
+abbrev entry_record : List Action → Code → ControlPair
 entry_record control code = record { name = code_word code; action = action_word (action_at control code) }
 
 -- each of these codes has an action that can be read
@@ -122,25 +122,25 @@ no_entries : entries_behind 0 [] ≡ []
 unfolding entries_behind
 no_entries = refl
 
-behind_stops : (texts : List (List ℕ)) → stops is_white (flat_map behind_space texts) ≡ true
+behind_stops : (texts : List (List ℕ)) → stops is_white (flat_map after_space texts) ≡ true
 behind_stops [] = refl
 behind_stops (text ∷ texts) = refl
 
 behind_entries : (control : List Action) (codes : List Code) → all_fine control codes ≡ true
-    → entries_behind 0 (flat_map behind_space (map (entry_text control) codes)) ≡ map (entry_record control) codes
+    → entries_behind 0 (flat_map after_space (map (entry_text control) codes)) ≡ map (entry_record control) codes
 behind_entries control [] fine = no_entries
 behind_entries control (code ∷ codes) fine =
     let parts = and_parts (is_fine (action_at control code)) (all_fine control codes) fine in
-    let rest = flat_map behind_space (map (entry_text control) codes) in
-    space_first (entry_text control code ++ rest) ∙ a_code control code rest parts.0 (behind_stops (map (entry_text control) codes)) ∙ ap (λ (es : List Entry). entry_record control code ∷ es) (behind_entries control codes parts.1)
+    let rest = flat_map after_space (map (entry_text control) codes) in
+    space_first (entry_text control code ++ rest) ∙ a_code control code rest parts.0 (behind_stops (map (entry_text control) codes)) ∙ ap (λ (es : List ControlPair). entry_record control code ∷ es) (behind_entries control codes parts.1)
 
 spaced_entries : (control : List Action) (codes : List Code) → all_fine control codes ≡ true
     → entries_behind 0 (spaced (map (entry_text control) codes)) ≡ map (entry_record control) codes
 spaced_entries control [] fine = no_entries
 spaced_entries control (code ∷ codes) fine =
     let parts = and_parts (is_fine (action_at control code)) (all_fine control codes) fine in
-    let rest = flat_map behind_space (map (entry_text control) codes) in
-    a_code control code rest parts.0 (behind_stops (map (entry_text control) codes)) ∙ ap (λ (es : List Entry). entry_record control code ∷ es) (behind_entries control codes parts.1)
+    let rest = flat_map after_space (map (entry_text control) codes) in
+    a_code control code rest parts.0 (behind_stops (map (entry_text control) codes)) ∙ ap (λ (es : List ControlPair). entry_record control code ∷ es) (behind_entries control codes parts.1)
 
 -- ---- the control of the entries
 
@@ -169,7 +169,7 @@ some_fine control (code ∷ codes) fine =
       | inr n ↦ rw n (some_fine control codes parts.1)
     ]
 
-no_default : (control : List Action) (codes : List Code) → filter (λ (entry : Entry). is_default entry.name) (map (entry_record control) codes) ≡ []
+no_default : (control : List Action) (codes : List Code) → filter (λ (entry : ControlPair). is_default entry.name) (map (entry_record control) codes) ≡ []
 no_default control [] = refl
 no_default control (code ∷ codes) = rw (code_word-other code) (no_default control codes)
 
@@ -180,15 +180,15 @@ names_word : (code named : Code) → names code (code_word named) ≡ eqb (numbe
 names_word code named = rw (code_word-named named) refl
 
 -- the last entry of a code among those of these codes, if this one was found before
-abbrev last_found : List Action → Code → List Code → Option Entry → Option Entry
-last_found control code codes before = last_or before (filter (λ (entry : Entry). names code entry.name) (map (entry_record control) (filter (has_entry control) codes)))
+abbrev last_found : List Action → Code → List Code → Option ControlPair → Option ControlPair
+last_found control code codes before = last_or before (filter (λ (entry : ControlPair). names code entry.name) (map (entry_record control) (filter (has_entry control) codes)))
 
-kept : (control : List Action) (code c : Code) (codes : List Code) (before : Option Entry) → has_entry control c ≡ true
+kept : (control : List Action) (code c : Code) (codes : List Code) (before : Option ControlPair) → has_entry control c ≡ true
     → eqb (number_of c) (number_of code) ≡ true
     → last_found control code (c ∷ codes) before ≡ last_found control code codes (Some (entry_record control c))
 kept control code c codes before has same = rw has (rw (names_word code c ∙ same) refl)
 
-passed : (control : List Action) (code c : Code) (codes : List Code) (before : Option Entry) → eqb (number_of c) (number_of code) ≡ false
+passed : (control : List Action) (code c : Code) (codes : List Code) (before : Option ControlPair) → eqb (number_of c) (number_of code) ≡ false
     → last_found control code (c ∷ codes) before ≡ last_found control code codes before
 passed control code c codes before other =
     elim (cases_Bool (has_entry control c)) [
@@ -200,7 +200,7 @@ one_of_two : {A : Type 0} (b : Bool) (x y : A) → x ≡ y → cond b x y ≡ y
 one_of_two true x y same = same
 one_of_two false x y same = refl
 
-found_among : (control : List Action) (code : Code) (codes : List Code) (before : Option Entry) → has_entry control code ≡ true
+found_among : (control : List Action) (code : Code) (codes : List Code) (before : Option ControlPair) → has_entry control code ≡ true
     → last_found control code codes before ≡ cond (list_any (λ c. eqb (number_of c) (number_of code)) codes) (Some (entry_record control code)) before
 found_among control code [] before has = refl
 found_among control code (c ∷ codes) before has =
@@ -217,7 +217,7 @@ found_among control code (c ∷ codes) before has =
       | inr n ↦ passed control code c codes before n ∙ found_among control code codes before has ∙ rw n refl
     ]
 
-none_among : (control : List Action) (code : Code) (codes : List Code) (before : Option Entry) → has_entry control code ≡ false
+none_among : (control : List Action) (code : Code) (codes : List Code) (before : Option ControlPair) → has_entry control code ≡ false
     → last_found control code codes before ≡ before
 none_among control code [] before has = refl
 none_among control code (c ∷ codes) before has =
@@ -238,16 +238,16 @@ action_found : (control : List Action) (codes : List Code) (code : Code) → lis
     → action_among (map (entry_record control) (filter (has_entry control) codes)) code ≡ action_at control code
 action_found control codes code among fine =
     let entries = map (entry_record control) (filter (has_entry control) codes) in
-    let no_default_action : last_action is_default entries ≡ None = ap (λ (es : List Entry). option_and_then (λ (entry : Entry). result_ok (action_of_word entry.action)) (last_or None es)) (no_default control (filter (has_entry control) codes)) in
+    let no_default_action : last_action is_default entries ≡ None = ap (λ (es : List ControlPair). option_and_then (λ (entry : ControlPair). result_ok (action_of_word entry.action)) (last_or None es)) (no_default control (filter (has_entry control) codes)) in
     elim (cases_Bool (has_entry control code)) [
       | inl y ↦
           (let found : last_found control code codes None ≡ Some (entry_record control code) = found_among control code codes None y ∙ rw among refl in
           let named : last_action (names code) entries ≡ Some (action_at control code) =
-          ap (λ (o : Option Entry). option_and_then (λ (entry : Entry). result_ok (action_of_word entry.action)) o) found ∙ ap result_ok (action_reads (action_at control code) fine).reads in
+          ap (λ (o : Option ControlPair). option_and_then (λ (entry : ControlPair). result_ok (action_of_word entry.action)) o) found ∙ ap result_ok (action_reads (action_at control code) fine).reads in
           rw (no_default_action, named) refl)
       | inr n ↦
           (let bad : action_at control code ≡ actions.Bad = same_action-equal (action_at control code) actions.Bad (not-false (same_action (action_at control code) actions.Bad) n) in
-          let named : last_action (names code) entries ≡ None = ap (λ (o : Option Entry). option_and_then (λ (entry : Entry). result_ok (action_of_word entry.action)) o) (none_among control code codes None n) in
+          let named : last_action (names code) entries ≡ None = ap (λ (o : Option ControlPair). option_and_then (λ (entry : ControlPair). result_ok (action_of_word entry.action)) o) (none_among control code codes None n) in
           rw (no_default_action, named, bad) refl)
     ]
 
@@ -281,7 +281,7 @@ map_same f g (x ∷ xs) same = rw (same x, map_same f g xs same) refl
 
 -- ---- controls in brackets
 
-settled : (control : List Action) (entries : List Entry) → length control ≡ 32 → filter_map fault_of_entry entries ≡ []
+settled : (control : List Action) (entries : List ControlPair) → length control ≡ 32 → filter_map fault_of_entry entries ≡ []
     → ((code : Code) → action_among entries code ≡ action_at control code)
     → control_of_entries entries ≡ Ok control
 settled control entries length_is fine same =

@@ -4,13 +4,13 @@ use Rattle.std.proofs.lemmas.List.{drop_more}
 use Rattle.std.specs.List.{filter, flat_map}
 use Rattle.pam_base.specs.declared.code.Code.{Code}
 use Rattle.control_words.specs.declared.control.Action.{Action}
-use Rattle.service_print.specs.Tokens.{spaced, behind_space}
+use Rattle.service_print.specs.Tokens.{spaced, after_space}
 use Rattle.service_print.specs.Controls.{entry_text, entries_among, has_entry}
 
 -- fields, the first of which has a space before it unless it is the first of all
 abbrev pub spaced_on : Bool → List (List ℕ) → List ℕ
 spaced_on true fields = spaced fields
-spaced_on false fields = flat_map behind_space fields
+spaced_on false fields = flat_map after_space fields
 
 pub entries_among-some : (control : List Action) (code : Code) (codes : List Code) → has_entry control code ≡ true
     → entries_among control (code ∷ codes) ≡ entry_text control code ∷ entries_among control codes

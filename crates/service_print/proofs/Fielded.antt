@@ -15,7 +15,7 @@ use Rattle.control_words.specs.Keyword.{required, requisite, sufficient, optiona
 use Rattle.service_load.specs.declared.rule_type.RuleType.{RuleType}
 use Rattle.service_load.specs.declared.rule_type.RuleType.TheVariants.{Auth}
 use Rattle.service_load.specs.RuleType.{is_word, type_field_of}
-use Rattle.service_print.specs.Tokens.{behind_space, spaced, ends_token, wants_brackets, escaped_byte, token_text}
+use Rattle.service_print.specs.Tokens.{after_space, spaced, ends_token, wants_brackets, escaped_byte, token_text}
 use Rattle.service_print.specs.Controls.{same_action, same_control, keyword_of, entry_text, has_entry, entries_among, control_text, action_word}
 use Rattle.service_print.specs.Printed.{type_field}
 use Rattle.service_print.proofs.Spelled.{last_is, is_plain, is_inner, is_plain_text, is_inner_text, is_sound, written}
@@ -139,18 +139,18 @@ entry_bytes control code fine =
     ∙ and_from (list_all is_word_byte (code_word code)) (list_all is_word_byte (61 ∷ action_word (action_at control code))) (code_word-bytes code) (action_reads (action_at control code) fine).word
 
 behind_bytes : (control : List Action) (codes : List Code) → list_all is_fine control ≡ true
-    → list_all is_word_byte (flat_map behind_space (map (entry_text control) codes)) ≡ true
+    → list_all is_word_byte (flat_map after_space (map (entry_text control) codes)) ≡ true
 behind_bytes control [] fine = refl
 behind_bytes control (code ∷ codes) fine =
-    list_all-append is_word_byte (entry_text control code) (flat_map behind_space (map (entry_text control) codes))
-    ∙ and_from (list_all is_word_byte (entry_text control code)) (list_all is_word_byte (flat_map behind_space (map (entry_text control) codes))) (entry_bytes control code (fine_at control _ fine)) (behind_bytes control codes fine)
+    list_all-append is_word_byte (entry_text control code) (flat_map after_space (map (entry_text control) codes))
+    ∙ and_from (list_all is_word_byte (entry_text control code)) (list_all is_word_byte (flat_map after_space (map (entry_text control) codes))) (entry_bytes control code (fine_at control _ fine)) (behind_bytes control codes fine)
 
 spaced_bytes : (control : List Action) (codes : List Code) → list_all is_fine control ≡ true
     → list_all is_word_byte (spaced (map (entry_text control) codes)) ≡ true
 spaced_bytes control [] fine = refl
 spaced_bytes control (code ∷ codes) fine =
-    list_all-append is_word_byte (entry_text control code) (flat_map behind_space (map (entry_text control) codes))
-    ∙ and_from (list_all is_word_byte (entry_text control code)) (list_all is_word_byte (flat_map behind_space (map (entry_text control) codes))) (entry_bytes control code (fine_at control _ fine)) (behind_bytes control codes fine)
+    list_all-append is_word_byte (entry_text control code) (flat_map after_space (map (entry_text control) codes))
+    ∙ and_from (list_all is_word_byte (entry_text control code)) (list_all is_word_byte (flat_map after_space (map (entry_text control) codes))) (entry_bytes control code (fine_at control _ fine)) (behind_bytes control codes fine)
 
 entries_bytes : (control : List Action) (codes : List Code) → list_all is_fine control ≡ true
     → list_all is_word_byte (spaced (entries_among control codes)) ≡ true

@@ -22,7 +22,7 @@ use Rattle.control_words.specs.declared.control.Action.{Action}
 use Rattle.control_words.specs.declared.control.Action.TheVariants as actions
 use Rattle.control_words.specs.Bracket.{fault, named_action, jump_of, action_of_word, is_default, names, last_action, action_among, fault_of_entry, control_unless, control_of}
 use Rattle.control_words.specs.Entries.{entries_in}
-use Rattle.control_words.specs.Entries.{Entry as ControlEntry}
+use Rattle.control_words.specs.Entries.{ControlPair as ControlEntry}
 use Rattle.control_words.specs.declared.keywords.Keyword.TheVariants.{Required, Requisite, Sufficient, Optional}
 use Rattle.control_words.specs.Keyword.{control_of_word, keyword_control as control_of_keyword}
 use Rattle.control_words.specs.Stack.{Stack, none, line, sub, joined}

@@ -11,7 +11,7 @@ use Rattle.conf_lex.specs.Reading.{pieces_of}
 use Rattle.conf_lex.specs.Rules.{newlines, lines_of_pieces, numbered, line_rules, line_fault, first_fault}
 use Rattle.conf_lex.specs.Lexing.{nul_line, answer_at}
 use Rattle.conf_lex.specs.Answer.{answer_to}
-use Rattle.service_print.specs.Tokens.{behind_space, spaced, escaped_byte, in_brackets, ends_in, ended, text_of}
+use Rattle.service_print.specs.Tokens.{after_space, spaced, escaped_byte, in_brackets, ends_in, ended, text_of}
 use Rattle.service_print.proofs.Spelled.{last_is, ends_in-last, is_inner, is_plain, is_sound, is_plain_text, is_inner_text, plain_parts, written, fields_text, field_pieces, behind_pieces, field_pieces-bytes, field_pieces-tokens, behind_pieces-within, behind_pieces-closed, fields_stand, piece_of, piece_of-within, piece_of-closed}
 
 -- ---- every byte of a line
@@ -46,19 +46,19 @@ abbrev pub all_bytes : (ℕ → Bool) → Token → Bool
 all_bytes test token = list_all test token.text
 
 behind_all : (test : ℕ → Bool) → Passes test → (tokens : List Token) → list_all (all_bytes test) tokens ≡ true
-    → list_all test (flat_map behind_space (map written tokens)) ≡ true
+    → list_all test (flat_map after_space (map written tokens)) ≡ true
 behind_all test passes [] all = refl
 behind_all test passes (token ∷ tokens) all =
     let parts = and_parts (all_bytes test token) (list_all (all_bytes test) tokens) all in
-    and_from (test 32) (list_all test (written token ++ flat_map behind_space (map written tokens))) passes.space
-    (list_all-append test (written token) (flat_map behind_space (map written tokens)) ∙ and_from (list_all test (written token)) (list_all test (flat_map behind_space (map written tokens))) (choice_all test passes token.bracketed token.text parts.0) (behind_all test passes tokens parts.1))
+    and_from (test 32) (list_all test (written token ++ flat_map after_space (map written tokens))) passes.space
+    (list_all-append test (written token) (flat_map after_space (map written tokens)) ∙ and_from (list_all test (written token)) (list_all test (flat_map after_space (map written tokens))) (choice_all test passes token.bracketed token.text parts.0) (behind_all test passes tokens parts.1))
 
 fields_all : (test : ℕ → Bool) → Passes test → (token : Token) (tokens : List Token) → list_all (all_bytes test) (token ∷ tokens) ≡ true
     → list_all test (fields_text token tokens) ≡ true
 fields_all test passes token tokens all =
     let parts = and_parts (all_bytes test token) (list_all (all_bytes test) tokens) all in
-    list_all-append test (written token) (flat_map behind_space (map written tokens))
-    ∙ and_from (list_all test (written token)) (list_all test (flat_map behind_space (map written tokens))) (choice_all test passes token.bracketed token.text parts.0) (behind_all test passes tokens parts.1)
+    list_all-append test (written token) (flat_map after_space (map written tokens))
+    ∙ and_from (list_all test (written token)) (list_all test (flat_map after_space (map written tokens))) (choice_all test passes token.bracketed token.text parts.0) (behind_all test passes tokens parts.1)
 
 -- ---- lines
 

@@ -5,7 +5,7 @@ use Rattle.std.proofs.lemmas.Bool.{cases_Bool, not_from_false, cond-false, false
 use Rattle.pam_base.specs.White.{is_white}
 use Rattle.conf_lex.specs.declared.token.Token.{Token}
 use Rattle.conf_lex.specs.Piece.{return_feed, BracketUnit, escaped, single, unit_bytes, unit_text, unit_stands, units_bytes, units_text, units_stand, Piece, plain, bracket, white, piece_bytes, piece_tokens, spelling, tokens_of, begins_with, join_after_backslash, begins_join, is_single, goes_on, all_go_on, stands, all_stand, is_newline, is_open}
-use Rattle.service_print.specs.Tokens.{behind_space, spaced, escaped_byte, in_brackets, ends_in}
+use Rattle.service_print.specs.Tokens.{after_space, spaced, escaped_byte, in_brackets, ends_in}
 
 -- ---- the last byte
 
@@ -231,7 +231,7 @@ field_pieces token tokens = piece_of token ∷ behind_pieces tokens
 abbrev pub fields_text : Token → List Token → List ℕ
 fields_text token tokens = spaced (map written (token ∷ tokens))
 
-behind_pieces-bytes : (tokens : List Token) → spelling (behind_pieces tokens) ≡ flat_map behind_space (map written tokens)
+behind_pieces-bytes : (tokens : List Token) → spelling (behind_pieces tokens) ≡ flat_map after_space (map written tokens)
 behind_pieces-bytes [] = refl
 behind_pieces-bytes (token ∷ tokens) = rw (piece_of-bytes token, behind_pieces-bytes tokens) refl
 
@@ -276,8 +276,8 @@ last_behind : (a : ℕ) (front : List ℕ) (token : Token) (tokens : List Token)
     → last_is a (front ++ 32 ∷ fields_text token tokens) ≡ last_is a (fields_text token tokens)
 last_behind a front token tokens sound =
     let some = written-some token sound in
-    let is : fields_text token tokens ≡ some.first ∷ (some.more ++ flat_map behind_space (map written tokens)) = ap (λ (t : List ℕ). t ++ flat_map behind_space (map written tokens)) some.is in
-    ap (λ (t : List ℕ). last_is a (front ++ 32 ∷ t)) is ∙ last_is-append a 32 front (some.first ∷ (some.more ++ flat_map behind_space (map written tokens))) ∙ ap (last_is a) (sym is)
+    let is : fields_text token tokens ≡ some.first ∷ (some.more ++ flat_map after_space (map written tokens)) = ap (λ (t : List ℕ). t ++ flat_map after_space (map written tokens)) some.is in
+    ap (λ (t : List ℕ). last_is a (front ++ 32 ∷ t)) is ∙ last_is-append a 32 front (some.first ∷ (some.more ++ flat_map after_space (map written tokens))) ∙ ap (last_is a) (sym is)
 
 -- the pieces of a line come before its end
 pub fields_stand : (token : Token) (tokens : List Token) (rest : List ℕ) → is_sound token ≡ true → list_all is_sound tokens ≡ true → goes_on rest ≡ false

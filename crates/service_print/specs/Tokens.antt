@@ -4,13 +4,13 @@ use Rattle.std.specs.List.{flat_map, list_any}
 use Rattle.pam_base.specs.White.{is_white}
 
 -- a field after another, after one space
-abbrev pub behind_space : List ℕ → List ℕ
-behind_space field = 32 ∷ field
+abbrev pub after_space : List ℕ → List ℕ
+after_space field = 32 ∷ field
 
 -- fields with one space between them
 abbrev pub spaced : List (List ℕ) → List ℕ
 spaced [] = []
-spaced (field ∷ fields) = field ++ flat_map behind_space fields
+spaced (field ∷ fields) = field ++ flat_map after_space fields
 
 -- the bytes that end a token without brackets (pam.conf(5))
 abbrev pub ends_token : ℕ → Bool

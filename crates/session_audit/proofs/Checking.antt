@@ -20,7 +20,7 @@ use Rattle.pass_replay.specs.Told.{visits_in, lines_before}
 use Rattle.std.specs.Prelude.{IfOk}
 use Rattle.std.specs.Prelude as answers
 use Rattle.report_lines.specs.Line.{Command, starts, ends, runs, sets_item, gets_item, puts_env, gets_env, lists_env, asks_delay, switches_delay, replies, Shown, shows_code, shows_fault, shows_value, shows_count, shows_not_open, shows_already_open, shows_bad_number, shows_pending, Result, answered, closed_by_program}
-use Rattle.session_audit.specs.Fits.{Place, shut, running, visits_told, is_none, only_if, same_code, is_refused_change, without_visits, behind_call, at_call, behind_result}
+use Rattle.session_audit.specs.Fits.{SlotLog, shut, running, visits_told, is_none, only_if, same_code, is_refused_change, without_visits, behind_call, at_call, behind_result}
 use Rattle.session_audit.specs.Differs as told_lines
 use Rattle.session_audit.specs.Differs.{visits_good}
 use Rattle.session_audit.specs.Checked.{told_in, behind_quiet, IsCall, IsJudged}
@@ -108,11 +108,11 @@ told_some told first is lt = ap is_none (visits_are told) ∙ a_visit told (omeg
 pub told_first : (told : List (Option Seen)) (first : ℕ) → first ≡ lines_before 0 told → first ≡ told_lines.lines_before 0 (told_in told)
 told_first told first is = is ∙ sym (lines_are 0 told)
 
-pub quiet_told : (vs : List retell.Seen) (x : Option Place) → is_none vs ≡ false → without_visits vs x ≡ None
+pub quiet_told : (vs : List retell.Seen) (x : Option SlotLog) → is_none vs ≡ false → without_visits vs x ≡ None
 quiet_told [] x is = absurd (cc)
 quiet_told (v ∷ vs) x is = refl
 
-pub quiet_as : (vs : List retell.Seen) (x y : Option Place) → vs ≡ [] → y ≡ x → without_visits vs x ≡ y
+pub quiet_as : (vs : List retell.Seen) (x y : Option SlotLog) → vs ≡ [] → y ≡ x → without_visits vs x ≡ y
 quiet_as vs x y none is = ap (λ (w : List retell.Seen). without_visits w x) none ∙ sym is
 
 pub and_no : (a b : Bool) → b ≡ false → (a && b) ≡ false
@@ -125,9 +125,9 @@ both_are false b vs is none = is
 
 -- ---- stack calls
 
-pub judged_as : (r : answers.Result Judged NoMemory) (x y : Option Place) (m n : ℕ) → x ≡ y → m ≡ n → IfOk r (λ j. IsJudged j x m) → IfOk r (λ j. IsJudged j y n)
+pub judged_as : (r : answers.Result Judged NoMemory) (x y : Option SlotLog) (m n : ℕ) → x ≡ y → m ≡ n → IfOk r (λ j. IsJudged j x m) → IfOk r (λ j. IsJudged j y n)
 judged_as r x y m n is line h =
-    subst (λ (k : ℕ). IfOk r (λ j. IsJudged j y k)) line (subst (λ (p : Option Place). IfOk r (λ j. IsJudged j p m)) is h)
+    subst (λ (k : ℕ). IfOk r (λ j. IsJudged j y k)) line (subst (λ (p : Option SlotLog). IfOk r (λ j. IsJudged j p m)) is h)
 
 if_true : {A : Type 0} → (b : Bool) (x y : A) → b ≡ true → (if b then x else y) ≡ x
 if_true true x y is = refl
@@ -188,11 +188,11 @@ retold_line told r w is at =
     ∙ ap (λ (vs : List retell.Seen). lines_before (length vs - length w.state.left) told) (sym (visits_are told))
     ∙ sym (lines_are (length (visits_told (told_in told)) - length w.state.left) told)
 
-pub only_true : (b : Bool) (p : Place) (x : Option Place) → x ≡ only_if b p → b ≡ true → x ≡ Some p
+pub only_true : (b : Bool) (p : SlotLog) (x : Option SlotLog) → x ≡ only_if b p → b ≡ true → x ≡ Some p
 only_true true p x is holds = is
 only_true false p x is holds = absurd (cc)
 
-pub only_false : (b : Bool) (p : Place) (x : Option Place) → x ≡ only_if b p → b ≡ false → x ≡ None
+pub only_false : (b : Bool) (p : SlotLog) (x : Option SlotLog) → x ≡ only_if b p → b ≡ false → x ≡ None
 only_false true p x is holds = absurd (cc)
 only_false false p x is holds = is
 
@@ -224,7 +224,7 @@ module _ (stacks : Stacks) where
   quiet_open h vs switches_delay shown is = refl
   quiet_open h vs replies shown is = refl
 
-  pub quiet_result : (place : Place) (vs : List retell.Seen) (result : Result) → IsCall None result → behind_result stacks place vs result ≡ without_visits vs (behind_quiet place result)
+  pub quiet_result : (place : SlotLog) (vs : List retell.Seen) (result : Result) → IsCall None result → behind_result stacks place vs result ≡ without_visits vs (behind_quiet place result)
   quiet_result shut vs (answered command shown) is = refl
   quiet_result shut vs (closed_by_program code) is = sym (none_without vs)
   quiet_result (running h) vs (answered command shown) is = quiet_open h vs command shown is
@@ -241,7 +241,7 @@ module _ (stacks : Stacks) where
   quiet_good-open h vs (runs func) (shows_pending other) is = refl
   quiet_good-open h vs command shown is = refl
 
-  pub quiet_good : (place : Place) (vs : List retell.Seen) (result : Result) → IsCall None result → visits_good stacks (Some place) vs result ≡ 0
+  pub quiet_good : (place : SlotLog) (vs : List retell.Seen) (result : Result) → IsCall None result → visits_good stacks (Some place) vs result ≡ 0
   quiet_good shut vs result is = refl
   quiet_good (running h) vs (answered command shown) is = quiet_good-open h vs command shown is
   quiet_good (running h) vs (closed_by_program code) is = refl

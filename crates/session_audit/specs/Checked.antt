@@ -12,8 +12,8 @@ use Rattle.report_lines.specs.Line.{Told, Command, runs, Shown, shows_code, show
 use Rattle.report_reader.specs.Form.{told_of}
 use Rattle.report_reader.specs.Guess.{read_line}
 use Rattle.report_reader.specs.Says.{Says, bare}
-use Rattle.session_audit.specs.declared.place.Place as held
-use Rattle.session_audit.specs.declared.place.Place.TheVariants as helds
+use Rattle.session_audit.specs.declared.place.SlotLog as held
+use Rattle.session_audit.specs.declared.place.SlotLog.TheVariants as helds
 use Rattle.session_audit.specs.declared.checker.Begun.{Begun}
 use Rattle.session_audit.specs.declared.checker.Checker.{Checker}
 use Rattle.session_audit.specs.declared.judge.StackCall.{StackCall}
@@ -21,11 +21,11 @@ use Rattle.session_audit.specs.declared.judge.Judged.{Judged}
 use Rattle.session_audit.specs.declared.judge.Judged.TheVariants as judged
 use Rattle.session_audit.specs.declared.verdict.Verdict.{Verdict}
 use Rattle.session_audit.specs.declared.verdict.Verdict.TheVariants as verdicts
-use Rattle.session_audit.specs.Fits.{Place, shut, running, place_at, visits_told, is_none, is_bad_number, only_if, aborted_by, at_shut, at_running, behind_call, behind_result, behind_block}
+use Rattle.session_audit.specs.Fits.{SlotLog, shut, running, place_at, visits_told, is_none, is_bad_number, only_if, aborted_by, at_shut, at_running, behind_call, behind_result, behind_block}
 use Rattle.session_audit.specs.Differs.{Gathered, nothing_yet, gathered, lines_before, visits_good, bad_line, differs_from}
 use Rattle.session_audit.specs.Whole.{lines_read}
 
-abbrev pub place_of : held.Place → Place
+abbrev pub place_of : held.SlotLog → SlotLog
 place_of helds.Closed = shut
 place_of (helds.Open h) = running (held_of h)
 
@@ -39,11 +39,11 @@ gathered_of (Some b) = gathered b.number (told_in b.told.items)
 
 -- ---- results of calls that run no stack, and of stack calls that have no code
 
-abbrev pub at_quiet : Held → Command → Shown → Option Place
+abbrev pub at_quiet : Held → Command → Shown → Option SlotLog
 at_quiet h (runs func) (shows_pending other) = only_if (aborted_by h.pending func other) (running h)
 at_quiet h command shown = at_running h command shown
 
-abbrev pub behind_quiet : Place → Result → Option Place
+abbrev pub behind_quiet : SlotLog → Result → Option SlotLog
 behind_quiet shut (answered command shown) = at_shut command shown
 behind_quiet shut (closed_by_program code) = None
 behind_quiet (running h) (answered command shown) = at_quiet h command shown
@@ -58,12 +58,12 @@ IsCall None result =
 -- ---- the result of a block
 
 -- it is the place after it, or else which line doesn't fit
-abbrev pub IsJudged : Judged → Option Place → ℕ → Type 0
+abbrev pub IsJudged : Judged → Option SlotLog → ℕ → Type 0
 IsJudged (judged.Fits place) behind bad = behind ≡ Some (place_of place)
 IsJudged (judged.Differs line) behind bad = (behind ≡ None) × (line ≡ bad)
 
 -- a block is judged at its place
-abbrev pub Judges : Stacks → Place → List Told → Result → Judged → Type 0
+abbrev pub Judges : Stacks → SlotLog → List Told → Result → Judged → Type 0
 Judges stacks place told result j =
     IsJudged j (behind_result stacks place (visits_told told) result)
     (lines_before (visits_good stacks (Some place) (visits_told told) result) told)
@@ -75,7 +75,7 @@ JudgesCall code w told j =
     (lines_before (length (visits_told told) - length w.state.left) told)
 
 -- and so for all transactions; a line is named if it doesn't fit
-abbrev pub IsPlaced : Stacks → List held.Place → Block → Option ℕ → List held.Place → Type 0
+abbrev pub IsPlaced : Stacks → List held.SlotLog → Block → Option ℕ → List held.SlotLog → Type 0
 IsPlaced stacks old b (Some line) new =
     (behind_block stacks (map place_of old) b ≡ None) ×
     (line ≡ bad_line stacks (place_at (map place_of old) b.number) b)

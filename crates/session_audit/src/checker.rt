@@ -12,11 +12,11 @@ ghost use Rattle.session_audit.specs.Differs.{differs, may_follow, told_so_far};
 ghost use Rattle.session_audit.specs.Fits.{is_none};
 ghost use Rattle.session_audit.specs.Whole.{formless};
 
-use crate::place::Place;
+use crate::place::SlotLog;
 use crate::places::{closed_places, judge_at};
 use crate::verdict::Verdict;
 use pam_base::NoMemory;
-use report_reader::{Form, Outcome, read_line};
+use report_reader::{Form, ReportedOutcome, read_line};
 use service_load::Trees;
 use stack_walk::Seen;
 use std::alloc::Global;
@@ -32,7 +32,7 @@ pub struct Begun {
 /// begun, and n.
 #[derive(Drop)]
 pub struct Checker {
-    pub places: Vec<Place>,
+    pub places: Vec<SlotLog>,
     pub begun: Option<Begun>,
     pub lines: u32,
 }
@@ -135,7 +135,7 @@ impl Checker {
         alloc: Global,
         trees: &Trees,
         number: u32,
-        outcome: Outcome,
+        outcome: ReportedOutcome,
     ) -> Result<Option<u32>, NoMemory>
         requires bounded { AreBounded trees.now }
         requires behind { IsAfter self.old self.old.lines }

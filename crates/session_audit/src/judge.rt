@@ -11,10 +11,10 @@ ghost use Rattle.session_audit.specs.Checked.{IsCall, IsJudged, Judges, JudgesCa
 ghost use Rattle.session_audit.specs.Differs.{lines_before};
 ghost use Rattle.session_audit.specs.Fits.{is_refused_change, running, same_code, visits_told, without_visits};
 
-use crate::place::{Place, behind_quiet};
+use crate::place::{SlotLog, behind_quiet};
 use pam_base::{Code, Func, NoMemory};
 use pass_replay::{Held, Retold, first_visit, retell};
-use report_reader::{Answer, Outcome, Spoken};
+use report_reader::{ReportedAnswer, ReportedOutcome, Spoken};
 use service_load::Trees;
 use stack_walk::Seen;
 use std::alloc::Global;
@@ -23,7 +23,7 @@ use std::alloc::Global;
 #[derive(Debug, Drop)]
 pub enum Judged {
     /// It fits, and this is known afterwards.
-    Fits(Place),
+    Fits(SlotLog),
     /// It doesn't fit. This line of it is named, counted from 0.
     Differs(usize),
 }
@@ -32,20 +32,20 @@ pub enum Judged {
 pub fn judge(
     alloc: Global,
     trees: &Trees,
-    place: Place,
+    place: SlotLog,
     told: &[Option<Seen>],
-    outcome: Outcome,
+    outcome: ReportedOutcome,
 ) -> Result<Judged, NoMemory>
     requires { AreBounded trees.now }
     ensures { IfOk result (λ judged. Judges (stacks_in trees.now) (place_of place)
         (told_in told.now) (result_of outcome) judged) }
 {
     match place {
-        Place::Open(held) => match stack_call(outcome) {
+        SlotLog::Open(held) => match stack_call(outcome) {
             Some(call) => judge_call(alloc, trees, held, call.func, call.code, told),
-            None => Ok(judge_quiet(Place::Open(held), told, outcome)),
+            None => Ok(judge_quiet(SlotLog::Open(held), told, outcome)),
         },
-        Place::Closed => Ok(judge_quiet(Place::Closed, told, outcome)),
+        SlotLog::Closed => Ok(judge_quiet(SlotLog::Closed, told, outcome)),
     }
 }
 
@@ -56,17 +56,20 @@ struct StackCall {
     code: Code,
 }
 
-fn stack_call(outcome: Outcome) -> Option<StackCall>
+fn stack_call(outcome: ReportedOutcome) -> Option<StackCall>
     ensures { IsCall result (result_of outcome) }
 {
     match outcome {
-        Outcome::Answered(Spoken::Run(func), Answer::Code(code)) => Some(StackCall { func, code }),
+        ReportedOutcome::Answered(Spoken::Run(func), ReportedAnswer::Code(code)) => Some(StackCall {
+            func,
+            code,
+        }),
         _ => None,
     }
 }
 
 // A block whose result isn't the code of a stack call has no `line` lines.
-fn judge_quiet(place: Place, told: &[Option<Seen>], outcome: Outcome) -> Judged
+fn judge_quiet(place: SlotLog, told: &[Option<Seen>], outcome: ReportedOutcome) -> Judged
     ensures { IsJudged result
         (without_visits (visits_told (told_in told.now))
         (behind_quiet (place_of place) (result_of outcome)))
@@ -95,7 +98,7 @@ fn judge_call(
         (told_in told.now) (answered (runs func) (shows_code code)) judged) }
 {
     if is_refused_change(func, code, told) {
-        return Ok(Judged::Fits(Place::Open(held)));
+        return Ok(Judged::Fits(SlotLog::Open(held)));
     }
     if held.is_other_pending(func) {
         return Ok(Judged::Differs(first_visit(told)));
@@ -134,7 +137,7 @@ fn judge_retold(
 {
     let retold = retell(alloc, trees, func, held, told)?;
     if is_retold(code, &retold, told.len()) {
-        Ok(Judged::Fits(Place::Open(retold.held)))
+        Ok(Judged::Fits(SlotLog::Open(retold.held)))
     } else {
         Ok(Judged::Differs(retold.next))
     }

@@ -8,45 +8,45 @@ ghost use Rattle.session_audit.specs.Fits.{aborted_by, at_running, at_shut, only
 
 use pam_base::{Code, Func};
 use pass_replay::Held;
-use report_reader::{Answer, Outcome, Spoken};
+use report_reader::{ReportedAnswer, ReportedOutcome, Spoken};
 
 /// What is known of a transaction.
 #[derive(Debug, Drop)]
-pub enum Place {
+pub enum SlotLog {
     Closed,
     Open(Held),
 }
 
 /// What is known after a result other than the code of a stack call; None if the result doesn't
 /// fit.
-pub fn behind_quiet(place: Place, outcome: Outcome) -> Option<Place>
+pub fn behind_quiet(place: SlotLog, outcome: ReportedOutcome) -> Option<SlotLog>
     ensures { option_map place_of result ≡ behind_quiet (place_of place) (result_of outcome) }
 {
     match outcome {
-        Outcome::Answered(command, answer) => match place {
-            Place::Closed => at_closed(command, answer),
-            Place::Open(held) => at_open(held, command, answer),
+        ReportedOutcome::Answered(command, answer) => match place {
+            SlotLog::Closed => at_closed(command, answer),
+            SlotLog::Open(held) => at_open(held, command, answer),
         },
-        Outcome::Closed => match place {
-            Place::Closed => None,
-            Place::Open(_) => Some(Place::Closed),
+        ReportedOutcome::Closed => match place {
+            SlotLog::Closed => None,
+            SlotLog::Open(_) => Some(SlotLog::Closed),
         },
     }
 }
 
-fn at_closed(command: Spoken, answer: Answer) -> Option<Place>
+fn at_closed(command: Spoken, answer: ReportedAnswer) -> Option<SlotLog>
     ensures { option_map place_of result ≡ at_shut (command_of command) (shown_of answer) }
 {
     match command {
         Spoken::Start => match answer {
-            Answer::Code(Code::Success) => Some(Place::Open(Held::nothing())),
-            Answer::Fault => Some(Place::Closed),
+            ReportedAnswer::Code(Code::Success) => Some(SlotLog::Open(Held::nothing())),
+            ReportedAnswer::Fault => Some(SlotLog::Closed),
             _ => None,
         },
         Spoken::Reply => None,
         _ => {
-            if answer == Answer::NotOpen {
-                Some(Place::Closed)
+            if answer == ReportedAnswer::NotOpen {
+                Some(SlotLog::Closed)
             } else {
                 None
             }
@@ -54,30 +54,34 @@ fn at_closed(command: Spoken, answer: Answer) -> Option<Place>
     }
 }
 
-fn at_open(held: Held, command: Spoken, answer: Answer) -> Option<Place>
+fn at_open(held: Held, command: Spoken, answer: ReportedAnswer) -> Option<SlotLog>
     ensures { option_map place_of result
         ≡ at_quiet (held_of held) (command_of command) (shown_of answer) }
 {
     match answer {
-        Answer::Code(code) => after_code(held, command, code),
-        Answer::Pending(other) => match command {
+        ReportedAnswer::Code(code) => after_code(held, command, code),
+        ReportedAnswer::Pending(other) => match command {
             Spoken::Run(func) => {
                 let aborted = is_aborted(&held, func, other);
                 open_if(aborted, held)
             }
             _ => None,
         },
-        Answer::Value => open_if(matches!(command, Spoken::GetItem | Spoken::GetEnv), held),
-        Answer::Count => open_if(command == Spoken::EnvList, held),
-        Answer::AlreadyOpen => open_if(command == Spoken::Start, held),
-        Answer::Fault | Answer::NotOpen | Answer::BadNumber => None,
+        ReportedAnswer::Value => open_if(matches!(command, Spoken::GetItem | Spoken::GetEnv), held),
+        ReportedAnswer::Count => open_if(command == Spoken::EnvList, held),
+        ReportedAnswer::AlreadyOpen => open_if(command == Spoken::Start, held),
+        ReportedAnswer::Fault | ReportedAnswer::NotOpen | ReportedAnswer::BadNumber => None,
     }
 }
 
-fn open_if(fits: bool, held: Held) -> Option<Place>
+fn open_if(fits: bool, held: Held) -> Option<SlotLog>
     ensures { option_map place_of result ≡ only_if fits (running (held_of held)) }
 {
-    if fits { Some(Place::Open(held)) } else { None }
+    if fits {
+        Some(SlotLog::Open(held))
+    } else {
+        None
+    }
 }
 
 // Whether a call returned ABORT because this other one was pending.
@@ -91,14 +95,14 @@ fn is_aborted(held: &Held, func: Func, other: Func) -> bool
 }
 
 // What is known after a code of a call that runs no stack.
-fn after_code(held: Held, command: Spoken, code: Code) -> Option<Place>
+fn after_code(held: Held, command: Spoken, code: Code) -> Option<SlotLog>
     ensures { option_map place_of result
         ≡ at_running (held_of held) (command_of command) (shows_code code) }
 {
     match command {
         Spoken::End => {
             if code == Code::Success {
-                Some(Place::Closed)
+                Some(SlotLog::Closed)
             } else {
                 None
             }

@@ -8,10 +8,10 @@ ghost use Rattle.session_audit.specs.Checked.{IsPlaced, IsUnplaced, place_of, to
 ghost use Rattle.session_audit.specs.Fits.{all_shut, is_bad_number};
 
 use crate::judge::{Judged, judge};
-use crate::place::Place;
+use crate::place::SlotLog;
 use pam_base::NoMemory;
 use pass_replay::first_visit;
-use report_reader::{Answer, Outcome};
+use report_reader::{ReportedAnswer, ReportedOutcome};
 use service_load::Trees;
 use stack_walk::Seen;
 use std::alloc::Global;
@@ -20,12 +20,12 @@ use std::alloc::Global;
 const HANDLE_LIMIT: usize = 16;
 
 /// All transactions, closed.
-pub fn closed_places(alloc: Global) -> Result<Vec<Place>, NoMemory>
+pub fn closed_places(alloc: Global) -> Result<Vec<SlotLog>, NoMemory>
     ensures { IfOk result (λ places. map place_of places.items ≡ all_shut) }
 {
     let mut places = Vec::new(alloc);
     while places.len() < HANDLE_LIMIT {
-        places.push(Place::Closed)?;
+        places.push(SlotLog::Closed)?;
     }
     Ok(places)
 }
@@ -35,10 +35,10 @@ pub fn closed_places(alloc: Global) -> Result<Vec<Place>, NoMemory>
 pub fn judge_at(
     alloc: Global,
     trees: &Trees,
-    places: &mut Vec<Place>,
+    places: &mut Vec<SlotLog>,
     number: u32,
     told: &[Option<Seen>],
-    outcome: Outcome,
+    outcome: ReportedOutcome,
 ) -> Result<Option<usize>, NoMemory>
     requires bounded { AreBounded trees.now }
     ensures { IfOk result (λ line. IsPlaced (stacks_in trees.now) places.old.items
@@ -48,7 +48,7 @@ pub fn judge_at(
         return Ok(judge_nowhere(told, outcome));
     }
     let i = number as usize - 1;
-    let place = std::mem::replace(&mut places[i], Place::Closed);
+    let place = std::mem::replace(&mut places[i], SlotLog::Closed);
     match judge(alloc, trees, place, told, outcome)? {
         Judged::Fits(behind) => {
             places[i] = behind;
@@ -66,7 +66,7 @@ fn has_place(number: u32, n: usize) -> bool
 }
 
 // A block of a number that no transaction has.
-fn judge_nowhere(told: &[Option<Seen>], outcome: Outcome) -> Option<usize>
+fn judge_nowhere(told: &[Option<Seen>], outcome: ReportedOutcome) -> Option<usize>
     ensures { IsUnplaced result (told_in told.now) (result_of outcome) }
 {
     let first = first_visit(told);
@@ -80,8 +80,11 @@ fn judge_nowhere(told: &[Option<Seen>], outcome: Outcome) -> Option<usize>
     }
 }
 
-fn is_bad_number(outcome: Outcome) -> bool
+fn is_bad_number(outcome: ReportedOutcome) -> bool
     ensures { (stacks : Stacks) → result ≡ is_bad_number stacks (result_of outcome) }
 {
-    matches!(outcome, Outcome::Answered(_, Answer::BadNumber))
+    matches!(
+        outcome,
+        ReportedOutcome::Answered(_, ReportedAnswer::BadNumber)
+    )
 }

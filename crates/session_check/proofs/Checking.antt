@@ -10,7 +10,7 @@ use Rattle.service_print.specs.service_load.specs.declared.trees.Trees.{Trees}
 use Rattle.service_print.specs.service_load.specs.FirstFault.{Counts, Stop}
 use Rattle.service_print.specs.service_load.specs.Load.{AreTrees, LoadsTrees}
 use Rattle.service_print.specs.Printed.{printed, stacks_in}
-use Rattle.session_check.specs.declared.finding.Found.TheVariants.{Configured}
+use Rattle.session_check.specs.declared.finding.Checked.TheVariants.{Configured}
 use Rattle.session_check.specs.declared.finding.Finding.{Finding}
 use Rattle.session_check.specs.Check.{IsCheck, check_by, files_text}
 

@@ -16,8 +16,8 @@ use Rattle.session_report.specs.Fault.{refused_text}
 use Rattle.item_stream.specs.declared.ending.Stop.{Stop as Stopped}
 use Rattle.item_stream.specs.declared.ending.Stop.TheVariants.{NoMemory}
 use Rattle.session_check.specs.declared.finding.Finding.{Finding}
-use Rattle.session_check.specs.declared.finding.Found.{Found}
-use Rattle.session_check.specs.declared.finding.Found.TheVariants.{Configured, Refused}
+use Rattle.session_check.specs.declared.finding.Checked.{Checked}
+use Rattle.session_check.specs.declared.finding.Checked.TheVariants.{Configured, Refused}
 
 -- file NAME, and its text
 abbrev pub file_text : File → List ℕ
@@ -29,7 +29,7 @@ files_text files = flat_map file_text files
 -- what a check writes and finds, and how often `Vault` was called by then
 pub record Check : Type 0 where
   pub text : List ℕ
-  pub found : Found
+  pub found : Checked
   pub calls : ℕ
 
 abbrev pub check_by : (RuleType → Stack) → List ℕ → Result Counts Stop → Check
@@ -53,7 +53,7 @@ check_of vault root service =
 
 -- A check found this, and its text is written, or a prefix of it. If an allocation fails, `Vault` may have been called
 -- less often.
-pub record Checks (result : Result Found Stopped) (c : Check) (old new : SinkState)
+pub record Checks (result : Result Checked Stopped) (c : Check) (old new : SinkState)
     (vault : VaultState) : Type 0 where
   pub front : List ℕ
   pub back : List ℕ
@@ -66,7 +66,7 @@ pub record Checks (result : Result Found Stopped) (c : Check) (old new : SinkSta
 
 -- What is known of a check if only the files are modelled, whatever became of its text: what was found, and how often
 -- `Vault` was called by then.
-pub record Finds (result : Result Found Stopped) (c : Check) (vault : VaultState) : Type 0 where
+pub record Finds (result : Result Checked Stopped) (c : Check) (vault : VaultState) : Type 0 where
   pub found : IfOk result (λ found. found ≡ c.found)
   pub asked : result ≢ Err NoMemory → vault.calls ≡ c.calls
 

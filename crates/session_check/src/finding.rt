@@ -17,7 +17,7 @@ use std::alloc::Global;
 
 /// What a check found.
 #[derive(Clone, Copy, Debug, PartialEq, Eq)]
-pub enum Found {
+pub enum Checked {
     /// The service is configured, and its configuration was printed.
     Configured,
     /// Its configuration is refused, and its first fault was printed.
@@ -27,7 +27,7 @@ pub enum Found {
 // What a check found, and what it writes.
 #[derive(Drop)]
 struct Finding {
-    found: Found,
+    found: Checked,
     text: Vec<u8>,
 }
 
@@ -40,7 +40,7 @@ pub fn check<K: Sink>(
     service: &[u8],
     out: &mut K,
     vault: &mut dyn Vault,
-) -> Result<Found, Stop>
+) -> Result<Checked, Stop>
     ensures sink_tells { K.sink_tells out.new ≡ K.sink_tells out.old }
     ensures vault_tells { vault_tells vault.new ≡ vault_tells vault.old }
     ensures told { IsTrue (K.sink_tells out.old) → IsTrue (vault_tells vault.old) →
@@ -81,11 +81,11 @@ fn find(
 {
     match load(alloc, vault, root, service) {
         Ok(trees) => Ok(Finding {
-            found: Found::Configured,
+            found: Checked::Configured,
             text: configuration(alloc, &trees, service)?,
         }),
         Err(Refuse::Named(fault)) => Ok(Finding {
-            found: Found::Refused,
+            found: Checked::Refused,
             text: refused_report(alloc, &fault)?.into_bytes(),
         }),
         Err(Refuse::NoMemory) => Err(NoMemory),

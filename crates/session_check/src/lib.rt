@@ -3,5 +3,5 @@
 
 mod finding;
 
-pub use finding::{Found, check};
+pub use finding::{Checked, check};
 pub use session_report::{pam_handle, pam_library};

@@ -1,5 +1,5 @@
 -- A login after the files.
-use Rattle.std.proofs.Common.{◌≡◌, ℕ, Bool, true, false, ◌&&◌, List, Option, Some, None, Result, Ok, Err, refl, sym, ap, ◌∙◌, subst}
+use Rattle.std.proofs.Common.{◌≡◌, ℕ, Bool, true, false, ◌&&◌, List, Option, Some, None, Result, Ok, Err, inl, inr, refl, sym, ap, ◌∙◌, subst}
 use Rattle.pam_base.specs.declared.fault.Refuse.{Refuse}
 use Rattle.pam_base.specs.declared.fault.Refuse.TheVariants.{NoMemory, Named}
 use Rattle.pam_outside.specs.Files.{VaultState}
@@ -9,24 +9,31 @@ use Rattle.session_run.specs.State.{RunState, Setting, state_of}
 use Rattle.session_generate.specs.declared.login.Login.{Login}
 use Rattle.drawn_files.specs.Files.{drawn_files}
 use Rattle.drawn_files.specs.declared.files.DrawnFile.{DrawnFile}
-use Rattle.session_generate.specs.Generated.{attempted, behind_files, from_root}
-use Rattle.session_generate.specs.Login.{ComesTo, logged_in}
-use Rattle.session_generate.specs.Placing.{Placed, Places, placed, with_vault}
+use Rattle.session_generate.specs.Generated.{AttemptStops, attempted, behind_files, from_root}
+use Rattle.session_generate.specs.Login.{Attempt, ComesTo, LoginStops, logged_in}
+use Rattle.session_generate.specs.Placing.{Placed, Places, PlacesSome, placed, with_vault}
 
 module _ (setting : Setting) (p : Placed) (s : RunState) (w : PlainWorld) (is : w ≡ with_vault p.vault (from_root s.world)) where
   -- all files were put in their places
-  behind_all : (result : Result Login (Refuse LoadFault)) (u : RunState) → p.fault ≡ None → ComesTo result (logged_in setting (state_of s.slots w)) u
-      → ComesTo result (behind_files setting p.fault (state_of s.slots (with_vault p.vault (from_root s.world)))) u
+  behind_all : (result : Result Login (Refuse LoadFault)) (u : RunState) → p.fault ≡ None
+      → ComesTo result (logged_in setting (state_of s.slots w)) (LoginStops setting (state_of s.slots w)) u
+      → ComesTo result (behind_files setting p.fault (state_of s.slots (with_vault p.vault (from_root s.world)))) (LoginStops setting (state_of s.slots (with_vault p.vault (from_root s.world)))) u
   behind_all result u none comes =
-      subst (λ (o : Option LoadFault). ComesTo result (behind_files setting o (state_of s.slots (with_vault p.vault (from_root s.world)))) u) (sym none)
-      (subst (λ (v : PlainWorld). ComesTo result (logged_in setting (state_of s.slots v)) u) is comes)
+      subst (λ (o : Option LoadFault). ComesTo result (behind_files setting o (state_of s.slots (with_vault p.vault (from_root s.world)))) (LoginStops setting (state_of s.slots (with_vault p.vault (from_root s.world)))) u) (sym none)
+      (subst (λ (v : PlainWorld). ComesTo result (logged_in setting (state_of s.slots v)) (LoginStops setting (state_of s.slots v)) u) is comes)
 
   -- one was not
-  behind_fault : (fault : LoadFault) → p.fault ≡ Some fault
-      → ComesTo (Err (Named fault)) (behind_files setting p.fault (state_of s.slots (with_vault p.vault (from_root s.world)))) (state_of s.slots w)
-  behind_fault fault some =
-      subst (λ (o : Option LoadFault). ComesTo (Err (Named fault)) (behind_files setting o (state_of s.slots (with_vault p.vault (from_root s.world)))) (state_of s.slots w)) (sym some)
+  behind_fault : (Stops : RunState → Type 0) (fault : LoadFault) → p.fault ≡ Some fault
+      → ComesTo (Err (Named fault)) (behind_files setting p.fault (state_of s.slots (with_vault p.vault (from_root s.world)))) Stops (state_of s.slots w)
+  behind_fault Stops fault some =
+      subst (λ (o : Option LoadFault). ComesTo (Err (Named fault)) (behind_files setting o (state_of s.slots (with_vault p.vault (from_root s.world)))) Stops (state_of s.slots w)) (sym some)
       (refl, ap (state_of s.slots) is)
+
+-- among more states that it may leave
+more_stops : (Stops Others : RunState → Type 0) (result : Result Login (Refuse LoadFault)) (a : Attempt) (u : RunState) → (Stops u → Others u) → ComesTo result a Stops u → ComesTo result a Others u
+more_stops Stops Others (Ok login) a u more comes = comes
+more_stops Stops Others (Err (Named fault)) a u more comes = comes
+more_stops Stops Others (Err NoMemory) a u more comes = more comes
 
 -- the generated files are stored, or one of them is refused
 module _ (setting : Setting) (seed lines : ℕ) (s : RunState) (files : List DrawnFile) (m w : PlainWorld) (v : VaultState)
@@ -37,14 +44,32 @@ module _ (setting : Setting) (seed lines : ℕ) (s : RunState) (files : List Dra
   world_is : v ≡ (placed files m.vault).vault → w ≡ with_vault (placed (drawn_files seed lines) s.world.vault).vault (from_root s.world)
   world_is is = rest ∙ ap (λ (x : VaultState). with_vault x m) (is ∙ ap (λ (q : Placed). q.vault) same) ∙ ap (with_vault (placed (drawn_files seed lines) s.world.vault).vault) root
 
-  pub all_placed : (done : Unit {0}) (result : Result Login (Refuse LoadFault)) (u : RunState) → Places {T = Unit {0}} (Ok done) (placed files m.vault) v
-      → ComesTo result (logged_in setting (state_of s.slots w)) u → ComesTo result (attempted setting seed lines s) u
+  pub all_placed : (done : Unit {0}) (result : Result Login (Refuse LoadFault)) (u : RunState) → Places {T = Unit {0}} (Ok done) files m.vault v
+      → ComesTo result (logged_in setting (state_of s.slots w)) (LoginStops setting (state_of s.slots w)) u
+      → ComesTo result (attempted setting seed lines s) (AttemptStops setting seed lines s) u
   all_placed done result u places comes =
-      behind_all setting (placed (drawn_files seed lines) s.world.vault) s w (world_is places.1) result u (ap (λ (q : Placed). q.fault) (sym same) ∙ places.0) comes
+      let none = ap (λ (q : Placed). q.fault) (sym same) ∙ places.0 in
+      more_stops (LoginStops setting (state_of s.slots (with_vault (placed (drawn_files seed lines) s.world.vault).vault (from_root s.world)))) (AttemptStops setting seed lines s)
+      result (attempted setting seed lines s) u (λ stops. inr (inr (inr (none, stops))))
+      (behind_all setting (placed (drawn_files seed lines) s.world.vault) s w (world_is places.1) result u none comes)
 
-  pub not_placed : (refuse : Refuse LoadFault) → Places {T = Unit {0}} (Err refuse) (placed files m.vault) v → ComesTo (Err refuse) (attempted setting seed lines s) (state_of s.slots w)
-  not_placed (Named fault) places = behind_fault setting (placed (drawn_files seed lines) s.world.vault) s w (world_is places.1) fault (ap (λ (q : Placed). q.fault) (sym same) ∙ places.0)
-  not_placed NoMemory places = tt
+  some_placed : PlacesSome files m.vault v → PlacesSome (drawn_files seed lines) s.world.vault v
+  some_placed some =
+      subst (λ (x : PlainWorld). PlacesSome (drawn_files seed lines) x.vault v) root
+      (subst (λ (f : List DrawnFile). PlacesSome f m.vault v) drawn some)
+
+  pub not_placed : (refuse : Refuse LoadFault) → Places {T = Unit {0}} (Err refuse) files m.vault v
+      → ComesTo (Err refuse) (attempted setting seed lines s) (AttemptStops setting seed lines s) (state_of s.slots w)
+  not_placed (Named fault) places =
+      behind_fault setting (placed (drawn_files seed lines) s.world.vault) s w (world_is places.1) (AttemptStops setting seed lines s) fault (ap (λ (q : Placed). q.fault) (sym same) ∙ places.0)
+  not_placed NoMemory places = inr (inr (inl (v, some_placed places, ap (state_of s.slots) (rest ∙ ap (with_vault v) root))))
+
+-- nothing was stored yet
+pub not_begun : (setting : Setting) (seed lines : ℕ) (s : RunState) (w : PlainWorld) → w ≡ s.world → AttemptStops setting seed lines s (state_of s.slots w)
+not_begun setting seed lines s w same = inl (ap (state_of s.slots) same)
+
+pub not_drawn : (setting : Setting) (seed lines : ℕ) (s : RunState) (w : PlainWorld) → w ≡ from_root s.world → AttemptStops setting seed lines s (state_of s.slots w)
+not_drawn setting seed lines s w root = inr (inl (ap (state_of s.slots) root))
 
 -- ---- which objects tell
 

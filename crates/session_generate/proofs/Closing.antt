@@ -1,7 +1,8 @@
 -- The first place, after each call.
-use Rattle.std.proofs.Common.{◌≡◌, ℕ, zero, suc, Bool, true, false, ◌&&◌, List, [], ◌∷◌, Option, Some, None, Result, Ok, Err, slice_get, refl, sym, ap, ◌∙◌}
+use Rattle.std.proofs.Common.{◌≡◌, ℕ, zero, suc, Bool, true, false, ◌&&◌, List, [], ◌∷◌, Option, Some, None, Result, Ok, Err, slice_get, inl, inr, refl, sym, ap, subst, ◌∙◌}
 use Rattle.pam_base.specs.declared.call.AppCall.{AppCall}
 use Rattle.pam_base.specs.declared.call.AppCall.TheVariants as calls
+use Rattle.pam_base.specs.declared.call.Step.{Step}
 use Rattle.pam_base.specs.declared.fault.Refuse.{Refuse}
 use Rattle.pam_base.specs.declared.fault.Refuse.TheVariants.{NoMemory, Named}
 use Rattle.pam_base.specs.Code.{number_of}
@@ -15,8 +16,9 @@ use Rattle.session_run.specs.pam_library.specs.Slots.{NoneIsOpen, PlainSlot, clo
 use Rattle.session_run.specs.pam_library.specs.SlotStep.{opened_by}
 use Rattle.session_run.specs.pam_library.specs.Step.{StepsAs, stepped}
 use Rattle.session_run.specs.State.{RunState, Setting, state_of}
+use Rattle.session_run.specs.Step.{CallFails}
 use Rattle.session_generate.specs.declared.login.Login.{Login}
-use Rattle.session_generate.specs.Login.{Authenticates, ComesTo, Starts, Tries, authenticate_call, behind_start, called, end_status, ended, logged_in, login_of, refusal_in, start_call, state_in, step_of}
+use Rattle.session_generate.specs.Login.{Authenticates, ComesTo, LoginStops, Starts, Tries, authenticate_call, behind_start, called, end_status, ended, logged_in, login_of, refusal_in, start_call, state_in, step_of}
 
 -- ---- places that are closed
 
@@ -76,7 +78,7 @@ module _ (setting : Setting) where
 
   -- what was tried, and then ended
   pub came : (result : Result Login (Refuse LoadFault)) (s t u : RunState) → is_open_at (slot_at s.slots 1) ≡ false → Tries result setting s t → u ≡ ended setting (number_of (end_status result)) t
-      → ComesTo result (logged_in setting s) u
+      → ComesTo result (logged_in setting s) (LoginStops setting s) u
   came (Ok login) s t u none tries e = (
     ap (λ (o : Option LoadFault). (behind_start setting o (state_in (called setting s start_call))).result) tries.0 ∙ ap Ok (sym tries.1),
     e ∙ ap (ended setting 0) tries.2 ∙ sym (ap (λ (o : Option LoadFault). (behind_start setting o (state_in (called setting s start_call))).state) tries.0),
@@ -87,7 +89,7 @@ module _ (setting : Setting) where
         e ∙ ap (ended setting 0) tries.1 ∙ closed_stays setting 0 b.slots b.world (refused_is_closed s.slots s.world fault none tries.0)
             ∙ sym (ap (λ (o : Option LoadFault). (behind_start setting o b).state) tries.0),
       )
-  came (Err NoMemory) s t u none tries e = tt
+  came (Err NoMemory) s t u none tries e = (t, tries, e)
 
 -- ---- a step
 
@@ -124,23 +126,31 @@ both_tell a b x y e f told = rw (e, f) told
 
 -- ---- the result of a step, and a start with an authentication
 
-module _ (setting : Setting) (s : RunState) (call : AppCall) (outcome : PlainOutcome) (slots : List PlainSlot) (w : PlainWorld)
-    (steps : StepsAs (stepped setting.players setting.delay s.slots s.world (step_of call)) outcome slots w) where
-  pub starts_refused : (fault : LoadFault) → Some fault ≡ refusal_in outcome.answer → Starts {T = Unit {0}} (Err (Named fault)) (called setting s call) (state_of slots w)
-  starts_refused fault e = (sym (answer_is setting s call outcome slots w steps) ∙ sym e, state_is setting s call outcome slots w steps)
+module _ (setting : Setting) (s : RunState) (outcome : PlainOutcome) (slots : List PlainSlot) (w : PlainWorld) where
+  module _ (steps : StepsAs (stepped setting.players setting.delay s.slots s.world (step_of start_call)) outcome slots w) where
+    pub starts_refused : (fault : LoadFault) → Some fault ≡ refusal_in outcome.answer → Starts {T = Unit {0}} (Err (Named fault)) setting s (state_of slots w)
+    starts_refused fault e = (sym (answer_is setting s start_call outcome slots w steps) ∙ sym e, state_is setting s start_call outcome slots w steps)
 
-  pub starts_done : (done : Unit {0}) → None ≡ refusal_in outcome.answer → Starts {T = Unit {0}} (Ok done) (called setting s call) (state_of slots w)
-  starts_done done e = (sym (answer_is setting s call outcome slots w steps) ∙ sym e, state_is setting s call outcome slots w steps)
+    pub starts_done : (done : Unit {0}) → None ≡ refusal_in outcome.answer → Starts {T = Unit {0}} (Ok done) setting s (state_of slots w)
+    starts_done done e = (sym (answer_is setting s start_call outcome slots w steps) ∙ sym e, state_is setting s start_call outcome slots w steps)
 
-  pub authenticates : (login : Login) → login ≡ login_of outcome → Authenticates login (called setting s call) (state_of slots w)
-  authenticates login e = (e ∙ login_is setting s call outcome slots w steps, state_is setting s call outcome slots w steps)
+  pub authenticates : (steps : StepsAs (stepped setting.players setting.delay s.slots s.world (step_of authenticate_call)) outcome slots w) → (login : Login) → login ≡ login_of outcome
+      → Authenticates (Ok login) setting s (state_of slots w)
+  authenticates steps login e = (e ∙ login_is setting s authenticate_call outcome slots w steps, state_is setting s authenticate_call outcome slots w steps)
 
 module _ (setting : Setting) (s t : RunState) where
-  pub tries_not : (refuse : Refuse LoadFault) → Starts {T = Unit {0}} (Err refuse) (called setting s start_call) t → Tries (Err refuse) setting s t
+  pub tries_not : (refuse : Refuse LoadFault) → Starts {T = Unit {0}} (Err refuse) setting s t → Tries (Err refuse) setting s t
   tries_not (Named fault) starts = starts
-  tries_not NoMemory starts = tt
+  tries_not NoMemory starts = inl starts
 
-  pub tries_both : (u : RunState) (done : Unit {0}) (login : Login) → Starts {T = Unit {0}} (Ok done) (called setting s start_call) t
-      → Authenticates login (called setting t authenticate_call) u → Tries (Ok login) setting s u
+  pub start_failed : (step : Step) → step ≡ step_of start_call → CallFails setting step s t → Starts {T = Unit {0}} (Err NoMemory) setting s t
+  start_failed step is fails = inr (subst (λ (x : Step). CallFails setting x s t) is fails)
+
+  pub tries_stopped : (u : RunState) (done : Unit {0}) → Starts {T = Unit {0}} (Ok done) setting s t
+      → CallFails setting (step_of authenticate_call) t u → Tries (Err NoMemory) setting s u
+  tries_stopped u done starts fails = inr (starts.0, subst (λ (m : RunState). CallFails setting (step_of authenticate_call) m u) starts.1 fails)
+
+  pub tries_both : (u : RunState) (done : Unit {0}) (login : Login) → Starts {T = Unit {0}} (Ok done) setting s t
+      → Authenticates (Ok login) setting t u → Tries (Ok login) setting s u
   tries_both u done login starts comes =
       (starts.0, comes.0 ∙ ap (λ (m : RunState). login_of (called setting m authenticate_call).outcome) starts.1, comes.1 ∙ ap (λ (m : RunState). state_in (called setting m authenticate_call)) starts.1)

@@ -5,7 +5,7 @@ use Rattle.std.proofs.lemmas.List.{map-append}
 use Rattle.std.proofs.lemmas.List.Concat.{flat_map-append}
 use Rattle.drawn_files.specs.Files.{count_of, is_odd, substack_line, text_of}
 use Rattle.drawn_files.specs.Line.{drawn_line, drawn_lines}
-use Rattle.service_load.specs.declared.entry.Content.{Content}
+use Rattle.service_load.specs.declared.entry.RuleContent.{RuleContent}
 use Rattle.session_generate.specs.Drawn.{HoldsRules, contents_of, drawn_content, service_contents, substack_content}
 use Rattle.session_generate.proofs.Lines.{drawn, drawn_reads, drawn_says, named, named_reads, named_holds}
 use Rattle.session_generate.proofs.Reading.{Ruled, contents_in, reads_as, text_in}
@@ -18,7 +18,7 @@ drawn_text seed (n ∷ ns) = ap (λ (z : List ℕ). z ++ text_in (map (drawn see
 
 drawn_contents : (seed : ℕ) (ns : List ℕ) → contents_in (map (drawn seed) ns) ≡ map (drawn_content seed) ns
 drawn_contents seed [] = refl
-drawn_contents seed (n ∷ ns) = ap (λ (z : Content). z ∷ contents_in (map (drawn seed) ns)) (drawn_says seed n) ∙ ap (λ (z : List Content). drawn_content seed n ∷ z) (drawn_contents seed ns)
+drawn_contents seed (n ∷ ns) = ap (λ (z : RuleContent). z ∷ contents_in (map (drawn seed) ns)) (drawn_says seed n) ∙ ap (λ (z : List RuleContent). drawn_content seed n ∷ z) (drawn_contents seed ns)
 
 drawn_count : (seed a n : ℕ) → length (map (drawn seed) (range_with_len a n)) ≡ n
 drawn_count seed a zero = refl
@@ -39,7 +39,7 @@ names_text (k ∷ ks) few = ap (λ (z : List ℕ). z ++ text_in (namings ks few.
 
 names_say : (ks : List ℕ) (few : AreFew ks) → contents_in (namings ks few) ≡ map substack_content ks
 names_say [] few = refl
-names_say (k ∷ ks) few = ap (λ (z : Content). z ∷ contents_in (namings ks few.1)) (named_holds k few.0) ∙ ap (λ (z : List Content). substack_content k ∷ z) (names_say ks few.1)
+names_say (k ∷ ks) few = ap (λ (z : RuleContent). z ∷ contents_in (namings ks few.1)) (named_holds k few.0) ∙ ap (λ (z : List RuleContent). substack_content k ∷ z) (names_say ks few.1)
 
 names_count : (ks : List ℕ) (few : AreFew ks) → length (namings ks few) ≡ length ks
 names_count [] few = refl
@@ -87,7 +87,7 @@ module _ (seed lines k : ℕ) (most : lines ≤ 4096) (last : k ≤ count_of lin
   after_text false = refl
 
   after_says : (b : Bool) → contents_in (after b) ≡ cond b (substack_content (k + 1) ∷ []) []
-  after_says true = ap (λ (z : Content). z ∷ []) (named_holds (k + 1) next_few)
+  after_says true = ap (λ (z : RuleContent). z ∷ []) (named_holds (k + 1) next_few)
   after_says false = refl
 
   after_count : (b : Bool) → length (after b) ≤ 1
@@ -118,8 +118,8 @@ module _ (seed lines k : ℕ) (most : lines ≤ 4096) (last : k ≤ count_of lin
       ∙ ap (λ (z : List ℕ). z ++ text_in (after leads_on)) (drawn_text seed (range_with_len before number))
       ∙ ap (λ (z : List ℕ). drawn_lines seed before number ++ z) (after_text leads_on)))
       (sym (map-append (λ (l : Ruled). l.content) drawn_lines_in (after leads_on)
-      ∙ ap (λ (z : List Content). z ++ contents_in (after leads_on)) (drawn_contents seed (range_with_len before number))
-      ∙ ap (λ (z : List Content). map (drawn_content seed) (range_with_len before number) ++ z) (after_says leads_on)))
+      ∙ ap (λ (z : List RuleContent). z ++ contents_in (after leads_on)) (drawn_contents seed (range_with_len before number))
+      ∙ ap (λ (z : List RuleContent). map (drawn_content seed) (range_with_len before number) ++ z) (after_says leads_on)))
       (omega (arith, length-append drawn_lines_in (after leads_on), drawn_count seed before number, after_count leads_on, few_here))
 
 -- ---- the service

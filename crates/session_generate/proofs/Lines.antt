@@ -15,7 +15,7 @@ use Rattle.service_load.specs.conf_lex.specs.Reading.{first_piece, pieces_behind
 use Rattle.service_load.specs.control_words.specs.declared.control.Action.{Action}
 use Rattle.service_load.specs.control_words.specs.declared.control.Action.TheVariants as actions
 use Rattle.service_load.specs.control_words.specs.Entries.{entries_behind, entries_in}
-use Rattle.service_load.specs.declared.entry.Content.TheVariants.{Line}
+use Rattle.service_load.specs.declared.entry.RuleContent.TheVariants.{Line}
 use Rattle.service_load.specs.declared.rule_type.RuleType.TheVariants.{Auth}
 use Rattle.service_load.specs.Entry.{entry_of}
 use Rattle.session_generate.specs.Drawn.{action_picked, default_actions, drawn_content, drawn_rule, substack_content, success_actions}

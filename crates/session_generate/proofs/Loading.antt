@@ -8,7 +8,7 @@ use Rattle.pam_outside.specs.Files.{VaultState}
 use Rattle.pam_outside.specs.Paths.{path_of}
 use Rattle.drawn_files.specs.Files.{count_of, is_odd, service, text_of}
 use Rattle.service_load.specs.control_words.specs.Stack.{count}
-use Rattle.service_load.specs.declared.entry.Content.{Content}
+use Rattle.service_load.specs.declared.entry.RuleContent.{RuleContent}
 use Rattle.service_load.specs.declared.rule_file.RuleFile.{RuleFile}
 use Rattle.service_load.specs.declared.rule_type.RuleType.{RuleType}
 use Rattle.service_load.specs.declared.rule_type.RuleType.TheVariants.{Auth, Account, Password, Session}
@@ -51,7 +51,7 @@ module _ (texts : List ℕ → Option (List ℕ)) (seed lines : ℕ) (most : lin
   leads_on k = is_odd k && nat_lt k (count_of lines)
 
   -- generated lines, and what follows them
-  drawn_bring : (name : List ℕ) (deeper : _) (a n : ℕ) (rest : List Content) (opens made : ℕ) → Brings texts name deeper rest opens made
+  drawn_bring : (name : List ℕ) (deeper : _) (a n : ℕ) (rest : List RuleContent) (opens made : ℕ) → Brings texts name deeper rest opens made
       → Brings texts name deeper (map (drawn_content seed) (range_with_len a n) ++ rest) opens (n + made)
   drawn_bring name deeper a zero rest opens made bring = λ line. passes_within texts _ opens opens made (0 + made) (bring line) (omega arith) (omega arith)
   drawn_bring name deeper a (suc n) rest opens made bring =
@@ -99,7 +99,7 @@ module _ (texts : List ℕ → Option (List ℕ)) (seed lines : ℕ) (most : lin
       ap (λ (b : Bool). cond b (a ∷ cond (is_odd (a + 1)) ((a + 1) ∷ more) more) (cond (is_odd (a + 1)) ((a + 1) ∷ more) more)) (odd_at j)
       ∙ ap (λ (b : Bool). a ∷ cond b ((a + 1) ∷ more) more) (even_at j)
 
-  abbrev odd_contents : ℕ → ℕ → List Content
+  abbrev odd_contents : ℕ → ℕ → List RuleContent
   odd_contents a m = map substack_content (filter is_odd (range_with_len a m))
 
   service_brings : (j m : ℕ) → 2 * j + 1 + m ≡ count_of lines + 1 → Brings texts service_path deep (odd_contents (2 * j + 1) m) m (32 * m)
@@ -131,7 +131,7 @@ module _ (texts : List ℕ → Option (List ℕ)) (seed lines : ℕ) (most : lin
       (service_brings 0 files_number (omega arith) 1)
 
   -- its rules are of no other type
-  nothing : (type : RuleType) (deeper : Opener → RuleFile → List Item) → serves type (Some Auth) ≡ false → (n : ℕ) (contents : List Content) → items_of deeper type service_path (entries_from n contents) ≡ []
+  nothing : (type : RuleType) (deeper : Opener → RuleFile → List Item) → serves type (Some Auth) ≡ false → (n : ℕ) (contents : List RuleContent) → items_of deeper type service_path (entries_from n contents) ≡ []
   nothing type deeper e n [] = refl
   nothing type deeper e n (c ∷ contents) =
       let more = items_of deeper type service_path (entries_from (n + 1) contents) in

@@ -6,8 +6,8 @@ use Rattle.pam_outside.specs.Counts.{fails_next}
 use Rattle.pam_base.specs.declared.fault.FaultKind.{FaultKind}
 use Rattle.pam_base.specs.declared.fault.FaultKind.TheVariants.{ReadFailed, TooDeep, TooManyFiles, TooManyLines}
 use Rattle.service_load.specs.conf_lex.specs.declared.token.RawRule.{RawRule}
-use Rattle.service_load.specs.declared.entry.Content.{Content}
-use Rattle.service_load.specs.declared.entry.Entry.{Entry}
+use Rattle.service_load.specs.declared.entry.RuleContent.{RuleContent}
+use Rattle.service_load.specs.declared.entry.ConfigEntry.{ConfigEntry}
 use Rattle.service_load.specs.declared.rule_file.RuleFile.{RuleFile}
 use Rattle.service_load.specs.declared.rule_type.RuleType.{RuleType}
 use Rattle.service_load.specs.declared.rule_type.RuleType.TheVariants.{Auth}
@@ -88,7 +88,7 @@ module _ (texts : List ℕ → Option (List ℕ)) where
   -- ---- a file of the directory
 
   module _ (name : List ℕ) where
-    fine_rule : (c : Counts) (line : ℕ) (r : Result Entry FaultKind) → is_ok r ≡ true → checked_rule c name line r ≡ Ok c
+    fine_rule : (c : Counts) (line : ℕ) (r : Result ConfigEntry FaultKind) → is_ok r ≡ true → checked_rule c name line r ≡ Ok c
     fine_rule c line (Ok entry) e = refl
     fine_rule c line (Err kind) e = absurd cc
 
@@ -104,7 +104,7 @@ module _ (texts : List ℕ → Option (List ℕ)) where
     own [] = refl
     own (r ∷ rules) = ap (λ (rs : List RawRule). r ∷ rs) (own rules)
 
-    module _ (text : List ℕ) (contents : List Content) (is : texts name ≡ Some text) (h : HoldsRules text contents) where
+    module _ (text : List ℕ) (contents : List RuleContent) (is : texts name ≡ Some text) (h : HoldsRules text contents) where
       pub held_is : held texts (plain_file name) ≡ holds h.rules
       held_is = ap (held_text None) is ∙ ap (held_answer None) h.text_is ∙ ap holds (own h.rules)
 
@@ -119,7 +119,7 @@ module _ (texts : List ℕ → Option (List ℕ)) where
           let rest : file_items deeper type (plain_file name) (rules_held (held texts (plain_file name))) ≡ map (checked (plain_file name)) h.rules ++ brought =
           ap (λ (x : Held). file_items deeper type (plain_file name) (rules_held x)) held_is
           ∙ ap (λ (b : Bool). map (checked (plain_file name)) h.rules ++ cond b (items_of deeper type name (entries_of true h.rules)) []) h.fine
-          ∙ ap (λ (es : List Entry). map (checked (plain_file name)) h.rules ++ items_of deeper type name es) h.entries in
+          ∙ ap (λ (es : List ConfigEntry). map (checked (plain_file name)) h.rules ++ items_of deeper type name es) h.entries in
           let all : Passes (opening (plain_file name) (16 - level) opener ∷ (map (checked (plain_file name)) h.rules ++ brought)) (1 + opens) lines =
           passes_within (opening (plain_file name) (16 - level) opener ∷ (map (checked (plain_file name)) h.rules ++ brought)) (1 + (0 + opens)) (1 + opens) (0 + (0 + lines)) lines
           (passes_then (opening (plain_file name) (16 - level) opener ∷ []) (map (checked (plain_file name)) h.rules ++ brought) 1 (0 + opens) 0 (0 + lines)
@@ -130,13 +130,13 @@ module _ (texts : List ℕ → Option (List ℕ)) where
     -- ---- what its rules bring, one after another
 
     module _ (deeper : Opener → RuleFile → List Item) where
-      abbrev pub Brings : List Content → ℕ → ℕ → Type 0
+      abbrev pub Brings : List RuleContent → ℕ → ℕ → Type 0
       Brings contents opens lines = (n : ℕ) → Passes (items_of deeper Auth name (entries_from n contents)) opens lines
 
       pub brings_none : Brings [] 0 0
       brings_none n = passes_none
 
-      pub brings_more : (content : Content) (contents : List Content) (a b m n : ℕ) → ((line : ℕ) → Passes (content_items deeper name line content) a m)
+      pub brings_more : (content : RuleContent) (contents : List RuleContent) (a b m n : ℕ) → ((line : ℕ) → Passes (content_items deeper name line content) a m)
           → Brings contents b n → Brings (content ∷ contents) (a + b) (m + n)
       brings_more content contents a b m n one more line =
           passes_then (content_items deeper name line content) (items_of deeper Auth name (entries_from (line + 1) contents)) a b m n (one line) (more (line + 1))

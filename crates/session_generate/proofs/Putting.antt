@@ -1,12 +1,12 @@
 -- Files that are put in their places, one after another.
-use Rattle.std.proofs.Common.{◌≡◌, ℕ, suc, ◌+◌, ◌<◌, Bool, true, false, cond, length, drop, get_or, Err, add-one, Some, None, List, [], ◌∷◌, refl, sym, ap, ◌∙◌}
+use Rattle.std.proofs.Common.{◌≡◌, ℕ, suc, ◌+◌, ◌<◌, Bool, true, false, cond, length, drop, get_or, Err, add-one, Some, None, List, [], ◌∷◌, inl, inr, refl, sym, ap, subst, ◌∙◌}
 use Rattle.std.proofs.Math.Seq.{drop-cons}
 use Rattle.pam_base.specs.declared.fault.Refuse.{Refuse}
 use Rattle.pam_base.specs.declared.fault.Refuse.TheVariants.{NoMemory, Named}
 use Rattle.pam_outside.specs.Files.{VaultState, counted, is_failing}
 use Rattle.drawn_files.specs.declared.files.DrawnFile.{DrawnFile}
 use Rattle.service_load.specs.declared.load_fault.LoadFault.{LoadFault}
-use Rattle.session_generate.specs.Placing.{Placed, Places, fault_of, placed, with_file}
+use Rattle.session_generate.specs.Placing.{Placed, Places, PlacesSome, fault_of, placed, with_file}
 
 module _ (file : DrawnFile) (files : List DrawnFile) (v t : VaultState) where
   abbrev stopped : Placed
@@ -30,9 +30,25 @@ module _ (file : DrawnFile) (files : List DrawnFile) (v t : VaultState) where
   pub stops : (fault : LoadFault) → (placed (file ∷ []) v).fault ≡ Some fault → placed (file ∷ files) v ≡ placed (file ∷ []) v
   stops fault is = stop_by fault (is_failing v) is
 
-  pub stops_at : (refuse : Refuse LoadFault) → Places {T = Unit {0}} (Err refuse) (placed (file ∷ []) v) t → Places {T = Unit {0}} (Err refuse) (placed (file ∷ files) v) t
-  stops_at (Named fault) is = rw (stops fault is.0) is
-  stops_at NoMemory is = tt
+  some_by : (b : Bool) → is_failing v ≡ b → (cond b stopped (placed [] (with_file file v))).fault ≡ None → t ≡ (cond b stopped (placed [] (with_file file v))).vault
+      → (u : VaultState) → PlacesSome files t u → PlacesSome (file ∷ files) v u
+  some_by true e none is u some = absurd cc
+  some_by false e none is u some = inr (e, inr (subst (λ (x : VaultState). PlacesSome files x u) is some))
+
+  -- an allocation fails after a file that was put in its place
+  pub some_behind : (placed (file ∷ []) v).fault ≡ None → t ≡ (placed (file ∷ []) v).vault → (u : VaultState) → PlacesSome files t u → PlacesSome (file ∷ files) v u
+  some_behind none is = some_by (is_failing v) refl none is
+
+  some_first : PlacesSome (file ∷ []) v t → PlacesSome (file ∷ files) v t
+  some_first (inl same) = inl same
+  some_first (inr (runs, inl made)) = inr (runs, inl made)
+  some_first (inr (runs, inr none)) = absurd none
+
+  -- the files before this one are in their places, and it isn't put in its own
+  pub stops_at : (all : List DrawnFile) (w : VaultState) → placed all w ≡ placed (file ∷ files) v → ((u : VaultState) → PlacesSome (file ∷ files) v u → PlacesSome all w u)
+      → (refuse : Refuse LoadFault) → Places {T = Unit {0}} (Err refuse) (file ∷ []) v t → Places {T = Unit {0}} (Err refuse) all w t
+  stops_at all w same some (Named fault) is = subst (λ (p : Placed). (p.fault ≡ Some fault) × (t ≡ p.vault)) (sym (same ∙ stops fault is.0)) is
+  stops_at all w same some NoMemory is = some t (some_first is)
 
 -- the file whose turn it is
 pub next_file : (files : List DrawnFile) (i : ℕ) (file : DrawnFile) → i < length files → file ≡ get_or files i file → drop i files ≡ file ∷ drop (i + 1) files

@@ -13,7 +13,7 @@ use Rattle.service_load.specs.conf_lex.specs.Lexing.{answer_at, answer_of, given
 use Rattle.service_load.specs.conf_lex.specs.Piece.{Piece, is_newline, is_open, newline, spelling, tokens_of}
 use Rattle.service_load.specs.conf_lex.specs.Reading.{pieces_behind, pieces_of}
 use Rattle.service_load.specs.conf_lex.specs.Rules.{JoinedLine, first_fault, in_front, line_fault, line_rules, lines_of_pieces, newlines, numbered}
-use Rattle.service_load.specs.declared.entry.Content.{Content}
+use Rattle.service_load.specs.declared.entry.RuleContent.{RuleContent}
 use Rattle.service_load.specs.declared.rule_type.RuleType.TheVariants.{Auth}
 use Rattle.service_load.specs.Entry.{entry_of}
 use Rattle.session_generate.specs.Drawn.{HoldsRules, entries_from}
@@ -27,7 +27,7 @@ is_feed b = b == 10
 -- a line, with its newline, and what its rule says, whatever follows it
 pub record Ruled : Type 0 where
   pub text : List ℕ
-  pub content : Content
+  pub content : RuleContent
   pub pieces : List Piece
   pub reads : (rest : List ℕ) → pieces_of (text ++ rest) ≡ pieces ++ newline ∷ pieces_of rest
   pub inner : list_any is_newline pieces ≡ false
@@ -44,7 +44,7 @@ pub record Ruled : Type 0 where
 abbrev pub text_in : List Ruled → List ℕ
 text_in ls = flat_map (λ (l : Ruled). l.text) ls
 
-abbrev pub contents_in : List Ruled → List Content
+abbrev pub contents_in : List Ruled → List RuleContent
 contents_in ls = map (λ (l : Ruled). l.content) ls
 
 -- ---- lines of pieces
@@ -136,7 +136,7 @@ all_small (l ∷ ls) = omega (arith, length-append l.text (text_in ls), l.small,
 
 -- ---- the whole
 
-pub reads_as : (text : List ℕ) (contents : List Content) (ls : List Ruled) → text ≡ text_in ls → contents ≡ contents_in ls → length ls ≤ 512 → HoldsRules text contents
+pub reads_as : (text : List ℕ) (contents : List RuleContent) (ls : List Ruled) → text ≡ text_in ls → contents ≡ contents_in ls → length ls ≤ 512 → HoldsRules text contents
 unfolding answer_to answer_at
 reads_as text contents ls is are few =
     let r = lines_given 1 ls in

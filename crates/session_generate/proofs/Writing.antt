@@ -12,13 +12,13 @@ use Rattle.session_run.specs.Reading.{WritesScript}
 use Rattle.session_run.specs.State.{RunState, Setting}
 use Rattle.session_generate.specs.declared.generating.Finding.{Finding}
 use Rattle.session_generate.specs.declared.login.Login.{Login}
-use Rattle.session_generate.specs.Generated.{Finds, Generates, Generation, IsEndOfFinding, IsFound, attempted, found_by, generation, text_of}
+use Rattle.session_generate.specs.Generated.{AttemptStops, Finds, FindsOrStops, Generates, Generation, IsEndOfFinding, IsFound, attempted, found_by, generation, text_of}
 use Rattle.session_generate.specs.Login.{ComesTo, IsEndWith, end_status}
 
 -- ---- what is written
 
-pub generates_none : (g : Generation) (state : RunState) (p : SinkState) → Generates (Err NoMemory) g state p p
-generates_none g state p = record {
+pub generates_none : (g : Generation) (state : RunState) (p : SinkState) → g.stops state → Generates (Err NoMemory) g state p p
+generates_none g state p stops = record {
   front = [];
   back = g.text;
   parts = refl;
@@ -27,6 +27,7 @@ generates_none g state p = record {
   none = λ e. refl;
   generated = tt;
   state_is = λ other. absurd (other refl);
+  stopped = λ e. stops;
   writes = omega arith;
 }
 
@@ -41,6 +42,7 @@ generates_all finding g state text done p q f is w = record {
   none = λ e. absurd cc;
   generated = f.generated;
   state_is = λ other. f.state_is;
+  stopped = λ e. absurd cc;
   writes = w.calls;
 }
 
@@ -55,6 +57,7 @@ generates_cut finding g state text failed p q f is w = record {
   none = λ e. absurd cc;
   generated = tt;
   state_is = λ other. f.state_is;
+  stopped = λ e. absurd cc;
   writes = w.calls;
 }
 
@@ -68,8 +71,8 @@ writes_front result text p q w = record { text = w.front; written = w.written; c
 -- ---- what is found
 
 pub finds : (setting : Setting) (seed lines : ℕ) (s state : RunState) (login : Result Login (Refuse LoadFault)) (result : Result Finding faults.NoMemory)
-    → IfOk result (λ (f : Finding). IsFound f lines login) → ComesTo login (attempted setting seed lines s) state
-    → IfOk result (λ (f : Finding). Finds f (generation setting seed lines s) state)
+    → IfOk result (λ (f : Finding). IsFound f lines login) → ComesTo login (attempted setting seed lines s) (AttemptStops setting seed lines s) state
+    → FindsOrStops result (generation setting seed lines s) state
 unfolding generation
 finds setting seed lines s state (Ok login) (Ok f) is comes = record {
   generated = is.0 ∙ sym (ap found_by comes.0);
@@ -82,7 +85,9 @@ finds setting seed lines s state (Err (refusals.Named fault)) (Ok f) is comes = 
   state_is = comes.1;
 }
 finds setting seed lines s state (Err refusals.NoMemory) (Ok f) is comes = absurd is
-finds setting seed lines s state login (Err none) is comes = tt
+finds setting seed lines s state (Ok login) (Err none) is comes = inr comes.1
+finds setting seed lines s state (Err (refusals.Named fault)) (Err none) is comes = inr comes.1
+finds setting seed lines s state (Err refusals.NoMemory) (Err none) is comes = inl comes
 
 -- the ends by what is found
 pub ends_by : (lines : ℕ) (login : Result Login (Refuse LoadFault)) (result : Result Finding faults.NoMemory) → IfOk result (λ (f : Finding). IsFound f lines login)

@@ -12,9 +12,9 @@ use Rattle.service_load.specs.conf_lex.specs.Answer.{answer_to}
 use Rattle.service_load.specs.control_words.specs.declared.control.Action.{Action}
 use Rattle.service_load.specs.control_words.specs.declared.control.Action.TheVariants as actions
 use Rattle.service_load.specs.control_words.specs.declared.nodes.Rule.{Rule}
-use Rattle.service_load.specs.declared.entry.Content.{Content}
-use Rattle.service_load.specs.declared.entry.Content.TheVariants.{Line, Substack}
-use Rattle.service_load.specs.declared.entry.Entry.{Entry}
+use Rattle.service_load.specs.declared.entry.RuleContent.{RuleContent}
+use Rattle.service_load.specs.declared.entry.RuleContent.TheVariants.{Line, Substack}
+use Rattle.service_load.specs.declared.entry.ConfigEntry.{ConfigEntry}
 use Rattle.service_load.specs.declared.rule_type.RuleType.TheVariants.{Auth}
 use Rattle.service_load.specs.Files.{all_fine, entries_of}
 use Rattle.session_generate.specs.Placing.{path_of_service}
@@ -48,35 +48,35 @@ drawn_rule success default answer = record {
 }
 
 -- what the line after n others says
-abbrev pub drawn_content : ℕ → ℕ → Content
+abbrev pub drawn_content : ℕ → ℕ → RuleContent
 drawn_content seed n = Line (drawn_rule (action_picked success_actions (draw seed (3 * n)))
     (action_picked default_actions (draw seed (3 * n + 1)))
     (picked answer_words (draw seed (3 * n + 2))))
 
 -- what a line says that has the file with this number as a substack
-abbrev pub substack_content : ℕ → Content
+abbrev pub substack_content : ℕ → RuleContent
 substack_content k = Substack (path_of_service (name_of k))
 
 -- ---- a file
 
 -- what the lines of a file say
-abbrev pub contents_of : ℕ → ℕ → ℕ → List Content
+abbrev pub contents_of : ℕ → ℕ → ℕ → List RuleContent
 contents_of seed lines k =
     map (drawn_content seed) (range_with_len (32 * (k - 1)) (min (32 * k) lines - 32 * (k - 1)))
     ++ (if is_odd k && nat_lt k (count_of lines) then substack_content (k + 1) ∷ [] else [])
 
 -- and those of the service
-abbrev pub service_contents : ℕ → List Content
+abbrev pub service_contents : ℕ → List RuleContent
 service_contents count = map substack_content (filter is_odd (range_with_len 1 count))
 
 -- as rules of the type auth, one in each line from this one on
-abbrev pub entries_from : ℕ → List Content → List Entry
+abbrev pub entries_from : ℕ → List RuleContent → List ConfigEntry
 entries_from line [] = []
 entries_from line (c ∷ cs) =
     record { line = line; rule_type = Some Auth; content = c } ∷ entries_from (line + 1) cs
 
 -- The text is that of a file without a fault, whose rules are these.
-pub record HoldsRules (text : List ℕ) (contents : List Content) : Type 0 where
+pub record HoldsRules (text : List ℕ) (contents : List RuleContent) : Type 0 where
   pub rules : List RawRule
   pub text_is : answer_to text ≡ Ok rules
   pub fine : all_fine true rules ≡ true

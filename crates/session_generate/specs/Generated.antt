@@ -6,6 +6,7 @@ use Rattle.pam_base.specs.declared.fault.NoMemory as faults
 use Rattle.pam_base.specs.declared.fault.Refuse.{Refuse}
 use Rattle.pam_base.specs.declared.fault.Refuse.TheVariants.{Named}
 use Rattle.pam_base.specs.declared.fault.Refuse.TheVariants as refusals
+use Rattle.pam_outside.specs.Files.{VaultState}
 use Rattle.pam_outside.specs.Streams.{SinkState}
 use Rattle.drawn_files.specs.Files.{count_of, drawn_files}
 use Rattle.session_run.specs.item_stream.specs.declared.ending.Stop.{Stop}
@@ -18,8 +19,8 @@ use Rattle.session_generate.specs.declared.generating.Finding.{Finding}
 use Rattle.session_generate.specs.declared.generating.Generated.{Generated}
 use Rattle.session_generate.specs.declared.generating.Generated.TheVariants.{Written, Refused}
 use Rattle.session_generate.specs.declared.login.Login.{Login}
-use Rattle.session_generate.specs.Login.{Attempt, IsEndWith, logged_in}
-use Rattle.session_generate.specs.Placing.{placed, with_vault}
+use Rattle.session_generate.specs.Login.{Attempt, IsEndWith, LoginStops, logged_in}
+use Rattle.session_generate.specs.Placing.{PlacesSome, placed, with_vault}
 
 -- the world under the root `/`, with nobody as the caller
 abbrev pub from_root : PlainWorld → PlainWorld
@@ -36,6 +37,17 @@ module _ (setting : Setting) where
   attempted seed lines s =
       let p = placed (drawn_files seed lines) s.world.vault in
       behind_files p.fault (state_of s.slots (with_vault p.vault (from_root s.world)))
+
+  -- An allocation failed: before anything was done, before a file was stored, among the files, or in the login.
+  abbrev pub AttemptStops : ℕ → ℕ → RunState → RunState → Type 0
+  AttemptStops seed lines s state =
+      let files = drawn_files seed lines in
+      let p = placed files s.world.vault in
+      (state ≡ s) ⊎ ((state ≡ state_of s.slots (from_root s.world))
+      ⊎ (((vault : VaultState) × PlacesSome files s.world.vault vault
+      × (state ≡ state_of s.slots (with_vault vault (from_root s.world))))
+      ⊎ ((p.fault ≡ None)
+      × LoginStops setting (state_of s.slots (with_vault p.vault (from_root s.world))) state)))
 
 -- `generated LINES files K code NAME NUMBER visited COUNT`
 abbrev pub generated_text : ℕ → Login → List ℕ
@@ -54,15 +66,21 @@ abbrev pub found_by : Result Login LoadFault → Generated
 found_by (Ok login) = Written
 found_by (Err fault) = Refused
 
--- what `generate` writes and returns, and the state after it
-pub record Generation : Type 0 where
+-- what `generate` writes and returns, and the state after it; and the states that it may leave if an allocation fails
+pub record Generation : Type 1 where
   pub text : List ℕ
   pub generated : Generated
   pub state : RunState
+  pub stops : RunState → Type 0
 
+-- an allocation failed in the attempt, or for the line after it
 unfoldable pub generation : Setting → ℕ → ℕ → RunState → Generation
-generation setting seed lines s = let a = attempted setting seed lines s in
-    record { text = text_of lines a.result; generated = found_by a.result; state = a.state }
+generation setting seed lines s = let a = attempted setting seed lines s in record {
+  text = text_of lines a.result;
+  generated = found_by a.result;
+  state = a.state;
+  stops = λ state. AttemptStops setting seed lines s state ⊎ (state ≡ a.state);
+}
 
 -- what is found of an attempt, if no allocation failed
 abbrev pub IsFound : Finding → ℕ → Result Login (Refuse LoadFault) → Type 0
@@ -78,8 +96,13 @@ pub record Finds (finding : Finding) (g : Generation) (state : RunState) : Type 
   pub text : finding.text ≡ g.text
   pub state_is : state ≡ g.state
 
+-- the same, or an allocation failed
+abbrev pub FindsOrStops : Result Finding faults.NoMemory → Generation → RunState → Type 0
+FindsOrStops (Ok finding) g state = Finds finding g state
+FindsOrStops (Err none) g state = g.stops state
+
 -- This was the result, and its line is written, or a prefix of it if a write failed. If an allocation fails, nothing is
--- written.
+-- written, and the state is one that may be left then.
 pub record Generates (result : Result Generated Stop) (g : Generation) (state : RunState)
     (old new : SinkState) : Type 0 where
   pub front : List ℕ
@@ -90,6 +113,7 @@ pub record Generates (result : Result Generated Stop) (g : Generation) (state : 
   pub none : result ≡ Err NoMemory → front ≡ []
   pub generated : IfOk result (λ generated. generated ≡ g.generated)
   pub state_is : result ≢ Err NoMemory → state ≡ g.state
+  pub stopped : result ≡ Err NoMemory → g.stops state
   pub writes : new.calls ≤ old.calls + length front + 1
 
 -- ---- the ends that it makes, with real objects too

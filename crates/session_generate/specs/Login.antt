@@ -1,11 +1,12 @@
 -- One authentication by the generated service (this project's own).
-use Rattle.std.specs.Prelude.{◌≡◌, ℕ, codes, length, Option, Some, None, Result, Ok, Err}
+use Rattle.std.specs.Prelude.{◌≡◌, ◌⊎◌, ℕ, codes, length, Option, Some, None, Result, Ok, Err}
 use Rattle.pam_base.specs.Code.{number_of}
 use Rattle.pam_base.specs.declared.code.Code.{Code}
 use Rattle.pam_base.specs.declared.code.Code.TheVariants.{Success, SystemErr, BufErr}
 use Rattle.pam_base.specs.declared.call.AppCall.{AppCall}
 use Rattle.pam_base.specs.declared.call.AppCall.TheVariants as calls
 use Rattle.pam_base.specs.declared.call.Step.{Step}
+use Rattle.pam_base.specs.declared.fault.NoMemory as faults
 use Rattle.pam_base.specs.declared.fault.Refuse.{Refuse}
 use Rattle.pam_base.specs.declared.fault.Refuse.TheVariants.{NoMemory, Named}
 use Rattle.service_load.specs.declared.load_fault.LoadFault.{LoadFault}
@@ -14,6 +15,7 @@ use Rattle.session_run.specs.pam_library.specs.declared.outcome.Answer.TheVarian
 use Rattle.session_run.specs.pam_library.specs.Outcome.{PlainOutcome}
 use Rattle.session_run.specs.pam_library.specs.Step.{Stepped, stepped}
 use Rattle.session_run.specs.State.{RunState, Setting, state_of}
+use Rattle.session_run.specs.Step.{CallFails}
 use Rattle.session_generate.specs.declared.login.Login.{Login}
 
 -- ---- the calls, on the transaction with the number 1
@@ -70,16 +72,41 @@ module _ (setting : Setting) where
   logged_in s = let t = called s start_call in
       behind_start (refusal_in t.outcome.answer) (state_in t)
 
--- the result of a start; if an allocation fails nothing is said
-abbrev pub Starts : {T : Type 0} → Result T (Refuse LoadFault) → Stepped → RunState → Type 0
-Starts (Ok done) t state = (refusal_in t.outcome.answer ≡ None) × (state ≡ state_in t)
-Starts (Err (Named fault)) t state = (refusal_in t.outcome.answer ≡ Some fault)
-    × (state ≡ state_in t)
-Starts (Err NoMemory) t state = Unit {0}
+-- ---- if an allocation fails
+
+module _ (setting : Setting) (s : RunState) where
+  -- no start was made, or it ran out of memory
+  abbrev pub StartStops : RunState → Type 0
+  StartStops state = (state ≡ s) ⊎ CallFails setting (step_of start_call) s state
+
+  -- a start that wasn't refused was made, and the authentication ran out of memory
+  abbrev pub AuthenticateStops : RunState → Type 0
+  AuthenticateStops state = let t = called setting s start_call in
+      (refusal_in t.outcome.answer ≡ None)
+      × CallFails setting (step_of authenticate_call) (state_in t) state
+
+  -- one of these, and then the transaction was ended with BUF_ERR
+  abbrev pub LoginStops : RunState → Type 0
+  LoginStops state = (middle : RunState)
+      × (StartStops middle ⊎ AuthenticateStops middle)
+      × (state ≡ ended setting (number_of BufErr) middle)
+
+-- ---- what is returned
+
+-- the result of a start
+abbrev pub Starts : {T : Type 0} → Result T (Refuse LoadFault) → Setting → RunState → RunState
+    → Type 0
+Starts (Ok done) setting s state = let t = called setting s start_call in
+    (refusal_in t.outcome.answer ≡ None) × (state ≡ state_in t)
+Starts (Err (Named fault)) setting s state = let t = called setting s start_call in
+    (refusal_in t.outcome.answer ≡ Some fault) × (state ≡ state_in t)
+Starts (Err NoMemory) setting s state = StartStops setting s state
 
 -- the result of an authentication
-abbrev pub Authenticates : Login → Stepped → RunState → Type 0
-Authenticates login t state = (login ≡ login_of t.outcome) × (state ≡ state_in t)
+abbrev pub Authenticates : Result Login faults.NoMemory → Setting → RunState → RunState → Type 0
+Authenticates (Ok login) setting s state = let t = called setting s authenticate_call in
+    (login ≡ login_of t.outcome) × (state ≡ state_in t)
+Authenticates (Err none) setting s state = CallFails setting (step_of authenticate_call) s state
 
 -- a start and then an authentication
 abbrev pub Tries : Result Login (Refuse LoadFault) → Setting → RunState → RunState → Type 0
@@ -89,13 +116,14 @@ Tries (Ok login) setting s state =
     (refusal_in t.outcome.answer ≡ None) × (login ≡ login_of u.outcome) × (state ≡ state_in u)
 Tries (Err (Named fault)) setting s state = let t = called setting s start_call in
     (refusal_in t.outcome.answer ≡ Some fault) × (state ≡ state_in t)
-Tries (Err NoMemory) setting s state = Unit {0}
+Tries (Err NoMemory) setting s state = StartStops setting s state ⊎ AuthenticateStops setting s state
 
--- the result of an attempt
-abbrev pub ComesTo : Result Login (Refuse LoadFault) → Attempt → RunState → Type 0
-ComesTo (Ok login) a state = (a.result ≡ Ok login) × (state ≡ a.state)
-ComesTo (Err (Named fault)) a state = (a.result ≡ Err fault) × (state ≡ a.state)
-ComesTo (Err NoMemory) a state = Unit {0}
+-- the result of an attempt, which leaves one of these states if an allocation fails
+abbrev pub ComesTo : Result Login (Refuse LoadFault) → Attempt → (RunState → Type 0) → RunState
+    → Type 0
+ComesTo (Ok login) a Stops state = (a.result ≡ Ok login) × (state ≡ a.state)
+ComesTo (Err (Named fault)) a Stops state = (a.result ≡ Err fault) × (state ≡ a.state)
+ComesTo (Err NoMemory) a Stops state = Stops state
 
 -- ---- the ends that it makes, with real objects too
 

@@ -1,5 +1,5 @@
 -- Service files that are stored, one after another (this project's own).
-use Rattle.std.specs.Prelude.{◌≡◌, ℕ, if◌then◌else◌, Option, Some, None, List, [], ◌∷◌, ◌++◌, codes, Result, Ok, Err}
+use Rattle.std.specs.Prelude.{◌≡◌, ◌⊎◌, ℕ, false, if◌then◌else◌, Option, Some, None, List, [], ◌∷◌, ◌++◌, codes, Result, Ok, Err}
 use Rattle.pam_base.specs.declared.fault.FaultKind.TheVariants.{ReadFailed}
 use Rattle.pam_base.specs.declared.fault.Refuse.{Refuse}
 use Rattle.pam_base.specs.declared.fault.Refuse.TheVariants.{NoMemory, Named}
@@ -35,8 +35,17 @@ placed (file ∷ files) v = if is_failing v
 abbrev pub with_vault : VaultState → PlainWorld → PlainWorld
 with_vault vault w = record w { vault = vault }
 
--- All files were stored, or all up to the fault; if an allocation fails nothing is said.
-abbrev pub Places : {T : Type 0} → Result T (Refuse LoadFault) → Placed → VaultState → Type 0
-Places (Ok done) p vault = (p.fault ≡ None) × (vault ≡ p.vault)
-Places (Err (Named fault)) p vault = (p.fault ≡ Some fault) × (vault ≡ p.vault)
-Places (Err NoMemory) p vault = Unit {0}
+-- The files if an allocation failed: before the access that stores the first of these, in it, or after it.
+abbrev pub PlacesSome : List DrawnFile → VaultState → VaultState → Type 0
+PlacesSome [] v vault = ⊥
+PlacesSome (file ∷ files) v vault = (vault ≡ v) ⊎ ((is_failing v ≡ false)
+    × ((vault ≡ counted v) ⊎ PlacesSome files (with_file file v) vault))
+
+-- All files were stored, or all up to the fault; if an allocation failed, some first ones.
+abbrev pub Places : {T : Type 0} → Result T (Refuse LoadFault) → List DrawnFile → VaultState
+    → VaultState → Type 0
+Places (Ok done) files v vault =
+    ((placed files v).fault ≡ None) × (vault ≡ (placed files v).vault)
+Places (Err (Named fault)) files v vault =
+    ((placed files v).fault ≡ Some fault) × (vault ≡ (placed files v).vault)
+Places (Err NoMemory) files v vault = PlacesSome files v vault

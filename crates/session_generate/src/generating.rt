@@ -5,11 +5,11 @@ ghost use Rattle.pam_outside.specs.Counts.{RisesIf};
 ghost use Rattle.session_run.specs.item_stream.specs.Turns.{has_write_fault};
 ghost use Rattle.session_run.specs.Reading.{WritesScript};
 ghost use Rattle.session_run.specs.Seen.{AllTell, IsSoundIn, NoneIsOpenIn, Went, setting_in, state};
-ghost use Rattle.session_generate.specs.Generated.{Finds, Generates, IsEndOfFinding, IsEndOfGenerate, IsFound, attempted, generated_text, generation};
+ghost use Rattle.session_generate.specs.Generated.{AttemptStops, FindsOrStops, Generates, IsEndOfFinding, IsEndOfGenerate, IsFound, attempted, generated_text, generation};
 ghost use Rattle.session_generate.specs.Login.{ComesTo, IsEndWith, end_status};
 
 use crate::login::{Login, log_in};
-use crate::place::go_to_root;
+use crate::place::set_process;
 use crate::placing::place_in_world;
 use drawn_files::{MAX_DRAWN, draw_files, file_count};
 use pam_base::{Failed, NoMemory, Refuse, Text, code_name, code_number};
@@ -101,9 +101,8 @@ fn find(
     requires sound { IsSoundIn (⟦<Session as Told>⟧.seen library.old world.old) }
     ensures told { let seen = ⟦<Session as Told>⟧.seen in (delay : TheCode → ℕ → ℕ) →
         (seen library.old world.old).gives delay → AllTell (seen library.old world.old) →
-        IfOk result (λ finding. Finds finding (generation
-        (setting_in (seen library.old world.old) delay) seed lines
-        (state (seen library.old world.old))) (state (seen library.new world.new))) }
+        FindsOrStops result (generation (setting_in (seen library.old world.old) delay) seed lines
+        (state (seen library.old world.old))) (state (seen library.new world.new)) }
     ensures none_open { NoneIsOpenIn (⟦<Session as Told>⟧.seen library.new world.new) }
     ensures went { let seen = ⟦<Session as Told>⟧.seen in Went (IsEndOfFinding result)
         (seen library.old world.old) (seen library.new world.new) }
@@ -125,14 +124,16 @@ fn attempt(
     requires sound { IsSoundIn (⟦<Session as Told>⟧.seen library.old world.old) }
     ensures told { let seen = ⟦<Session as Told>⟧.seen in (delay : TheCode → ℕ → ℕ) →
         (seen library.old world.old).gives delay → AllTell (seen library.old world.old) →
-        ComesTo result (attempted (setting_in (seen library.old world.old) delay) seed lines
-        (state (seen library.old world.old))) (state (seen library.new world.new)) }
+        (let setting = setting_in (seen library.old world.old) delay in
+        let before = state (seen library.old world.old) in
+        ComesTo result (attempted setting seed lines before)
+        (AttemptStops setting seed lines before) (state (seen library.new world.new))) }
     ensures none_open { NoneIsOpenIn (⟦<Session as Told>⟧.seen library.new world.new) }
     ensures went { let seen = ⟦<Session as Told>⟧.seen in Went
         (IsEndWith (number_of (end_status result))) (seen library.old world.old)
         (seen library.new world.new) }
 {
-    go_to_root(alloc, world)?;
+    set_process(alloc, world)?;
     let files = draw_files(alloc, seed, lines)?;
     match place_in_world(alloc, &files, world) {
         Err(refuse) => Err(refuse),

@@ -3,7 +3,7 @@ ghost use Rattle.pam_base.specs.declared.code.Code.{Code as TheCode};
 ghost use Rattle.pam_base.specs.Code.{number_of};
 ghost use Rattle.session_run.specs.pam_library.specs.Slots.{is_open_at, slot_at};
 ghost use Rattle.session_run.specs.Seen.{AllTell, IsSoundIn, NoneIsOpenIn, Went, setting_in, state};
-ghost use Rattle.session_generate.specs.Login.{Authenticates, ComesTo, IsEndWith, NoEnd, Starts, Tries, authenticate_call, called, code_in, end_status, ended, logged_in, refusal_in, start_call, step_of};
+ghost use Rattle.session_generate.specs.Login.{Authenticates, ComesTo, IsEndWith, LoginStops, NoEnd, Starts, Tries, code_in, end_status, ended, logged_in, refusal_in, start_call, step_of};
 
 use pam_base::{AppCall, Code, NoMemory, Refuse, Step, Text, code_number};
 use service_load::LoadFault;
@@ -33,8 +33,10 @@ pub(crate) fn log_in(
     requires sound { IsSoundIn (⟦<Session as Told>⟧.seen library.old world.old) }
     ensures told { let seen = ⟦<Session as Told>⟧.seen in (delay : TheCode → ℕ → ℕ) →
         (seen library.old world.old).gives delay → AllTell (seen library.old world.old) →
-        ComesTo result (logged_in (setting_in (seen library.old world.old) delay)
-        (state (seen library.old world.old))) (state (seen library.new world.new)) }
+        (let setting = setting_in (seen library.old world.old) delay in
+        let before = state (seen library.old world.old) in
+        ComesTo result (logged_in setting before) (LoginStops setting before)
+        (state (seen library.new world.new))) }
     ensures none_open { NoneIsOpenIn (⟦<Session as Told>⟧.seen library.new world.new) }
     ensures went { let seen = ⟦<Session as Told>⟧.seen in Went
         (IsEndWith (number_of (end_status result))) (seen library.old world.old)
@@ -86,8 +88,8 @@ fn start(alloc: Global, library: &mut Library, world: &mut World) -> Result<(), 
     requires sound { IsSoundIn (⟦<Session as Told>⟧.seen library.old world.old) }
     ensures told { let seen = ⟦<Session as Told>⟧.seen in (delay : TheCode → ℕ → ℕ) →
         (seen library.old world.old).gives delay → AllTell (seen library.old world.old) →
-        Starts result (called (setting_in (seen library.old world.old) delay)
-        (state (seen library.old world.old)) start_call) (state (seen library.new world.new)) }
+        Starts result (setting_in (seen library.old world.old) delay)
+        (state (seen library.old world.old)) (state (seen library.new world.new)) }
     ensures others { let seen = ⟦<Session as Told>⟧.seen in (number : ℕ) → (number ≡ 1 → ⊥) →
         slot_at (seen library.new world.new).slots number
         ≡ slot_at (seen library.old world.old).slots number }
@@ -135,9 +137,8 @@ fn authenticate(alloc: Global, library: &mut Library, world: &mut World) -> Resu
     requires sound { IsSoundIn (⟦<Session as Told>⟧.seen library.old world.old) }
     ensures told { let seen = ⟦<Session as Told>⟧.seen in (delay : TheCode → ℕ → ℕ) →
         (seen library.old world.old).gives delay → AllTell (seen library.old world.old) →
-        IfOk result (λ login. Authenticates login (called
-        (setting_in (seen library.old world.old) delay) (state (seen library.old world.old))
-        authenticate_call) (state (seen library.new world.new))) }
+        Authenticates result (setting_in (seen library.old world.old) delay)
+        (state (seen library.old world.old)) (state (seen library.new world.new)) }
     ensures others { let seen = ⟦<Session as Told>⟧.seen in (number : ℕ) → (number ≡ 1 → ⊥) →
         slot_at (seen library.new world.new).slots number
         ≡ slot_at (seen library.old world.old).slots number }

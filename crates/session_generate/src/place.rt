@@ -9,7 +9,7 @@ use std::alloc::Global;
 const NOBODY: u32 = 65534;
 
 /// Sets the root `/` and the user ID of nobody. If an allocation fails, the world stays as it was.
-pub(crate) fn go_to_root(alloc: Global, world: &mut World) -> Result<(), NoMemory>
+pub(crate) fn set_process(alloc: Global, world: &mut World) -> Result<(), NoMemory>
     ensures tells { ⟦<World as WorldTold>⟧.tells world.new
         ≡ ⟦<World as WorldTold>⟧.tells world.old }
     ensures ok { OnOk result (⟦<World as WorldTold>⟧.plain world.new

@@ -1,6 +1,6 @@
 ghost use Rattle.std.specs.Prelude.{◌≡◌, ◌∷◌, [], IfOk, IsTrue};
 ghost use Rattle.session_run.specs.pam_handle.specs.Plain.{in_box};
-ghost use Rattle.session_generate.specs.Placing.{Places, path_of_service, placed, with_vault};
+ghost use Rattle.session_generate.specs.Placing.{Places, path_of_service, with_vault};
 
 use drawn_files::DrawnFile;
 use pam_base::{FaultKind, NoMemory, Refuse, Text};
@@ -18,7 +18,7 @@ pub(crate) fn place_in_world(
     ensures tells { ⟦<World as WorldTold>⟧.tells world.new
         ≡ ⟦<World as WorldTold>⟧.tells world.old }
     ensures told { IsTrue (vault_tells (in_box world.old.vault)) →
-        Places result (placed files.now (vault_holds (in_box world.old.vault)))
+        Places result files.now (vault_holds (in_box world.old.vault))
         (vault_holds (in_box world.new.vault)) }
     ensures rest { ⟦<World as WorldTold>⟧.plain world.new
         ≡ with_vault (vault_holds (in_box world.new.vault))
@@ -36,7 +36,7 @@ fn place_files(
 ) -> Result<(), Refuse<LoadFault>>
     ensures tells { vault_tells vault.new ≡ vault_tells vault.old }
     ensures told { IsTrue (vault_tells vault.old) →
-        Places result (placed files.now (vault_holds vault.old)) (vault_holds vault.new) }
+        Places result files.now (vault_holds vault.old) (vault_holds vault.new) }
 {
     for file in files {
         match place_file(alloc, file, vault) {
@@ -54,7 +54,7 @@ fn place_file(
 ) -> Result<(), Refuse<LoadFault>>
     ensures tells { vault_tells vault.new ≡ vault_tells vault.old }
     ensures told { IsTrue (vault_tells vault.old) →
-        Places result (placed (file.now ∷ []) (vault_holds vault.old)) (vault_holds vault.new) }
+        Places result (file.now ∷ []) (vault_holds vault.old) (vault_holds vault.new) }
 {
     let path = path_of(alloc, file.name.bytes())?;
     match replace_file(vault, alloc, path.bytes(), file.text.bytes()) {

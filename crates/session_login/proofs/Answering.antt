@@ -14,9 +14,10 @@ use Rattle.session_run.specs.pam_library.specs.declared.outcome.Answer.{Answer}
 use Rattle.item_stream.specs.declared.ending.Stop.{Stop}
 use Rattle.item_stream.specs.declared.ending.Stop.TheVariants.{NoMemory, WriteFault}
 use Rattle.session_run.specs.State.{Setting, RunState, state_of}
+use Rattle.session_run.specs.Step.{CallFails}
 use Rattle.session_login.specs.Calls.{call_with}
-use Rattle.session_login.specs.Login.{answer_line, lines_of_calls, make, made_line}
-use Rattle.session_login.specs.Told.{FindsNoMemory, Goes, Makes}
+use Rattle.session_login.specs.Login.{answer_line, lines_of_calls, make, made_line, step_of}
+use Rattle.session_login.specs.Told.{MakesCalls, Makes}
 
 pub fit_call : (func : Func) (flags : ℕ) → is_fit (call_with func flags) ≡ true
 fit_call funcs.Authenticate flags = refl
@@ -27,11 +28,11 @@ fit_call funcs.CloseSession flags = refl
 fit_call funcs.ChAuthTok flags = refl
 
 module _ (setting : Setting) (call : AppCall) (s : RunState) where
-  stopped : (stop : Stop) (t : RunState) (p q : SinkState) → Goes {T = Answer} setting (make setting call s ∷ []) (Err stop) s t p q
+  stopped : (stop : Stop) (t : RunState) (p q : SinkState) → MakesCalls {T = Answer} setting (make setting call s ∷ []) (Err stop) s t p q
       → Makes setting (make setting call s) (Err stop) s t p q
   stopped stop t p q g = record { answers = tt; goes = g }
 
-  pub call_failed : (t : RunState) (p : SinkState) → FindsNoMemory setting call s t → Makes setting (make setting call s) (Err NoMemory) s t p p
+  pub call_failed : (t : RunState) (p : SinkState) → CallFails setting (step_of call) s t → Makes setting (make setting call s) (Err NoMemory) s t p p
   call_failed t p f = stopped NoMemory t p p (record { whole = []; others = make setting call s ∷ []; among = refl; part = []; written = sym (append-nil p.written); to = (refl, inr (inr f)) })
 
   module _ (outcome : PlainOutcome) (slots : List PlainSlot) (world : PlainWorld) (a : StepsAs (stepped setting.players setting.delay s.slots s.world (record { number = 1; call = call })) outcome slots world) where

@@ -16,7 +16,7 @@ use Rattle.session_login.specs.declared.attempt.Verdict.{Verdict}
 use Rattle.session_login.specs.declared.attempt.Verdict.TheVariants.{Passed, Denied, Refused}
 use Rattle.session_login.specs.Ends.{closing_code}
 use Rattle.session_login.specs.Login.{Course, Login, Made, behind_calls, denied_line, end_call, last_line, lines_of_calls, logging_in, login_behind, login_of, make, settled, settling, state_behind, verdict_by}
-use Rattle.session_login.specs.Told.{Comes, ComesTo, Goes, GoesThrough, GoesTo, LogsIn, Makes, WritesDenial, as_it_is, ended_for}
+use Rattle.session_login.specs.Told.{LogsInThen, LoginLeads, MakesCalls, MakesCourse, CallsLead, LogsIn, Makes, WritesDenial, as_it_is, ended_for}
 use Rattle.session_login.proofs.Closing.{end_of_closed, login_closes}
 use Rattle.session_login.proofs.Following.{Went, all_went, behind-append, goes_stopped, written_behind}
 
@@ -37,27 +37,27 @@ module _ (setting : Setting) where
   -- ---- it stopped in a call
 
   stops_so : (T : Type 0) (l : Login) (stop : Stop) (s t : RunState) (whole others : List Made) (part : List ℕ)
-      → GoesTo {T = T} setting (Err stop) s t whole others part
-      → ComesTo setting as_it_is l (Err stop) s t whole others part
+      → CallsLead {T = T} setting (Err stop) s t whole others part
+      → LoginLeads setting as_it_is l (Err stop) s t whole others part
   stops_so T l stop s t whole [] part h = absurd h
   stops_so T l stop s t whole (m ∷ made) part h = (t, h.0, h.1, refl)
 
-  pub comes_stopped : (T : Type 0) (l : Login) (stop : Stop) (s t : RunState) (p q : SinkState) → Goes {T = T} setting l.made (Err stop) s t p q
-      → Comes setting as_it_is l (Err stop) s t p q
+  pub comes_stopped : (T : Type 0) (l : Login) (stop : Stop) (s t : RunState) (p q : SinkState) → MakesCalls {T = T} setting l.made (Err stop) s t p q
+      → LogsInThen setting as_it_is l (Err stop) s t p q
   comes_stopped T l stop s t p q g = record { whole = g.whole; others = g.others; among = g.among; part = g.part; written = g.written; to = stops_so T l stop s t g.whole g.others g.part g.to }
 
   -- ---- some calls, and then the rest
 
   to_behind : (l : Login) (result : Result Verdict Stop) (xs : List Made) (s t : RunState) (whole others : List Made) (part : List ℕ)
-      → ComesTo setting as_it_is l result (state_behind s xs) t whole others part
-      → ComesTo setting as_it_is (behind_calls xs l) result s t (xs ++ whole) others part
+      → LoginLeads setting as_it_is l result (state_behind s xs) t whole others part
+      → LoginLeads setting as_it_is (behind_calls xs l) result s t (xs ++ whole) others part
   to_behind l (Ok verdict) xs s t whole others part h = (h.0, h.1, h.2, h.3 ∙ sym (behind-append s xs whole))
   to_behind l (Err stop) xs s t whole [] part h = (h.0, h.1, h.2, h.3 ∙ sym (behind-append s xs whole))
   to_behind l (Err stop) xs s t whole (m ∷ others) part h = (h.0, h.1, rw (behind-append s xs whole) h.2, h.3)
 
   pub comes_behind : {T : Type 0} (xs : List Made) (done : T) (l : Login) (result : Result Verdict Stop) (s m t : RunState) (p q r : SinkState)
-      → Goes {T = T} setting xs (Ok done) s m p q
-      → Comes setting as_it_is l result m t q r → Comes setting as_it_is (behind_calls xs l) result s t p r
+      → MakesCalls {T = T} setting xs (Ok done) s m p q
+      → LogsInThen setting as_it_is l result m t q r → LogsInThen setting as_it_is (behind_calls xs l) result s t p r
   comes_behind xs done l result s m t p q r g c =
       let w = all_went setting xs done s m p q g in
       record {
@@ -77,12 +77,12 @@ module _ (setting : Setting) where
 
   -- ---- the end
 
-  module _ (denied : Option Code) (answer : Answer) (s t : RunState) (p q : SinkState) (g : Goes {T = Answer} setting ((settling setting denied s).made) (Ok answer) s t p q) where
+  module _ (denied : Option Code) (answer : Answer) (s t : RunState) (p q : SinkState) (g : MakesCalls {T = Answer} setting ((settling setting denied s).made) (Ok answer) s t p q) where
     end_made : Went setting ((settling setting denied s).made) s t p q
     end_made = all_went setting ((settling setting denied s).made) answer s t p q g
 
     -- nothing is written after it
-    pub settles_passed : denied ≡ None → Comes setting as_it_is (settling setting denied s) (Ok Passed) s t p q
+    pub settles_passed : denied ≡ None → LogsInThen setting as_it_is (settling setting denied s) (Ok Passed) s t p q
     settles_passed none = record {
       whole = (settling setting denied s).made;
       others = [];
@@ -95,12 +95,12 @@ module _ (setting : Setting) where
     -- a last line is
     module _ (code : Code) (some : denied ≡ Some code) (r : SinkState) where
       denied_to : (result : Result Verdict Stop) → IfOk result (λ (verdict : Verdict). verdict ≡ Denied code) → (d : WritesDenial code result q r)
-          → ComesTo setting as_it_is (settling setting denied s) result s t ((settling setting denied s).made) [] d.part
+          → LoginLeads setting as_it_is (settling setting denied s) result s t ((settling setting denied s).made) [] d.part
       denied_to (Ok verdict) is d = (refl, d.to ∙ ap last_line (sym is), is ∙ sym (ap verdict_by some), end_made.at)
       denied_to (Err stop) is d = (code, ap verdict_by some, d.to, end_made.at)
 
       pub settles_denied : (result : Result Verdict Stop) → IfOk result (λ (verdict : Verdict). verdict ≡ Denied code) → WritesDenial code result q r
-          → Comes setting as_it_is (settling setting denied s) result s t p r
+          → LogsInThen setting as_it_is (settling setting denied s) result s t p r
       settles_denied result is d = record {
         whole = (settling setting denied s).made;
         others = [];
@@ -112,13 +112,13 @@ module _ (setting : Setting) where
 
   -- ---- the calls, and then the end
 
-  pub logs_stopped : (s t : RunState) (c : Course) (stop : Stop) (p q : SinkState) → GoesThrough setting c (Err stop) s t p q
-      → Comes setting as_it_is (settled setting s c) (Err stop) s t p q
+  pub logs_stopped : (s t : RunState) (c : Course) (stop : Stop) (p q : SinkState) → MakesCourse setting c (Err stop) s t p q
+      → LogsInThen setting as_it_is (settled setting s c) (Err stop) s t p q
   logs_stopped s t c stop p q r = comes_stopped (Option Code) (settled setting s c) stop s t p q (goes_stopped setting (Option Code) (Option Code) stop c.made (settling setting c.denied (state_behind s c.made)).made s t p q r.goes)
 
   pub logs_on : (s m t : RunState) (c : Course) (denied : Option Code) (result : Result Verdict Stop) (p q r : SinkState)
-      → GoesThrough setting c (Ok denied) s m p q
-      → Comes setting as_it_is (settling setting denied m) result m t q r → Comes setting as_it_is (settled setting s c) result s t p r
+      → MakesCourse setting c (Ok denied) s m p q
+      → LogsInThen setting as_it_is (settling setting denied m) result m t q r → LogsInThen setting as_it_is (settled setting s c) result s t p r
   logs_on s m t c denied result p q r runs comes =
       let w = all_went setting c.made denied s m p q runs.goes in
       comes_behind c.made denied (settling setting c.denied (state_behind s c.made)) result s m t p q r runs.goes (rw (← runs.denies, ← w.at) comes)
@@ -134,19 +134,19 @@ module _ (setting : Setting) where
     first false = ((logging_in setting start.state).made, refl)
 
     -- it wasn't begun
-    pub comes_unbegun : (p : SinkState) → Comes setting as_it_is (login_of setting service user s) (Err NoMemory) s s p p
+    pub comes_unbegun : (p : SinkState) → LogsInThen setting as_it_is (login_of setting service user s) (Err NoMemory) s s p p
     comes_unbegun p =
         let f = first (is_refused start.answer) in
         record { whole = []; others = start ∷ f.0; among = f.1; part = []; written = sym (append-nil p.written); to = (s, refl, inr (inl refl), refl) }
 
-    pub comes_start_stopped : (stop : Stop) (t : RunState) (p q : SinkState) → Goes {T = Answer} setting (start ∷ []) (Err stop) s t p q
-        → Comes setting as_it_is (login_of setting service user s) (Err stop) s t p q
+    pub comes_start_stopped : (stop : Stop) (t : RunState) (p q : SinkState) → MakesCalls {T = Answer} setting (start ∷ []) (Err stop) s t p q
+        → LogsInThen setting as_it_is (login_of setting service user s) (Err stop) s t p q
     comes_start_stopped stop t p q g =
         let f = first (is_refused start.answer) in
         comes_stopped Answer (login_of setting service user s) stop s t p q (rw f.1 (goes_stopped setting Answer Answer stop (start ∷ []) f.0 s t p q g))
 
-    module _ (answer : Answer) (t : RunState) (p q : SinkState) (is : answer ≡ start.answer) (g : Goes {T = Answer} setting (start ∷ []) (Ok answer) s t p q) where
-      pub comes_refused : is_refused answer ≡ true → Comes setting as_it_is (login_of setting service user s) (Ok Refused) s t p q
+    module _ (answer : Answer) (t : RunState) (p q : SinkState) (is : answer ≡ start.answer) (g : MakesCalls {T = Answer} setting (start ∷ []) (Ok answer) s t p q) where
+      pub comes_refused : is_refused answer ≡ true → LogsInThen setting as_it_is (login_of setting service user s) (Ok Refused) s t p q
       comes_refused e =
           let b : is_refused start.answer ≡ true = ap is_refused (sym is) ∙ e in
           let w = all_went setting (start ∷ []) answer s t p q g in
@@ -160,8 +160,8 @@ module _ (setting : Setting) where
           })
 
       pub comes_on : is_refused answer ≡ false → (result : Result Verdict Stop) (u : RunState) (r : SinkState)
-          → Comes setting as_it_is (logging_in setting t) result t u q r
-          → Comes setting as_it_is (login_of setting service user s) result s u p r
+          → LogsInThen setting as_it_is (logging_in setting t) result t u q r
+          → LogsInThen setting as_it_is (login_of setting service user s) result s u p r
       comes_on e result u r c =
           let b : is_refused start.answer ≡ false = ap is_refused (sym is) ∙ e in
           let w = all_went setting (start ∷ []) answer s t p q g in
@@ -170,10 +170,10 @@ module _ (setting : Setting) where
     -- ---- and the transaction is ended if it is still open
 
     ended_to : (result : Result Verdict Stop) (t u : RunState) (p q : SinkState)
-        → (c : Comes setting as_it_is (login_of setting service user s) result s t p q) → NoneIsOpen s.slots
+        → (c : LogsInThen setting as_it_is (login_of setting service user s) result s t p q) → NoneIsOpen s.slots
         → u ≡ (make setting (end_call (closing_code result)) t).state → (whole others : List Made) (part : List ℕ)
         → (login_of setting service user s).made ≡ whole ++ others
-        → ComesTo setting as_it_is (login_of setting service user s) result s t whole others part → ComesTo setting (ended_for setting) (login_of setting service user s) result s u whole others part
+        → LoginLeads setting as_it_is (login_of setting service user s) result s t whole others part → LoginLeads setting (ended_for setting) (login_of setting service user s) result s u whole others part
     ended_to (Ok verdict) t u p q c none e whole others part among h =
         let all : whole ≡ (login_of setting service user s).made = sym (append-nil whole) ∙ ap (λ (x : List Made). whole ++ x) (sym h.0) ∙ sym among in
         let at : t ≡ state_behind s (login_of setting service user s).made = h.3 ∙ ap (state_behind s) all in
@@ -183,7 +183,7 @@ module _ (setting : Setting) where
     ended_to (Err stop) t u p q c none e whole (m ∷ others) part among h = (h.0, h.1, h.2, e ∙ ap (ended_for setting stop) h.3)
 
     pub logs_in : (result : Result Verdict Stop) (t u : RunState) (p q : SinkState)
-        → Comes setting as_it_is (login_of setting service user s) result s t p q → NoneIsOpen s.slots
+        → LogsInThen setting as_it_is (login_of setting service user s) result s t p q → NoneIsOpen s.slots
         → u ≡ (make setting (end_call (closing_code result)) t).state → LogsIn setting (login_of setting service user s) result s u p q
     logs_in result t u p q c none e = record {
       whole = c.whole;

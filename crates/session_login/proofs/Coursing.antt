@@ -12,7 +12,7 @@ use Rattle.session_login.specs.declared.calls.LoginCall.{LoginCall}
 use Rattle.session_login.specs.Calls.{accepts, call_of, code_in, is_due}
 use Rattle.session_login.specs.Ends.{IsDenial}
 use Rattle.session_login.specs.Login.{Made, course, judged, make, turn}
-use Rattle.session_login.specs.Told.{Goes, GoesThrough, Makes}
+use Rattle.session_login.specs.Told.{MakesCalls, MakesCourse, Makes}
 use Rattle.session_login.proofs.Following.{all_went, goes_all, goes_stopped, goes_then, none_went}
 
 -- a code that isn't accepted denies
@@ -23,7 +23,7 @@ not_accepted Any code refuses e = cc
 
 module _ (setting : Setting) where
   -- there are none
-  pub runs_none : (last : Code) (s : RunState) (p : SinkState) → GoesThrough setting (course setting [] last s) (Ok None) s s p p
+  pub runs_none : (last : Code) (s : RunState) (p : SinkState) → MakesCourse setting (course setting [] last s) (Ok None) s s p p
   unfolding course
   runs_none last s p = record { denies = refl; goes = goes_all setting [] None s s p p (none_went setting s p) }
 
@@ -41,16 +41,16 @@ module _ (setting : Setting) where
     due e = ap (λ (b : Bool). turn setting b c last s (course setting calls)) e
 
     -- it stopped in the first
-    pub runs_stopped : is_due c.when last ≡ true → (stop : Stop) (t : RunState) (p q : SinkState) → Goes {T = Answer} setting (m ∷ []) (Err stop) s t p q
-        → GoesThrough setting (course setting (c ∷ calls) last s) (Err stop) s t p q
+    pub runs_stopped : is_due c.when last ≡ true → (stop : Stop) (t : RunState) (p q : SinkState) → MakesCalls {T = Answer} setting (m ∷ []) (Err stop) s t p q
+        → MakesCourse setting (course setting (c ∷ calls) last s) (Err stop) s t p q
     runs_stopped e stop t p q g =
         rw (due e)
-        (elim (accepts c.accepted (code_in m.answer)) as (λ (b : Bool). GoesThrough setting (judged b m (course setting calls)) (Err stop) s t p q) [
+        (elim (accepts c.accepted (code_in m.answer)) as (λ (b : Bool). MakesCourse setting (judged b m (course setting calls)) (Err stop) s t p q) [
           | true ↦ record { denies = tt; goes = goes_stopped setting Answer (Option Code) stop (m ∷ []) (course setting calls (code_in m.answer) m.state).made s t p q g }
           | false ↦ record { denies = tt; goes = goes_stopped setting Answer (Option Code) stop (m ∷ []) [] s t p q g }
         ])
 
-    module _ (answer : Answer) (t : RunState) (p q : SinkState) (is_made : is_due c.when last ≡ true) (is : answer ≡ m.answer) (g : Goes {T = Answer} setting (m ∷ []) (Ok answer) s t p q) where
+    module _ (answer : Answer) (t : RunState) (p q : SinkState) (is_made : is_due c.when last ≡ true) (is : answer ≡ m.answer) (g : MakesCalls {T = Answer} setting (m ∷ []) (Ok answer) s t p q) where
       code_is : code_in m.answer ≡ code_in answer
       code_is = ap code_in (sym is)
 
@@ -59,7 +59,7 @@ module _ (setting : Setting) where
 
       -- the first denies
       pub runs_denied : accepts c.accepted (code_in answer) ≡ false
-          → GoesThrough setting (course setting (c ∷ calls) last s) (Ok (Some (code_in answer))) s t p q
+          → MakesCourse setting (course setting (c ∷ calls) last s) (Ok (Some (code_in answer))) s t p q
       runs_denied e = rw (by_code false e) (record {
         denies = ap Some (sym code_is);
         goes = goes_all setting (m ∷ []) (Some (code_in answer)) s t p q (all_went setting (m ∷ []) answer s t p q g);
@@ -67,7 +67,7 @@ module _ (setting : Setting) where
 
       -- it goes on after the first
       pub runs_on : accepts c.accepted (code_in answer) ≡ true → (result : Result (Option Code) Stop) (u : RunState) (r : SinkState)
-          → GoesThrough setting (course setting calls (code_in answer) t) result t u q r → GoesThrough setting (course setting (c ∷ calls) last s) result s u p r
+          → MakesCourse setting (course setting calls (code_in answer) t) result t u q r → MakesCourse setting (course setting (c ∷ calls) last s) result s u p r
       runs_on ok result u r more =
           let w = all_went setting (m ∷ []) answer s t p q g in
           let there : course setting calls (code_in answer) t ≡ course setting calls (code_in m.answer) m.state =
@@ -81,7 +81,7 @@ module _ (setting : Setting) where
 
 module _ (setting : Setting) (all : List LoginCall) (c : LoginCall) (calls : List LoginCall) (last : Code) (s : RunState) (e : all ≡ c ∷ calls) where
   pub told_not_due : is_due c.when last ≡ false → (result : Result (Option Code) Stop) (t : RunState) (p q : SinkState)
-      → GoesThrough setting (course setting calls last s) result s t p q → GoesThrough setting (course setting all last s) result s t p q
+      → MakesCourse setting (course setting calls last s) result s t p q → MakesCourse setting (course setting all last s) result s t p q
   told_not_due later result t p q g = rw (e, runs_not_due setting c calls last s later) g
 
   module _ (call : AppCall) (is : call ≡ call_of c) (is_made : is_due c.when last ≡ true) where
@@ -89,18 +89,18 @@ module _ (setting : Setting) (all : List LoginCall) (c : LoginCall) (calls : Lis
     made result t p q m = subst (λ (x : AppCall). Makes setting (make setting x s) result s t p q) is m
 
     pub told_stopped : (stop : Stop) (t : RunState) (p q : SinkState) → Makes setting (make setting call s) (Err stop) s t p q
-        → GoesThrough setting (course setting all last s) (Err stop) s t p q
+        → MakesCourse setting (course setting all last s) (Err stop) s t p q
     told_stopped stop t p q m = rw e (runs_stopped setting c calls last s is_made stop t p q (made (Err stop) t p q m).goes)
 
     module _ (answer : Answer) (code : Code) (t : RunState) (p q : SinkState) (code_is : code ≡ code_in answer) (m : Makes setting (make setting call s) (Ok answer) s t p q) where
-      pub told_denied : accepts c.accepted code ≡ false → GoesThrough setting (course setting all last s) (Ok (Some code)) s t p q
+      pub told_denied : accepts c.accepted code ≡ false → MakesCourse setting (course setting all last s) (Ok (Some code)) s t p q
       told_denied refuses =
           let d = made (Ok answer) t p q m in
           rw (e, code_is) (runs_denied setting c calls last s answer t p q is_made d.answers d.goes (ap (accepts c.accepted) (sym code_is) ∙ refuses))
 
       pub told_on : accepts c.accepted code ≡ true → (result : Result (Option Code) Stop) (u : RunState) (r : SinkState)
-          → GoesThrough setting (course setting calls code t) result t u q r → GoesThrough setting (course setting all last s) result s u p r
+          → MakesCourse setting (course setting calls code t) result t u q r → MakesCourse setting (course setting all last s) result s u p r
       told_on goes result u r g =
           let d = made (Ok answer) t p q m in
-          let next : GoesThrough setting (course setting calls (code_in answer) t) result t u q r = subst (λ (x : Code). GoesThrough setting (course setting calls x t) result t u q r) code_is g in
+          let next : MakesCourse setting (course setting calls (code_in answer) t) result t u q r = subst (λ (x : Code). MakesCourse setting (course setting calls x t) result t u q r) code_is g in
           rw e (runs_on setting c calls last s answer t p q is_made d.answers d.goes (ap (accepts c.accepted) (sym code_is) ∙ goes) result u r next)

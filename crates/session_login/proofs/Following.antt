@@ -4,7 +4,7 @@ use Rattle.pam_outside.specs.Streams.{SinkState}
 use Rattle.item_stream.specs.declared.ending.Stop.{Stop}
 use Rattle.session_run.specs.State.{Setting, RunState}
 use Rattle.session_login.specs.Login.{Made, lines_of_calls, made_line, state_behind}
-use Rattle.session_login.specs.Told.{Goes, GoesTo}
+use Rattle.session_login.specs.Told.{MakesCalls, CallsLead}
 
 pub lines-append : (xs ys : List Made) → lines_of_calls (xs ++ ys) ≡ lines_of_calls xs ++ lines_of_calls ys
 lines-append [] ys = refl
@@ -20,13 +20,13 @@ module _ (setting : Setting) where
     pub written : q.written ≡ p.written ++ lines_of_calls xs
     pub at : t ≡ state_behind s xs
 
-  pub all_went : {T : Type 0} (xs : List Made) (done : T) (s t : RunState) (p q : SinkState) → Goes {T = T} setting xs (Ok done) s t p q → Went xs s t p q
+  pub all_went : {T : Type 0} (xs : List Made) (done : T) (s t : RunState) (p q : SinkState) → MakesCalls {T = T} setting xs (Ok done) s t p q → Went xs s t p q
   all_went xs done s t p q g =
       let is : g.whole ≡ xs = sym (append-nil g.whole) ∙ ap (λ (l : List Made). g.whole ++ l) (sym g.to.0) ∙ sym g.among in
       let text : lines_of_calls g.whole ++ g.part ≡ lines_of_calls xs = ap (λ (l : List ℕ). lines_of_calls g.whole ++ l) g.to.1 ∙ append-nil (lines_of_calls g.whole) ∙ ap lines_of_calls is in
       record { written = rw (← text) g.written; at = rw (← is) g.to.2 }
 
-  pub goes_all : {T : Type 0} (xs : List Made) (done : T) (s t : RunState) (p q : SinkState) → Went xs s t p q → Goes {T = T} setting xs (Ok done) s t p q
+  pub goes_all : {T : Type 0} (xs : List Made) (done : T) (s t : RunState) (p q : SinkState) → Went xs s t p q → MakesCalls {T = T} setting xs (Ok done) s t p q
   goes_all xs done s t p q w = record {
     whole = xs;
     others = [];
@@ -41,8 +41,8 @@ module _ (setting : Setting) where
 
   -- the same states, with another list before
   to_behind : {T : Type 0} (result : Result T Stop) (xs : List Made) (s t : RunState) (whole others : List Made) (part : List ℕ)
-      → GoesTo {T = T} setting result (state_behind s xs) t whole others part
-      → GoesTo {T = T} setting result s t (xs ++ whole) others part
+      → CallsLead {T = T} setting result (state_behind s xs) t whole others part
+      → CallsLead {T = T} setting result s t (xs ++ whole) others part
   to_behind (Ok done) xs s t whole others part h = (h.0, h.1, h.2 ∙ sym (behind-append s xs whole))
   to_behind (Err stop) xs s t whole [] part h = h
   to_behind (Err stop) xs s t whole (m ∷ others) part h = (h.0, rw (behind-append s xs whole) h.1)
@@ -55,8 +55,8 @@ module _ (setting : Setting) where
         ∙ append_assoc p.written (lines_of_calls xs) (lines_of_calls whole ++ part)
         ∙ ap (λ (l : List ℕ). p.written ++ l) (sym (append_assoc (lines_of_calls xs) (lines_of_calls whole) part) ∙ ap (λ (l : List ℕ). l ++ part) (sym (lines-append xs whole)))
 
-    pub goes_then : {T : Type 0} (result : Result T Stop) (ys : List Made) (t : RunState) (r : SinkState) → Goes {T = T} setting ys result m t q r
-        → Goes {T = T} setting (xs ++ ys) result s t p r
+    pub goes_then : {T : Type 0} (result : Result T Stop) (ys : List Made) (t : RunState) (r : SinkState) → MakesCalls {T = T} setting ys result m t q r
+        → MakesCalls {T = T} setting (xs ++ ys) result s t p r
     goes_then result ys t r g = record {
       whole = xs ++ g.whole;
       others = g.others;
@@ -68,13 +68,13 @@ module _ (setting : Setting) where
 
   -- it stopped in these, and others would have come
   stops_before : (T U : Type 0) (stop : Stop) (ys : List Made) (s t : RunState) (whole others : List Made) (part : List ℕ)
-      → GoesTo {T = T} setting (Err stop) s t whole others part
-      → GoesTo {T = U} setting (Err stop) s t whole (others ++ ys) part
+      → CallsLead {T = T} setting (Err stop) s t whole others part
+      → CallsLead {T = U} setting (Err stop) s t whole (others ++ ys) part
   stops_before T U stop ys s t whole [] part h = absurd h
   stops_before T U stop ys s t whole (m ∷ others) part h = h
 
-  pub goes_stopped : (T U : Type 0) (stop : Stop) (xs ys : List Made) (s t : RunState) (p q : SinkState) → Goes {T = T} setting xs (Err stop) s t p q
-      → Goes {T = U} setting (xs ++ ys) (Err stop) s t p q
+  pub goes_stopped : (T U : Type 0) (stop : Stop) (xs ys : List Made) (s t : RunState) (p q : SinkState) → MakesCalls {T = T} setting xs (Err stop) s t p q
+      → MakesCalls {T = U} setting (xs ++ ys) (Err stop) s t p q
   goes_stopped T U stop xs ys s t p q g = record {
     whole = g.whole;
     others = g.others ++ ys;

@@ -11,38 +11,38 @@ use Rattle.item_stream.specs.declared.ending.Stop.TheVariants.{WriteFault}
 use Rattle.session_login.specs.declared.attempt.Verdict.{Verdict}
 use Rattle.session_login.specs.declared.attempt.Verdict.TheVariants.{Passed, Denied, Refused}
 use Rattle.session_login.specs.Login.{denied_line}
-use Rattle.session_login.specs.Told.{SaysAnswer, SaysEnd, SaysVerdict, Shows}
+use Rattle.session_login.specs.Told.{SaysAnswer, SaysEnd, SaysVerdict, WritesLines}
 
 -- ---- one text
 
 module _ {T : Type 0} (Says : T → List ℕ → Type 0) where
-  pub shows_none : (p : SinkState) (stop : Stop) → Shows {T = T} Says (Err stop) p p
+  pub shows_none : (p : SinkState) (stop : Stop) → WritesLines {T = T} Says (Err stop) p p
   shows_none p stop = record { text = []; written = sym (append-nil p.written); calls = omega arith; calls_ok = tt; says = tt }
 
   pub shows_whole : (t : T) (u : Unit {0}) (text : List ℕ) (p q : SinkState) → WritesWhole {T = Unit {0}} (Ok u) text p q → Says t text
-      → Shows {T = T} Says (Ok t) p q
+      → WritesLines {T = T} Says (Ok t) p q
   shows_whole t u text p q w says = record { text = w.front; written = w.written; calls = w.calls; calls_ok = w.calls_ok; says = rw w.all says }
 
   pub shows_front : (failed : Failed) (text : List ℕ) (p q : SinkState) → WritesWhole {T = Unit {0}} (Err failed) text p q
-      → Shows {T = T} Says (Err WriteFault) p q
+      → WritesLines {T = T} Says (Err WriteFault) p q
   shows_front failed text p q w = record { text = w.front; written = w.written; calls = w.calls; calls_ok = tt; says = tt }
 
-  pub shows_nothing : (t : T) (p : SinkState) → Says t [] → Shows {T = T} Says (Ok t) p p
+  pub shows_nothing : (t : T) (p : SinkState) → Says t [] → WritesLines {T = T} Says (Ok t) p p
   shows_nothing t p says = record { text = []; written = sym (append-nil p.written); calls = omega arith; calls_ok = omega arith; says = says }
 
 -- what is said otherwise
 module _ {T U : Type 0} (Says : T → List ℕ → Type 0) (Tells : U → List ℕ → Type 0) where
-  pub shows_so : (t : T) (u : U) (p q : SinkState) → Shows {T = T} Says (Ok t) p q → ((text : List ℕ) → Says t text → Tells u text)
-      → Shows {T = U} Tells (Ok u) p q
+  pub shows_so : (t : T) (u : U) (p q : SinkState) → WritesLines {T = T} Says (Ok t) p q → ((text : List ℕ) → Says t text → Tells u text)
+      → WritesLines {T = U} Tells (Ok u) p q
   shows_so t u p q s so = record { text = s.text; written = s.written; calls = s.calls; calls_ok = s.calls_ok; says = so s.text s.says }
 
-  pub shows_stop : (stop : Stop) (p q : SinkState) → Shows {T = T} Says (Err stop) p q → Shows {T = U} Tells (Err stop) p q
+  pub shows_stop : (stop : Stop) (p q : SinkState) → WritesLines {T = T} Says (Err stop) p q → WritesLines {T = U} Tells (Err stop) p q
   shows_stop stop p q s = record { text = s.text; written = s.written; calls = s.calls; calls_ok = tt; says = tt }
 
   -- ---- one after the other
 
-  pub shows_then : (t : T) (result : Result U Stop) (p q r : SinkState) → Shows {T = T} Says (Ok t) p q → Shows {T = U} Tells result q r
-      → ((u : U) (front text : List ℕ) → Tells u text → Tells u (front ++ text)) → Shows {T = U} Tells result p r
+  pub shows_then : (t : T) (result : Result U Stop) (p q r : SinkState) → WritesLines {T = T} Says (Ok t) p q → WritesLines {T = U} Tells result q r
+      → ((u : U) (front text : List ℕ) → Tells u text → Tells u (front ++ text)) → WritesLines {T = U} Tells result p r
   shows_then t (Ok u) p q r a b so = record {
     text = a.text ++ b.text;
     written = b.written ∙ ap (λ (x : List ℕ). x ++ b.text) a.written ∙ append_assoc p.written a.text b.text;
@@ -81,6 +81,6 @@ refused_said call answers.BadNumber text e says = absurd cc
 refused_said call answers.Nothing text e says = absurd cc
 refused_said call (answers.Pending func) text e says = absurd cc
 
-pub shows_verdict : (result : Result Verdict Stop) (p q : SinkState) → Shows {T = Verdict} SaysEnd result p q → Shows {T = Verdict} SaysVerdict result p q
+pub shows_verdict : (result : Result Verdict Stop) (p q : SinkState) → WritesLines {T = Verdict} SaysEnd result p q → WritesLines {T = Verdict} SaysVerdict result p q
 shows_verdict (Ok verdict) p q s = record { text = s.text; written = s.written; calls = s.calls; calls_ok = s.calls_ok; says = end_is_verdict verdict s.text s.says }
 shows_verdict (Err stop) p q s = record { text = s.text; written = s.written; calls = s.calls; calls_ok = tt; says = tt }

@@ -5,6 +5,7 @@ use Rattle.pam_base.specs.declared.code.Code.{Code}
 use Rattle.pam_base.specs.declared.code.Code.TheVariants.{Success}
 use Rattle.pam_base.specs.declared.call.AppCall.{AppCall}
 use Rattle.pam_base.specs.declared.call.AppCall.TheVariants.{Start, End}
+use Rattle.pam_base.specs.declared.call.Step.{Step}
 use Rattle.pam_base.specs.Code.{number_of}
 use Rattle.session_run.specs.pam_library.specs.declared.outcome.Answer.{Answer}
 use Rattle.session_run.specs.pam_library.specs.declared.outcome.Answer.TheVariants as answers
@@ -31,10 +32,12 @@ pub record Made : Type 0 where
 abbrev pub made_by : AppCall → Stepped → Made
 made_by call t = record { call = call; answer = t.outcome.answer; state = state_of t.slots t.world }
 
+abbrev pub step_of : AppCall → Step
+step_of call = record { number = 1; call = call }
+
 abbrev pub make : Setting → AppCall → RunState → Made
 make setting call s =
-    made_by call (stepped setting.players setting.delay s.slots s.world
-    (record { number = 1; call = call }))
+    made_by call (stepped setting.players setting.delay s.slots s.world (step_of call))
 
 -- its result line; a start that the configuration refused has the line of that
 abbrev pub answer_line : AppCall → Answer → List ℕ

@@ -1,11 +1,8 @@
 -- How far a login came, and what is written of it (this project's own).
-use Rattle.std.specs.Prelude.{◌≡◌, ◌⊎◌, ℕ, ◌+◌, ◌≤◌, true, List, [], ◌∷◌, ◌++◌, length, Option, Result, Ok, Err, IfOk, OnOk}
+use Rattle.std.specs.Prelude.{◌≡◌, ◌⊎◌, ℕ, ◌+◌, ◌≤◌, List, [], ◌∷◌, ◌++◌, length, Option, Result, Ok, Err, IfOk, OnOk}
 use Rattle.pam_base.specs.declared.code.Code.{Code}
 use Rattle.pam_base.specs.declared.call.AppCall.{AppCall}
 use Rattle.pam_outside.specs.Streams.{SinkState}
-use Rattle.session_run.specs.pam_room.specs.Module.{notes_of}
-use Rattle.session_run.specs.pam_library.specs.AnyWorld.{FailsAt, SpendsAt, leaves_world}
-use Rattle.session_run.specs.pam_library.specs.Slots.{lists_of, slot_at}
 use Rattle.session_run.specs.pam_library.specs.declared.outcome.Answer.{Answer}
 use Rattle.session_run.specs.service_load.specs.declared.load_fault.LoadFault.{LoadFault}
 use Rattle.item_stream.specs.declared.ending.Stop.{Stop}
@@ -14,85 +11,75 @@ use Rattle.session_run.specs.session_report.specs.Fault.{refused_text}
 use Rattle.session_run.specs.Endings.{stop_status}
 use Rattle.session_run.specs.Reported.{CutBy}
 use Rattle.session_run.specs.State.{Setting, RunState}
+use Rattle.session_run.specs.Step.{CallFails}
 use Rattle.session_login.specs.declared.attempt.Verdict.{Verdict}
 use Rattle.session_login.specs.declared.attempt.Verdict.TheVariants.{Passed, Denied, Refused}
-use Rattle.session_login.specs.Login.{Course, Login, Made, answer_line, denied_line, end_call, last_line, lines_of_calls, make, made_line, state_behind}
+use Rattle.session_login.specs.Login.{Course, Login, Made, answer_line, denied_line, end_call, last_line, lines_of_calls, make, made_line, state_behind, step_of}
 
 -- ---- a call that stops the login
 
--- The states that a call may leave that ran out of memory: what the library says of the first transaction, with every
--- other as it was, and of the data and the world.
-pub record FindsNoMemory (setting : Setting) (call : AppCall) (s t : RunState) : Type 0 where
-  pub place : FailsAt true call (slot_at s.slots 1) (slot_at t.slots 1)
-  pub others : (number : ℕ) → (number ≡ 1 → ⊥) → slot_at t.slots number ≡ slot_at s.slots number
-  pub spends : SpendsAt (notes_of setting.players) (length setting.players) (slot_at s.slots 1) call
-      (lists_of s.slots 1) s.world.process.ledger (lists_of t.slots 1) t.world.process.ledger
-  pub root : t.world.process.root ≡ s.world.process.root
-  pub caller : t.world.process.caller ≡ s.world.process.caller
-  pub world : leaves_world (slot_at s.slots 1) call ≡ true → t.world ≡ s.world
-
 -- A write failed: the call was made. An allocation failed: the call was made, or it wasn't begun, or it ran out of
--- memory.
+-- memory itself and left a state that the library says.
 abbrev pub StopsIn : Setting → Stop → RunState → Made → RunState → Type 0
 StopsIn setting WriteFault s m t = t ≡ m.state
-StopsIn setting NoMemory s m t = (t ≡ m.state) ⊎ ((t ≡ s) ⊎ FindsNoMemory setting m.call s t)
+StopsIn setting NoMemory s m t = (t ≡ m.state) ⊎ ((t ≡ s) ⊎ CallFails setting (step_of m.call) s t)
 
 -- ---- some calls
 
 -- The lines of all these calls are written; or it stopped in one, whose line isn't whole, and nothing is written
 -- after it.
-abbrev pub GoesTo : {T : Type 0} → Setting → Result T Stop → RunState → RunState → List Made
+abbrev pub CallsLead : {T : Type 0} → Setting → Result T Stop → RunState → RunState → List Made
     → List Made → List ℕ → Type 0
-GoesTo setting (Ok done) s t whole others part = (others ≡ []) × (part ≡ [])
+CallsLead setting (Ok done) s t whole others part = (others ≡ []) × (part ≡ [])
     × (t ≡ state_behind s whole)
-GoesTo setting (Err stop) s t whole [] part = ⊥
-GoesTo setting (Err stop) s t whole (m ∷ made) part = CutBy stop part (made_line m)
+CallsLead setting (Err stop) s t whole [] part = ⊥
+CallsLead setting (Err stop) s t whole (m ∷ made) part = CutBy stop part (made_line m)
     × StopsIn setting stop (state_behind s whole) m t
 
-pub record Goes {T : Type 0} (setting : Setting) (made : List Made) (result : Result T Stop)
+pub record MakesCalls {T : Type 0} (setting : Setting) (made : List Made) (result : Result T Stop)
     (s t : RunState) (old new : SinkState) : Type 0 where
   pub whole : List Made
   pub others : List Made
   pub among : made ≡ whole ++ others
   pub part : List ℕ
   pub written : new.written ≡ old.written ++ (lines_of_calls whole ++ part)
-  pub to : GoesTo setting result s t whole others part
+  pub to : CallsLead setting result s t whole others part
 
 -- one call, with its result
 pub record Makes (setting : Setting) (m : Made) (result : Result Answer Stop) (s t : RunState)
     (old new : SinkState) : Type 0 where
   pub answers : IfOk result (λ (answer : Answer). answer ≡ m.answer)
-  pub goes : Goes setting (m ∷ []) result s t old new
+  pub goes : MakesCalls setting (m ∷ []) result s t old new
 
 -- the calls between start and end, and the code of the one that denied
-pub record GoesThrough (setting : Setting) (c : Course) (result : Result (Option Code) Stop)
+pub record MakesCourse (setting : Setting) (c : Course) (result : Result (Option Code) Stop)
     (s t : RunState) (old new : SinkState) : Type 0 where
   pub denies : IfOk result (λ (denied : Option Code). denied ≡ c.denied)
-  pub goes : Goes setting c.made result s t old new
+  pub goes : MakesCalls setting c.made result s t old new
 
 -- ---- the whole login
 
 -- The lines of all its calls are written, and the last line; or it stopped in that one, if there is one; or in a call.
 -- If it stops, something may be done to the state last.
-abbrev pub ComesTo : Setting → (Stop → RunState → RunState) → Login → Result Verdict Stop → RunState
+abbrev pub LoginLeads : Setting → (Stop → RunState → RunState) → Login → Result Verdict Stop → RunState
     → RunState → List Made → List Made → List ℕ → Type 0
-ComesTo setting behind l (Ok verdict) s t whole others part = (others ≡ [])
+LoginLeads setting behind l (Ok verdict) s t whole others part = (others ≡ [])
     × (part ≡ last_line verdict) × (verdict ≡ l.verdict) × (t ≡ state_behind s whole)
-ComesTo setting behind l (Err stop) s t whole [] part =
+LoginLeads setting behind l (Err stop) s t whole [] part =
     (code : Code) × (l.verdict ≡ Denied code) × CutBy stop part (denied_line code)
     × (t ≡ behind stop (state_behind s whole))
-ComesTo setting behind l (Err stop) s t whole (m ∷ made) part =
+LoginLeads setting behind l (Err stop) s t whole (m ∷ made) part =
     (d : RunState) × CutBy stop part (made_line m) × StopsIn setting stop (state_behind s whole) m d
     × (t ≡ behind stop d)
 
-pub record Comes (setting : Setting) (behind : Stop → RunState → RunState) (l : Login)
+pub record LogsInThen (setting : Setting) (behind : Stop → RunState → RunState) (l : Login)
     (result : Result Verdict Stop) (s t : RunState) (old new : SinkState) : Type 0 where
   pub whole : List Made
   pub others : List Made
   pub among : l.made ≡ whole ++ others
   pub part : List ℕ
   pub written : new.written ≡ old.written ++ (lines_of_calls whole ++ part)
-  pub to : ComesTo setting behind l result s t whole others part
+  pub to : LoginLeads setting behind l result s t whole others part
 
 abbrev pub as_it_is : Stop → RunState → RunState
 as_it_is stop s = s
@@ -115,12 +102,12 @@ ended_for setting stop s = (make setting (end_call (stop_status stop)) s).state
 -- A login with its verdict, and its text is written whole; or where it stopped, and a prefix of the text is.
 abbrev pub LogsIn : Setting → Login → Result Verdict Stop → RunState → RunState → SinkState
     → SinkState → Type 0
-LogsIn setting l result s t old new = Comes setting (ended_for setting) l result s t old new
+LogsIn setting l result s t old new = LogsInThen setting (ended_for setting) l result s t old new
 
 -- ---- what is written, whatever is modelled
 
 -- some bytes were written, with at most one call of `Sink` more than they are; without that one if all went well
-pub record Shows {T : Type 0} (Says : T → List ℕ → Type 0) (result : Result T Stop)
+pub record WritesLines {T : Type 0} (Says : T → List ℕ → Type 0) (result : Result T Stop)
     (p q : SinkState) : Type 0 where
   pub text : List ℕ
   pub written : q.written ≡ p.written ++ text

@@ -10,7 +10,7 @@ ghost use Rattle.session_run.specs.Seen.{AllTell, IsSoundIn, NoneIsOpenIn, Went,
 ghost use Rattle.session_login.specs.Ends.{IsDenial, IsEndOfLogin, IsEndWith, closing_code};
 ghost use Rattle.session_login.specs.Login.{denied_line, end_call, end_code, logging_in, login_of, make, settling, verdict_by};
 ghost use Rattle.session_login.specs.Reported.{Reports, SaysCalls, SaysDenial, SaysLogin, SaysSettled};
-ghost use Rattle.session_login.specs.Told.{Comes, LogsIn, SaysEnd, SaysVerdict, Shows, WritesDenial, as_it_is};
+ghost use Rattle.session_login.specs.Told.{LogsInThen, LogsIn, SaysEnd, SaysVerdict, WritesLines, WritesDenial, as_it_is};
 
 use crate::calls::LOGIN_CALLS;
 use crate::course::go_through;
@@ -75,7 +75,7 @@ pub fn login<K: Sink>(
 
     // If only the sink is modelled: how often it was written, and how the verdict is written.
     ensures shows { IsTrue (K.sink_tells out.old) →
-        Shows SaysVerdict result (K.sink_holds out.old) (K.sink_holds out.new) }
+        WritesLines SaysVerdict result (K.sink_holds out.old) (K.sink_holds out.new) }
 
     // If only the sink is modelled: what is written is a line for each call with its result, and the verdict is the one
     // that these results lead to; after an Err it is a prefix of that.
@@ -118,7 +118,7 @@ fn try_login<K: Sink>(
         (seen library.old world.old).gives delay → AllTell (seen library.old world.old) →
         IsTrue (K.sink_tells out.old) →
         (let setting = setting_in (seen library.old world.old) delay in
-        Comes setting as_it_is (login_of setting service.now (option_copied user.entry)
+        LogsInThen setting as_it_is (login_of setting service.now (option_copied user.entry)
         (state (seen library.old world.old))) result (state (seen library.old world.old))
         (state (seen library.new world.new)) (K.sink_holds out.old) (K.sink_holds out.new)) }
     ensures denies { (code : Code) → result ≡ Ok (Verdict.Denied code) → IsDenial code }
@@ -128,7 +128,7 @@ fn try_login<K: Sink>(
     ensures went { let seen = ⟦<Session as Told>⟧.seen in Went (IsEndOfLogin result)
         (seen library.old world.old) (seen library.new world.new) }
     ensures shows { IsTrue (K.sink_tells out.old) →
-        Shows SaysVerdict result (K.sink_holds out.old) (K.sink_holds out.new) }
+        WritesLines SaysVerdict result (K.sink_holds out.old) (K.sink_holds out.new) }
     ensures reports { IsTrue (K.sink_tells out.old) →
         Reports (SaysLogin service.now (option_copied user.entry)) result (K.sink_holds out.old)
         (K.sink_holds out.new) }
@@ -182,7 +182,7 @@ fn log_in<K: Sink>(
         (seen library.old world.old).gives delay → AllTell (seen library.old world.old) →
         IsTrue (K.sink_tells out.old) →
         (let setting = setting_in (seen library.old world.old) delay in
-        Comes setting as_it_is (logging_in setting (state (seen library.old world.old))) result
+        LogsInThen setting as_it_is (logging_in setting (state (seen library.old world.old))) result
         (state (seen library.old world.old)) (state (seen library.new world.new))
         (K.sink_holds out.old) (K.sink_holds out.new)) }
     ensures denies { (code : Code) → result ≡ Ok (Verdict.Denied code) → IsDenial code }
@@ -192,7 +192,7 @@ fn log_in<K: Sink>(
     ensures went { let seen = ⟦<Session as Told>⟧.seen in Went (IsEndOfLogin result)
         (seen library.old world.old) (seen library.new world.new) }
     ensures shows { IsTrue (K.sink_tells out.old) →
-        Shows SaysEnd result (K.sink_holds out.old) (K.sink_holds out.new) }
+        WritesLines SaysEnd result (K.sink_holds out.old) (K.sink_holds out.new) }
     ensures reports { IsTrue (K.sink_tells out.old) →
         Reports SaysCalls result (K.sink_holds out.old) (K.sink_holds out.new) }
     ensures faults { RisesIf (has_write_fault result) (K.sink_faults out.old)
@@ -200,12 +200,12 @@ fn log_in<K: Sink>(
 {
     match go_through(alloc, library, &LOGIN_CALLS, Code::Success, out, world) {
         Err(stop) => Err(stop),
-        Ok(denied) => settle(alloc, library, denied, out, world),
+        Ok(denied) => final_verdict(alloc, library, denied, out, world),
     }
 }
 
 // Ends the transaction with SUCCESS or with the code that denied the login, and writes that.
-fn settle<K: Sink>(
+fn final_verdict<K: Sink>(
     alloc: Global,
     library: &mut Library,
     denied: Option<Code>,
@@ -218,7 +218,7 @@ fn settle<K: Sink>(
         (seen library.old world.old).gives delay → AllTell (seen library.old world.old) →
         IsTrue (K.sink_tells out.old) →
         (let setting = setting_in (seen library.old world.old) delay in
-        Comes setting as_it_is (settling setting denied (state (seen library.old world.old))) result
+        LogsInThen setting as_it_is (settling setting denied (state (seen library.old world.old))) result
         (state (seen library.old world.old)) (state (seen library.new world.new))
         (K.sink_holds out.old) (K.sink_holds out.new)) }
     ensures verdict { IfOk result (λ verdict. verdict ≡ verdict_by denied) }
@@ -228,7 +228,7 @@ fn settle<K: Sink>(
     ensures went { let seen = ⟦<Session as Told>⟧.seen in Went (IsEndWith (end_code denied))
         (seen library.old world.old) (seen library.new world.new) }
     ensures shows { IsTrue (K.sink_tells out.old) →
-        Shows SaysEnd result (K.sink_holds out.old) (K.sink_holds out.new) }
+        WritesLines SaysEnd result (K.sink_holds out.old) (K.sink_holds out.new) }
     ensures reports { IsTrue (K.sink_tells out.old) →
         Reports (SaysSettled denied) result (K.sink_holds out.old) (K.sink_holds out.new) }
     ensures faults { RisesIf (has_write_fault result) (K.sink_faults out.old)
@@ -250,7 +250,7 @@ fn deny<K: Sink>(alloc: Global, code: Code, out: &mut K) -> Result<Verdict, Stop
         WritesDenial code result (K.sink_holds out.old) (K.sink_holds out.new) }
     ensures verdict { IfOk result (λ verdict. verdict ≡ Verdict.Denied code) }
     ensures shows { IsTrue (K.sink_tells out.old) →
-        Shows SaysEnd result (K.sink_holds out.old) (K.sink_holds out.new) }
+        WritesLines SaysEnd result (K.sink_holds out.old) (K.sink_holds out.new) }
     ensures reports { IsTrue (K.sink_tells out.old) →
         Reports (SaysDenial code) result (K.sink_holds out.old) (K.sink_holds out.new) }
     ensures faults { RisesIf (has_write_fault result) (K.sink_faults out.old)

@@ -7,7 +7,7 @@ ghost use Rattle.session_run.specs.Seen.{AllTell, IsSoundIn, Went, setting_in, s
 ghost use Rattle.session_login.specs.Ends.{IsDenial, IsNoEnd};
 ghost use Rattle.session_login.specs.Login.{course};
 ghost use Rattle.session_login.specs.Reported.{Reports, SaysCourse};
-ghost use Rattle.session_login.specs.Told.{GoesThrough, SaysAnything, Shows};
+ghost use Rattle.session_login.specs.Told.{MakesCourse, SaysAnything, WritesLines};
 
 use crate::calls::{LoginCall, code_in};
 use crate::making::make;
@@ -35,7 +35,7 @@ pub(crate) fn go_through<K: Sink>(
         (seen library.old world.old).gives delay → AllTell (seen library.old world.old) →
         IsTrue (K.sink_tells out.old) →
         (let setting = setting_in (seen library.old world.old) delay in
-        GoesThrough setting (course setting calls.now last (state (seen library.old world.old)))
+        MakesCourse setting (course setting calls.now last (state (seen library.old world.old)))
         result (state (seen library.old world.old)) (state (seen library.new world.new))
         (K.sink_holds out.old) (K.sink_holds out.new)) }
     ensures denies { (code : Code) → result ≡ Ok (Some code) → IsDenial code }
@@ -45,7 +45,7 @@ pub(crate) fn go_through<K: Sink>(
     ensures went { let seen = ⟦<Session as Told>⟧.seen in Went IsNoEnd (seen library.old world.old)
         (seen library.new world.new) }
     ensures shows { IsTrue (K.sink_tells out.old) →
-        Shows SaysAnything result (K.sink_holds out.old) (K.sink_holds out.new) }
+        WritesLines SaysAnything result (K.sink_holds out.old) (K.sink_holds out.new) }
     ensures reports { IsTrue (K.sink_tells out.old) →
         Reports (SaysCourse calls.now last) result (K.sink_holds out.old) (K.sink_holds out.new) }
     ensures faults { RisesIf (has_write_fault result) (K.sink_faults out.old)

@@ -9,7 +9,7 @@ ghost use Rattle.session_run.specs.Ends.{IsEndStep};
 ghost use Rattle.session_run.specs.Seen.{AllTell, IsSoundIn, Went, setting_in, state};
 ghost use Rattle.session_login.specs.Login.{answer_line, make};
 ghost use Rattle.session_login.specs.Reported.{Reports, SaysResult};
-ghost use Rattle.session_login.specs.Told.{Makes, SaysAnswer, Shows};
+ghost use Rattle.session_login.specs.Told.{Makes, SaysAnswer, WritesLines};
 
 use item_stream::Stop;
 use pam_base::{AppCall, Failed, NoMemory, Step};
@@ -46,7 +46,7 @@ pub(crate) fn make<K: Sink>(
         (IsEndStep (record { number = 1; call = call })) (seen library.old world.old)
         (seen library.new world.new) }
     ensures shows { IsTrue (K.sink_tells out.old) →
-        Shows (SaysAnswer call) result (K.sink_holds out.old) (K.sink_holds out.new) }
+        WritesLines (SaysAnswer call) result (K.sink_holds out.old) (K.sink_holds out.new) }
     ensures reports { IsTrue (K.sink_tells out.old) →
         Reports (SaysResult call) result (K.sink_holds out.old) (K.sink_holds out.new) }
     ensures faults { RisesIf (has_write_fault result) (K.sink_faults out.old)

@@ -8,7 +8,7 @@ use Rattle.item_stream.specs.declared.ending.Stop.TheVariants.{NoMemory, WriteFa
 use Rattle.session_login.specs.declared.attempt.Verdict.{Verdict}
 use Rattle.session_login.specs.declared.attempt.Verdict.TheVariants.{Passed, Denied, Refused}
 use Rattle.session_login.specs.Login.{login_of}
-use Rattle.session_login.specs.Told.{LogsIn, SaysVerdict, Shows}
+use Rattle.session_login.specs.Told.{LogsIn, SaysVerdict, WritesLines}
 use Rattle.session_login.specs.session_run.specs.State.{Setting, RunState, state_of}
 
 -- 0 if the user was let in, 3 if the configuration is refused, 8 if the login is denied
@@ -59,4 +59,4 @@ LogsInBy setting status slots root service user old new p q =
 pub record ShowsLogin (status : ℕ) (p q : SinkState) : Type 0 where
   pub result : Result Verdict Stop
   pub is : status ≡ login_status result
-  pub shows : Shows SaysVerdict result p q
+  pub shows : WritesLines SaysVerdict result p q

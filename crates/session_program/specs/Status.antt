@@ -5,8 +5,8 @@ use Rattle.pam_outside.specs.Files.{VaultState, counted}
 use Rattle.pam_outside.specs.Streams.{SinkState}
 use Rattle.item_stream.specs.declared.ending.Stop.{Stop}
 use Rattle.item_stream.specs.declared.ending.Stop.TheVariants.{NoMemory, WriteFault}
-use Rattle.session_check.specs.declared.finding.Found.{Found}
-use Rattle.session_check.specs.declared.finding.Found.TheVariants.{Configured, Refused}
+use Rattle.session_check.specs.declared.finding.Checked.{Checked}
+use Rattle.session_check.specs.declared.finding.Checked.TheVariants.{Configured, Refused}
 use Rattle.session_check.specs.Check.{Check, Checks, Finds}
 use Rattle.session_tally.specs.declared.finding.Tallied.{Tallied}
 use Rattle.session_tally.specs.declared.finding.Tallied.TheVariants.{Listed, Damaged, Unread}
@@ -14,7 +14,7 @@ use Rattle.session_tally.specs.Tally.{Lists, PlainTally}
 use Rattle.session_program.specs.Command.{usage}
 
 -- of a check: 0 if the service is configured, 3 if its configuration is refused
-abbrev pub check_status : Result Found Stop → ℕ
+abbrev pub check_status : Result Checked Stop → ℕ
 check_status (Ok Configured) = 0
 check_status (Ok Refused) = 3
 check_status (Err NoMemory) = 4
@@ -23,18 +23,18 @@ check_status (Err WriteFault) = 6
 -- a check with modelled objects, by its status
 pub record ChecksBy (status : ℕ) (c : Check) (old new : SinkState) (vault : VaultState) : Type
     0 where
-  pub result : Result Found Stop
+  pub result : Result Checked Stop
   pub is : status ≡ check_status result
   pub checks : Checks result c old new vault
 
 -- a check of modelled files, by its status, whatever the sink does
 pub record FindsBy (status : ℕ) (c : Check) (vault : VaultState) : Type 0 where
-  pub result : Result Found Stop
+  pub result : Result Checked Stop
   pub is : status ≡ check_status result
   pub finds : Finds result c vault
 
 abbrev pub IsCheckStatus : ℕ → Type 0
-IsCheckStatus n = (result : Result Found Stop) × (n ≡ check_status result)
+IsCheckStatus n = (result : Result Checked Stop) × (n ≡ check_status result)
 
 -- of a list of failures: 0 if they are listed, 9 if the file is damaged, 10 if it can't be read
 abbrev pub tally_status : Result Tallied Stop → ℕ

@@ -3,17 +3,17 @@ ghost use Rattle.session_program.specs.Audit.{audit_status};
 ghost use Rattle.session_program.specs.Status.{check_status, tally_status};
 
 use item_stream::Stop;
-use session_check::Found;
+use session_check::Checked;
 use session_tally::Tallied;
 use transcript_audit::Audited;
 
 /// The exit status after a check.
-pub(crate) fn status_of_check(found: Result<Found, Stop>) -> u8
+pub(crate) fn status_of_check(found: Result<Checked, Stop>) -> u8
     ensures { result ≡ check_status found }
 {
     match found {
-        Ok(Found::Configured) => 0,
-        Ok(Found::Refused) => 3,
+        Ok(Checked::Configured) => 0,
+        Ok(Checked::Refused) => 3,
         Err(Stop::NoMemory) => 4,
         Err(Stop::WriteFault) => 6,
     }

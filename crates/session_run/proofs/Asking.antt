@@ -13,8 +13,8 @@ use Rattle.pam_outside.specs.Streams.{SourceState}
 use Rattle.script_lang.specs.declared.line.Line.{Line}
 use Rattle.script_lang.specs.Line.{parsed}
 use Rattle.item_stream.specs.declared.ending.Stop.{Stop}
-use Rattle.item_stream.specs.declared.reader.Found.{Found}
-use Rattle.item_stream.specs.declared.reader.Found.TheVariants.{Rest}
+use Rattle.item_stream.specs.declared.reader.NextItem.{NextItem}
+use Rattle.item_stream.specs.declared.reader.NextItem.TheVariants.{Rest}
 use Rattle.item_stream.specs.Cutting.{Keeps}
 use Rattle.item_stream.specs.Front.{IsItem}
 use Rattle.item_stream.specs.Run.{ItemStep, Looks, Refuses}
@@ -22,7 +22,7 @@ use Rattle.item_stream.specs.Taking.{Finds}
 use Rattle.script_stream.specs.Looked.{looked as looked_lines}
 use Rattle.script_stream.specs.Turns.{Ending}
 use Rattle.session_run.specs.Asked.{AreAccepted, Asking, FirstAsks, HasEndAmong, IsEnd, IsEndAmong, LeadsOn}
-use Rattle.session_run.specs.Ends.{HasEnd, HasStatus, IsEndOfRun}
+use Rattle.session_run.specs.Ends.{HasEnd, IsStatusOf, IsEndOfRun}
 use Rattle.session_run.specs.Endings.{ending_status, stop_status}
 use Rattle.session_run.specs.Reading.{read_as}
 use Rattle.session_run.specs.Script.{line_asked}
@@ -33,7 +33,7 @@ use Rattle.session_run.specs.State.{RunState, Setting}
 
 module _ {Kind : Type 0} (looked : Looks) (refuses : Refuses) (asked : Asking Kind) where
   -- what is left of the text, before and after bytes were taken
-  all_left : (found : Result Found Failed) (n : ℕ) (before held : List ℕ) (x y : SourceState) → Finds looked refuses found n before held x y
+  all_left : (found : Result NextItem Failed) (n : ℕ) (before held : List ℕ) (x y : SourceState) → Finds looked refuses found n before held x y
       → before ++ x.left ≡ held ++ y.left
   all_left found n before held x y f =
       ap (λ (l : List ℕ). before ++ l) f.source ∙ sym (append_assoc before f.got y.left) ∙ ap (λ (h : List ℕ). h ++ y.left) (sym f.held_is)
@@ -44,7 +44,7 @@ module _ {Kind : Type 0} (looked : Looks) (refuses : Refuses) (asked : Asking Ki
       let same : n ≡ n + length {A = List ℕ} [] = omega arith in
       record { before = []; item = item; behind = behind; among = first; accepted = tt; asks = subst (λ (k : ℕ). IsEnd (asked k item) number status) same a; bytes = bytes }
 
-  module _ (found : Result Found Failed) (n item_size size : ℕ) (before held : List ℕ) (x y : SourceState) (is : IsItem looked n item_size size held) (finds : Finds looked refuses found n before held x y) where
+  module _ (found : Result NextItem Failed) (n item_size size : ℕ) (before held : List ℕ) (x y : SourceState) (is : IsItem looked n item_size size held) (finds : Finds looked refuses found n before held x y) where
     pub item_first : looked n (before ++ x.left) true ≡ take item_size held ∷ looked (n + 1) (drop size held ++ y.left) true
     item_first = ap (λ (t : List ℕ). looked n t true) (all_left found n before held x y finds) ∙ is.seen y.left true
 
@@ -139,9 +139,9 @@ by_line all tells text number status has told =
 -- ---- after the lines
 
 pub by_ending : (tells : Bool) (text : List ℕ) (ending : Ending) (code : Code) → code ≡ ending_status ending → (number status : ℕ)
-    → HasStatus code number status → IsEndOfRun tells text number status
+    → IsStatusOf code number status → IsEndOfRun tells text number status
 by_ending tells text ending code e number status is told = inl (inl (ending, is ∙ ap number_of e))
 
 pub by_stop : (tells : Bool) (text : List ℕ) (stop : Stop) (code : Code) → code ≡ stop_status stop → (number status : ℕ)
-    → HasStatus code number status → IsEndOfRun tells text number status
+    → IsStatusOf code number status → IsEndOfRun tells text number status
 by_stop tells text stop code e number status is told = inl (inr (stop, is ∙ ap number_of e))

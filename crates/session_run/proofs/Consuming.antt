@@ -12,7 +12,7 @@ use Rattle.script_stream.specs.Turns.{Ending}
 use Rattle.item_stream.specs.declared.ending.Ending.TheVariants.{Done, ReadFault, Refused}
 use Rattle.item_stream.specs.declared.ending.Stop.{Stop}
 use Rattle.item_stream.specs.declared.ending.Stop.TheVariants.{NoMemory, WriteFault}
-use Rattle.item_stream.specs.declared.reader.Found.{Found}
+use Rattle.item_stream.specs.declared.reader.NextItem.{NextItem}
 use Rattle.item_stream.specs.Run.{ItemStep, Looks, Refuses}
 use Rattle.item_stream.specs.Taking.{Finds}
 use Rattle.script_stream.specs.Run.{Run, step_at}
@@ -50,7 +50,7 @@ module _ {Kind : Type 0} (asked : Asking Kind) (wrapped : List ℕ → List ℕ)
 
 -- ---- bytes that were taken
 
-pub takes : (seen : Looks) (refuses : Refuses) (found : Result Found Failed) (n : ℕ) (before held : List ℕ) (x y : SourceState) → Finds seen refuses found n before held x y
+pub takes : (seen : Looks) (refuses : Refuses) (found : Result NextItem Failed) (n : ℕ) (before held : List ℕ) (x y : SourceState) → Finds seen refuses found n before held x y
     → All (λ b. b < 256) held → TakesBytes before x y
 takes seen refuses found n before held x y f all = record { got = f.got; source = f.source; bytes = All-same (λ b. b < 256) (before ++ f.got) held (sym f.held_is) all }
 

@@ -11,7 +11,7 @@ use Rattle.session_report.specs.pam_room.specs.Module.{notes_of}
 use Rattle.session_report.specs.pam_library.specs.Calls.{Moved, births_added, events_of}
 use Rattle.session_report.specs.pam_library.specs.Slots.{lists_of}
 use Rattle.session_run.specs.AnyWorld.{AllEndsAre, ProceedsBy}
-use Rattle.session_run.specs.Ends.{EndsAre, HasStatus}
+use Rattle.session_run.specs.Ends.{EndsAre, IsStatusOf}
 use Rattle.script_stream.specs.Looked.{looked}
 use Rattle.session_run.specs.Asked.{FirstAsks}
 use Rattle.session_run.specs.Script.{line_asked, script_step}
@@ -62,12 +62,12 @@ module _ (setting : Setting) (all_looked : AllLooked) (law : CallsStand setting)
       (rw (g.went.ledger, g.went.lists_are) at whole)
 
   pub cut_short : (status : Code) (m : ℕ) (s t u : RunState) (input text : List ℕ) (p q : SinkState) → Broken looked line_asked script_step setting 0 m s t input p q
-      → Goes (HasStatus status) t u → q.written ≡ p.written ++ text → StandsCut setting status m s u input text
+      → Goes (IsStatusOf status) t u → q.written ≡ p.written ++ text → StandsCut setting status m s u input text
   cut_short status m s t u input text p q b closing written =
       let others : List (List ℕ) = drop m (lines_of input) in
       let behind : others ≡ b.others = last_lines setting m s b.middle input b.others p b.sink all_looked b.served in
       let line : Goes (IsLaterEnd status others) b.middle t = proceeds_so (FirstAsks line_asked m b.others) (IsLaterEnd status others) (λ number ended a. inl (rw behind (first_asks m b.others number ended a))) _ _ _ _ _ b.later in
-      let last : Goes (IsLaterEnd status others) t u = proceeds_so (HasStatus status) (IsLaterEnd status others) (λ number ended h. inr h) _ _ _ _ _ closing in
+      let last : Goes (IsLaterEnd status others) t u = proceeds_so (IsStatusOf status) (IsLaterEnd status others) (λ number ended h. inr h) _ _ _ _ _ closing in
       let all : Goes (IsLaterEnd status others) b.middle u = goes_on (IsLaterEnd status others) (notes_of setting.players) _ _ _ _ _ _ line last in
       let w = b.served in
       record {
@@ -83,12 +83,12 @@ module _ (setting : Setting) (all_looked : AllLooked) (law : CallsStand setting)
 
   pub cut_behind : (status stopped : Code) (m : ℕ) (s t v : RunState) (ledger : PlainLedger) (lists : Lists) (input : List ℕ) (p q : SinkState)
       → (others : List (List ℕ)) × LinesServed setting 0 m s t input others p q
-      → ProceedsBy (HasStatus status) (notes_of setting.players) t.world.process.ledger (lists_of t.slots) ledger lists
-      → ProceedsBy (HasStatus stopped) (notes_of setting.players) ledger lists v.world.process.ledger (lists_of v.slots)
+      → ProceedsBy (IsStatusOf status) (notes_of setting.players) t.world.process.ledger (lists_of t.slots) ledger lists
+      → ProceedsBy (IsStatusOf stopped) (notes_of setting.players) ledger lists v.world.process.ledger (lists_of v.slots)
       → StandsBehind setting status stopped m s v input
   cut_behind status stopped m s t v ledger lists input p q w a b =
-      let Is : ℕ → ℕ → Type 0 = λ (number : ℕ) (ended : ℕ). HasStatus status number ended ⊎ HasStatus stopped number ended in
-      let all : Goes Is t v = goes_on Is (notes_of setting.players) _ _ _ _ _ _ (proceeds_so (HasStatus status) Is (λ number ended h. inl h) _ _ _ _ _ a) (proceeds_so (HasStatus stopped) Is (λ number ended h. inr h) _ _ _ _ _ b) in
+      let Is : ℕ → ℕ → Type 0 = λ (number : ℕ) (ended : ℕ). IsStatusOf status number ended ⊎ IsStatusOf stopped number ended in
+      let all : Goes Is t v = goes_on Is (notes_of setting.players) _ _ _ _ _ _ (proceeds_so (IsStatusOf status) Is (λ number ended h. inl h) _ _ _ _ _ a) (proceeds_so (IsStatusOf stopped) Is (λ number ended h. inr h) _ _ _ _ _ b) in
       record {
         later = events_of t.world.process.ledger all.went.calls;
         ends_are = events_are Is t.world.process.ledger all.went.calls all.ends_are;

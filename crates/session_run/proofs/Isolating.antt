@@ -33,7 +33,7 @@ use Rattle.session_report.specs.Missing.{all_missing_text}
 use Rattle.session_report.specs.Said.{messages_text}
 use Rattle.session_report.specs.Visited.{visits_text}
 use Rattle.session_report.specs.Waited.{waited_text}
-use Rattle.session_run.specs.Isolation.{Came, FilesStay, IsQuietStart, LeaveFiles, alone, came_among, came_behind, came_by, came_to, filed_text_with, is_on, is_on_another, line_alone, receipt_text_with, step_in, step_text_with, text_of, text_without_ids, texts_among}
+use Rattle.session_run.specs.Isolation.{MadeStep, FilesStay, IsQuietStart, LeaveFiles, alone, steps_among, steps_then, made_steps, made_step, filed_text_with, is_on, is_on_another, line_alone, receipt_text_with, step_in, step_text_with, text_of, text_without_ids, texts_among}
 use Rattle.session_run.specs.State.{RunState, Setting, state_of}
 use Rattle.session_run.specs.Step.{applied, applied_or_refused, line_step}
 use Rattle.session_run.proofs.Serving.{long_line}
@@ -73,7 +73,7 @@ pub record Seen : Type 0 where
   pub told : PlainOutcome
   pub cleaned : List Cleaned
 
-abbrev pub seen : Came → Seen
+abbrev pub seen : MadeStep → Seen
 seen c = record { step = c.step; told = told_in c.outcome; cleaned = cleaned_behind c.outcome.filed_from c.ledger }
 
 module _ (setting : Setting) where
@@ -92,7 +92,7 @@ module _ (setting : Setting) where
     abbrev pub Alike : RunState → RunState → Type 0
     Alike s t = AreAlike number s.slots s.world t.slots t.world
 
-    pub record GoAlike (cs ds : List Came) (r q : Run RunState) : Type 0 where
+    pub record GoAlike (cs ds : List MadeStep) (r q : Run RunState) : Type 0 where
       pub came : map seen cs ≡ map seen ds
       pub last : Alike r.last q.last
       pub lines : r.items ≡ q.items
@@ -100,8 +100,8 @@ module _ (setting : Setting) where
 
     -- ---- one line, and what follows it
 
-    abbrev line_came : Bool → RunState → Result Line ScriptKind → (RunState → List Came) → List Came
-    line_came many s p next = came_behind (counted many (applied_or_refused setting s p)) (λ text. came_by setting number s (step_in p)) next
+    abbrev line_came : Bool → RunState → Result Line ScriptKind → (RunState → List MadeStep) → List MadeStep
+    line_came many s p next = steps_then (counted many (applied_or_refused setting s p)) (λ text. made_steps setting number s (step_in p)) next
 
     abbrev line_run : Bool → ℕ → RunState → Result Line ScriptKind → (RunState → Run RunState) → Run RunState
     line_run many n s p next = after n s (counted many (applied_or_refused setting s p)) next
@@ -109,7 +109,7 @@ module _ (setting : Setting) where
     abbrev LineStays : Bool → RunState → Result Line ScriptKind → (RunState → Type 0) → Type 0
     LineStays many s p Next = FilesStay (counted many (applied_or_refused setting s p)) (is_on_another number (step_in p)) s Next
 
-    module _ (own : OwnCalls) (other : OtherCalls) (n : ℕ) (f g : RunState → List Came) (u v : RunState → Run RunState) (Next : RunState → Type 0)
+    module _ (own : OwnCalls) (other : OtherCalls) (n : ℕ) (f g : RunState → List MadeStep) (u v : RunState → Run RunState) (Next : RunState → Type 0)
         (more : (x y : RunState) → Alike x y → Next x → GoAlike (f x) (g y) (u x) (v y)) where
       -- a line that reports nothing of the number
       silent : (x y : RunState) (text words : List ℕ) → Alike x y → Next x → GoAlike (f x) (g y) (with_text text (u x)) (with_text words (v y))
@@ -134,7 +134,7 @@ module _ (setting : Setting) where
       -- a step
       step_goes : (s t : RunState) (step : Step) (b : Bool) → nat_eq step.number number ≡ b → Alike s t → LineStays false s (Ok (lines.Step step)) Next →
           GoAlike
-          ((if b then came_to setting s step ∷ [] else []) ++ f (applied setting s (lines.Step step)).0)
+          ((if b then made_step setting s step ∷ [] else []) ++ f (applied setting s (lines.Step step)).0)
           (line_came false t (if not b then Ok lines.Blank else Ok (lines.Step step)) g)
           (with_text (applied setting s (lines.Step step)).1 (u (applied setting s (lines.Step step)).0))
           (line_run false n t (if not b then Ok lines.Blank else Ok (lines.Step step)) v)
@@ -146,9 +146,9 @@ module _ (setting : Setting) where
           let alike : AreAlike number x.slots x.world y.slots y.world = subst (λ (m : ℕ). AreAlike m x.slots x.world y.slots y.world) (sym same) c.alike in
           let m : GoAlike (f (state_of x.slots x.world)) (g (state_of y.slots y.world)) (u (state_of x.slots x.world)) (v (state_of y.slots y.world)) =
           more (state_of x.slots x.world) (state_of y.slots y.world) alike stays.1 in
-          let here : seen (came_to setting s step) ≡ seen (came_to setting t step) = λ i. record { step = step; told = c.told i; cleaned = c.cleaned i } in
-          let own_here : came_by setting number t (Some step) ≡ came_to setting t step ∷ [] = ap (λ (b : Bool). if b then came_to setting t step ∷ [] else []) is in
-          subst (λ (cs : List Came). GoAlike (came_to setting s step ∷ f (state_of x.slots x.world)) (cs ++ g (state_of y.slots y.world))
+          let here : seen (made_step setting s step) ≡ seen (made_step setting t step) = λ i. record { step = step; told = c.told i; cleaned = c.cleaned i } in
+          let own_here : made_steps setting number t (Some step) ≡ made_step setting t step ∷ [] = ap (λ (b : Bool). if b then made_step setting t step ∷ [] else []) is in
+          subst (λ (cs : List MadeStep). GoAlike (made_step setting s step ∷ f (state_of x.slots x.world)) (cs ++ g (state_of y.slots y.world))
           (with_text (applied setting s (lines.Step step)).1 (u (state_of x.slots x.world))) (with_text (applied setting t (lines.Step step)).1 (v (state_of y.slots y.world)))) (sym own_here)
           (record {
             came = λ i. here i ∷ m.came i;
@@ -180,14 +180,14 @@ module _ (setting : Setting) where
 
     module _ (own : OwnCalls) (other : OtherCalls) where
       runs_alike : (n : ℕ) (s t : RunState) (script : List (List ℕ)) → Alike s t → LeaveFiles setting number n s script →
-          GoAlike (came_among setting number n s script) (came_among setting number n t (alone number script)) (run_lines (line_step setting) n s script) (run_lines (line_step setting) n t (alone number script))
+          GoAlike (steps_among setting number n s script) (steps_among setting number n t (alone number script)) (run_lines (line_step setting) n s script) (run_lines (line_step setting) n t (alone number script))
       unfolding run_items
       runs_alike n s t [] h stays = record { came = refl; last = h; lines = refl; refused = refl }
       runs_alike n s t (l ∷ ls) h stays =
           let many : Bool = nat_le 65536 n in
           let p : Result Line ScriptKind = parsed l in
-          let f : RunState → List Came = λ x. came_among setting number (n + 1) x ls in
-          let g : RunState → List Came = λ y. came_among setting number (n + 1) y (alone number ls) in
+          let f : RunState → List MadeStep = λ x. steps_among setting number (n + 1) x ls in
+          let g : RunState → List MadeStep = λ y. steps_among setting number (n + 1) y (alone number ls) in
           let u : RunState → Run RunState = λ x. run_lines (line_step setting) (n + 1) x ls in
           let v : RunState → Run RunState = λ y. run_lines (line_step setting) (n + 1) y (alone number ls) in
           let first : step_at (line_step setting) n s l ≡ counted many (applied_or_refused setting s p) = step_is n s l in
@@ -199,22 +199,22 @@ module _ (setting : Setting) where
           let main : GoAlike (line_came many s p f) (line_came many t (alone_as number p) g) (line_run many n s p u) (line_run many n t (alone_as number p) v) =
           line_goes own other n f g u v (λ x. LeaveFiles setting number (n + 1) x ls) (λ x y alike next. runs_alike (n + 1) x y ls alike next) many s t p h stays' in
           let back : (a : Result (RunState × List ℕ) ScriptKind) (b : Result (RunState × List ℕ) ScriptKind) (r : Result Line ScriptKind) → Type 0 =
-          λ a b r. GoAlike (came_behind a (λ text. came_by setting number s (step_in p)) f) (came_behind b (λ text. came_by setting number t (step_in r)) g) (after n s a u) (after n t b v) in
+          λ a b r. GoAlike (steps_then a (λ text. made_steps setting number s (step_in p)) f) (steps_then b (λ text. made_steps setting number t (step_in r)) g) (after n s a u) (after n t b v) in
           subst (λ (a : Result (RunState × List ℕ) ScriptKind). back a (step_at (line_step setting) n t (line_alone number l)) (parsed (line_alone number l))) (sym first)
           (subst (λ (r : Result Line ScriptKind). back (counted many (applied_or_refused setting s p)) (step_at (line_step setting) n t (line_alone number l)) r) (sym q)
           (subst (λ (b : Result (RunState × List ℕ) ScriptKind). back (counted many (applied_or_refused setting s p)) b (alone_as number p)) (sym second) main))
 
       pub from_start : (n : ℕ) (s : RunState) (script : List (List ℕ)) → IsQuietStart s → LeaveFiles setting number n s script →
-          GoAlike (came_among setting number n s script) (came_among setting number n s (alone number script)) (run_lines (line_step setting) n s script) (run_lines (line_step setting) n s (alone number script))
+          GoAlike (steps_among setting number n s script) (steps_among setting number n s (alone number script)) (run_lines (line_step setting) n s script) (run_lines (line_step setting) n s (alone number script))
       from_start n s script start stays =
           runs_alike n s s script (record { place = refl; shown = refl; first_order = start.order; second_order = start.order; first_quiet = start.quiet; second_quiet = start.quiet }) stays
 
 -- ---- what is said of it
 
-pub outcomes_seen : (cs ds : List Came) → map seen cs ≡ map seen ds → map (λ (c : Came). told_in c.outcome) cs ≡ map (λ (c : Came). told_in c.outcome) ds
+pub outcomes_seen : (cs ds : List MadeStep) → map seen cs ≡ map seen ds → map (λ (c : MadeStep). told_in c.outcome) cs ≡ map (λ (c : MadeStep). told_in c.outcome) ds
 outcomes_seen cs ds same = by cs ∙ ap (map (λ (x : Seen). x.told)) same ∙ sym (by ds)
   where
-    by : (cs : List Came) → map (λ (c : Came). told_in c.outcome) cs ≡ map (λ (x : Seen). x.told) (map seen cs)
+    by : (cs : List MadeStep) → map (λ (c : MadeStep). told_in c.outcome) cs ≡ map (λ (x : Seen). x.told) (map seen cs)
     by [] = refl
     by (c ∷ cs) = ap (λ (os : List PlainOutcome). told_in c.outcome ∷ os) (by cs)
 
@@ -246,7 +246,7 @@ seen_text names x =
     ++ (all_missing_text x.step.number x.told.missing
     ++ answer_text x.step.number (word_of_call x.step.call) x.told.answer))))
 
-text_seen : (names : List (List ℕ)) (c : Came) → text_without_ids names c ≡ seen_text names (seen c)
+text_seen : (names : List (List ℕ)) (c : MadeStep) → text_without_ids names c ≡ seen_text names (seen c)
 text_seen names c =
     ap (λ (text : List ℕ).
     messages_text c.step.number c.outcome.said
@@ -257,10 +257,10 @@ text_seen names c =
     ++ answer_text c.step.number (word_of_call c.step.call) c.outcome.answer)))))
     (cleanups_seen c.step.number names c.ledger.births (drop c.outcome.filed_from c.ledger.filed))
 
-pub report_seen : (names : List (List ℕ)) (cs ds : List Came) → map seen cs ≡ map seen ds → map (text_without_ids names) cs ≡ map (text_without_ids names) ds
+pub report_seen : (names : List (List ℕ)) (cs ds : List MadeStep) → map seen cs ≡ map seen ds → map (text_without_ids names) cs ≡ map (text_without_ids names) ds
 report_seen names cs ds same = by cs ∙ ap (map (seen_text names)) same ∙ sym (by ds)
   where
-    by : (cs : List Came) → map (text_without_ids names) cs ≡ map (seen_text names) (map seen cs)
+    by : (cs : List MadeStep) → map (text_without_ids names) cs ≡ map (seen_text names) (map seen cs)
     by [] = refl
     by (c ∷ cs) =
         let here : text_without_ids names c ≡ seen_text names (seen c) = text_seen names c in
@@ -269,7 +269,7 @@ report_seen names cs ds same = by cs ∙ ap (map (seen_text names)) same ∙ sym
 
 -- ---- the report itself
 
-pub words_are : (names : List (List ℕ)) (c : Came) → step_text_with number_words names c ≡ text_of names c
+pub words_are : (names : List (List ℕ)) (c : MadeStep) → step_text_with number_words names c ≡ text_of names c
 words_are names c =
     ap (λ (g : Filed → List ℕ).
     messages_text c.step.number c.outcome.said
@@ -288,16 +288,16 @@ module _ (setting : Setting) (number : ℕ) where
   abbrev names : List (List ℕ)
   names = names_of setting.players
 
-  text_line : (many : Bool) (s : RunState) (p : Result Line ScriptKind) (f : RunState → List (List ℕ)) (g : RunState → List Came)
+  text_line : (many : Bool) (s : RunState) (p : Result Line ScriptKind) (f : RunState → List (List ℕ)) (g : RunState → List MadeStep)
       → ((t : RunState) → f t ≡ map (text_of names) (g t)) →
-      came_behind (counted many (applied_or_refused setting s p)) (λ text. if is_on number (step_in p) then text ∷ [] else []) f
-      ≡ map (text_of names) (came_behind (counted many (applied_or_refused setting s p)) (λ text. came_by setting number s (step_in p)) g)
+      steps_then (counted many (applied_or_refused setting s p)) (λ text. if is_on number (step_in p) then text ∷ [] else []) f
+      ≡ map (text_of names) (steps_then (counted many (applied_or_refused setting s p)) (λ text. made_steps setting number s (step_in p)) g)
   text_line true s p f g more = refl
   text_line false s (Err kind) f g more = refl
   text_line false s (Ok (lines.Step step)) f g more =
       let t : RunState = (applied setting s (lines.Step step)).0 in
       let text : List ℕ = (applied setting s (lines.Step step)).1 in
-      elim (nat_eq step.number number) as (λ (b : Bool). (if b then text ∷ [] else []) ++ f t ≡ map (text_of names) ((if b then came_to setting s step ∷ [] else []) ++ g t)) [
+      elim (nat_eq step.number number) as (λ (b : Bool). (if b then text ∷ [] else []) ++ f t ≡ map (text_of names) ((if b then made_step setting s step ∷ [] else []) ++ g t)) [
         | true ↦ ap (λ (ts : List (List ℕ)). text ∷ ts) (more t)
         | false ↦ more t
       ]
@@ -307,11 +307,11 @@ module _ (setting : Setting) (number : ℕ) where
   text_line false s (Ok (lines.Caller caller)) f g more = more (applied setting s (lines.Caller caller)).0
 
   pub texts_are : (n : ℕ) (s : RunState) (script : List (List ℕ))
-      → texts_among setting number n s script ≡ map (text_of (names_of setting.players)) (came_among setting number n s script)
+      → texts_among setting number n s script ≡ map (text_of (names_of setting.players)) (steps_among setting number n s script)
   texts_are n s [] = refl
   texts_are n s (l ∷ ls) =
       let f : RunState → List (List ℕ) = λ t. texts_among setting number (n + 1) t ls in
-      let g : RunState → List Came = λ t. came_among setting number (n + 1) t ls in
+      let g : RunState → List MadeStep = λ t. steps_among setting number (n + 1) t ls in
       subst (λ (r : Result (RunState × List ℕ) ScriptKind).
-      came_behind r (λ text. if is_on number (step_in (parsed l)) then text ∷ [] else []) f ≡ map (text_of names) (came_behind r (λ text. came_by setting number s (step_in (parsed l))) g))
+      steps_then r (λ text. if is_on number (step_in (parsed l)) then text ∷ [] else []) f ≡ map (text_of names) (steps_then r (λ text. made_steps setting number s (step_in (parsed l))) g))
       (sym (step_is setting n s l)) (text_line (nat_le 65536 n) s (parsed l) f g (λ t. texts_are (n + 1) t ls))

@@ -21,7 +21,7 @@ use Rattle.session_report.specs.report_lines.specs.Line.{code_words, number_word
 use Rattle.session_report.specs.Cleaned.{receipt_text}
 use Rattle.session_report.specs.Closing.{closing_text}
 use Rattle.session_run.specs.Closings.{all_closed, closings, closings_behind, closings_text, world_behind}
-use Rattle.session_run.specs.Isolation.{Came, GoesAsAlone, IsQuietStart, LeaveFiles, all_closing_texts, alone, came_among, closed_text_with, closing_text_with, closing_without_ids, filed_text_with, receipt_text_with, state_behind, world_after_places, world_left}
+use Rattle.session_run.specs.Isolation.{MadeStep, GoesAsAlone, IsQuietStart, LeaveFiles, all_closing_texts, alone, steps_among, closed_text_with, closing_text_with, closing_without_ids, filed_text_with, receipt_text_with, state_behind, world_after_places, world_left}
 use Rattle.session_run.specs.State.{RunState, Setting, state_of}
 use Rattle.session_run.specs.Step.{line_step}
 use Rattle.script_stream.specs.Run.{run_lines}
@@ -217,8 +217,8 @@ module _ (setting : Setting) (status : Code) where
 pub goes_as_alone : OwnCalls → OtherCalls → (setting : Setting) (number n : ℕ) (s : RunState) (script : List (List ℕ)) → IsQuietStart s
     → LeaveFiles setting number n s script → GoesAsAlone setting number n s script
 goes_as_alone own other setting number n s script start stays =
-    let cs : List Came = came_among setting number n s script in
-    let ds : List Came = came_among setting number n s (alone number script) in
+    let cs : List MadeStep = steps_among setting number n s script in
+    let ds : List MadeStep = steps_among setting number n s (alone number script) in
     let x : RunState = state_behind setting n s script in
     let y : RunState = state_behind setting n s (alone number script) in
     let both : GoAlike setting number cs ds (run_lines (line_step setting) n s script) (run_lines (line_step setting) n s (alone number script)) = from_start setting number own other n s script start stays in

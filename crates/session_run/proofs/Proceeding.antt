@@ -15,7 +15,7 @@ use Rattle.session_report.specs.pam_library.specs.Calls.{MoveOn, Moved, last_led
 use Rattle.session_report.specs.pam_library.specs.Slots.{PlainSlot, closed, opened}
 use Rattle.pam_base.specs.Code.{number_of}
 use Rattle.pam_base.specs.declared.code.Code.{Code}
-use Rattle.session_run.specs.Ends.{EndsAre, HasStatus, IsEndStep}
+use Rattle.session_run.specs.Ends.{EndsAre, IsStatusOf, IsEndStep}
 use Rattle.session_run.specs.AnyWorld.{AllEndsAre, ProceedsBy}
 
 -- ---- cleanup records stay
@@ -115,6 +115,6 @@ call_ends (Some (opened h)) number (calls.Start service user) = tt
 call_ends (Some (opened h)) number other = tt
 
 -- the end of the open transaction of the lowest number
-pub closing_ends : (code : Code) (status : ℕ) (number : Option ℕ) → status ≡ number_of code → EndsAre (HasStatus code) (end_of status number)
+pub closing_ends : (code : Code) (status : ℕ) (number : Option ℕ) → status ≡ number_of code → EndsAre (IsStatusOf code) (end_of status number)
 closing_ends code status None e = tt
 closing_ends code status (Some n) e = (e, tt)

@@ -1,5 +1,5 @@
 -- What an item does, by what it asks for.
-use Rattle.std.proofs.Common.{◌≡◌, ℕ, ◌-◌, ◌<◌, Bool, true, false, ◌&&◌, List, length, take, cond, Option, Result, Ok, Err, refl, ap, ◌∙◌, inl, inr, arith}
+use Rattle.std.proofs.Common.{◌≡◌, ℕ, ◌-◌, ◌<◌, Bool, true, false, ◌&&◌, List, length, take, cond, Option, Result, Ok, Err, refl, ap, subst, ◌∙◌, inl, inr, arith}
 use Rattle.std.proofs.lemmas.List.{length-take}
 use Rattle.std.proofs.lemmas.Bool.{lt-ltb}
 use Rattle.std.specs.List.{ends_with}
@@ -8,8 +8,9 @@ use Rattle.pam_base.specs.declared.call.AppCall.{AppCall}
 use Rattle.pam_base.specs.declared.call.Step.{Step}
 use Rattle.pam_base.specs.declared.fault.ScriptKind.TheVariants.{LineTooLong}
 use Rattle.session_report.specs.dispatch_core.specs.Lines.{names_of}
+use Rattle.session_report.specs.pam_room.specs.Module.{Player}
 use Rattle.session_report.specs.pam_room.specs.State.{PlainWorld}
-use Rattle.session_report.specs.pam_library.specs.AnyWorld.{FailsAt}
+use Rattle.session_report.specs.pam_library.specs.AnyWorld.{FailsAt, StopsAt}
 use Rattle.session_report.specs.pam_library.specs.Outcome.{PlainOutcome}
 use Rattle.session_report.specs.pam_library.specs.Slots.{PlainSlot}
 use Rattle.session_report.specs.pam_library.specs.Step.{stepped, StepsAs}
@@ -38,6 +39,10 @@ long_line line lt = rw (lt-ltb 512 (length (without_return line)) (without_by (e
 pub failed_place : (a b : Bool) (call : AppCall) (old new : Option PlainSlot) → (a && b) ≡ true → FailsAt a call old new → FailsAt true call old new
 failed_place true b call old new told fails = fails
 failed_place false b call old new told fails = absurd cc
+
+pub failed_stack : (players : List Player) (tells : Bool) (call : AppCall) (old new : Option PlainSlot) (w v : PlainWorld) → tells ≡ true
+    → StopsAt players tells call old new w v → StopsAt players true call old new w v
+failed_stack players tells call old new w v told stops = subst (λ (b : Bool). StopsAt players b call old new w v) told stops
 
 module _ {Kind : Type 0} (asked : Asking Kind) (wrapped : List ℕ → List ℕ) (step : Setting → ItemStep RunState Kind) (fails : Setting → RunState → List ℕ → RunState → Type 0) (read_step : ItemStep (Unit {0}) Kind) (does : Does asked wrapped step fails read_step) (setting : Setting) (n : ℕ) (s : RunState) (item : List ℕ) where
   as_served : (r : Result Line Kind) → asked n item ≡ r → step setting n s item ≡ served_line wrapped setting s r

@@ -1,10 +1,11 @@
 -- What a run does to module data, with real objects too (this project's own).
-use Rattle.std.specs.Prelude.{◌≡◌, ℕ, List, [], ◌∷◌}
+use Rattle.std.specs.Prelude.{◌≡◌, ℕ, List, [], ◌∷◌, ◌++◌}
 use Rattle.data_cleanup.specs.Ledger.{PlainLedger}
 use Rattle.data_cleanup.specs.Cleanup.{Notes}
-use Rattle.session_report.specs.data_due.specs.Stands.{Lists}
+use Rattle.data_cleanup.specs.Due.{Event}
+use Rattle.session_report.specs.data_due.specs.Stands.{Lists, StandFor}
 use Rattle.session_report.specs.pam_room.specs.Module.{Player, notes_of}
-use Rattle.session_report.specs.pam_library.specs.Calls.{MoveOn, Moved, last_ledger, last_lists}
+use Rattle.session_report.specs.pam_library.specs.Calls.{MoveOn, Moved, events_of, last_ledger, last_lists}
 use Rattle.session_report.specs.pam_library.specs.Slots.{PlainSlot, handle_limit, lists_of}
 use Rattle.session_run.specs.Ends.{EndsAre}
 
@@ -15,6 +16,12 @@ pub record Proceeds (note : Notes) (before : PlainLedger) (lists : Lists) (after
   pub moves : MoveOn note handle_limit before lists calls
   pub ledger : last_ledger before calls ≡ after
   pub lists_are : last_lists lists calls ≡ next
+
+-- If cleanup log and module data model some events before calls, they model these and those of the calls after them.
+abbrev pub CallsStand : Type 0
+CallsStand = (note : Notes) (before after : PlainLedger) (lists next : Lists) (events : List Event)
+    → (p : Proceeds note before lists after next) → StandFor note handle_limit before lists events
+    → StandFor note handle_limit after next (events ++ events_of before p.calls)
 
 -- the ends of these calls are some of these
 abbrev pub AllEndsAre : (ℕ → ℕ → Type 0) → List Moved → Type 0

@@ -32,8 +32,8 @@ pub record HasEnd (text : List ℕ) (number status : ℕ) : Type 0 where
 
 -- ---- after the lines
 
-abbrev pub HasStatus : Code → ℕ → ℕ → Type 0
-HasStatus code number status = status ≡ number_of code
+abbrev pub IsStatusOf : Code → ℕ → ℕ → Type 0
+IsStatusOf code number status = status ≡ number_of code
 
 -- a status with which a run ends what is open after its lines
 abbrev pub IsClosingStatus : ℕ → Type 0

@@ -26,7 +26,7 @@ use Rattle.script_stream.specs.Run.{run_lines, step_at}
 use Rattle.pam_outside.specs.Streams.{SinkState, SourceState}
 use Rattle.session_run.specs.AnyWorld.{ProceedsBy}
 use Rattle.session_run.specs.Asked.{Asking, FirstAsks}
-use Rattle.session_run.specs.Ends.{AsksEnd, EndsAre, HasStatus}
+use Rattle.session_run.specs.Ends.{AsksEnd, EndsAre, IsStatusOf}
 use Rattle.session_run.specs.State.{Setting, RunState}
 use Rattle.session_run.specs.Step.{line_step}
 
@@ -174,7 +174,7 @@ module _ {Kind : Type 0} (looked : Looks) (asked : Asking Kind)
 -- The end of a transaction that the next line asks for, or one with this status.
 abbrev pub IsLaterEnd : Code → List (List ℕ) → ℕ → ℕ → Type 0
 IsLaterEnd status others number ended = IsAskedBy others number ended
-    ⊎ HasStatus status number ended
+    ⊎ IsStatusOf status number ended
 
 -- Among its lines: the whole text of n lines is in what was written. Cleanup log and data model their events, and then
 -- others, whose ends the next line asked for or have this status.
@@ -196,8 +196,8 @@ pub record StandsCut (setting : Setting) (status : Code) (lines : ℕ) (start en
 pub record StandsBehind (setting : Setting) (status stopped : Code) (lines : ℕ)
     (start end : RunState) (input : List ℕ) : Type 0 where
   pub later : List Event
-  pub ends_are : EndsAre (λ (number : ℕ) (ended : ℕ). HasStatus status number ended
-      ⊎ HasStatus stopped number ended) later
+  pub ends_are : EndsAre (λ (number : ℕ) (ended : ℕ). IsStatusOf status number ended
+      ⊎ IsStatusOf stopped number ended) later
   pub stand : StandOn (notes_of setting.players)
       (line_events setting start (take lines (lines_of input)) ++ later) start end
 

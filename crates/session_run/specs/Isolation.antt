@@ -31,7 +31,7 @@ use Rattle.session_report.specs.Said.{messages_text}
 use Rattle.session_report.specs.Step.{step_text}
 use Rattle.session_report.specs.Visited.{visits_text}
 use Rattle.session_report.specs.Waited.{waited_text}
-use Rattle.session_run.specs.Closings.{all_closed, world_behind}
+use Rattle.session_run.specs.Closings.{all_closed, closings as all_closings, closings_text, world_behind}
 use Rattle.session_run.specs.State.{Setting, RunState}
 use Rattle.session_run.specs.Step.{line_step}
 
@@ -67,16 +67,16 @@ script_alone number text = flat_map with_newline (alone number (lines_of text))
 -- ---- the results of the steps on a number in a run
 
 -- a step, what it reported and returned, and the cleanup log after it
-pub record Came : Type 0 where
+pub record MadeStep : Type 0 where
   pub step : Step
   pub outcome : PlainOutcome
   pub ledger : PlainLedger
 
 -- after a line: its result, and what the lines after it do; nothing follows a refused line
-abbrev pub came_behind : {A : Type 0} → Result (RunState × List ℕ) ScriptKind → (List ℕ → List A)
+abbrev pub steps_then : {A : Type 0} → Result (RunState × List ℕ) ScriptKind → (List ℕ → List A)
     → (RunState → List A) → List A
-came_behind (Ok x) here next = here x.1 ++ next x.0
-came_behind (Err kind) here next = []
+steps_then (Ok x) here next = here x.1 ++ next x.0
+steps_then (Err kind) here next = []
 
 abbrev pub FilesStay : Result (RunState × List ℕ) ScriptKind → Bool → RunState → (RunState → Type 0)
     → Type 0
@@ -85,25 +85,25 @@ FilesStay (Ok x) another s Next = (another ≡ true → x.0.world.vault.files �
 FilesStay (Err kind) another s Next = Unit {0}
 
 module _ (setting : Setting) where
-  abbrev pub came_to : RunState → Step → Came
-  came_to s step = let t = stepped setting.players setting.delay s.slots s.world step in
+  abbrev pub made_step : RunState → Step → MadeStep
+  made_step s step = let t = stepped setting.players setting.delay s.slots s.world step in
       record { step = step; outcome = t.outcome; ledger = t.world.process.ledger }
 
   module _ (number : ℕ) where
-    abbrev pub came_by : RunState → Option Step → List Came
-    came_by s None = []
-    came_by s (Some step) = if nat_eq step.number number then came_to s step ∷ [] else []
+    abbrev pub made_steps : RunState → Option Step → List MadeStep
+    made_steps s None = []
+    made_steps s (Some step) = if nat_eq step.number number then made_step s step ∷ [] else []
 
     -- the steps on the number, in order, among lines that have n lines before them
-    abbrev pub came_among : ℕ → RunState → List (List ℕ) → List Came
-    came_among n s [] = []
-    came_among n s (l ∷ ls) = came_behind (step_at (line_step setting) n s l) (λ text.
-        came_by s (step_in (parsed l))) (λ t. came_among (n + 1) t ls)
+    abbrev pub steps_among : ℕ → RunState → List (List ℕ) → List MadeStep
+    steps_among n s [] = []
+    steps_among n s (l ∷ ls) = steps_then (step_at (line_step setting) n s l) (λ text.
+        made_steps s (step_in (parsed l))) (λ t. steps_among (n + 1) t ls)
 
     -- what the run writes for them
     abbrev pub texts_among : ℕ → RunState → List (List ℕ) → List (List ℕ)
     texts_among n s [] = []
-    texts_among n s (l ∷ ls) = came_behind (step_at (line_step setting) n s l) (λ text.
+    texts_among n s (l ∷ ls) = steps_then (step_at (line_step setting) n s l) (λ text.
         if is_on number (step_in (parsed l)) then text ∷ [] else []) (λ t. texts_among (n + 1) t ls)
 
     -- no step on another number changes a file
@@ -133,7 +133,7 @@ module _ (id_words : ℕ → List ℕ) (handle : ℕ) (names : List (List ℕ)) 
   abbrev pub filed_text_with : List Birth → Filed → List ℕ
   filed_text_with births filed = receipt_text_with filed.receipt (slice_get births filed.receipt.id)
 
-abbrev pub step_text_with : (ℕ → List ℕ) → List (List ℕ) → Came → List ℕ
+abbrev pub step_text_with : (ℕ → List ℕ) → List (List ℕ) → MadeStep → List ℕ
 step_text_with id_words names c =
     messages_text c.step.number c.outcome.said
     ++ (visits_text c.step.number c.outcome.trail
@@ -144,11 +144,11 @@ step_text_with id_words names c =
     ++ answer_text c.step.number (word_of_call c.step.call) c.outcome.answer))))
 
 -- with every id left out
-abbrev pub text_without_ids : List (List ℕ) → Came → List ℕ
+abbrev pub text_without_ids : List (List ℕ) → MadeStep → List ℕ
 text_without_ids names c = step_text_with (λ (id : ℕ). []) names c
 
 -- as the report has it
-abbrev pub text_of : List (List ℕ) → Came → List ℕ
+abbrev pub text_of : List (List ℕ) → MadeStep → List ℕ
 text_of names c = step_text names c.step c.outcome c.ledger
 
 -- ---- the lines with which the program closes a number after the lines of a script
@@ -201,8 +201,8 @@ state_behind setting n s script = (run_lines (line_step setting) n s script).las
 -- program closes it. Both runs end at the same line, for the same fault if there is one.
 pub record GoesAsAlone (setting : Setting) (number n : ℕ) (s : RunState)
     (script : List (List ℕ)) : Type 0 where
-  pub outcomes : map (λ (c : Came). told_in c.outcome) (came_among setting number n s script)
-      ≡ map (λ (c : Came). told_in c.outcome) (came_among setting number n s (alone number script))
+  pub outcomes : map (λ (c : MadeStep). told_in c.outcome) (steps_among setting number n s script)
+      ≡ map (λ (c : MadeStep). told_in c.outcome) (steps_among setting number n s (alone number script))
   pub births : births_on number (state_behind setting n s script).world.process.ledger.births
       ≡ births_on number (state_behind setting n s
       (alone number script)).world.process.ledger.births
@@ -219,9 +219,9 @@ pub record GoesAsAlone (setting : Setting) (number n : ℕ) (s : RunState)
       ≡ receipts_on number (all_closed setting.players status
       (state_behind setting n s (alone number script))).world.process.ledger
   pub report : map (text_without_ids (names_of setting.players))
-      (came_among setting number n s script)
+      (steps_among setting number n s script)
       ≡ map (text_without_ids (names_of setting.players))
-      (came_among setting number n s (alone number script))
+      (steps_among setting number n s (alone number script))
   pub closing : (status : Code)
       → closing_without_ids setting.players status (state_behind setting n s script) number
       ≡ closing_without_ids setting.players status (state_behind setting n s (alone number script))
@@ -230,3 +230,22 @@ pub record GoesAsAlone (setting : Setting) (number n : ℕ) (s : RunState)
       ≡ (run_lines (line_step setting) n s (alone number script)).items
   pub refused : (run_lines (line_step setting) n s script).refused
       ≡ (run_lines (line_step setting) n s (alone number script)).refused
+
+-- So does each, from a quiet start, if no step on another number changes a file.
+pub record TransactionsStandAlone : Type 0 where
+  pub goes : (setting : Setting) (number n : ℕ) (s : RunState) (script : List (List ℕ))
+      → IsQuietStart s → LeaveFiles setting number n s script
+      → GoesAsAlone setting number n s script
+  -- what a run writes for the steps on a number, with the numbers of data sets left out
+  pub texts : (setting : Setting) (number n : ℕ) (s : RunState) (script : List (List ℕ))
+      → texts_among setting number n s script
+      ≡ map (text_of (names_of setting.players)) (steps_among setting number n s script)
+  pub words : (names : List (List ℕ)) (c : MadeStep)
+      → step_text_with number_words names c ≡ text_of names c
+  -- the reports of the implicit pam_end calls are those of each number, in order
+  pub closings : (setting : Setting) (status : Code) (s : RunState)
+      → closings_text (all_closings setting.players status s)
+      ≡ all_closing_texts setting.players status s
+  -- the lines of the script on one number, as a text
+  pub script : (number : ℕ) (text : List ℕ)
+      → lines_of (script_alone number text) ≡ alone number (lines_of text)

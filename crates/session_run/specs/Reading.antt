@@ -8,11 +8,14 @@ use Rattle.script_lang.specs.Line.{parsed}
 use Rattle.item_stream.specs.declared.ending.Ending.{Ending as StreamEnding}
 use Rattle.item_stream.specs.declared.ending.Ending.TheVariants.{Done, ReadFault, Refused}
 use Rattle.item_stream.specs.declared.ending.Stop.{Stop}
-use Rattle.item_stream.specs.Run.{ItemStep, Looks}
+use Rattle.item_stream.specs.Laws.{EndIsTurn, FaultIsTurn, ItemIsTurn, NoTurnYet, RestIsTurn, StopsAtOnce, TurnsAreRun, TurnsGoOn}
+use Rattle.item_stream.specs.Run.{ItemStep, Looks, Refuses}
 use Rattle.item_stream.specs.Turns.{ServesTold, Turns}
 use Rattle.item_stream.specs.Whole.{Runs}
 use Rattle.script_stream.specs.Run.{LineStep, run_of}
 use Rattle.script_stream.specs.Turns.{Ending}
+use Rattle.session_run.specs.State.{RunState, Setting}
+use Rattle.session_run.specs.Step.{line_step}
 
 -- ---- what is read
 
@@ -28,9 +31,17 @@ line_read done line = read_as (parsed line)
 abbrev pub refused_in : List ℕ → Bool → Option ScriptKind
 refused_in bytes ended = (run_of line_read 0 tt bytes ended).refused
 
--- whatever it is
-abbrev pub Whatever : Unit {0} → List ℕ → Unit {0} → Type 0
-Whatever before line after = Unit {0}
+-- a run refuses the same line, whatever its lines do and from whatever state
+pub record RefusesByBytes : Type 0 where
+  pub refused : (setting : Setting) (start : RunState) (bytes : List ℕ) (ended : Bool)
+      → (run_of (line_step setting) 0 start bytes ended).refused ≡ refused_in bytes ended
+  pub lines : (setting : Setting) (start : RunState) (bytes : List ℕ) (ended : Bool)
+      → (run_of (line_step setting) 0 start bytes ended).items
+      ≡ (run_of line_read 0 tt bytes ended).items
+
+-- no state is excluded
+abbrev pub AnyState : Unit {0} → List ℕ → Unit {0} → Type 0
+AnyState before line after = Unit {0}
 
 -- a sink to which nothing is written
 abbrev pub nowhere : SinkState
@@ -45,18 +56,30 @@ pub record TakesBytes (before : List ℕ) (x y : SourceState) : Type 0 where
 -- one item, one turn and many, for a sink to which nothing is written
 abbrev pub ReadsItem : {Kind : Type 0} → ItemStep (Unit {0}) Kind → Result (Option Kind) Stop → ℕ
     → List ℕ → Type 0
-ReadsItem step result n item = ServesTold step Whatever result n item tt tt nowhere nowhere
+ReadsItem step result n item = ServesTold step AnyState result n item tt tt nowhere nowhere
 
 pub record ReadsTurn {Kind : Type 0} (looked : Looks) (step : ItemStep (Unit {0}) Kind)
     (result : Result (Option (StreamEnding Kind)) Stop) (n m : ℕ) (before held : List ℕ)
     (x y : SourceState) : Type 0 where
-  pub turns : Turns looked step Whatever result n m tt tt before held x y nowhere nowhere
+  pub turns : Turns looked step AnyState result n m tt tt before held x y nowhere nowhere
   pub takes : TakesBytes before x y
 
 pub record ReadsAll {Kind : Type 0} (looked : Looks) (step : ItemStep (Unit {0}) Kind)
     (result : Result (StreamEnding Kind) Stop) (m : ℕ) (x y : SourceState) : Type 0 where
-  pub runs : Runs looked step Whatever result m tt tt x y nowhere nowhere
+  pub runs : Runs looked step AnyState result m tt tt x y nowhere nowhere
   pub takes : TakesBytes [] x y
+
+-- the laws on turns, for a stream of which only the source is modelled
+pub record ReadingIsTurns {Kind : Type 0} (looked : Looks) (refuses : Refuses)
+    (step : ItemStep (Unit {0}) Kind) : Type 0 where
+  pub none_yet : NoTurnYet looked step AnyState
+  pub no_memory : StopsAtOnce looked step AnyState
+  pub fault : FaultIsTurn looked refuses step AnyState
+  pub end : EndIsTurn looked refuses step AnyState
+  pub item : ItemIsTurn looked refuses step AnyState
+  pub rest : RestIsTurn looked refuses step AnyState
+  pub on : TurnsGoOn looked step AnyState
+  pub run : TurnsAreRun looked step AnyState
 
 -- how a run ends, by the bytes: at the end of a script of which no line is refused; at the first line that is; or
 -- after lines that aren't

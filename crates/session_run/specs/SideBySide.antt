@@ -63,3 +63,11 @@ module _ (setting : Setting) where
     pub outcomes_are : outcomes_on setting.players setting.delay number s.slots
         (steps_of s bytes ended) ≡ outcomes_alone setting.players setting.delay number slot
         (own_steps number (steps_of s bytes ended))
+
+-- so it is for each number, and the report is that of all steps, in order
+pub record NumbersStandApart : Type 0 where
+  pub alone : (setting : Setting) (start : RunState) (bytes : List ℕ) (ended : Bool) (number : ℕ)
+      (slot : PlainSlot) → slot_at start.slots number ≡ Some slot
+      → ComesAlone setting start bytes ended number slot
+  pub steps : (setting : Setting) (start : RunState) (bytes : List ℕ) (ended : Bool)
+      → TellsSteps setting start bytes ended

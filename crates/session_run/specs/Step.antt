@@ -5,7 +5,7 @@ use Rattle.pam_base.specs.declared.fault.ScriptKind.{ScriptKind}
 use Rattle.session_report.specs.dispatch_core.specs.Lines.{names_of}
 use Rattle.session_report.specs.pam_room.specs.Module.{notes_of}
 use Rattle.session_report.specs.pam_room.specs.State.{PlainWorld}
-use Rattle.session_report.specs.pam_library.specs.AnyWorld.{FailsAt, SpendsAt, leaves_world}
+use Rattle.session_report.specs.pam_library.specs.AnyWorld.{FailsAt, SpendsAt, StopsAt, leaves_world}
 use Rattle.session_report.specs.pam_library.specs.Slots.{lists_of, slot_at}
 use Rattle.session_report.specs.pam_library.specs.Step.{Stepped, stepped}
 use Rattle.script_lang.specs.declared.line.Line.{Line}
@@ -53,11 +53,14 @@ module _ (setting : Setting) where
   line_step s line = applied_or_refused s (parsed line)
 
 -- The states that a call may leave if it runs out of memory: what it says of its transaction, with every other as it
--- was, and of the data and the world. There was no sleep.
+-- was, and of the data and the world. A stack call says which line ran out of memory, and what its module left there.
+-- There was no sleep.
 pub record CallFails (setting : Setting) (step : Step) (s t : RunState) : Type 0 where
   pub place : FailsAt true step.call (slot_at s.slots step.number) (slot_at t.slots step.number)
   pub others : (number : ℕ) → (number ≡ step.number → ⊥)
       → slot_at t.slots number ≡ slot_at s.slots number
+  pub stops : StopsAt setting.players true step.call (slot_at s.slots step.number)
+      (slot_at t.slots step.number) s.world t.world
   pub spends : SpendsAt (notes_of setting.players) (length setting.players)
       (slot_at s.slots step.number) step.call
       (lists_of s.slots step.number) s.world.process.ledger (lists_of t.slots step.number)

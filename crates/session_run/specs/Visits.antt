@@ -1,11 +1,16 @@
 -- What the modules of the stack lines get that a script runs (this project's own).
 use Rattle.std.specs.Prelude.{◌≡◌, ℕ, List, [], ◌∷◌, ◌++◌}
-use Rattle.session_report.specs.pam_library.specs.Plays.{AskedLine, StepAsks}
+use Rattle.session_report.specs.pam_library.specs.Plays.{AskedLine, LinesLead, StepAsks}
 use Rattle.session_report.specs.pam_library.specs.SideBySide.{Met}
 use Rattle.session_report.specs.pam_library.specs.Slots.{PlainSlot}
 use Rattle.session_report.specs.pam_library.specs.Step.{stepped}
+use Rattle.pam_base.specs.declared.code.Code.{Code}
+use Rattle.session_report.specs.pam_room.specs.Module.{Player}
+use Rattle.script_stream.specs.Run.{run_lines}
+use Rattle.session_run.specs.Closings.{all_closed}
 use Rattle.session_run.specs.SideBySide.{steps_in}
 use Rattle.session_run.specs.State.{RunState, Setting}
+use Rattle.session_run.specs.Step.{line_step}
 
 module _ (setting : Setting) where
   -- The modules of the stack lines that some steps run get this, step by step.
@@ -19,3 +24,13 @@ module _ (setting : Setting) where
   -- Those of the lines of a script get this, up to the first that is refused; it has n lines before it.
   abbrev pub ScriptAsks : ℕ → RunState → List (List ℕ) → List AskedLine → Type 0
   ScriptAsks n s script asked = StepsAsk s.slots (steps_in setting n s script) asked
+
+-- What these get is said of every script, and their meanings change files, one after another, and nothing else does. The
+-- implicit pam_end calls after it change no file.
+pub record FilesChangeByPlays : Type 0 where
+  pub script : (setting : Setting) (n : ℕ) (s : RunState) (script : List (List ℕ))
+      → (asked : List AskedLine) × ScriptAsks setting n s script asked
+      × LinesLead setting.players s.world.vault.files asked
+      (run_lines (line_step setting) n s script).last.world.vault.files
+  pub closings : (players : List Player) (status : Code) (s : RunState)
+      → (all_closed players status s).world.vault.files ≡ s.world.vault.files

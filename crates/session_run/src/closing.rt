@@ -1,6 +1,6 @@
 ghost use Rattle.std.specs.Prelude.{◌≡◌, ◌<◌, ◌≤◌, true, false, Ok, IsTrue, OnOk, IfSome, IfNone, length};
 ghost use Rattle.pam_outside.specs.Counts.{RisesIf};
-ghost use Rattle.session_run.specs.Ends.{HasStatus};
+ghost use Rattle.session_run.specs.Ends.{IsStatusOf};
 ghost use Rattle.item_stream.specs.Turns.{has_write_fault};
 ghost use Rattle.session_run.specs.Seen.{IsSoundIn, NoneIsOpenIn, Went, state};
 ghost use Rattle.session_run.specs.Closings.{EndsNext, all_closed, open_count};
@@ -33,7 +33,7 @@ pub fn close_open<P: Protocol, K: Sink>(
         (K.sink_holds sink.old) (K.sink_holds sink.new) }
     ensures none_open { OnOk result (NoneIsOpenIn
         (⟦<Session as Told>⟧.seen library.new world.new)) }
-    ensures went { let seen = ⟦<Session as Told>⟧.seen in Went (HasStatus status)
+    ensures went { let seen = ⟦<Session as Told>⟧.seen in Went (IsStatusOf status)
         (seen library.old world.old) (seen library.new world.new) }
     ensures faults { RisesIf (has_write_fault result) (K.sink_faults sink.old)
         (K.sink_faults sink.new) }
@@ -66,7 +66,7 @@ fn close_next<P: Protocol, K: Sink>(
         < open_count (seen library.old world.old).slots }
     ensures none_open { result ≡ Ok false →
         NoneIsOpenIn (⟦<Session as Told>⟧.seen library.new world.new) }
-    ensures went { let seen = ⟦<Session as Told>⟧.seen in Went (HasStatus status)
+    ensures went { let seen = ⟦<Session as Told>⟧.seen in Went (IsStatusOf status)
         (seen library.old world.old) (seen library.new world.new) }
     ensures faults { RisesIf (has_write_fault result) (K.sink_faults sink.old)
         (K.sink_faults sink.new) }
@@ -102,7 +102,7 @@ pub fn close_silently(library: &mut Library, status: Code, world: &mut World)
     ensures closed { let seen = ⟦<Session as Told>⟧.seen in state (seen library.new world.new)
         ≡ all_closed (seen library.old world.old).players status (state (seen library.old world.old)) }
     ensures none_open { NoneIsOpenIn (⟦<Session as Told>⟧.seen library.new world.new) }
-    ensures went { let seen = ⟦<Session as Told>⟧.seen in Went (HasStatus status)
+    ensures went { let seen = ⟦<Session as Told>⟧.seen in Went (IsStatusOf status)
         (seen library.old world.old) (seen library.new world.new) }
 {
     while let Some(_number) = end_next(library, status, world) {}
@@ -119,7 +119,7 @@ pub fn end_next(library: &mut Library, status: Code, world: &mut World) -> Optio
     ensures filed { length world.old.process.ledger.filed ≤ length world.new.process.ledger.filed }
     ensures stays { let seen = ⟦<Session as Told>⟧.seen in
         IfNone result (state (seen library.new world.new) ≡ state (seen library.old world.old)) }
-    ensures went { let seen = ⟦<Session as Told>⟧.seen in Went (HasStatus status)
+    ensures went { let seen = ⟦<Session as Told>⟧.seen in Went (IsStatusOf status)
         (seen library.old world.old) (seen library.new world.new) }
 {
     library.close_one(world, code_number(status))

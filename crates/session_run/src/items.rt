@@ -13,7 +13,7 @@ use crate::protocol::{Items, Protocol};
 use crate::reading::reading_is_turns;
 use crate::serve::serve;
 use crate::session::{Session, Told};
-use item_stream::{Ending, Found, Reader, Stop, laws};
+use item_stream::{Ending, NextItem, Reader, Stop, laws};
 use pam_base::{Failed, NoMemory};
 use pam_outside::{Sink, Source};
 use session_report::pam_library::Library;
@@ -63,7 +63,7 @@ pub fn serve_items<P: Protocol, S: Source, K: Sink>(
         Err(NoMemory) => return Err(Stop::NoMemory),
     };
     loop {
-        match take_turn::<P, S, K>(alloc, library, taken, &mut reader, source, sink, world) {
+        match serve_next::<P, S, K>(alloc, library, taken, &mut reader, source, sink, world) {
             Ok(None) => {}
             Ok(Some(ending)) => return Ok(ending),
             Err(stop) => return Err(stop),
@@ -72,7 +72,7 @@ pub fn serve_items<P: Protocol, S: Source, K: Sink>(
 }
 
 // Reads one item and applies it. None if there may be more.
-fn take_turn<P: Protocol, S: Source, K: Sink>(
+fn serve_next<P: Protocol, S: Source, K: Sink>(
     alloc: Global,
     library: &mut Library,
     taken: &mut u32,
@@ -118,8 +118,8 @@ fn take_turn<P: Protocol, S: Source, K: Sink>(
     let before = *taken;
     match find_item::<P, S>(reader, source, before) {
         Err(Failed) => Ok(Some(Ending::ReadFault)),
-        Ok(Found::End) => Ok(Some(Ending::Done)),
-        Ok(Found::Item { length, size }) => {
+        Ok(NextItem::End) => Ok(Some(Ending::Done)),
+        Ok(NextItem::Item { length, size }) => {
             match serve::<P, K>(
                 alloc,
                 library,
@@ -137,7 +137,7 @@ fn take_turn<P: Protocol, S: Source, K: Sink>(
                 }
             }
         }
-        Ok(Found::Rest) => match serve::<P, K>(
+        Ok(NextItem::Rest) => match serve::<P, K>(
             alloc,
             library,
             before,
@@ -160,7 +160,7 @@ fn find_item<P: Protocol, S: Source>(
     reader: &mut Reader,
     source: &mut S,
     before: u32,
-) -> Result<Found, Failed>
+) -> Result<NextItem, Failed>
     ensures found { IsFound P.looked result before reader.new }
     ensures bytes { All (λ b. b < 256) reader.new }
     ensures tells { S.source_tells source.new ≡ S.source_tells source.old }

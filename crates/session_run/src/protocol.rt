@@ -109,7 +109,7 @@ pub(crate) struct Reading<P: Protocol> {
 }
 
 impl<P: Protocol> Stepping for Reading<P> {
-    ghost use Rattle.session_run.specs.Reading.{Whatever};
+    ghost use Rattle.session_run.specs.Reading.{AnyState};
 
     type Kind = P::Kind;
 
@@ -123,7 +123,7 @@ impl<P: Protocol> Stepping for Reading<P> {
 
     ghost refuses = { P.refuses };
 
-    ghost fails = { λ _. Whatever };
+    ghost fails = { λ _. AnyState };
 
     fn front(before: u32, held: &[u8]) -> Front {
         P::front(before, held)

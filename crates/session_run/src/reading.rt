@@ -1,19 +1,11 @@
-ghost use Rattle.item_stream.specs.Laws.{EndIsTurn, FaultIsTurn, ItemIsTurn, NoTurnYet, RestIsTurn, StopsAtOnce, TurnsAreRun, TurnsGoOn};
-ghost use Rattle.session_run.specs.Reading.{Whatever};
+ghost use Rattle.session_run.specs.Reading.{ReadingIsTurns};
 
 use crate::protocol::{Protocol, Reading};
 use item_stream::laws;
 
 /// The laws on turns, for a stream of which only the source is modelled.
 pub(crate) fn reading_is_turns<P: Protocol>()
-    ensures none_yet { NoTurnYet P.looked P.read_step Whatever }
-    ensures no_memory { StopsAtOnce P.looked P.read_step Whatever }
-    ensures fault { FaultIsTurn P.looked P.refuses P.read_step Whatever }
-    ensures end { EndIsTurn P.looked P.refuses P.read_step Whatever }
-    ensures item { ItemIsTurn P.looked P.refuses P.read_step Whatever }
-    ensures rest { RestIsTurn P.looked P.refuses P.read_step Whatever }
-    ensures on { TurnsGoOn P.looked P.read_step Whatever }
-    ensures run { TurnsAreRun P.looked P.read_step Whatever }
+    ensures { ReadingIsTurns P.looked P.refuses P.read_step }
 {
     laws::first_turn::<Reading<P>>();
     laws::nothing_found_is_a_turn::<Reading<P>>();

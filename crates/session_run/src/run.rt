@@ -3,7 +3,7 @@ ghost use Rattle.pam_base.specs.declared.code.Code.{Code};
 ghost use Rattle.data_cleanup.specs.Ledger.{is_filed};
 ghost use Rattle.pam_outside.specs.Counts.{RisesIf, Rose};
 ghost use Rattle.item_stream.specs.Turns.{has_read_fault, has_write_fault};
-ghost use Rattle.session_run.specs.Ends.{HasStatus, IsEndOfRun};
+ghost use Rattle.session_run.specs.Ends.{IsStatusOf, IsEndOfRun};
 ghost use Rattle.session_run.specs.Reading.{ReadsScript, WritesScript};
 ghost use Rattle.session_run.specs.Seen.{AllTell, IsSoundIn, NoneIsOpenIn, Went, setting_in, state};
 ghost use Rattle.session_run.specs.Whole.{Completes, EndsWith, RunsScript, ending_status, last_line};
@@ -125,7 +125,7 @@ fn finish<K: Sink>(
     ensures none_open { OnOk result (NoneIsOpenIn
         (⟦<Session as Told>⟧.seen library.new world.new)) }
     ensures went { let seen = ⟦<Session as Told>⟧.seen in Went
-        (HasStatus (ending_status ending)) (seen library.old world.old)
+        (IsStatusOf (ending_status ending)) (seen library.old world.old)
         (seen library.new world.new) }
     ensures faults { RisesIf (has_write_fault result) (K.sink_faults sink.old)
         (K.sink_faults sink.new) }

@@ -28,7 +28,7 @@ impl LineStepping for Meaning {
 struct Refusing;
 
 impl LineStepping for Refusing {
-    ghost use Rattle.session_run.specs.Reading.{Whatever as NoState, line_read as reads_line};
+    ghost use Rattle.session_run.specs.Reading.{AnyState as NoState, line_read as reads_line};
 
     ghost Setting = { Unit {0} };
 

@@ -18,7 +18,7 @@ use Rattle.frame_stream.specs.Looked.{looked}
 use Rattle.session_run.specs.script_lang.specs.declared.line.Line.{Line}
 use Rattle.session_run.specs.script_lang.specs.declared.line.Line.TheVariants as lines
 use Rattle.session_run.specs.Asked.{AreAccepted, HasEndAmong, IsEndAmong}
-use Rattle.session_run.specs.Ends.{HasStatus}
+use Rattle.session_run.specs.Ends.{IsStatusOf}
 use Rattle.session_wire.specs.Endings.{ending_status, stop_status}
 use Rattle.session_wire.specs.Ends.{HasEndFrom, IsEndOfRun, end_call}
 use Rattle.session_wire.specs.Step.{frame_asked, framed}
@@ -111,10 +111,10 @@ has_end all law input number status h =
 
 -- ---- after the frames
 
-pub by_ending : (tells : Bool) (input : List ℕ) (ending : Ending FrameFault) (code : Code) → code ≡ ending_status ending → (number status : ℕ) → HasStatus code number status → IsEndOfRun tells input number status
+pub by_ending : (tells : Bool) (input : List ℕ) (ending : Ending FrameFault) (code : Code) → code ≡ ending_status ending → (number status : ℕ) → IsStatusOf code number status → IsEndOfRun tells input number status
 by_ending tells input ending code e number status is told = inl (inl (ending, is ∙ ap number_of e))
 
-pub by_stop : (tells : Bool) (input : List ℕ) (stop : Stop) (code : Code) → code ≡ stop_status stop → (number status : ℕ) → HasStatus code number status → IsEndOfRun tells input number status
+pub by_stop : (tells : Bool) (input : List ℕ) (stop : Stop) (code : Code) → code ≡ stop_status stop → (number status : ℕ) → IsStatusOf code number status → IsEndOfRun tells input number status
 by_stop tells input stop code e number status is told = inl (inr (stop, is ∙ ap number_of e))
 
 pub by_frame : AllAreLookedAt → ReadsTable → (tells : Bool) (input : List ℕ) (number status : ℕ) → IsEndAmong looked frame_asked tells 0 input number status → IsEndOfRun tells input number status

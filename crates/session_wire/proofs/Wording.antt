@@ -21,7 +21,7 @@ use Rattle.frame_stream.specs.Looked.{looked}
 use Rattle.frame_stream.specs.Run.{CallStep, step_at}
 use Rattle.frame_stream.specs.Spelled.{Spells, answers_to, state_behind}
 use Rattle.session_run.specs.Closings.{Closing, all_closed, closings as reported, closings_text, last_state}
-use Rattle.session_run.specs.Reading.{TakesBytes, Whatever, nowhere}
+use Rattle.session_run.specs.Reading.{TakesBytes, AnyState, nowhere}
 use Rattle.session_run.specs.State.{Setting, RunState}
 use Rattle.session_wire.specs.Answered.{Closes, answered_closing, closings}
 use Rattle.session_wire.specs.Endings.{ending_status, stop_status}
@@ -77,7 +77,7 @@ taken_bytes x y taken e t = All-same (λ b. b < 256) taken t.got (append_cancel_
 
 module _ (spell : BytesSpell) (runs : RunIsOfSteps call_read) where
   spelled_of : (ending : Ending FrameFault) (m : ℕ) (x y : SourceState) → (r : ReadsAll (Ok ending) m x y) → TakesBytes [] x y → SpellsTo ending r.taken y.left
-  spelled_of ending m x y r t = (run_ended call_read Whatever spell runs ending m tt tt x y nowhere nowhere r (taken_bytes x y r.taken r.source t)).spelled
+  spelled_of ending m x y r t = (run_ended call_read AnyState spell runs ending m tt tt x y nowhere nowhere r (taken_bytes x y r.taken r.source t)).spelled
 
   looks_before : (result : Result (Ending FrameFault) Stop) (m : ℕ) (x y : SourceState) → (r : ReadsAll result m x y) → AreBytes r.taken → LooksBefore r.taken
   looks_before result m x y r all =

@@ -11,7 +11,7 @@ use Rattle.frame_stream.specs.declared.fault.FrameFault.{FrameFault}
 use Rattle.frame_stream.specs.Looked.{looked}
 use Rattle.frame_stream.specs.Run.{CallStep, step_at}
 use Rattle.frame_stream.specs.Spelled.{Spells}
-use Rattle.session_run.specs.Reading.{Whatever, nowhere}
+use Rattle.session_run.specs.Reading.{AnyState, nowhere}
 
 -- ---- all frames, for calls that do nothing and a sink to which nothing is written
 
@@ -19,7 +19,7 @@ abbrev pub call_read : CallStep (Unit {0})
 call_read done step = (tt, [])
 
 abbrev pub ReadsAll : Result (Ending FrameFault) Stop → ℕ → SourceState → SourceState → Type 0
-ReadsAll result m x y = Runs looked (step_at call_read) Whatever result m tt tt x y nowhere nowhere
+ReadsAll result m x y = Runs looked (step_at call_read) AnyState result m tt tt x y nowhere nowhere
 
 -- ---- the whole run
 

@@ -29,7 +29,7 @@ impl CallStepping for Meaning {
 pub(crate) struct Refusing;
 
 impl CallStepping for Refusing {
-    ghost use Rattle.session_run.specs.Reading.{Whatever as NoState};
+    ghost use Rattle.session_run.specs.Reading.{AnyState as NoState};
     ghost use Rattle.session_wire.specs.Reading.{call_read as reads_call};
 
     ghost Setting = { Unit {0} };

@@ -6,7 +6,7 @@ use Rattle.pam_room.specs.env_list.specs.Environment.{Variable}
 use Rattle.mod_unix.specs.module_acts.specs.account_db.specs.declared.passwd.Passwd.{Passwd}
 use Rattle.mod_unix.specs.module_acts.specs.account_files.specs.declared.content.Content.{Content}
 use Rattle.mod_unix.specs.module_acts.specs.account_files.specs.Act.{Act, answers, in_room}
-use Rattle.mod_env.specs.declared.conf.Entry.{Entry}
+use Rattle.mod_env.specs.declared.conf.EnvLine.{EnvLine}
 use Rattle.mod_env.specs.declared.expand.Expansion.{Expansion}
 use Rattle.mod_env.specs.declared.expand.Expansion.TheVariants.{TooLong, Puts}
 use Rattle.mod_env.specs.Conf.{conf_of}
@@ -36,7 +36,7 @@ module _ (path : List ℕ) where
     expanded (Puts text) = putting text (act true) (next true)
     expanded TooLong = next false
 
-    set_by : (entry : Entry) (account : Option Passwd) → Still (sets_by entry account act)
+    set_by : (entry : EnvLine) (account : Option Passwd) → Still (sets_by entry account act)
     unfolding sets_by
     set_by entry account =
         seeing_items path (λ items. sees_env (λ env. by_expansion (expansion_of entry (record { items = items; env = env; entry = account })) act))
@@ -52,7 +52,7 @@ module _ (path : List ℕ) where
     looked true = seeing_items path (λ items. by_user items.user act) (λ items. by_name items.user)
     looked false = next None
 
-  set_one : (entry : Entry) (act : Bool → Act) → ((fits : Bool) → Still (act fits)) → Still (sets_variable entry act)
+  set_one : (entry : EnvLine) (act : Bool → Act) → ((fits : Bool) → Still (act fits)) → Still (sets_variable entry act)
   unfolding sets_variable
   set_one entry act next = looked (λ account. sets_by entry account act) (λ account. set_by act next entry account) (asks_account entry)
 
@@ -60,7 +60,7 @@ module _ (path : List ℕ) where
   picked true x y l r = l
   picked false x y l r = r
 
-  set_all : (entries : List Entry) (act : Bool → Act) → ((fits : Bool) → Still (act fits)) → Still (sets_all entries act)
+  set_all : (entries : List EnvLine) (act : Bool → Act) → ((fits : Bool) → Still (act fits)) → Still (sets_all entries act)
   set_all [] act next = next true
   set_all (entry ∷ entries) act next = set_one entry (λ fits. cond fits (sets_all entries act) (act false))
       (λ fits. picked fits (sets_all entries act) (act false) (set_all entries act next) (next false))
@@ -69,7 +69,7 @@ module _ (path : List ℕ) where
   fitted assignments true = put_all assignments (answers returns.Success) (answering path returns.Success)
   fitted assignments false = answering path returns.BufErr
 
-  entered : (entries : Option (List Entry)) (assignments : List (List ℕ)) → Still (by_entries entries assignments)
+  entered : (entries : Option (List EnvLine)) (assignments : List (List ℕ)) → Still (by_entries entries assignments)
   entered (Some entries) assignments = set_all entries (by_fits assignments) (fitted assignments)
   entered None assignments = answering path returns.ServiceErr
 

@@ -12,16 +12,16 @@ use Rattle.mod_unix.specs.module_acts.specs.account_files.specs.Accounts.{Accoun
 use Rattle.mod_unix.specs.module_acts.specs.account_files.specs.Act.{Act, answers, finds_account, reads_groups, reads_passwds, shows, unless_answered}
 use Rattle.mod_unix.specs.module_acts.specs.Steps.{sees_caller}
 use Rattle.mod_unix.specs.module_acts.specs.Uncheck.{code_unchecked}
-use Rattle.mod_unix.specs.declared.look.Look.{Look}
-use Rattle.mod_unix.specs.declared.look.Look.TheVariants.{Unknown, Unavailable, Plain, Shadowed}
-use Rattle.mod_unix.specs.Change.{by_done}
+use Rattle.mod_unix.specs.declared.look.KnownPassword.{KnownPassword}
+use Rattle.mod_unix.specs.declared.look.KnownPassword.TheVariants.{Unknown, Unavailable, Plain, Shadowed}
+use Rattle.mod_unix.specs.Change.{write_result}
 use Rattle.mod_unix.specs.Look.{looks}
 use Rattle.mod_history.specs.declared.history.Remembered.{Remembered}
 use Rattle.mod_history.specs.History.{history_text}
 use Rattle.mod_history.specs.Renewal.{hashes_of, renewed}
 use Rattle.mod_history.specs.Wheel.{checks_wheel, code_by_groups, code_by_passwds, wheel_act}
 use Rattle.mod_history.specs.Securetty.{by_account, by_list, by_root, by_terminal, checks_terminal, securetty_act, terminal_name}
-use Rattle.mod_history.specs.Pwhistory.{at_once, by_history, by_length, by_look, by_remember, by_token, by_use, checks_token, history_in, history_limit, history_name, is_refused, pwhistory_act, refuses_token, remember_of, remembers, renews, stores_text, unsets_item}
+use Rattle.mod_history.specs.Pwhistory.{at_once, remember_in_history, by_length, renew_if_known, by_remember, by_token, by_use, checks_token, history_in, history_limit, history_name, is_refused, pwhistory_act, refuses_token, remember_of, remembers, renews, stores_text, unsets_item}
 use Rattle.tally_run.proofs.Steps.{Leaves, answering, asking, finding, reading, reading_groups, reading_passwds, replacing, seeing_caller, seeing_items, showing, unless}
 use Rattle.tally_run.proofs.Unixes.{looking, taking}
 
@@ -75,7 +75,7 @@ module _ (path : List ℕ) where
         unsetting AuthTok shown (showing path ErrorMsg (codes "Password has been already used.") (act returns.AuthtokErr) (next returns.AuthtokErr))
 
     by_size : (short : Bool) (text : List ℕ) → Still (by_length short text act)
-    by_size true text = replacing path history_name text (λ done. act (by_done done)) apart (λ done. next (by_done done))
+    by_size true text = replacing path history_name text (λ done. act (write_result done)) apart (λ done. next (write_result done))
     by_size false text = next returns.AuthtokErr
 
     storing : (text : List ℕ) → Still (stores_text text act)
@@ -87,7 +87,7 @@ module _ (path : List ℕ) where
     used false remember user hash history = storing (history_text (renewed remember user hash history))
 
     module _ (call : PlainCall) (remember : ℕ) (user hash token : List ℕ) where
-      history_read : (history : Option (List Remembered)) → Still (by_history call remember user hash token history act)
+      history_read : (history : Option (List Remembered)) → Still (remember_in_history call remember user hash token history act)
       history_read None = next returns.AuthtokErr
       history_read (Some history) =
           seeing_caller path (λ caller. by_use (is_refused call.args caller token hash (hashes_of user history)) remember user hash history act)
@@ -95,7 +95,7 @@ module _ (path : List ℕ) where
 
       unless_zero : (zero : Bool) → Still (by_remember zero call remember user hash token act)
       unless_zero true = next returns.Success
-      unless_zero false = reading path history_name history_limit (λ content. by_history call remember user hash token (history_in content) act) (λ content. history_read (history_in content))
+      unless_zero false = reading path history_name history_limit (λ content. remember_in_history call remember user hash token (history_in content) act) (λ content. history_read (history_in content))
 
     module _ (call : PlainCall) (user : List ℕ) where
       with_token : (hash : List ℕ) (token : Option (List ℕ)) → Still (by_token call user hash token act)
@@ -110,8 +110,8 @@ module _ (path : List ℕ) where
       unfolding renews
       renewing hash = taking path (λ token. remembers call user hash token act) (remembering hash) call
 
-      by_known : (look : Look) → Still (by_look call user look act)
-      unfolding by_look
+      by_known : (look : KnownPassword) → Still (renew_if_known call user look act)
+      unfolding renew_if_known
       by_known Unknown = next returns.UserUnknown
       by_known Unavailable = next returns.AuthtokErr
       by_known (Plain hash) = renewing hash
@@ -119,7 +119,7 @@ module _ (path : List ℕ) where
 
     checking : (call : PlainCall) → Still (checks_token call act)
     unfolding checks_token
-    checking call = asking path (λ user. looks user (λ look. by_look call user look act)) (λ user. looking path user (λ look. by_look call user look act) (by_known call user))
+    checking call = asking path (λ user. looks user (λ look. renew_if_known call user look act)) (λ user. looking path user (λ look. renew_if_known call user look act) (by_known call user))
 
   pub pwhistory_leaves : ((root : List ℕ) → path_of root history_name ≡ path → ⊥) → (call : PlainCall) → Still (pwhistory_act call)
   pwhistory_leaves apart call = unless path (at_once call.func call.flags) (checks_token call answers) (checking apart answers (answering path) call)

@@ -27,7 +27,7 @@ use Rattle.mod_lists.specs.declared.list_values.Values.{Values}
 use Rattle.mod_lists.specs.declared.list_values.Values.TheVariants as values
 use Rattle.mod_lists.specs.declared.truth.Truth.{Truth}
 use Rattle.mod_lists.specs.declared.truth.Truth.TheVariants as truths
-use Rattle.mod_lists.specs.Nologin.{by_account as notice_account, by_notice, by_uid, checks_notice, nologin_act, notice_limit, or_etc, plain_answer, reads_notice, reads_usual}
+use Rattle.mod_lists.specs.Nologin.{by_account as notice_account, after_notice, by_uid, checks_notice, nologin_act, notice_limit, or_etc, plain_answer, reads_notice, reads_usual}
 use Rattle.mod_lists.specs.ListSettings.{PlainApply, PlainSettings, apply_of, everyone, members, one, settings_of}
 use Rattle.mod_lists.specs.Listfile.{applies, at_once as listfile_at_once, by_account as values_account, by_applies, by_content, by_groups as applies_groups, by_passwds as applies_passwds, by_settings, by_values, error_answer, group_values, listfile_act, reads_values, shell_values, text_values, verdict, yes_or_no}
 use Rattle.mod_lists.specs.Shells.{by_account as shell_account, checks_shell, list_code, login_shell, shells_act}
@@ -51,7 +51,7 @@ module _ (path : List ℕ) where
     notice_by_account notice missing = showing path ErrorMsg notice (answers returns.UserUnknown) (answering path returns.UserUnknown)
     notice_by_account notice (found entry) = notice_by_uid (entry.uid == 0) notice
 
-    notice_by : (user : List ℕ) (c : Content) → Still (by_notice plain user c)
+    notice_by : (user : List ℕ) (c : Content) → Still (after_notice plain user c)
     notice_by user Absent = answering path plain
     notice_by user Unreadable = answering path returns.ServiceErr
     notice_by user (Holds notice) = finding path user (notice_account plain notice) (notice_by_account notice)
@@ -70,8 +70,8 @@ module _ (path : List ℕ) where
   nologin_leaves call =
       let plain = plain_answer call.args in
       unless path (code_unchecked call.func plain) (checks_notice call.args)
-      (asking path (λ user. reads_notice (value_among (codes "file=") call.args) (by_notice plain user))
-      (λ user. notice_read (by_notice plain user) (notice_by plain user) (value_among (codes "file=") call.args)))
+      (asking path (λ user. reads_notice (value_among (codes "file=") call.args) (after_notice plain user))
+      (λ user. notice_read (after_notice plain user) (notice_by plain user) (value_among (codes "file=") call.args)))
 
   -- ---- pam_listfile
 

@@ -19,15 +19,15 @@ use Rattle.mod_unix.specs.module_acts.specs.account_files.specs.Act.{Act, answer
 use Rattle.mod_unix.specs.module_acts.specs.account_files.specs.Arguments.{has_argument}
 use Rattle.mod_unix.specs.module_acts.specs.Steps.{answers_keeping}
 use Rattle.pam_base.specs.Code.{number_of}
-use Rattle.mod_unix.specs.declared.look.Look.{Look}
-use Rattle.mod_unix.specs.declared.look.Look.TheVariants.{Unknown, Unavailable, Plain, Shadowed}
+use Rattle.mod_unix.specs.declared.look.KnownPassword.{KnownPassword}
+use Rattle.mod_unix.specs.declared.look.KnownPassword.TheVariants.{Unknown, Unavailable, Plain, Shadowed}
 use Rattle.mod_unix.specs.Aging.{aged, day_of}
 use Rattle.mod_unix.specs.Look.{by_field, by_x, field_among, field_in, field_or_missing, is_x, looks, shadow_in}
 use Rattle.mod_unix.specs.Verify.{hash_verified, verified}
 use Rattle.mod_unix.specs.NewHash.{hashed_token}
 use Rattle.mod_unix.specs.Account.{account_by, checks_account}
-use Rattle.mod_unix.specs.Authenticate.{asks_password, authenticates, by_look, by_open, by_pass as verified_by, delays, is_empty, is_open, is_success, keeps_for_setcred, setcred_return, try_first, unless_success, verifies_token, with_first}
-use Rattle.mod_unix.specs.Change.{asks_old, by_authtok, by_done, by_early, by_empty, by_kept, by_pass, by_root, by_text, by_token, change_by, changed_shadow, changes_entry, changes_shadow, changes_token, is_kept, is_too_early, new_prompts, same_reply, sets_new, stores_token, takes_token, tries_change, usable}
+use Rattle.mod_unix.specs.Authenticate.{asks_password, authenticates, judge_account, by_open, by_pass as verified_by, delays, is_empty, is_open, is_success, keeps_for_setcred, setcred_return, try_first, unless_success, verifies_token, with_first}
+use Rattle.mod_unix.specs.Change.{asks_old, by_authtok, write_result, by_early, by_empty, by_kept, by_pass, by_root, by_text, by_token, change_by, changed_shadow, changes_entry, changes_shadow, changes_token, is_kept, is_too_early, new_prompts, same_reply, sets_new, stores_token, takes_token, tries_change, usable}
 use Rattle.mod_unix.specs.Unix.{by_func, kept_code, unix_act}
 use Rattle.tally_run.proofs.Steps.{Leaves, answering, asking, asking_token, delaying, drawing, exchanging, keeping, reading, replacing, seeing_caller, seeing_clock, seeing_data, seeing_items, setting_item}
 
@@ -37,7 +37,7 @@ module _ (path : List ℕ) where
 
   -- ---- what is known of a user
 
-  module _ (user : List ℕ) (act : Look → Act) (next : (look : Look) → Still (act look)) where
+  module _ (user : List ℕ) (act : KnownPassword → Act) (next : (look : KnownPassword) → Still (act look)) where
     by_hash : (x : Bool) (hash : List ℕ) → Still (by_x x user hash act)
     by_hash true hash = reading path (codes "/etc/shadow") account_limit (λ c. act (shadow_in user c)) (λ c. next (shadow_in user c))
     by_hash false hash = next (Plain hash)
@@ -68,7 +68,7 @@ module _ (path : List ℕ) where
   kept : (code : Code) → Still (keeps code)
   kept code = keeping path (record { name = setcred_return; payload = number_of code ∷ [] }) code
 
-  module _ (look : Look) where
+  module _ (look : KnownPassword) where
     asked : Still (asks_password look keeps_for_setcred)
     unfolding asks_password keeps_for_setcred
     asked = asking_token path false (codes "Password: ") (λ token. keeps (verified look token)) (λ token. kept (verified look token))
@@ -106,18 +106,18 @@ module _ (path : List ℕ) where
       opened true = kept returns.Success
       opened false = delayed (has_argument (codes "nodelay") call.args)
 
-      by_known : Still (by_look call look keeps_for_setcred)
-      unfolding by_look
+      by_known : Still (judge_account call look keeps_for_setcred)
+      unfolding judge_account
       by_known = opened (is_open call look)
 
   authenticating : (call : PlainCall) → Still (authenticates call keeps_for_setcred)
   unfolding authenticates
-  authenticating call = asking path (λ user. looks user (λ look. by_look call look keeps_for_setcred)) (λ user. looking user (λ look. by_look call look keeps_for_setcred) (λ look. by_known look call))
+  authenticating call = asking path (λ user. looks user (λ look. judge_account call look keeps_for_setcred)) (λ user. looking user (λ look. judge_account call look keeps_for_setcred) (λ look. by_known look call))
 
   -- ---- acct_mgmt
 
   module _ (act : Code → Act) (next : (code : Code) → Still (act code)) where
-    account_known : (look : Look) → Still (account_by look act)
+    account_known : (look : KnownPassword) → Still (account_by look act)
     unfolding account_by
     account_known Unknown = next returns.UserUnknown
     account_known Unavailable = next returns.AuthinfoUnavail
@@ -169,7 +169,7 @@ module _ (path : List ℕ) where
 
   module _ (apart : (root : List ℕ) → path_of root (codes "/etc/shadow") ≡ path → ⊥) (act : Code → Act) (next : (code : Code) → Still (act code)) where
     text_set : (text : Option (List ℕ)) → Still (by_text text act)
-    text_set (Some text) = replacing path (codes "/etc/shadow") text (λ done. act (by_done done)) apart (λ done. next (by_done done))
+    text_set (Some text) = replacing path (codes "/etc/shadow") text (λ done. act (write_result done)) apart (λ done. next (write_result done))
     text_set None = next returns.AuthtokErr
 
     changing : (user hash : List ℕ) (today : ℕ) → Still (changes_shadow user hash today act)
@@ -202,7 +202,7 @@ module _ (path : List ℕ) where
           seeing_clock path (λ clock. by_kept (is_kept call (day_of clock.moment) entry) call user (day_of clock.moment) entry act)
           (λ clock. unless_kept (is_kept call (day_of clock.moment) entry) (day_of clock.moment) entry)
 
-      changed_by_look : (look : Look) → Still (change_by call user look act)
+      changed_by_look : (look : KnownPassword) → Still (change_by call user look act)
       unfolding change_by
       changed_by_look Unknown = next returns.UserUnknown
       changed_by_look Unavailable = next returns.AuthinfoUnavail

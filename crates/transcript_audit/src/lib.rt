@@ -11,3 +11,4 @@ mod transcript;
 
 pub use auditing::audit_transcript;
 pub use finding::Audited;
+pub use transcript::{Transcript, read_transcript};

@@ -4,7 +4,7 @@ use Rattle.account_db.proofs.Reading.{SoFar}
 use Rattle.account_db.proofs.entry.check_lines.Given as goal
 
 abbrev pub invariant-loop-line : goal.invariant-loop-line
-invariant-loop-line g l = SoFar g.E.Entry.form (lines_of l.text) l.lines l.number
+invariant-loop-line g l = SoFar g.E.AccountEntry.form (lines_of l.text) l.lines l.number
 
 abbrev pub decreases-loop-line : goal.decreases-loop-line
 decreases-loop-line g l = length l.lines

@@ -1,5 +1,5 @@
 use Rattle.std.proofs.Common.{◌≡◌, ◌<◌, length, rules}
-use Rattle.pam_wire.specs.declared.front.Front.TheVariants.{Open, OutOfRange, Whole}
+use Rattle.pam_wire.specs.declared.front.FirstFrame.TheVariants.{Open, OutOfRange, Whole}
 use Rattle.pam_wire.specs.Read.{front_of}
 use Rattle.frame_stream.proofs.Keeping.{empty_front, many_front, open_front, out_front, frame_front}
 use Rattle.frame_stream.proofs.front.front_of_frames.Goals as goal

@@ -6,7 +6,7 @@ use Rattle.pam_outside.specs.Time.{ClockState}
 use Rattle.account_files.specs.pam_room.specs.declared.process.Process.{Process}
 use Rattle.account_files.specs.pam_room.specs.State.{Scene}
 use Rattle.account_files.specs.Accounts.{Known}
-use Rattle.account_files.specs.Act.{Act, Acts, standing}
+use Rattle.account_files.specs.Act.{Act, Acts, scene_at}
 use Rattle.mod_env.specs.Env.{puts_all}
 use Rattle.mod_env.specs.Puts.{Puts}
 use Rattle.mod_env.proofs.setting.put_all.Given as goal
@@ -14,7 +14,7 @@ use Rattle.mod_env.proofs.setting.put_all.Given as goal
 abbrev pub invariant-loop-rest : goal.invariant-loop-rest
 invariant-loop-rest l = record {
   told : (conv : ConvState) (vault : VaultState) (clock : ClockState) (process : Process) (act : Act) (known : Known) (code : Code) (end : Scene) →
-      Acts (puts_all l.rest act) known (standing l.transaction conv vault clock process) code end → Acts (puts_all l.texts act) known (standing l.fn.transaction conv vault clock process) code end;
+      Acts (puts_all l.rest act) known (scene_at l.transaction conv vault clock process) code end → Acts (puts_all l.texts act) known (scene_at l.fn.transaction conv vault clock process) code end;
   puts : Puts l.fn.transaction l.transaction;
 }
 

@@ -3,7 +3,7 @@ use Rattle.conv_port.specs.Conv.{ConvState}
 use Rattle.pam_base.specs.declared.code.Code.{Code}
 use Rattle.pam_outside.specs.Time.{ClockState}
 use Rattle.account_files.specs.pam_room.specs.State.{Scene}
-use Rattle.account_files.specs.Act.{Act, Acts, standing}
+use Rattle.account_files.specs.Act.{Act, Acts, scene_at}
 use Rattle.mod_env.specs.Env.{sets_all}
 use Rattle.mod_env.specs.Puts.{Puts}
 use Rattle.mod_env.proofs.setting.set_all.Given as goal
@@ -14,8 +14,8 @@ invariant-loop-rest g l = record {
   files : IsTrue ((goal.Vault-dyn g l.fn.vault.now).vault_tells l.fn.vault.now.1) →
       ((goal.Vault-dyn g l.vault.now).vault_holds l.vault.now.1).files ≡ ((goal.Vault-dyn g l.fn.vault.now).vault_holds l.fn.vault.now.1).files;
   told : IsTrue ((goal.Vault-dyn g l.fn.vault.now).vault_tells l.fn.vault.now.1) → (conv : ConvState) (clock : ClockState) (act : Bool → Act) (code : Code) (end : Scene) →
-      Acts (sets_all l.rest act) l.accounts (standing l.transaction conv ((goal.Vault-dyn g l.vault.now).vault_holds l.vault.now.1) clock l.process) code end →
-      Acts (sets_all l.entries act) l.fn.accounts (standing l.fn.transaction conv ((goal.Vault-dyn g l.fn.vault.now).vault_holds l.fn.vault.now.1) clock l.process) code end;
+      Acts (sets_all l.rest act) l.accounts (scene_at l.transaction conv ((goal.Vault-dyn g l.vault.now).vault_holds l.vault.now.1) clock l.process) code end →
+      Acts (sets_all l.entries act) l.fn.accounts (scene_at l.fn.transaction conv ((goal.Vault-dyn g l.fn.vault.now).vault_holds l.fn.vault.now.1) clock l.process) code end;
   puts : Puts l.fn.transaction l.transaction;
 }
 

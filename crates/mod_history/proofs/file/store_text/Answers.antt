@@ -12,4 +12,4 @@ returns-then-text-clause-told g c = λ tells room clock.
 pub returns-clause-told : goal.returns-clause-told
 returns-clause-told g c = λ tells room clock.
     let few : nat_le (length c.args.text.now) history_limit ≡ true = grind (arith, nat_tests) in
-    short c.args.text.now _ c.in_ok-done.done _ _ few (c.in_ok-done.ensures.told tells room clock) c.by_done.ensures
+    short c.args.text.now _ c.in_ok-done.done _ _ few (c.in_ok-done.ensures.told tells room clock) c.write_result.ensures

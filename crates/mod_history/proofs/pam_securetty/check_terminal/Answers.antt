@@ -1,7 +1,7 @@
 use Rattle.std.proofs.Common.{Err, arith, false, rules, true, ◌==◌, ◌∙◌, ◌≡◌}
 use Rattle.std.proofs.lemmas.Bool.Decides.{nat_tests}
 use Rattle.account_files.specs.Act.{asks_user}
-use Rattle.mod_unix.specs.module_acts.specs.Comes.{finished_early}
+use Rattle.mod_unix.specs.module_acts.specs.Returns.{finished_early}
 use Rattle.mod_history.proofs.pam_securetty.check_terminal.Goals as goal
 
 pub returns-in_err-require_user-clause-told : goal.returns-in_err-require_user-clause-told

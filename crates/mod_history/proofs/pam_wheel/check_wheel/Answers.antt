@@ -1,6 +1,6 @@
 use Rattle.std.proofs.Common.{Err, rules, ◌∙◌, ◌≡◌}
 use Rattle.account_files.specs.Act.{asks_user}
-use Rattle.mod_unix.specs.module_acts.specs.Comes.{finished_early}
+use Rattle.mod_unix.specs.module_acts.specs.Returns.{finished_early}
 use Rattle.mod_history.proofs.pam_wheel.check_wheel.Goals as goal
 
 pub returns-in_err-require_user-clause-told : goal.returns-in_err-require_user-clause-told

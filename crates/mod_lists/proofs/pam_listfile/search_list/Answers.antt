@@ -2,7 +2,7 @@ use Rattle.std.proofs.Common.{Err, rules, ◌∙◌, ◌≡◌}
 use Rattle.pam_room.specs.Plain.{plain_transaction}
 use Rattle.pam_room.specs.State.{room_of}
 use Rattle.account_files.specs.Act.{asks_user}
-use Rattle.module_acts.specs.Comes.{finished_early}
+use Rattle.module_acts.specs.Returns.{finished_early}
 use Rattle.mod_lists.proofs.pam_listfile.search_list.Goals as goal
 
 pub returns-in_err-require_user-clause-told : goal.returns-in_err-require_user-clause-told

@@ -1,6 +1,6 @@
 use Rattle.std.proofs.Common.{Err, rules, ◌∙◌, ◌≡◌}
 use Rattle.account_files.specs.Act.{asks_user}
-use Rattle.module_acts.specs.Comes.{finished_early}
+use Rattle.module_acts.specs.Returns.{finished_early}
 use Rattle.mod_lists.proofs.pam_nologin.check_notice.Goals as goal
 
 pub returns-in_err-require_user-clause-told : goal.returns-in_err-require_user-clause-told

@@ -1,7 +1,7 @@
 use Rattle.std.proofs.Common.{Err, rules, ◌∙◌, ◌≡◌}
 use Rattle.account_files.specs.Act.{asks_user, finds_account}
 use Rattle.mod_lists.specs.Shells.{by_account}
-use Rattle.module_acts.specs.Comes.{finished_early}
+use Rattle.module_acts.specs.Returns.{finished_early}
 use Rattle.mod_lists.proofs.pam_shells.check_shell.Goals as goal
 
 pub returns-in_err-require_user-clause-told : goal.returns-in_err-require_user-clause-told

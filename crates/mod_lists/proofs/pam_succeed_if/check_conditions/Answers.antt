@@ -1,6 +1,6 @@
 use Rattle.std.proofs.Common.{Err, rules, ◌≡◌}
 use Rattle.account_files.specs.Act.{asks_user}
-use Rattle.module_acts.specs.Comes.{finished_early}
+use Rattle.module_acts.specs.Returns.{finished_early}
 use Rattle.mod_lists.proofs.pam_succeed_if.check_conditions.Goals as goal
 
 pub returns-then-uses_uid-clause-told : goal.returns-then-uses_uid-clause-told

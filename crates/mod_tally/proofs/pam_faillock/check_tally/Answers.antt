@@ -1,6 +1,6 @@
 use Rattle.std.proofs.Common.{Err, rules, ◌≡◌}
 use Rattle.module_acts.specs.account_files.specs.Act.{asks_user}
-use Rattle.module_acts.specs.Comes.{finished_early}
+use Rattle.module_acts.specs.Returns.{finished_early}
 use Rattle.mod_tally.proofs.pam_faillock.check_tally.Goals as goal
 
 pub returns-in_err-require_user-clause-told : goal.returns-in_err-require_user-clause-told

@@ -1,5 +1,5 @@
 use Rattle.std.proofs.Common.{◌≡◌, Err, false, codes, rules}
-use Rattle.module_acts.specs.Comes.{early}
+use Rattle.module_acts.specs.Returns.{early}
 use Rattle.module_acts.specs.Steps.{asks_token}
 use Rattle.account_files.specs.Act.{Act}
 use Rattle.mod_unix.specs.declared.authenticate.Authenticated.{Authenticated}

@@ -1,10 +1,10 @@
 use Rattle.std.proofs.Common.{◌≡◌, ◌∙◌, Err, rules}
 use Rattle.account_files.specs.Act.{Act, asks_user}
-use Rattle.module_acts.specs.Comes.{early, then}
+use Rattle.module_acts.specs.Returns.{early, then}
 use Rattle.pam_room.specs.Plain.{plain_call, plain_process}
 use Rattle.pam_room.specs.State.{PlainRoom}
 use Rattle.mod_unix.specs.declared.authenticate.Authenticated.{Authenticated}
-use Rattle.mod_unix.specs.Authenticate.{authenticates, by_look}
+use Rattle.mod_unix.specs.Authenticate.{authenticates, judge_account}
 use Rattle.mod_unix.specs.Look.{looks}
 use Rattle.mod_unix.proofs.authenticate.authenticate.Goals as goal
 
@@ -12,13 +12,13 @@ pub returns-in_err-require_user-clause-told : goal.returns-in_err-require_user-c
 unfolding authenticates
 returns-in_err-require_user-clause-told g c = λ talks tells clock.
     let answered : c.from_residual.result ≡ Err c.in_err-require_user.field-0.0 = search rules in
-    rw answered (early asks_user (λ user (act : Authenticated → Act). looks user (λ look. by_look (plain_call c.args.call.now) look act)) _ _ _ (c.in_err-require_user.ensures.told talks _ clock _))
+    rw answered (early asks_user (λ user (act : Authenticated → Act). looks user (λ look. judge_account (plain_call c.args.call.now) look act)) _ _ _ (c.in_err-require_user.ensures.told talks _ clock _))
 
 pub returns-clause-told : goal.returns-clause-told
 unfolding authenticates
 returns-clause-told g c = λ talks tells clock.
     let call = plain_call c.args.call.now in
     let looked = λ (room : PlainRoom). rw c.user_of.ensures at (c.in_ok-look.ensures.told tells room clock) in
-    then asks_user (λ user (act : Authenticated → Act). looks user (λ look. by_look call look act)) c.by_look.result _ _ _ _ (c.in_ok-require_user.ensures.told talks _ clock (plain_process c.args.process.now))
-    (then (looks _) (λ look (act : Authenticated → Act). by_look call look act) c.by_look.result c.in_ok-look.look _ _ _ (looked _)
-    (c.by_look.ensures.told (c.in_ok-require_user.ensures.tells ∙ talks) _ clock (plain_process c.args.process.now)))
+    then asks_user (λ user (act : Authenticated → Act). looks user (λ look. judge_account call look act)) c.judge_account.result _ _ _ _ (c.in_ok-require_user.ensures.told talks _ clock (plain_process c.args.process.now))
+    (then (looks _) (λ look (act : Authenticated → Act). judge_account call look act) c.judge_account.result c.in_ok-look.look _ _ _ (looked _)
+    (c.judge_account.ensures.told (c.in_ok-require_user.ensures.tells ∙ talks) _ clock (plain_process c.args.process.now)))

@@ -2,7 +2,7 @@ use Rattle.session_generate.proofs.Writing.{generates_all, generates_cut, genera
 use Rattle.session_generate.proofs.generating.generate.Goals as goal
 
 pub returns-in-Err-clause-told : goal.returns-in-Err-clause-told
-returns-in-Err-clause-told g c = λ delay is told sink. generates_none _ _ _
+returns-in-Err-clause-told g c = λ delay is told sink. generates_none _ _ _ (c.in-Err.ensures.told delay is told)
 
 pub returns-in-Ok-write_all-clause-told : goal.returns-in-Ok-write_all-clause-told
 returns-in-Ok-write_all-clause-told g c = λ delay is told sink.

@@ -1,19 +1,36 @@
-use Rattle.std.proofs.Common.{refl}
-use Rattle.session_generate.proofs.Closing.{starts_done, starts_refused}
+use Rattle.std.proofs.Common.{inl, refl}
+use Rattle.session_generate.proofs.Closing.{start_failed, starts_done, starts_refused}
 use Rattle.session_run.proofs.Going.{went_nowhere, went_once}
+use Rattle.session_run.proofs.Serving.{failed_place, failed_stack}
 use Rattle.session_generate.proofs.Proceeding.{start_ends_none}
 use Rattle.session_generate.proofs.login.start.Goals as goal
 
 pub apply-requires-clause-fit : goal.apply-requires-clause-fit
 apply-requires-clause-fit g c = rw c.in_ok-step.ensures refl
 
+pub returns-in_err-step-clause-told : goal.returns-in_err-step-clause-told
+returns-in_err-step-clause-told g c = λ delay is told. inl refl
+
+pub returns-in-Err-clause-told : goal.returns-in-Err-clause-told
+returns-in-Err-clause-told g c = λ delay is told.
+    start_failed _ _ _ _ c.in_ok-step.ensures (record {
+      place = failed_place _ _ _ _ _ told c.in-Err.ensures.fails;
+      others = c.apply.ensures.others;
+      stops = failed_stack _ _ _ _ _ _ _ told c.in-Err.ensures.stops;
+      spends = c.apply.ensures.spends;
+      root = c.apply.ensures.root;
+      caller = c.apply.ensures.caller;
+      world = λ h. rw (c.apply.ensures.world h) refl;
+      nap = rw c.in-Err.ensures.no_nap refl;
+    })
+
 pub returns-in-Some-clause-told : goal.returns-in-Some-clause-told
 returns-in-Some-clause-told g c = λ delay is told.
-    starts_refused _ _ _ _ _ _ (rw c.in_ok-step.ensures at (c.in-Ok.ensures.told delay is told)) c.in-Some.fault c.in-Some.ensures
+    starts_refused _ _ _ _ _ (rw c.in_ok-step.ensures at (c.in-Ok.ensures.told delay is told)) c.in-Some.fault c.in-Some.ensures
 
 pub returns-clause-told : goal.returns-clause-told
 returns-clause-told g c = λ delay is told.
-    starts_done _ _ _ _ _ _ (rw c.in_ok-step.ensures at (c.in-Ok.ensures.told delay is told)) tt c.in-None.ensures
+    starts_done _ _ _ _ _ (rw c.in_ok-step.ensures at (c.in-Ok.ensures.told delay is told)) tt c.in-None.ensures
 
 pub returns-in_err-step-clause-went : goal.returns-in_err-step-clause-went
 returns-in_err-step-clause-went g c = went_nowhere _ _ c.requires.sound

@@ -1,5 +1,5 @@
 use Rattle.std.proofs.Common.{refl}
-use Rattle.session_run.proofs.Serving.{failed_place}
+use Rattle.session_run.proofs.Serving.{failed_place, failed_stack}
 use Rattle.session_login.proofs.Answering.{call_cut, call_failed, call_unwritten, call_written}
 use Rattle.session_run.proofs.Going.{went_once}
 use Rattle.session_run.proofs.Proceeding.{call_ends}
@@ -12,10 +12,12 @@ returns-in-Err-clause-told g c = λ delay is told sink.
     call_failed _ _ _ _ _ (record {
       place = failed_place _ _ _ _ _ told c.in-Err.ensures.fails;
       others = c.apply.ensures.others;
+      stops = failed_stack _ _ _ _ _ _ _ told c.in-Err.ensures.stops;
       spends = c.apply.ensures.spends;
       root = c.apply.ensures.root;
       caller = c.apply.ensures.caller;
       world = λ h. rw (c.apply.ensures.world h) refl;
+      nap = rw c.in-Err.ensures.no_nap refl;
     })
 
 pub returns-in-Err-line_of-clause-told : goal.returns-in-Err-line_of-clause-told

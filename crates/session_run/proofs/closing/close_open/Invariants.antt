@@ -1,5 +1,5 @@
 use Rattle.std.proofs.Common.{◌≡◌, true}
-use Rattle.session_run.specs.Ends.{HasStatus}
+use Rattle.session_run.specs.Ends.{IsStatusOf}
 use Rattle.session_run.specs.Closings.{open_count}
 use Rattle.session_run.specs.Seen.{Seen, Went, state}
 use Rattle.session_run.proofs.Reporting.{ClosesSome}
@@ -11,7 +11,7 @@ invariant-loop-stop g l =
     let start : Seen = (session_told.ghosts g.dyn-3 g.dyn-4 g.dyn-5 g.dyn-6 g.dyn-1 g.dyn-2).seen l.fn.library l.fn.world in
     let now : Seen = (session_told.ghosts g.dyn-3 g.dyn-4 g.dyn-5 g.dyn-6 g.dyn-1 g.dyn-2).seen l.library l.world in
     record {
-      went : Went (HasStatus l.status) start now;
+      went : Went (IsStatusOf l.status) start now;
       sink_tells : g.K.Sink.sink_tells l.sink ≡ g.K.Sink.sink_tells l.fn.sink;
       told : g.K.Sink.sink_tells l.fn.sink ≡ true → ClosesSome g.P.Protocol.wrapped start.players l.status (state start) (state now) (g.K.Sink.sink_holds l.fn.sink) (g.K.Sink.sink_holds l.sink);
       faults : g.K.Sink.sink_faults l.sink ≡ g.K.Sink.sink_faults l.fn.sink;

@@ -1,5 +1,5 @@
 use Rattle.std.proofs.Common.{◌≡◌}
-use Rattle.session_run.specs.Ends.{HasStatus}
+use Rattle.session_run.specs.Ends.{IsStatusOf}
 use Rattle.session_run.specs.Closings.{all_closed, open_count}
 use Rattle.session_run.specs.Seen.{Seen, Went, state}
 use Rattle.session_run.specs.contracts.session.SessionTold.TheImpl as session_told
@@ -10,7 +10,7 @@ invariant-loop-number g l =
     let start : Seen = (session_told.ghosts g.dyn-3 g.dyn-4 g.dyn-5 g.dyn-6 g.dyn-1 g.dyn-2).seen l.fn.library l.fn.world in
     let now : Seen = (session_told.ghosts g.dyn-3 g.dyn-4 g.dyn-5 g.dyn-6 g.dyn-1 g.dyn-2).seen l.library l.world in
     record {
-      went : Went (HasStatus l.status) start now;
+      went : Went (IsStatusOf l.status) start now;
       left : all_closed start.players l.status (state start) ≡ all_closed start.players l.status (state now);
     }
 

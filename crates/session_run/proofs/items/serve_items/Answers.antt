@@ -52,8 +52,8 @@ loop-ending-preserved g c =
     let read = rw (c.in-Ok-None.field-0-is, has_read_fault) at c.in-Ok-None.ensures.source_faults in
     let was = c.loop-ending.invariant in
     record {
-      sink_tells = c.take_turn.ensures.sink_tells ∙ was.sink_tells;
-      source_tells = c.take_turn.ensures.source_tells ∙ was.source_tells;
+      sink_tells = c.serve_next.ensures.sink_tells ∙ was.sink_tells;
+      source_tells = c.serve_next.ensures.source_tells ∙ was.source_tells;
       told = λ delay is told source sink.
           let before = was.told delay is told source sink in
           let next = rw was.went.players at (turn delay (was.went.gives delay is) (still_told _ _ _ was.went told) (was.source_tells ∙ source) (was.sink_tells ∙ sink)) in
@@ -68,11 +68,11 @@ loop-ending-preserved g c =
             takes = takes_on _ _ _ _ (was.reads source).takes next.takes;
           };
       writes = λ sink. ok_then _ c.in-Ok-None.field-0 _ _ _ _ (was.writes sink) (c.in-Ok-None.ensures.writes (was.sink_tells ∙ sink));
-      few = c.take_turn.ensures.few;
+      few = c.serve_next.ensures.few;
       source_faults = read ∙ was.source_faults;
       sink_faults = c.in-Ok-None.ensures.sink_faults ∙ was.sink_faults;
-      leads = λ source. leads_on _ _ _ _ _ _ _ _ (was.leads source) (c.take_turn.ensures.leads (c.in-Ok-None.is ∙ ap Ok c.in-Ok-None.field-0-is) (was.source_tells ∙ source));
-      went = went_on _ _ _ _ was.went (went_so _ _ (λ number status has source. asks_before _ _ _ _ _ _ (was.leads source) number status (has (was.source_tells ∙ source))) _ _ c.take_turn.ensures.went);
+      leads = λ source. leads_on _ _ _ _ _ _ _ _ (was.leads source) (c.serve_next.ensures.leads (c.in-Ok-None.is ∙ ap Ok c.in-Ok-None.field-0-is) (was.source_tells ∙ source));
+      went = went_on _ _ _ _ was.went (went_so _ _ (λ number status has source. asks_before _ _ _ _ _ _ (was.leads source) number status (has (was.source_tells ∙ source))) _ _ c.serve_next.ensures.went);
     }
 
 pub returns-in-Ok-Some-clause-told : goal.returns-in-Ok-Some-clause-told
@@ -86,25 +86,25 @@ returns-in-Ok-Some-clause-told g c = λ delay is told source sink.
       served = served_to _ _ _ _ _ _ _ _ _ _ _ _ _ _ _ before.served next.served;
     }
 
-pub returns-in-Err-take_turn-clause-told : goal.returns-in-Err-take_turn-clause-told
-returns-in-Err-take_turn-clause-told g c = λ delay is told source sink.
+pub returns-in-Err-serve_next-clause-told : goal.returns-in-Err-serve_next-clause-told
+returns-in-Err-serve_next-clause-told g c = λ delay is told source sink.
     let was = c.loop-ending.invariant in
     let before = was.told delay is told source sink in
-    let next = rw was.went.players at (c.in-Err-take_turn.ensures.told delay (was.went.gives delay is) (still_told _ _ _ was.went told) (was.source_tells ∙ source) (was.sink_tells ∙ sink)) in
+    let next = rw was.went.players at (c.in-Err-serve_next.ensures.told delay (was.went.gives delay is) (still_told _ _ _ was.went told) (was.source_tells ∙ source) (was.sink_tells ∙ sink)) in
     record {
-      runs = c.turns_are_a_run.ensures _ (Err c.in-Err-take_turn.stop) _ _ _ _ _ _ _ _ (c.turns_go_on.ensures _ (Err c.in-Err-take_turn.stop) _ _ _ _ _ _ _ _ _ _ _ _ _ _ before.turns next.turns);
+      runs = c.turns_are_a_run.ensures _ (Err c.in-Err-serve_next.stop) _ _ _ _ _ _ _ _ (c.turns_go_on.ensures _ (Err c.in-Err-serve_next.stop) _ _ _ _ _ _ _ _ _ _ _ _ _ _ before.turns next.turns);
       served = broken_on _ _ _ _ _ _ _ _ _ _ _ _ _ _ _ before.served next.served;
     }
 
 pub returns-in-Ok-Some-clause-went : goal.returns-in-Ok-Some-clause-went
 returns-in-Ok-Some-clause-went g c =
     let was = c.loop-ending.invariant in
-    went_on _ _ _ _ was.went (went_so _ _ (λ number status has source. asks_before _ _ _ _ _ _ (was.leads source) number status (has (was.source_tells ∙ source))) _ _ c.take_turn.ensures.went)
+    went_on _ _ _ _ was.went (went_so _ _ (λ number status has source. asks_before _ _ _ _ _ _ (was.leads source) number status (has (was.source_tells ∙ source))) _ _ c.serve_next.ensures.went)
 
-pub returns-in-Err-take_turn-clause-went : goal.returns-in-Err-take_turn-clause-went
-returns-in-Err-take_turn-clause-went g c =
+pub returns-in-Err-serve_next-clause-went : goal.returns-in-Err-serve_next-clause-went
+returns-in-Err-serve_next-clause-went g c =
     let was = c.loop-ending.invariant in
-    went_on _ _ _ _ was.went (went_so _ _ (λ number status has source. asks_before _ _ _ _ _ _ (was.leads source) number status (has (was.source_tells ∙ source))) _ _ c.take_turn.ensures.went)
+    went_on _ _ _ _ was.went (went_so _ _ (λ number status has source. asks_before _ _ _ _ _ _ (was.leads source) number status (has (was.source_tells ∙ source))) _ _ c.serve_next.ensures.went)
 
 pub returns-in-Ok-Some-clause-reads : goal.returns-in-Ok-Some-clause-reads
 returns-in-Ok-Some-clause-reads g c = λ source.
@@ -115,12 +115,12 @@ returns-in-Ok-Some-clause-reads g c = λ source.
       takes = takes_on _ _ _ _ (was.reads source).takes next.takes;
     }
 
-pub returns-in-Err-take_turn-clause-reads : goal.returns-in-Err-take_turn-clause-reads
-returns-in-Err-take_turn-clause-reads g c = λ source.
+pub returns-in-Err-serve_next-clause-reads : goal.returns-in-Err-serve_next-clause-reads
+returns-in-Err-serve_next-clause-reads g c = λ source.
     let was = c.loop-ending.invariant in
-    let next = c.in-Err-take_turn.ensures.reads (was.source_tells ∙ source) in
+    let next = c.in-Err-serve_next.ensures.reads (was.source_tells ∙ source) in
     record {
-      runs = c.reading_is_turns.ensures.run (Err c.in-Err-take_turn.stop) _ _ _ _ _ _ _ _ (c.reading_is_turns.ensures.on (Err c.in-Err-take_turn.stop) _ _ _ _ _ _ _ _ _ _ _ _ _ _ (was.reads source).turns next.turns);
+      runs = c.reading_is_turns.ensures.run (Err c.in-Err-serve_next.stop) _ _ _ _ _ _ _ _ (c.reading_is_turns.ensures.on (Err c.in-Err-serve_next.stop) _ _ _ _ _ _ _ _ _ _ _ _ _ _ (was.reads source).turns next.turns);
       takes = takes_on _ _ _ _ (was.reads source).takes next.takes;
     }
 
@@ -129,7 +129,7 @@ returns-in-Ok-Some-clause-writes g c = λ sink.
     let was = c.loop-ending.invariant in
     ok_then _ c.in-Ok-Some.field-0 _ _ _ _ (was.writes sink) (c.in-Ok-Some.ensures.writes (was.sink_tells ∙ sink))
 
-pub returns-in-Err-take_turn-clause-writes : goal.returns-in-Err-take_turn-clause-writes
-returns-in-Err-take_turn-clause-writes g c = λ sink.
+pub returns-in-Err-serve_next-clause-writes : goal.returns-in-Err-serve_next-clause-writes
+returns-in-Err-serve_next-clause-writes g c = λ sink.
     let was = c.loop-ending.invariant in
-    err_then _ c.in-Err-take_turn.stop _ _ _ (was.writes sink) (c.in-Err-take_turn.ensures.writes (was.sink_tells ∙ sink))
+    err_then _ c.in-Err-serve_next.stop _ _ _ (was.writes sink) (c.in-Err-serve_next.ensures.writes (was.sink_tells ∙ sink))

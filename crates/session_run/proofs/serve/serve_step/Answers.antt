@@ -2,7 +2,7 @@ use Rattle.std.proofs.Common.{Ok, Err, refl}
 use Rattle.session_run.proofs.Going.{went_once}
 use Rattle.session_run.proofs.Proceeding.{call_ends, receipts_stay}
 use Rattle.session_run.proofs.Consuming.{all_written, err_unwritten, front_written}
-use Rattle.session_run.proofs.Serving.{failed_place, called_item, applied_only, failed_call}
+use Rattle.session_run.proofs.Serving.{failed_place, failed_stack, called_item, applied_only, failed_call}
 use Rattle.session_run.proofs.serve.serve_step.Goals as goal
 
 pub returns-in-Err-clause-told : goal.returns-in-Err-clause-told
@@ -10,6 +10,7 @@ returns-in-Err-clause-told g c = λ delay is told sink taken item asked.
     c.item_is_served.ensures.begun _ _ _ _ _ _ (failed_call _ _ _ _ _ c.does.ensures _ _ _ _ _ asked _ (record {
       place = failed_place _ _ _ _ _ told c.in-Err.ensures.fails;
       others = c.apply.ensures.others;
+      stops = failed_stack _ _ _ _ _ _ _ told c.in-Err.ensures.stops;
       spends = c.apply.ensures.spends;
       root = c.apply.ensures.root;
       caller = c.apply.ensures.caller;

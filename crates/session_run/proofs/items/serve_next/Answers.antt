@@ -4,7 +4,7 @@ use Rattle.session_run.proofs.Walking.{broken_off, none_served, one_served, refu
 use Rattle.session_run.proofs.Going.{went_nowhere, went_so}
 use Rattle.session_run.proofs.Proceeding.{proceeds_so}
 use Rattle.session_run.proofs.Consuming.{err_as, ok_as, ok_unwritten, takes}
-use Rattle.session_run.proofs.items.take_turn.Goals as goal
+use Rattle.session_run.proofs.items.serve_next.Goals as goal
 
 pub returns-in-Err-clause-told : goal.returns-in-Err-clause-told
 returns-in-Err-clause-told g c = λ delay is told source sink.

@@ -5,7 +5,7 @@ use Rattle.account_files.specs.pam_room.specs.declared.transaction.Transaction.{
 
 -- SERVICE stays, the longest request for a delay doesn't shrink, messages are only added, the call may be left
 -- incomplete; of the rest only the items may change
-pub record Talks (old new : Transaction) : Type 0 where
+pub record OnlyTalks (old new : Transaction) : Type 0 where
   pub service : new.items.service ≡ old.items.service
   pub delay : old.delay ≤ new.delay
   pub said : (more : List Message) × (new.said ≡ old.said ++ more)

@@ -1,6 +1,6 @@
 use Rattle.std.proofs.Common.{refl}
 use Rattle.mod_unix.proofs.Passing.{delays_then, goes_on, opens}
-use Rattle.mod_unix.proofs.authenticate.by_look.Goals as goal
+use Rattle.mod_unix.proofs.authenticate.judge_account.Goals as goal
 
 pub returns-then-is_open-clause-told : goal.returns-then-is_open-clause-told
 returns-then-is_open-clause-told g c = λ talks vault clock process. opens _ _ _ _ c.if-is_open.ensures refl

@@ -1,6 +1,6 @@
 use Rattle.pam_room.specs.Plain.{plain_call}
 use Rattle.mod_history.proofs.Changing.{by_plain, by_shadow, by_unavailable, by_unknown}
-use Rattle.mod_history.proofs.change.by_look.Goals as goal
+use Rattle.mod_history.proofs.change.renew_if_known.Goals as goal
 
 pub returns-in-Unknown-clause-told : goal.returns-in-Unknown-clause-told
 returns-in-Unknown-clause-told g c = λ talks tells clock. by_unknown (plain_call c.args.call.now) c.args.user.now c.args.look.now _ c.in-Unknown.is

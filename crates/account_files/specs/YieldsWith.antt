@@ -6,7 +6,7 @@ use Rattle.account_files.specs.Act.{Act, Acts}
 
 -- A step gave this value, by what is known of the account files before and after it: what is done with it from there on
 -- is what the whole does from here.
-abbrev pub CameWith : {A : Type 0} → A → ((A → Act) → Act) → Known → Scene → Known → Scene → Type 0
-CameWith {A} value step known old now new =
+abbrev pub YieldsWith : {A : Type 0} → A → ((A → Act) → Act) → Known → Scene → Known → Scene → Type 0
+YieldsWith {A} value step known old now new =
     (act : A → Act) (code : Code) (end : Scene)
     → Acts (act value) now new code end → Acts (step act) known old code end

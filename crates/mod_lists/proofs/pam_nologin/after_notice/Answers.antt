@@ -2,7 +2,7 @@ use Rattle.std.proofs.Common.{◌≡◌, ◌==◌, false, arith}
 use Rattle.std.proofs.lemmas.Bool.Decides.{nat_tests}
 use Rattle.pam_outside.specs.Files.{VaultState}
 use Rattle.pam_room.specs.State.{PlainProcess}
-use Rattle.mod_lists.proofs.pam_nologin.by_notice.Goals as goal
+use Rattle.mod_lists.proofs.pam_nologin.after_notice.Goals as goal
 
 pub returns-in-Absent-clause-told : goal.returns-in-Absent-clause-told
 returns-in-Absent-clause-told g c = λ talks tells clock. rw c.in-Absent.is (c.act_steps.ensures.answers _ _ _)

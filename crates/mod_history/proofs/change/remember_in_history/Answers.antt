@@ -4,7 +4,7 @@ use Rattle.pam_room.specs.Plain.{plain_call}
 use Rattle.pam_room.specs.State.{PlainRoom}
 use Rattle.mod_history.specs.Pwhistory.{remember_of}
 use Rattle.mod_history.proofs.Changing.{no_history, not_used, used}
-use Rattle.mod_history.proofs.change.by_history.Goals as goal
+use Rattle.mod_history.proofs.change.remember_in_history.Goals as goal
 
 pub returns-in-None-clause-told : goal.returns-in-None-clause-told
 returns-in-None-clause-told g c = λ talks tells clock.

@@ -6,7 +6,7 @@ use Rattle.session_run.proofs.Going.{went_so}
 use Rattle.session_login.proofs.Proceeding.{end_ends_as}
 use Rattle.session_login.proofs.Showing.{end_said, shows_then}
 use Rattle.session_login.proofs.Reporting.{said_denial, said_end_stopped, said_passed}
-use Rattle.session_login.proofs.attempt.settle.Goals as goal
+use Rattle.session_login.proofs.attempt.final_verdict.Goals as goal
 
 pub returns-in-Err-clause-told : goal.returns-in-Err-clause-told
 returns-in-Err-clause-told g c = λ delay is told sink.

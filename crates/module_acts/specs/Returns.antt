@@ -12,16 +12,16 @@ use Rattle.account_files.specs.pam_room.specs.State.{PlainProcess, Scene, room_o
 use Rattle.account_files.specs.pam_room.specs.Plain.{plain_transaction}
 use Rattle.account_files.specs.pam_room.specs.declared.transaction.Transaction.{Transaction}
 use Rattle.account_files.specs.Accounts.{Known, nothing_known}
-use Rattle.account_files.specs.Act.{Act, Acts, Came, Leads}
+use Rattle.account_files.specs.Act.{Act, Acts, Yields, Reaches}
 
 -- what a module gets, as a scene
-abbrev pub lent : Transaction → ConvState → VaultState → ClockState → PlainProcess → Scene
-lent transaction conv vault clock process =
+abbrev pub scene_of_parts : Transaction → ConvState → VaultState → ClockState → PlainProcess → Scene
+scene_of_parts transaction conv vault clock process =
     scene_of (room_of (plain_transaction transaction) conv) vault clock process
 
 -- a code was returned and this was left, as an act has it
-abbrev pub Goes : Act → Scene → Code → Scene → Type 0
-Goes act old code new = Acts act nothing_known old code new
+abbrev pub Follows : Act → Scene → Code → Scene → Type 0
+Follows act old code new = Acts act nothing_known old code new
 
 -- The conversation gave no reply, and CONV_ERR is the whole module's code, whatever was to be done with the value. If
 -- an allocation failed, nothing is said of it.
@@ -31,29 +31,29 @@ Ends {A} (Named e) step old new =
 Ends {A} NoMemory step old new = Unit {0}
 
 -- a step gave its result's value, or it ended the whole
-abbrev pub Comes : {A : Type 0} → Result A (Refuse ConvErr) → ((A → Act) → Act) → Scene → Scene
+abbrev pub Returns : {A : Type 0} → Result A (Refuse ConvErr) → ((A → Act) → Act) → Scene → Scene
     → Type 0
-Comes {A} (Ok value) step old new = Came value step old new
-Comes {A} (Err e) step old new = Ends e step old new
+Returns {A} (Ok value) step old new = Yields value step old new
+Returns {A} (Err e) step old new = Ends e step old new
 
 -- the same for a step whose value is elsewhere
-abbrev pub ComesTo : {T A : Type 0} → Result T (Refuse ConvErr) → A → ((A → Act) → Act) → Scene
+abbrev pub ReturnsWith : {T A : Type 0} → Result T (Refuse ConvErr) → A → ((A → Act) → Act) → Scene
     → Scene → Type 0
-ComesTo {T} {A} (Ok done) value step old new = Came value step old new
-ComesTo {T} {A} (Err e) value step old new = Ends e step old new
+ReturnsWith {T} {A} (Ok done) value step old new = Yields value step old new
+ReturnsWith {T} {A} (Err e) value step old new = Ends e step old new
 
 -- An act was finished: it returned a code, or CONV_ERR if the conversation gave no reply.
 abbrev pub Finishes : Result Code (Refuse ConvErr) → Act → Scene → Scene → Type 0
-Finishes (Ok code) act old new = Goes act old code new
-Finishes (Err (Named e)) act old new = Goes act old codes.ConvErr new
+Finishes (Ok code) act old new = Follows act old code new
+Finishes (Err (Named e)) act old new = Follows act old codes.ConvErr new
 Finishes (Err NoMemory) act old new = Unit {0}
 
 -- ---- laws
 
 module _ {A B : Type 0} (first : (A → Act) → Act) (next : A → (B → Act) → Act) where
   -- one step, and another after it
-  pub then : (r : Result B (Refuse ConvErr)) (x : A) (a b c : Scene) → Came x first a b
-      → Comes r (next x) b c → Comes r (λ act. first (λ y. next y act)) a c
+  pub then : (r : Result B (Refuse ConvErr)) (x : A) (a b c : Scene) → Yields x first a b
+      → Returns r (next x) b c → Returns r (λ act. first (λ y. next y act)) a c
   then (Ok v) x a b c f n = λ act known code end rest. f (λ y. next y act) known code end
       (n act known code end rest)
   then (Err (Named e)) x a b c f n = λ act known. f (λ y. next y act) known codes.ConvErr c
@@ -68,8 +68,8 @@ module _ {A B : Type 0} (first : (A → Act) → Act) (next : A → (B → Act) 
 
 module _ {B : Type 0} (step : Act → Act) (next : (B → Act) → Act) where
   -- a step without a value, and another after it
-  pub then_on : (r : Result B (Refuse ConvErr)) (a b c : Scene) → Leads step a b → Comes r next b c
-      → Comes r (λ act. step (next act)) a c
+  pub then_on : (r : Result B (Refuse ConvErr)) (a b c : Scene) → Reaches step a b → Returns r next b c
+      → Returns r (λ act. step (next act)) a c
   then_on (Ok v) a b c f n = λ act known code end rest. f (next act) known code end
       (n act known code end rest)
   then_on (Err (Named e)) a b c f n = λ act known. f (next act) known codes.ConvErr c (n act known)
@@ -77,7 +77,7 @@ module _ {B : Type 0} (step : Act → Act) (next : (B → Act) → Act) where
 
 module _ {A : Type 0} (first : (A → Act) → Act) (next : A → Act) where
   -- one step, and what finishes the act after it
-  pub finished : (r : Result Code (Refuse ConvErr)) (x : A) (a b c : Scene) → Came x first a b
+  pub finished : (r : Result Code (Refuse ConvErr)) (x : A) (a b c : Scene) → Yields x first a b
       → Finishes r (next x) b c → Finishes r (first next) a c
   finished (Ok code) x a b c f n = f next nothing_known code c n
   finished (Err (Named e)) x a b c f n = f next nothing_known codes.ConvErr c n

@@ -1,16 +1,8 @@
-ghost use Rattle.std.specs.Prelude.{◌≡◌, ◌<◌, ◌^◌, [], length};
-ghost use Rattle.pam_room.specs.Plain.{plain_process, plain_transaction};
-ghost use Rattle.pam_room.specs.Stays.{IsReady};
-
-use conv_port::QueueConv;
-use data_cleanup::Ledger;
+use crate::tests::scene::{Outcome, Scene, serve};
 use mod_env::Env;
 use mod_lists::{Listfile, Nologin, Shells, SucceedIf};
-use pam_base::{Code, Func, ItemName, NoMemory, Numbers, SharedText, Text, Texts};
-use pam_outside::{FixedClock, MemVault, NapSum};
-use pam_room::{
-    Call, Module, Process, Room, StackLine, Transaction, World, end_room, serve_line, set_item,
-};
+use pam_base::{Code, Func, ItemName};
+use pam_room::Module;
 use std::alloc::Global;
 use std::test::Fail;
 
@@ -25,104 +17,24 @@ static FILES: [(&[u8], &[u8]); 7] = [
     (b"/etc/environment", b"B=1\n"),
 ];
 
-// The result of one call.
-#[derive(Drop)]
-struct Outcome {
-    answer: Code,
-    // The variables that are set, `NAME=VALUE` each.
-    variables: Texts,
-}
-
-// Memory of a process without data.
-fn process(alloc: Global) -> Process
-    ensures { plain_process result ≡ record {
-      ledger = record { births = []; filed = [] };
-      root = [];
-      caller = 0;
-    } }
-{
-    Process {
-        ledger: Ledger::new(alloc),
-        root: Text::new(alloc),
-        caller: 0,
-    }
-}
-
-// The files; one call of `Vault` is to fail.
-fn vault(alloc: Global, failing: u64) -> Result<MemVault, Fail> {
-    let mut fails = Numbers::new(alloc);
-    fails.push(failing)?;
-    let mut vault = MemVault::new(alloc, fails);
-    for (path, bytes) in FILES.iter() {
-        vault.put(alloc, path, bytes)?;
-    }
-    Ok(vault)
-}
-
-// The first module serves a line.
-fn serve_first(
-    alloc: Global,
-    mods: &[Box<dyn Module>],
-    call: &Call,
-    room: &mut Room,
-    world: &mut World,
-) -> Result<Code, NoMemory>
-    requires some { 0 < length mods.now }
-    requires few { length mods.now < 2 ^ 32 }
-    requires ready { IsReady (length mods.now) (plain_transaction room.old.transaction)
-        (plain_process world.old.process) }
-    ensures ready { IsReady (length mods.now) (plain_transaction room.new.transaction)
-        (plain_process world.new.process) }
-{
-    room.transaction.trail.reserve(1)?;
-    let line = StackLine {
-        place: 1,
-        path: SharedText::new(),
-        module_number: Some(0),
-    };
-    serve_line(alloc, mods, line, call, room, world)
-}
-
 // Has a module serve a call for joe at a terminal, with these arguments; one call of `Vault` is to
 // fail.
-fn serve(
+fn serve_joe(
     alloc: Global,
     module: Box<dyn Module>,
     func: Func,
     words: &[&[u8]],
     failing: u64,
 ) -> Result<Outcome, Fail> {
-    let mut mods: Vec<Box<dyn Module>> = Vec::new(alloc);
-    mods.push(module)?;
-    let mut args = Texts::new(alloc);
-    for word in words.iter() {
-        args.push(Text::from_bytes(alloc, word)?)?;
-    }
-    let mut world = World {
-        vault: Box::new(alloc, vault(alloc, failing)?)?,
-        clock: Box::new(alloc, FixedClock::new(0, 0))?,
-        nap: Box::new(alloc, NapSum::new())?,
-        process: process(alloc),
-    };
-    let conv = Box::new(alloc, QueueConv::new(alloc))?;
-    let mut room = Room {
-        transaction: Transaction::new(alloc, 1),
-        conv,
-    };
-    let _user = set_item(&mut room.transaction.items, ItemName::User, b"joe");
-    let _tty = set_item(&mut room.transaction.items, ItemName::Tty, b"/dev/tty1");
-    let call = Call {
+    let scene = Scene {
+        files: &FILES,
+        failing,
+        items: &[(ItemName::User, b"joe"), (ItemName::Tty, b"/dev/tty1")],
         func,
-        flags: 0,
-        args: &args,
+        words,
+        file: b"/etc/passwd",
     };
-    let answer = serve_first(alloc, &mods, &call, &mut room, &mut world);
-    let variables = room.transaction.env.list(alloc);
-    let _conv = end_room(&mods, room, &mut world.process, 0);
-    Ok(Outcome {
-        answer: answer?,
-        variables: variables?,
-    })
+    serve(alloc, module, &scene)
 }
 
 #[test]
@@ -138,8 +50,8 @@ fn a_notice_or_passwd_that_fails_is_service_err(rt: HostRuntime) -> Result<(), F
     ];
     for (failing, answer) in ANSWERS.iter() {
         let module = Box::new(alloc, Nologin::new())?;
-        let outcome = serve(alloc, module, Func::AcctMgmt, &[], *failing)?;
-        assert_eq!(rt; outcome.answer, *answer);
+        let outcome = serve_joe(alloc, module, Func::AcctMgmt, &[], *failing)?;
+        assert_eq!(rt; outcome.answer, Ok(*answer));
     }
     Ok(())
 }
@@ -156,8 +68,8 @@ fn passwd_or_shells_that_fails_is_auth_err(rt: HostRuntime) -> Result<(), Fail> 
     ];
     for (failing, answer) in ANSWERS.iter() {
         let module = Box::new(alloc, Shells::new())?;
-        let outcome = serve(alloc, module, Func::Authenticate, &[], *failing)?;
-        assert_eq!(rt; outcome.answer, *answer);
+        let outcome = serve_joe(alloc, module, Func::Authenticate, &[], *failing)?;
+        assert_eq!(rt; outcome.answer, Ok(*answer));
     }
     Ok(())
 }
@@ -185,8 +97,8 @@ fn a_file_of_a_list_that_fails_is_the_error_answer(rt: HostRuntime) -> Result<()
     for words in WORDS.iter() {
         for (failing, answer) in ANSWERS.iter() {
             let module = Box::new(alloc, Listfile::new())?;
-            let outcome = serve(alloc, module, Func::Authenticate, words, *failing)?;
-            assert_eq!(rt; outcome.answer, *answer);
+            let outcome = serve_joe(alloc, module, Func::Authenticate, words, *failing)?;
+            assert_eq!(rt; outcome.answer, Ok(*answer));
         }
     }
     Ok(())
@@ -205,8 +117,8 @@ fn a_file_of_a_condition_that_fails_is_service_err(rt: HostRuntime) -> Result<()
     for (failing, answer) in ANSWERS.iter() {
         let module = Box::new(alloc, SucceedIf::new())?;
         let words: &[&[u8]] = &[b"user", b"ingroup", b"staff"];
-        let outcome = serve(alloc, module, Func::Authenticate, words, *failing)?;
-        assert_eq!(rt; outcome.answer, *answer);
+        let outcome = serve_joe(alloc, module, Func::Authenticate, words, *failing)?;
+        assert_eq!(rt; outcome.answer, Ok(*answer));
     }
     Ok(())
 }
@@ -218,8 +130,8 @@ fn where_a_file_of_variables_fails_nothing_is_set(rt: HostRuntime) -> Result<(),
     static FAILING: [u64; 2] = [1, 2];
     for failing in FAILING.iter() {
         let module = Box::new(alloc, Env::new())?;
-        let outcome = serve(alloc, module, Func::OpenSession, &[], *failing)?;
-        assert_eq!(rt; outcome.answer, Code::ServiceErr);
+        let outcome = serve_joe(alloc, module, Func::OpenSession, &[], *failing)?;
+        assert_eq!(rt; outcome.answer, Ok(Code::ServiceErr));
         assert!(rt; outcome.variables.is_empty());
     }
     Ok(())
@@ -232,8 +144,8 @@ fn where_passwd_fails_the_home_is_empty(rt: HostRuntime) -> Result<(), Fail> {
     static VALUES: [(u64, &[u8]); 3] = [(0, b"A=/home/joe"), (3, b"A="), (4, b"A=/home/joe")];
     for (failing, variable) in VALUES.iter() {
         let module = Box::new(alloc, Env::new())?;
-        let outcome = serve(alloc, module, Func::OpenSession, &[], *failing)?;
-        assert_eq!(rt; outcome.answer, Code::Success);
+        let outcome = serve_joe(alloc, module, Func::OpenSession, &[], *failing)?;
+        assert_eq!(rt; outcome.answer, Ok(Code::Success));
         let variables = outcome.variables.items();
         assert_eq!(rt; variables.len(), 2);
         assert!(rt; variables[0].bytes() == *variable);

@@ -1,0 +1,4 @@
+mod forgetful;
+mod lists;
+mod scene;
+mod unix;

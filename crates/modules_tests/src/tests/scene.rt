@@ -1,0 +1,144 @@
+ghost use Rattle.std.specs.Prelude.{◌≡◌, ◌<◌, ◌^◌, [], length};
+ghost use Rattle.pam_room.specs.Plain.{plain_process, plain_transaction};
+ghost use Rattle.pam_room.specs.Stays.{IsReady};
+
+use conv_port::QueueConv;
+use data_cleanup::Ledger;
+use pam_base::{Code, Func, ItemName, NoMemory, Numbers, SharedText, Text, Texts};
+use pam_outside::{FixedClock, MemVault, NapSum, read_file};
+use pam_room::{
+    Call, Module, Process, Room, StackLine, Transaction, World, end_room, serve_line, set_item,
+};
+use std::alloc::Global;
+use std::test::Fail;
+
+/// A call of a module in a new transaction, at the time 5. It is ended with the status 5.
+#[derive(Clone, Copy)]
+pub struct Scene<'a> {
+    /// The files, and what they hold.
+    pub files: &'a [(&'a [u8], &'a [u8])],
+    /// Which call of `Vault` fails; none if it is 0.
+    pub failing: u64,
+    pub items: &'a [(ItemName, &'a [u8])],
+    pub func: Func,
+    /// The arguments of the line.
+    pub words: &'a [&'a [u8]],
+    /// The file that is looked at afterwards.
+    pub file: &'a [u8],
+}
+
+/// Its result.
+#[derive(Drop)]
+pub struct Outcome {
+    pub answer: Result<Code, NoMemory>,
+    /// How many lines were run.
+    pub visits: usize,
+    /// How many cleanup records there were before the end.
+    pub swept: usize,
+    /// The variables that are set, `NAME=VALUE` each.
+    pub variables: Texts,
+    /// What the file holds, nothing if there is none.
+    pub file: Text,
+    /// The id, status and result of each cleanup record, those of the end among them.
+    pub receipts: Vec<(u64, u32, u32)>,
+}
+
+/// Has a module serve the call.
+pub fn serve(alloc: Global, module: Box<dyn Module>, scene: &Scene) -> Result<Outcome, Fail> {
+    let mut mods: Vec<Box<dyn Module>> = Vec::new(alloc);
+    mods.push(module)?;
+    let mut args = Texts::new(alloc);
+    for word in scene.words.iter() {
+        args.push(Text::from_bytes(alloc, word)?)?;
+    }
+    let mut world = World {
+        vault: Box::new(alloc, vault(alloc, scene)?)?,
+        clock: Box::new(alloc, FixedClock::new(5, 0))?,
+        nap: Box::new(alloc, NapSum::new())?,
+        process: process(alloc),
+    };
+    let conv = Box::new(alloc, QueueConv::new(alloc))?;
+    let mut room = Room {
+        transaction: Transaction::new(alloc, 1),
+        conv,
+    };
+    for (name, value) in scene.items.iter() {
+        let _set = set_item(&mut room.transaction.items, *name, value);
+    }
+    let call = Call {
+        func: scene.func,
+        flags: 0,
+        args: &args,
+    };
+    let answer = serve_first(alloc, &mods, &call, &mut room, &mut world);
+    let visits = room.transaction.trail.len();
+    let swept = world.process.ledger.filed().len();
+    let variables = room.transaction.env.list(alloc);
+    let _conv = end_room(&mods, room, &mut world.process, 5);
+    Ok(Outcome {
+        answer,
+        visits,
+        swept,
+        variables: variables?,
+        file: read_file(&mut *world.vault, alloc, scene.file, 4096).unwrap_or(Text::new(alloc)),
+        receipts: receipts(alloc, &world.process.ledger)?,
+    })
+}
+
+// Memory of a process without data.
+fn process(alloc: Global) -> Process
+    ensures { plain_process result ≡ record {
+      ledger = record { births = []; filed = [] };
+      root = [];
+      caller = 0;
+    } }
+{
+    Process {
+        ledger: Ledger::new(alloc),
+        root: Text::new(alloc),
+        caller: 0,
+    }
+}
+
+fn vault(alloc: Global, scene: &Scene) -> Result<MemVault, Fail> {
+    let mut fails = Numbers::new(alloc);
+    fails.push(scene.failing)?;
+    let mut vault = MemVault::new(alloc, fails);
+    for (path, bytes) in scene.files.iter() {
+        vault.put(alloc, path, bytes)?;
+    }
+    Ok(vault)
+}
+
+fn receipts(alloc: Global, ledger: &Ledger) -> Result<Vec<(u64, u32, u32)>, NoMemory> {
+    let mut receipts = Vec::new(alloc);
+    for filed in ledger.filed() {
+        let receipt = filed.receipt;
+        receipts.push((receipt.id, receipt.status, receipt.note))?;
+    }
+    Ok(receipts)
+}
+
+// The first module serves a line.
+fn serve_first(
+    alloc: Global,
+    mods: &[Box<dyn Module>],
+    call: &Call,
+    room: &mut Room,
+    world: &mut World,
+) -> Result<Code, NoMemory>
+    requires some { 0 < length mods.now }
+    requires few { length mods.now < 2 ^ 32 }
+    requires ready { IsReady (length mods.now) (plain_transaction room.old.transaction)
+        (plain_process world.old.process) }
+    ensures ready { IsReady (length mods.now) (plain_transaction room.new.transaction)
+        (plain_process world.new.process) }
+{
+    room.transaction.trail.reserve(1)?;
+    let line = StackLine {
+        place: 1,
+        path: SharedText::new(),
+        module_number: Some(0),
+    };
+    serve_line(alloc, mods, line, call, room, world)
+}
