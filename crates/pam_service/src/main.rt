@@ -6,13 +6,14 @@
 //! Begin at `run`; `answer_frames` has the contract.
 #![tactic(auto)]
 
-ghost use Rattle.std.specs.Prelude.{◌≡◌, ◌≤◌, ◌<◌, ◌^◌, ◌&&◌, ℕ, nat_eq, List, [], IfOk, OnErr, length};
+ghost use Rattle.std.specs.Prelude.{◌≡◌, ◌≤◌, ◌<◌, ◌^◌, ℕ, nat_eq, List, [], IfOk, OnErr, length};
 ghost use Rattle.pam_base.specs.declared.code.Code.{Code};
 ghost use Rattle.pam_room.specs.Module.{Player};
 ghost use Rattle.fail_delay.specs.DelayFn.{GivesOneNumber, IsNumberGiven};
 ghost use Rattle.session_program.specs.Command.{command_of};
 ghost use Rattle.pam_service.specs.Service.{IsOfFrames, StatusOf, served_wait, service_request};
-ghost use Rattle.pam_service.specs.Serving.{ServesFrames, stream_of};
+ghost use Rattle.pam_service.specs.Serving.{ServesFrames};
+ghost use Rattle.session_program.specs.ByCommand.{object_of, setup_of};
 
 use data_cleanup::Ledger;
 use fail_delay::{DelayRule, LONGEST_ASKED};
@@ -25,9 +26,9 @@ use mod_history::{Pwhistory, Securetty, Wheel};
 use mod_lists::{Listfile, Nologin, Shells, SucceedIf};
 use pam_base::{Code, Text};
 use pam_outside::{FolderVault, NapSum, ReaderSource, RealClock, Sink, Source, Vault, WriterSink};
-use pam_room::{Module, Process, World, WorldTold};
+use pam_room::{Module, Process, World};
 use session_program::mod_tally::Faillock;
-use session_program::{Desk, DeskTold, pamsess};
+use session_program::{Desk, DeskTold, Outside, OutsideTold, pamsess};
 use std::alloc::Global;
 use std::io::ErrorKind;
 use std::process::ExitCode;
@@ -222,13 +223,12 @@ fn serve<S: Source, K: Sink>(
     requires no_receipts { world.old.process.ledger.filed ≡ [] }
     ensures status { IfOk result (λ status. StatusOf (command_of words.now) status) }
     ensures served { IfOk result (λ status. (players : List Player)
-        × ServesFrames (command_of words.now) players
+        × ServesFrames (command_of words.now) status (setup_of players
         (⟦<Conversations as ConversationsTold>⟧.slots talks) (λ number. number ≡ served_wait)
-        (⟦<World as WorldTold>⟧.tells world.old
-        && ⟦<Conversations as ConversationsTold>⟧.tells talks) status
-        (⟦<World as WorldTold>⟧.plain world.old) (⟦<World as WorldTold>⟧.plain world.new)
-        (stream_of S.source_tells S.source_holds S.source_faults script.old script.new)
-        (stream_of K.sink_tells K.sink_holds K.sink_faults out.old out.new)) }
+        (⟦<Conversations as ConversationsTold>⟧.tells talks))
+        (⟦<Outside as OutsideTold>⟧.around world.old world.new)
+        (object_of S.source_tells S.source_holds S.source_faults script.old script.new)
+        (object_of K.sink_tells K.sink_holds K.sink_faults out.old out.new)) }
 {
     let mut mods: Vec<Box<dyn Module>> = Vec::new(alloc);
     mods.push(Box::new(alloc, Permit::new())?)?;
@@ -301,13 +301,10 @@ fn answer_frames<S: Source, K: Sink>(
     requires no_births { world.old.process.ledger.births ≡ [] }
     requires no_receipts { world.old.process.ledger.filed ≡ [] }
     ensures status { StatusOf (command_of words.now) result }
-    ensures served { ServesFrames (command_of words.now) (⟦<Desk as DeskTold>⟧.players desk)
-        (⟦<Desk as DeskTold>⟧.slots desk)
-        (IsNumberGiven (⟦<DelayRule as Fn(Code, u32) -> u32>⟧.post desk.delay))
-        (⟦<World as WorldTold>⟧.tells world.old && ⟦<Desk as DeskTold>⟧.tells desk) result
-        (⟦<World as WorldTold>⟧.plain world.old) (⟦<World as WorldTold>⟧.plain world.new)
-        (stream_of S.source_tells S.source_holds S.source_faults script.old script.new)
-        (stream_of K.sink_tells K.sink_holds K.sink_faults out.old out.new) }
+    ensures served { ServesFrames (command_of words.now) result (⟦<Desk as DeskTold>⟧.given desk)
+        (⟦<Outside as OutsideTold>⟧.around world.old world.new)
+        (object_of S.source_tells S.source_holds S.source_faults script.old script.new)
+        (object_of K.sink_tells K.sink_holds K.sink_faults out.old out.new) }
 {
     pamsess(alloc, words, script, out, world, desk)
 }

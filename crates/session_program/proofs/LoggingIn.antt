@@ -1,5 +1,5 @@
 -- What a login and a generation say by their status.
-use Rattle.std.proofs.Common.{◌≡◌, inl, ℕ, List, [], Option, Result, Err, refl, sym, ◌∙◌, subst, subst₂, append-nil, arith}
+use Rattle.std.proofs.Common.{◌≡◌, inl, inr, ℕ, ◌&&◌, IsTrue, List, [], Option, Result, Err, refl, sym, ◌∙◌, subst, subst₂, append-nil, arith}
 use Rattle.pam_base.specs.declared.code.Code.{Code}
 use Rattle.pam_outside.specs.Streams.{SinkState}
 use Rattle.pam_room.specs.Module.{Player}
@@ -14,10 +14,11 @@ use Rattle.item_stream.specs.declared.ending.Stop.TheVariants.{NoMemory}
 use Rattle.session_login.specs.Told.{LogsIn}
 use Rattle.session_login.specs.session_run.specs.Seen.{Seen}
 use Rattle.session_login.specs.session_run.specs.State.{Setting, setting_of, state_of}
-use Rattle.session_program.specs.ByCommand.{Setup}
+use Rattle.session_program.specs.ByCommand.{Around, LogsInSo, Object, Setup}
 use Rattle.session_program.specs.Generate.{GeneratesBy, IsGenerated, generate_status}
 use Rattle.session_program.specs.Login.{IsLogin, ShowsLogin, at_root, entry, login_status}
 use Rattle.session_program.specs.Opened.{IsOpened}
+use Rattle.session_program.proofs.Telling.{both_left, both_right, both_true}
 
 module _ (root : List ℕ) (setup : Setup) (old : PlainWorld) (s : Seen) (new : PlainWorld) (ends : List PlainSlot) (service : List ℕ) (user : Option (List ℕ)) (p q : SinkState) where
   logged_at : (setting : Setting) (slots : List PlainSlot) (now : PlainWorld) (result : Result Verdict Stop) (status : ℕ) → status ≡ login_status result → now ≡ at_root root old
@@ -57,6 +58,32 @@ nothing_shown status p is = record {
   result = Err NoMemory;
   is = is;
   shows = record { text = []; written = sym (append-nil p.written); calls = omega arith; calls_ok = tt; says = tt };
+}
+
+-- a login, over a library of a setup that gives the same
+pub logs_in_so : (root service : List ℕ) (user : Option (List ℕ)) (status : ℕ) (setup : Setup) (world : Around) (output : Object SinkState) (given : Setup) (s : Seen) (ends : List PlainSlot) (result : Result Verdict Stop)
+    → IsOpened root given world.old s → given.players ≡ setup.players → given.slots ≡ setup.slots → given.tells ≡ setup.tells
+    → ((number : Code → ℕ → ℕ) → setup.gives number → given.gives number) → s.world_tells ≡ world.tells → status ≡ login_status result
+    → ((number : Code → ℕ → ℕ) → s.gives number → IsTrue (s.tells && s.world_tells) → IsTrue output.tells
+    → LogsIn (setting_of s.players number) (login_of (setting_of s.players number) service user (state_of s.slots s.world)) result (state_of s.slots s.world) (state_of ends world.new) output.old output.new)
+    → (IsTrue output.tells → ShowsLogin status output.old output.new)
+    → LogsInSo root service user status setup world output
+logs_in_so root service user status setup world output given s ends result opened players slots tells gives world_tells is told shows = record {
+  logged_in = λ number gives_it sink both.
+      let library : IsOpened root setup world.old s = opened_as root given setup world.old s players slots tells gives opened in
+      inl (logged_in root setup world.old s world.new ends service user output.old output.new number result status is library
+      (told number (library.gives number gives_it) (both_true s.tells s.world_tells (library.tells ∙ both_right world.tells setup.tells both) (world_tells ∙ both_left world.tells setup.tells both)) sink));
+  login_shows = shows;
+  login_statuses = (result, is);
+}
+
+-- one for which an allocation failed
+pub logs_in_not : (root service : List ℕ) (user : Option (List ℕ)) (status : ℕ) (setup : Setup) (world : Around) (output : Object SinkState) → status ≡ 4 → world.new ≡ world.old → output.new ≡ output.old
+    → LogsInSo root service user status setup world output
+logs_in_not root service user status setup world output four same written = record {
+  logged_in = λ number gives sink both. inr (record { is = four; world = same; sink = written });
+  login_shows = λ sink. subst (λ (q : SinkState). ShowsLogin status output.old q) (sym written) (nothing_shown status output.old four);
+  login_statuses = (Err NoMemory, four);
 }
 
 -- a generation over slots that a setup gives

@@ -1,5 +1,5 @@
 -- What a run of frames says by its status.
-use Rattle.std.proofs.Common.{◌≡◌, ◌⊎◌, inl, inr, ℕ, ◌<◌, if◌then◌else◌, List, [], ◌∷◌, ◌++◌, length, Option, Some, None, Result, Ok, Err, refl, sym, ap, ◌∙◌, subst, subst₂, arith}
+use Rattle.std.proofs.Common.{◌≡◌, ◌⊎◌, inl, inr, ℕ, ◌<◌, if◌then◌else◌, List, [], ◌∷◌, ◌++◌, length, Option, Some, None, Result, Ok, Err, IfOk, refl, sym, ap, ◌∙◌, subst, subst₂, arith}
 use Rattle.std.specs.Int.{w16, to_be_bytes}
 use Rattle.std.specs.Prelude.{nat_eq}
 use Rattle.pam_outside.specs.Streams.{SourceState, SinkState}
@@ -9,6 +9,8 @@ use Rattle.pam_room.specs.State.{PlainWorld}
 use Rattle.session_check.specs.pam_library.specs.Slots.{PlainSlot}
 use Rattle.session_wire.specs.pam_wire.specs.Frame.{sized}
 use Rattle.session_wire.specs.pam_wire.specs.Stream.{IsOpen}
+use Rattle.pam_outside.specs.Counts.{RisesIf}
+use Rattle.item_stream.specs.Turns.{has_read_fault}
 use Rattle.item_stream.specs.declared.ending.Ending.{Ending}
 use Rattle.item_stream.specs.declared.ending.Ending.TheVariants.{Done, ReadFault, Refused}
 use Rattle.item_stream.specs.declared.ending.Stop.{Stop}
@@ -68,6 +70,25 @@ not_seven (Err WriteFault) is = absurd (omega (arith, is))
 pub no_fault_read : (status before now : ℕ) → IsWireStatus status → (IsReadThrough status → now ≡ before) → (status ≡ 0) ⊎ (status ≡ 7) → now ≡ before
 no_fault_read status before now known through (inl zero) = through (inl zero)
 no_fault_read status before now known through (inr seven) = not_seven known.0 (sym known.1 ∙ seven)
+
+-- a source that was read to its end, or to what is refused, didn't fail
+through_by : (result : Result (Ending FrameFault) Stop) (before now : ℕ) → IfOk result (λ ending. RisesIf (has_read_fault (Ok (Some ending))) before now) → IsReadThrough (wire_status result) → now ≡ before
+through_by (Ok Done) before now rises is = rises
+through_by (Ok (Refused BadFrame)) before now rises is = rises
+through_by (Ok (Refused TooManyFrames)) before now rises is = rises
+through_by (Ok ReadFault) before now rises (inl is) = absurd (omega (arith, is))
+through_by (Ok ReadFault) before now rises (inr (inl is)) = absurd (omega (arith, is))
+through_by (Ok ReadFault) before now rises (inr (inr is)) = absurd (omega (arith, is))
+through_by (Err NoMemory) before now rises (inl is) = absurd (omega (arith, is))
+through_by (Err NoMemory) before now rises (inr (inl is)) = absurd (omega (arith, is))
+through_by (Err NoMemory) before now rises (inr (inr is)) = absurd (omega (arith, is))
+through_by (Err WriteFault) before now rises (inl is) = absurd (omega (arith, is))
+through_by (Err WriteFault) before now rises (inr (inl is)) = absurd (omega (arith, is))
+through_by (Err WriteFault) before now rises (inr (inr is)) = absurd (omega (arith, is))
+
+pub through : (result : Result (Ending FrameFault) Stop) (status : ℕ) → status ≡ wire_status result → (before now : ℕ) → IfOk result (λ ending. RisesIf (has_read_fault (Ok (Some ending))) before now)
+    → IsReadThrough status → now ≡ before
+through result status is before now rises read = through_by result before now rises (subst IsReadThrough is read)
 
 -- ---- what is answered
 

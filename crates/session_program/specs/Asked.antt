@@ -1,4 +1,4 @@
--- What was found in the words of the command line, as a request (this project's own).
+-- What was found in the words of the command line, as a command (this project's own).
 use Rattle.std.specs.Prelude.{◌≡◌, ℕ, true, List, Option, Some, None}
 use Rattle.session_program.specs.declared.operand.Target.{Target}
 use Rattle.session_program.specs.declared.command.Command.{Command as Found}

@@ -37,6 +37,14 @@ pub record Setup : Type 1 where
   pub gives : (Code → ℕ → ℕ) → Type 0
   pub tells : Bool
 
+abbrev pub setup_of : List Player → List PlainSlot → ((Code → ℕ → ℕ) → Type 0) → Bool → Setup
+setup_of players slots gives tells = record {
+  players = players;
+  slots = slots;
+  gives = gives;
+  tells = tells;
+}
+
 -- an object before and after a command: whether it is modelled, what it holds, its count of failures, and that it is as it
 -- was
 pub record Object (State : Type 0) : Type 1 where

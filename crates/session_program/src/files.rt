@@ -1,3 +1,4 @@
+ghost use Rattle.std.specs.Prelude.{◌≡◌};
 ghost use Rattle.session_program.specs.ByCommand.{AuditsSo, ChecksSo, ReadCauses, TalliesSo, WriteCauses, object_of};
 
 use crate::outside::{Outside, OutsideTold};
@@ -23,6 +24,7 @@ pub(crate) fn check_service<K: Sink>(
     ensures write_causes { WriteCauses result
         (⟦<Outside as OutsideTold>⟧.around world.old world.new)
         (object_of K.sink_tells K.sink_holds K.sink_faults out.old out.new) }
+    ensures ledger { world.new.process.ledger ≡ world.old.process.ledger }
 {
     let found = check(alloc, root, service, out, &mut *world.vault);
     status_of_check(found)
@@ -42,6 +44,7 @@ pub(crate) fn tally_user<K: Sink>(
     ensures write_causes { WriteCauses result
         (⟦<Outside as OutsideTold>⟧.around world.old world.new)
         (object_of K.sink_tells K.sink_holds K.sink_faults out.old out.new) }
+    ensures ledger { world.new.process.ledger ≡ world.old.process.ledger }
 {
     let tallied = list_failures(alloc, root, user, out, &mut *world.vault);
     status_of_tally(tallied)
@@ -65,6 +68,7 @@ pub(crate) fn audit_service<S: Source, K: Sink>(
     ensures write_causes { WriteCauses result
         (⟦<Outside as OutsideTold>⟧.around world.old world.new)
         (object_of K.sink_tells K.sink_holds K.sink_faults out.old out.new) }
+    ensures ledger { world.new.process.ledger ≡ world.old.process.ledger }
 {
     let audited = audit_transcript(alloc, root, service, script, out, &mut *world.vault);
     status_of_audit(audited)

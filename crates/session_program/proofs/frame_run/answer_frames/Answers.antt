@@ -26,4 +26,4 @@ returns-in-Ok-clause-wire g c =
 
 pub returns-in-Ok-clause-cleaned_up : goal.returns-in-Ok-clause-cleaned_up
 returns-in-Ok-clause-cleaned_up g c =
-    cleaned_at _ _ _ _ _ _ _ (c.proceeding_stands.ensures _) c.in-Ok.ensures.opened refl refl c.reset_clock.ensures.process c.run_frames-result.ensures.went c.run_frames-result.ensures.none_open
+    cleaned_at _ _ (λ number status is. is) _ _ _ _ _ _ (c.proceeding_stands.ensures _) c.in-Ok.ensures.opened refl refl c.reset_clock.ensures.process c.run_frames-result.ensures.went c.run_frames-result.ensures.none_open
