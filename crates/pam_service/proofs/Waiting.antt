@@ -4,37 +4,35 @@ use Rattle.pam_base.specs.declared.code.Code.{Code}
 use Rattle.fail_delay.specs.DelayFn.{IsNumberGiven}
 use Rattle.pam_outside.specs.Streams.{SourceState, SinkState}
 use Rattle.pam_room.specs.Module.{Player}
-use Rattle.pam_room.specs.State.{PlainWorld}
 use Rattle.session_check.specs.pam_library.specs.Slots.{PlainSlot}
-use Rattle.session_program.specs.Command.{Request}
+use Rattle.session_program.specs.ByCommand.{Around, Object, WiresSo, setup_of}
+use Rattle.session_program.specs.Command.{Command}
 use Rattle.pam_service.specs.Service.{served_wait}
-use Rattle.pam_service.specs.Serving.{ServesFrames, Stream}
+use Rattle.pam_service.specs.Serving.{ServesFrames}
 
-pub waits : (Post : Code → ℕ → ℕ → Type 0) → IsNumberGiven Post served_wait → (number : Code → ℕ → ℕ) → number ≡ served_wait → IsNumberGiven Post number
+waits : (Post : Code → ℕ → ℕ → Type 0) → IsNumberGiven Post served_wait → (number : Code → ℕ → ℕ) → number ≡ served_wait → IsNumberGiven Post number
 waits Post given number same = subst (IsNumberGiven Post) (sym same) given
 
-module _ (request : Option Request) (players : List Player) (slots : List PlainSlot) (Gives Known : (Code → ℕ → ℕ) → Type 0) (tells : Bool)
-    (status : ℕ) (old new : PlainWorld) (input : Stream SourceState) (output : Stream SinkState) where
-  pub served_by : ((number : Code → ℕ → ℕ) → Known number → Gives number) → ServesFrames request players slots Gives tells status old new input output
-      → ServesFrames request players slots Known tells status old new input output
-  served_by gives s = record {
-    wire_answered = λ root number asked known. s.wire_answered root number asked (gives number known);
-    wire_told = λ root number asked known. s.wire_told root number asked (gives number known);
-    wire_statuses = s.wire_statuses;
-    wire_reads = s.wire_reads;
-    wire_complete = s.wire_complete;
-    wire_writes = s.wire_writes;
-    wire_no_read_fault = s.wire_no_read_fault;
-    words_only = s.words_only;
-    read_fault = s.read_fault;
-    write_fault = s.write_fault;
-    no_write_fault = s.no_write_fault;
-    cleaned_up = s.cleaned_up;
+module _ (asked : Option Command) (status : ℕ) (players : List Player) (slots : List PlainSlot) (Post : Code → ℕ → ℕ → Type 0) (tells : Bool)
+    (world : Around) (input : Object SourceState) (output : Object SinkState) where
+  wires_with : (root : List ℕ) → WiresSo root status (setup_of players slots (IsNumberGiven Post) tells) world input output → IsNumberGiven Post served_wait
+      → WiresSo root status (setup_of players slots (λ number. number ≡ served_wait) tells) world input output
+  wires_with root wire given = record {
+    wire_answered = λ number known. wire.wire_answered number (waits Post given number known);
+    wire_told = λ number known. wire.wire_told number (waits Post given number known);
+    wire_statuses = wire.wire_statuses;
+    wire_reads = wire.wire_reads;
+    wire_complete = wire.wire_complete;
+    wire_writes = wire.wire_writes;
+    wire_no_read_fault = wire.wire_no_read_fault;
   }
 
-module _ (request : Option Request) (players : List Player) (slots : List PlainSlot) (Post : Code → ℕ → ℕ → Type 0) (tells : Bool)
-    (status : ℕ) (old new : PlainWorld) (input : Stream SourceState) (output : Stream SinkState) where
-  pub served_with : ServesFrames request players slots (IsNumberGiven Post) tells status old new input output
-      → IsNumberGiven Post served_wait → ServesFrames request players slots (λ number. number ≡ served_wait) tells status old new input output
-  served_with s given =
-      served_by request players slots (IsNumberGiven Post) (λ number. number ≡ served_wait) tells status old new input output (waits Post given) s
+  pub served_with : ServesFrames asked status (setup_of players slots (IsNumberGiven Post) tells) world input output → IsNumberGiven Post served_wait
+      → ServesFrames asked status (setup_of players slots (λ number. number ≡ served_wait) tells) world input output
+  served_with s given = record {
+    wire = λ root is. wires_with root (s.wire root is) given;
+    command = s.command;
+    read_causes = s.read_causes;
+    write_causes = s.write_causes;
+    cleaned_up = s.cleaned_up;
+  }

@@ -3,18 +3,18 @@ use Rattle.std.specs.Prelude.{◌≡◌, ◌⊎◌, ℕ, min, Bool, if◌then◌
 use Rattle.std.specs.declared.alloc.Global.{Global}
 use Rattle.pam_base.specs.declared.code.Code.{Code}
 use Rattle.pam_base.specs.declared.code.Code.TheVariants as results
-use Rattle.session_program.specs.Command.{Request, runs, checks, logs_in, generates, tallies, audits, wires, wire_request}
+use Rattle.session_program.specs.Command.{Command, runs, checks, logs_in, generates, tallies, audits, wires, wire_command}
 use Rattle.session_program.specs.Wire.{IsWireStatus}
 
 -- The frames of a front end, under `/` if there is no argument. A process that has no rights but its
 -- caller's may be given another root.
-abbrev pub service_request : Bool → List (String Global) → Option Request
+abbrev pub service_request : Bool → List (String Global) → Option Command
 service_request has_own_ids [] = Some (wires (codes "/"))
-service_request has_own_ids (root ∷ []) = if has_own_ids then wire_request (root ∷ []) else None
+service_request has_own_ids (root ∷ []) = if has_own_ids then wire_command (root ∷ []) else None
 service_request has_own_ids words = None
 
 -- frames, or no command
-abbrev pub IsOfFrames : Option Request → Type 0
+abbrev pub IsOfFrames : Option Command → Type 0
 IsOfFrames None = Unit {0}
 IsOfFrames (Some (wires root)) = Unit {0}
 IsOfFrames (Some (runs root)) = ⊥
@@ -25,7 +25,7 @@ IsOfFrames (Some (tallies root user)) = ⊥
 IsOfFrames (Some (audits root service)) = ⊥
 
 -- the exit status of a run of frames, or 2 or 6 without a command
-abbrev pub StatusOf : Option Request → ℕ → Type 0
+abbrev pub StatusOf : Option Command → ℕ → Type 0
 StatusOf None status = (status ≡ 2) ⊎ (status ≡ 6)
 StatusOf (Some request) status = IsWireStatus status
 

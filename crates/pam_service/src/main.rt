@@ -6,13 +6,14 @@
 //! Begin at `run`; `answer_frames` has the contract.
 #![tactic(auto)]
 
-ghost use Rattle.std.specs.Prelude.{◌≡◌, ◌≤◌, ◌<◌, ◌^◌, ◌&&◌, ℕ, nat_eq, List, [], IfOk, OnErr, length};
+ghost use Rattle.std.specs.Prelude.{◌≡◌, ◌≤◌, ◌<◌, ◌^◌, ℕ, nat_eq, List, [], IfOk, OnErr, length};
 ghost use Rattle.pam_base.specs.declared.code.Code.{Code};
 ghost use Rattle.pam_room.specs.Module.{Player};
 ghost use Rattle.fail_delay.specs.DelayFn.{GivesOneNumber, IsNumberGiven};
-ghost use Rattle.session_program.specs.Command.{request_of};
+ghost use Rattle.session_program.specs.Command.{command_of};
 ghost use Rattle.pam_service.specs.Service.{IsOfFrames, StatusOf, served_wait, service_request};
-ghost use Rattle.pam_service.specs.Serving.{ServesFrames, stream_of};
+ghost use Rattle.pam_service.specs.Serving.{ServesFrames};
+ghost use Rattle.session_program.specs.ByCommand.{object_of, setup_of};
 
 use data_cleanup::Ledger;
 use fail_delay::{DelayRule, LONGEST_ASKED};
@@ -25,9 +26,9 @@ use mod_history::{Pwhistory, Securetty, Wheel};
 use mod_lists::{Listfile, Nologin, Shells, SucceedIf};
 use pam_base::{Code, Text};
 use pam_outside::{FolderVault, NapSum, ReaderSource, RealClock, Sink, Source, Vault, WriterSink};
-use pam_room::{Module, Process, World, WorldTold};
+use pam_room::{Module, Process, World};
 use session_program::mod_tally::Faillock;
-use session_program::{Desk, DeskTold, pamsess};
+use session_program::{Desk, DeskTold, Outside, OutsideTold, pamsess};
 use std::alloc::Global;
 use std::io::ErrorKind;
 use std::process::ExitCode;
@@ -187,9 +188,9 @@ fn has_own_ids(user: &Option<Ids>, group: &Option<Ids>) -> bool {
 // The arguments for the program: `wire /`, or `wire ROOT` if one argument names a root and the process has no rights
 // but its caller's. Otherwise none, which is no command.
 fn words_for(alloc: Global, words: &[String], has_own_ids: bool) -> io::Result<Vec<String>>
-    ensures request { IfOk result (λ asked. request_of asked.items
+    ensures request { IfOk result (λ asked. command_of asked.items
         ≡ service_request has_own_ids words.now) }
-    ensures frames { IfOk result (λ asked. IsOfFrames (request_of asked.items)) }
+    ensures frames { IfOk result (λ asked. IsOfFrames (command_of asked.items)) }
 {
     let mut asked = Vec::new(alloc);
     match words {
@@ -216,19 +217,18 @@ fn serve<S: Source, K: Sink>(
     out: &mut K,
     world: &mut World,
 ) -> io::Result<u8>
-    requires frames { IsOfFrames (request_of words.now) }
+    requires frames { IsOfFrames (command_of words.now) }
     requires sixteen { length talks.convs.items ≡ TRANSACTIONS }
     requires no_births { world.old.process.ledger.births ≡ [] }
     requires no_receipts { world.old.process.ledger.filed ≡ [] }
-    ensures status { IfOk result (λ status. StatusOf (request_of words.now) status) }
+    ensures status { IfOk result (λ status. StatusOf (command_of words.now) status) }
     ensures served { IfOk result (λ status. (players : List Player)
-        × ServesFrames (request_of words.now) players
+        × ServesFrames (command_of words.now) status (setup_of players
         (⟦<Conversations as ConversationsTold>⟧.slots talks) (λ number. number ≡ served_wait)
-        (⟦<World as WorldTold>⟧.tells world.old
-        && ⟦<Conversations as ConversationsTold>⟧.tells talks) status
-        (⟦<World as WorldTold>⟧.plain world.old) (⟦<World as WorldTold>⟧.plain world.new)
-        (stream_of S.source_tells S.source_holds S.source_faults script.old script.new)
-        (stream_of K.sink_tells K.sink_holds K.sink_faults out.old out.new)) }
+        (⟦<Conversations as ConversationsTold>⟧.tells talks))
+        (⟦<Outside as OutsideTold>⟧.around world.old world.new)
+        (object_of S.source_tells S.source_holds S.source_faults script.old script.new)
+        (object_of K.sink_tells K.sink_holds K.sink_faults out.old out.new)) }
 {
     let mut mods: Vec<Box<dyn Module>> = Vec::new(alloc);
     mods.push(Box::new(alloc, Permit::new())?)?;
@@ -291,7 +291,7 @@ fn answer_frames<S: Source, K: Sink>(
     world: &mut World,
     desk: Desk,
 ) -> u8
-    requires frames { IsOfFrames (request_of words.now) }
+    requires frames { IsOfFrames (command_of words.now) }
     requires sixteen { length desk.convs.items ≡ 16 }
     requires few { length desk.mods.items < 2 ^ 32 }
     requires callable { (code : Code) (asked : ℕ) → asked ≤ LONGEST_ASKED →
@@ -300,14 +300,11 @@ fn answer_frames<S: Source, K: Sink>(
         (⟦<DelayRule as Fn(Code, u32) -> u32>⟧.post desk.delay) }
     requires no_births { world.old.process.ledger.births ≡ [] }
     requires no_receipts { world.old.process.ledger.filed ≡ [] }
-    ensures status { StatusOf (request_of words.now) result }
-    ensures served { ServesFrames (request_of words.now) (⟦<Desk as DeskTold>⟧.players desk)
-        (⟦<Desk as DeskTold>⟧.slots desk)
-        (IsNumberGiven (⟦<DelayRule as Fn(Code, u32) -> u32>⟧.post desk.delay))
-        (⟦<World as WorldTold>⟧.tells world.old && ⟦<Desk as DeskTold>⟧.tells desk) result
-        (⟦<World as WorldTold>⟧.plain world.old) (⟦<World as WorldTold>⟧.plain world.new)
-        (stream_of S.source_tells S.source_holds S.source_faults script.old script.new)
-        (stream_of K.sink_tells K.sink_holds K.sink_faults out.old out.new) }
+    ensures status { StatusOf (command_of words.now) result }
+    ensures served { ServesFrames (command_of words.now) result (⟦<Desk as DeskTold>⟧.given desk)
+        (⟦<Outside as OutsideTold>⟧.around world.old world.new)
+        (object_of S.source_tells S.source_holds S.source_faults script.old script.new)
+        (object_of K.sink_tells K.sink_holds K.sink_faults out.old out.new) }
 {
     pamsess(alloc, words, script, out, world, desk)
 }

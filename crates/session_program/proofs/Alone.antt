@@ -29,8 +29,8 @@ module _ (status : ℕ) (x y : SourceState) where
   refused_by (Err NoMemory) is r seven = absurd (omega (arith, is, seven))
   refused_by (Err WriteFault) is r seven = absurd (omega (arith, is, seven))
 
-  pub accepted : ReadsBy status x y → status ≡ 0 → IsAccepted x.left y.left
-  accepted r zero = accepted_by r.result r.is r.reads zero
+  pub is_accepted : ReadsBy status x y → status ≡ 0 → IsAccepted x.left y.left
+  is_accepted r zero = accepted_by r.result r.is r.reads zero
 
-  pub has_refused : ReadsBy status x y → status ≡ 7 → HasRefused x.left
-  has_refused r seven = refused_by r.result r.is r.reads seven
+  pub is_refused : ReadsBy status x y → status ≡ 7 → HasRefused x.left
+  is_refused r seven = refused_by r.result r.is r.reads seven

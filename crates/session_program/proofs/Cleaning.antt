@@ -1,5 +1,5 @@
 -- If no transaction is open, all data set have their one cleanup record.
-use Rattle.std.proofs.Common.{◌≡◌, ℕ, zero, suc, ltb, if◌then◌else◌, Bool, true, false, List, [], ◌∷◌, ◌++◌, map, slice_get, Option, refl, sym, ap, subst, arith}
+use Rattle.std.proofs.Common.{◌≡◌, ℕ, zero, suc, ltb, if◌then◌else◌, Bool, true, false, List, [], ◌∷◌, ◌++◌, map, slice_get, Option, refl, sym, ap, ◌∙◌, subst, subst₂, arith}
 use Rattle.std.specs.Prelude.{nat_eq}
 use Rattle.std.specs.List.{IsDistinct}
 use Rattle.data_cleanup.specs.Datum.{PlainDatum}
@@ -12,8 +12,13 @@ use Rattle.session_check.specs.pam_library.specs.Calls.{Moved, births_added, eve
 use Rattle.session_check.specs.pam_library.specs.Slots.{NoneIsOpen, PlainSlot, closed, opened, data_in, lists_of}
 use Rattle.session_login.specs.session_run.specs.AnyWorld.{AllEndsAre, Proceeds, ProceedsBy}
 use Rattle.session_login.specs.session_run.specs.Ends.{EndsAre}
+use Rattle.session_login.specs.session_run.specs.Seen.{Seen, Went}
+use Rattle.pam_room.specs.Module.{Player, notes_of}
+use Rattle.pam_room.specs.State.{PlainProcess, PlainWorld}
+use Rattle.session_program.specs.ByCommand.{Setup}
+use Rattle.session_program.specs.Opened.{IsOpened}
 use Rattle.session_program.specs.CleanedUp.{IsCleanedUp, MayEnd}
-use Rattle.session_program.specs.Command.{Request}
+use Rattle.session_program.specs.Command.{Command}
 
 -- ---- closed places hold nothing
 
@@ -83,6 +88,36 @@ cleaned_up Is note before now after slots left law stand same went none =
     stood Is note after left ([] ++ events_of now went.went.calls) (events_are Is now went.went.calls went.ends_are)
     (law now after (lists_of slots) (lists_of left) [] went.went first) none
 
+-- ---- ends that are also others
+
+module _ (P Q : ℕ → ℕ → Type 0) (also : (number status : ℕ) → P number status → Q number status) where
+  ends_too : (events : List Event) → EndsAre P events → EndsAre Q events
+  ends_too [] a = tt
+  ends_too (birth b ∷ events) a = ends_too events a
+  ends_too (ends number status ∷ events) a = (also number status a.0, ends_too events a.1)
+
+  calls_too : (calls : List Moved) → AllEndsAre P calls → AllEndsAre Q calls
+  calls_too [] a = tt
+  calls_too (m ∷ calls) a = (ends_too m.ended a.0, calls_too calls a.1)
+
+  pub proceeds_too : (note : Notes) (before : PlainLedger) (lists : Lists) (after : PlainLedger) (next : Lists) → ProceedsBy P note before lists after next
+      → ProceedsBy Q note before lists after next
+  proceeds_too note before lists after next p = record { went = p.went; ends_are = calls_too p.went.calls p.ends_are }
+
+-- a library that was opened, and run from a world with the same process
+pub cleaned_at : (P Is : ℕ → ℕ → Type 0) → ((number status : ℕ) → P number status → Is number status) → (root : List ℕ) (setup : Setup) (old : PlainWorld) (s t e : Seen)
+    → ((first last : PlainLedger) (lists next : Lists) (events : List Event) (p : Proceeds (notes_of t.players) first lists last next)
+    → StandFor (notes_of t.players) 17 first lists events → StandFor (notes_of t.players) 17 last next (events ++ events_of first p.calls))
+    → IsOpened root setup old s → t.players ≡ s.players → t.slots ≡ s.slots → t.world.process ≡ s.world.process → Went P t e → NoneIsOpen e.slots
+    → IsCleanedUp Is (notes_of setup.players) e.world.process.ledger
+cleaned_at P Is also root setup old s t e law library players slots same went none =
+    let stand : StandFor (notes_of t.players) 17 old.process.ledger (lists_of t.slots) [] =
+        subst₂ (λ (ps : List Player) (ss : List PlainSlot). StandFor (notes_of ps) 17 old.process.ledger (lists_of ss) []) (sym players) (sym slots) library.none_yet in
+    let ledger : t.world.process.ledger ≡ old.process.ledger = ap (λ (p : PlainProcess). p.ledger) same ∙ ap (λ (w : PlainWorld). w.process.ledger) library.world_is in
+    subst (λ (ps : List Player). IsCleanedUp Is (notes_of ps) e.world.process.ledger) (players ∙ library.players)
+    (cleaned_up Is (notes_of t.players) old.process.ledger t.world.process.ledger e.world.process.ledger t.slots e.slots law stand ledger
+    (proceeds_too P Is also (notes_of t.players) t.world.process.ledger (lists_of t.slots) e.world.process.ledger (lists_of e.slots) went.proceeds) none)
+
 -- ---- if nothing happened
 
 none_below : (id n : ℕ) → n ≡ 0 → n ≡ (if ltb id 0 then 1 else 0)
@@ -106,25 +141,19 @@ nothing_to_clean Is note ledger births filed = record {
   once = λ id. rw (births, filed) (none_below id 0 refl);
 }
 
--- ---- ends that are also others
+-- the same of a cleanup log that is as it was
+pub nothing_cleaned : (Is : ℕ → ℕ → Type 0) (note : Notes) (old new : PlainLedger) → new ≡ old → old.births ≡ [] → old.filed ≡ [] → IsCleanedUp Is note new
+nothing_cleaned Is note old new same births filed =
+    subst (λ (l : PlainLedger). IsCleanedUp Is note l) (sym same) (nothing_to_clean Is note old births filed)
 
-module _ (P Q : ℕ → ℕ → Type 0) (also : (number status : ℕ) → P number status → Q number status) where
-  ends_too : (events : List Event) → EndsAre P events → EndsAre Q events
-  ends_too [] a = tt
-  ends_too (birth b ∷ events) a = ends_too events a
-  ends_too (ends number status ∷ events) a = (also number status a.0, ends_too events a.1)
-
-  calls_too : (calls : List Moved) → AllEndsAre P calls → AllEndsAre Q calls
-  calls_too [] a = tt
-  calls_too (m ∷ calls) a = (ends_too m.ended a.0, calls_too calls a.1)
-
-  pub proceeds_too : (note : Notes) (before : PlainLedger) (lists : Lists) (after : PlainLedger) (next : Lists) → ProceedsBy P note before lists after next
-      → ProceedsBy Q note before lists after next
-  proceeds_too note before lists after next p = record { went = p.went; ends_are = calls_too p.went.calls p.ends_are }
+pub nothing_since : (Is : ℕ → ℕ → Type 0) (note : Notes) (old new : PlainWorld) → new ≡ old → old.process.ledger.births ≡ [] → old.process.ledger.filed ≡ []
+    → IsCleanedUp Is note new.process.ledger
+nothing_since Is note old new same births filed =
+    nothing_cleaned Is note old.process.ledger new.process.ledger (ap (λ (w : PlainWorld). w.process.ledger) same) births filed
 
 -- ---- by what was asked for
 
-pub cleaned_as : (request asked : Option Request) (tells : Bool) (script : List ℕ) (status : ℕ) (note : Notes) (ledger : PlainLedger) → asked ≡ request
+pub cleaned_as : (request asked : Option Command) (tells : Bool) (script : List ℕ) (status : ℕ) (note : Notes) (ledger : PlainLedger) → asked ≡ request
     → IsCleanedUp (MayEnd asked tells script status) note ledger → IsCleanedUp (MayEnd request tells script status) note ledger
 cleaned_as request asked tells script status note ledger same cleaned =
-    subst (λ (r : Option Request). IsCleanedUp (MayEnd r tells script status) note ledger) same cleaned
+    subst (λ (r : Option Command). IsCleanedUp (MayEnd r tells script status) note ledger) same cleaned

@@ -1,5 +1,6 @@
 pub mod Alone
 pub mod Cleaning
+pub mod Commands
 pub mod LoggingIn
 pub mod Statuses
 pub mod Telling

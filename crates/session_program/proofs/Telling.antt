@@ -5,7 +5,8 @@ use Rattle.data_cleanup.specs.Cleanup.{Notes}
 use Rattle.data_cleanup.specs.Ledger.{PlainLedger}
 use Rattle.data_due.specs.Stands.{StandFor}
 use Rattle.pam_outside.specs.Streams.{SourceState, SinkState}
-use Rattle.pam_room.specs.Module.{notes_of}
+use Rattle.pam_base.specs.declared.code.Code.{Code}
+use Rattle.pam_room.specs.Module.{Player, notes_of}
 use Rattle.pam_room.specs.State.{PlainWorld}
 use Rattle.session_check.specs.pam_library.specs.Slots.{NoneIsOpen, PlainSlot, closed, lists_of, slot_at}
 use Rattle.session_check.specs.pam_library.specs.Sound.{IsSound}
@@ -14,10 +15,13 @@ use Rattle.item_stream.specs.declared.ending.Ending.TheVariants.{Done, ReadFault
 use Rattle.item_stream.specs.declared.ending.Stop.{Stop}
 use Rattle.item_stream.specs.declared.ending.Stop.TheVariants.{NoMemory, WriteFault}
 use Rattle.session_login.specs.session_run.specs.SideBySide.{ComesAlone, TellsSteps}
-use Rattle.session_login.specs.session_run.specs.State.{Setting, RunState, state_of}
+use Rattle.session_login.specs.session_run.specs.State.{Setting, RunState, setting_of, state_of}
 use Rattle.session_login.specs.session_run.specs.Whole.{RunsScript}
-use Rattle.session_program.specs.Command.{Request, runs}
-use Rattle.session_program.specs.Run.{Completes, IsBegun, IsDone, IsRefused, IsUnder, IsUnread, Runs, opening, status_of}
+use Rattle.session_login.specs.session_run.specs.Seen.{Seen}
+use Rattle.session_program.specs.ByCommand.{Setup}
+use Rattle.session_program.specs.Login.{at_root}
+use Rattle.session_program.specs.Opened.{IsOpened}
+use Rattle.session_program.specs.Run.{Completes, IsBegun, IsDone, IsRefused, IsReset, IsUnread, Runs, opening, status_of, under_root}
 use Rattle.session_program.proofs.Statuses.{done_whole, refused_whole, unread_whole}
 
 pub both_left : (a b : Bool) → IsTrue (a && b) → IsTrue a
@@ -66,21 +70,35 @@ none_open holds (b ∷ convs) = (refl, none_open holds convs)
 pub none_open_at_first : {B : Type 0} (holds : B → ConvState) (convs : List B) (slots : List PlainSlot) → slots ≡ map (λ b. closed (holds b)) convs → NoneIsOpen slots
 none_open_at_first holds convs slots are = subst NoneIsOpen (sym are) (none_open holds convs)
 
+-- the world after the clock was set
+pub under_now : (root : List ℕ) (old at now : PlainWorld) → at ≡ at_root root old → IsReset at now → now ≡ under_root root old
+under_now root old at now is reset = reset.world_is ∙ ap (λ (w : PlainWorld). record w { clock = record w.clock { moment = 0; word = 0 } }) is
+
 module _ (setting : Setting) (slots ends : List PlainSlot) (root : List ℕ) (old now new : PlainWorld) (x y : SourceState) (p q : SinkState) where
-  pub begun : (result : Result Ending Stop) (status : ℕ) → status ≡ status_of result → IsUnder root old now
+  begun_at : (result : Result Ending Stop) (status : ℕ) → status ≡ status_of result → now ≡ under_root root old
       → StandFor (notes_of setting.players) 17 old.process.ledger (lists_of slots) []
       → ((start : RunState) (bytes : List ℕ) (ended : Bool) (number : ℕ) (slot : PlainSlot) → slot_at start.slots number ≡ Some slot → ComesAlone setting start bytes ended number slot)
       → ((start : RunState) (bytes : List ℕ) (ended : Bool) → TellsSteps setting start bytes ended)
       → RunsScript setting result (state_of slots now) (state_of ends new) x y p q → IsBegun setting status (opening slots root old) new x y p q
-  begun result status is under none_yet alone steps ran = record {
+  begun_at result status is under none_yet alone steps ran = record {
     result = result;
     is = is;
     end = state_of ends new;
     world_is = refl;
-    runs = subst (λ (w : PlainWorld). RunsScript setting result (state_of slots w) (state_of ends new) x y p q) under.world_is ran;
+    runs = subst (λ (w : PlainWorld). RunsScript setting result (state_of slots w) (state_of ends new) x y p q) under ran;
     none_yet = none_yet;
     side_by_side = λ bytes ended. record { alone = λ number slot is. alone (opening slots root old) bytes ended number slot is; steps = steps (opening slots root old) bytes ended };
   }
+
+module _ (root : List ℕ) (setup : Setup) (old : PlainWorld) (s : Seen) (now new : PlainWorld) (ends : List PlainSlot) (x y : SourceState) (p q : SinkState) where
+  pub begun : (number : Code → ℕ → ℕ) (result : Result Ending Stop) (status : ℕ) → status ≡ status_of result → IsOpened root setup old s → IsReset s.world now
+      → ((start : RunState) (bytes : List ℕ) (ended : Bool) (n : ℕ) (slot : PlainSlot) → slot_at start.slots n ≡ Some slot → ComesAlone (setting_of s.players number) start bytes ended n slot)
+      → ((start : RunState) (bytes : List ℕ) (ended : Bool) → TellsSteps (setting_of s.players number) start bytes ended)
+      → RunsScript (setting_of s.players number) result (state_of s.slots now) (state_of ends new) x y p q
+      → IsBegun (setting_of setup.players number) status (opening setup.slots root old) new x y p q
+  begun number result status is opened reset alone steps ran =
+      subst₂ (λ (players : List Player) (slots : List PlainSlot). IsBegun (setting_of players number) status (opening slots root old) new x y p q) opened.players opened.slots
+      (begun_at (setting_of s.players number) s.slots ends root old now new x y p q result status is (under_now root old s.world now opened.world_is reset) opened.none_yet alone steps ran)
 
 -- ---- by the status
 
@@ -118,43 +136,21 @@ module _ (setting : Setting) (start end : RunState) (x y : SourceState) (p q : S
   completes_by R W (Err NoMemory) ran read write accepted no_read no_write = inr refl
   completes_by R W (Err WriteFault) ran read write accepted no_read no_write = absurd (no_write (write refl))
 
-module _ (setting : Setting) (status : ℕ) (slots : List PlainSlot) (root asked : List ℕ) (old new : PlainWorld) (x y : SourceState) (p q : SinkState) (same : root ≡ asked) where
-  pub runs_asked : Runs setting status slots root old new x y p q → Runs setting status slots asked old new x y p q
-  runs_asked ran = subst (λ (r : List ℕ). Runs setting status slots r old new x y p q) same ran
-
-  done_of : Runs setting status slots asked old new x y p q → status ≡ 0 → IsDone setting (opening slots asked old) new x y p q
-  done_of (inl b) is = subst (λ (w : PlainWorld). IsDone setting (opening slots asked old) w x y p q) (sym b.world_is) (done_by setting (opening slots asked old) b.end x y p q b.result b.none_yet b.runs (sym b.is ∙ is))
+module _ (setting : Setting) (status : ℕ) (slots : List PlainSlot) (root : List ℕ) (old new : PlainWorld) (x y : SourceState) (p q : SinkState) where
+  pub done_of : Runs setting status slots root old new x y p q → status ≡ 0 → IsDone setting (opening slots root old) new x y p q
+  done_of (inl b) is = subst (λ (w : PlainWorld). IsDone setting (opening slots root old) w x y p q) (sym b.world_is) (done_by setting (opening slots root old) b.end x y p q b.result b.none_yet b.runs (sym b.is ∙ is))
   done_of (inr n) is = absurd (omega (arith, n.0, is))
 
-  refused_of : Runs setting status slots asked old new x y p q → status ≡ 7 → IsRefused setting (opening slots asked old) new x y p q
-  refused_of (inl b) is = subst (λ (w : PlainWorld). IsRefused setting (opening slots asked old) w x y p q) (sym b.world_is) (refused_by setting (opening slots asked old) b.end x y p q b.result b.none_yet b.runs (sym b.is ∙ is))
+  pub refused_of : Runs setting status slots root old new x y p q → status ≡ 7 → IsRefused setting (opening slots root old) new x y p q
+  refused_of (inl b) is = subst (λ (w : PlainWorld). IsRefused setting (opening slots root old) w x y p q) (sym b.world_is) (refused_by setting (opening slots root old) b.end x y p q b.result b.none_yet b.runs (sym b.is ∙ is))
   refused_of (inr n) is = absurd (omega (arith, n.0, is))
 
-  unread_of : Runs setting status slots asked old new x y p q → status ≡ 5 → IsUnread setting (opening slots asked old) new x y p q
-  unread_of (inl b) is = subst (λ (w : PlainWorld). IsUnread setting (opening slots asked old) w x y p q) (sym b.world_is) (unread_by setting (opening slots asked old) b.end x y p q b.result b.none_yet b.runs (sym b.is ∙ is))
+  pub unread_of : Runs setting status slots root old new x y p q → status ≡ 5 → IsUnread setting (opening slots root old) new x y p q
+  unread_of (inl b) is = subst (λ (w : PlainWorld). IsUnread setting (opening slots root old) w x y p q) (sym b.world_is) (unread_by setting (opening slots root old) b.end x y p q b.result b.none_yet b.runs (sym b.is ∙ is))
   unread_of (inr n) is = absurd (omega (arith, n.0, is))
 
-  completes_of : (R W : Type 0) → Runs setting status slots asked old new x y p q → (status ≡ 5 → R) → (status ≡ 6 → W) → Completes status R W setting (opening slots asked old) x
+  pub completes_of : (R W : Type 0) → Runs setting status slots root old new x y p q → (status ≡ 5 → R) → (status ≡ 6 → W) → Completes status R W setting (opening slots root old) x
   completes_of R W (inl b) read write =
-      subst (λ (n : ℕ). Completes n R W setting (opening slots asked old) x) (sym b.is)
-      (completes_by setting (opening slots asked old) b.end x y p q R W b.result b.runs (λ e. read (b.is ∙ e)) (λ e. write (b.is ∙ e)))
+      subst (λ (n : ℕ). Completes n R W setting (opening slots root old) x) (sym b.is)
+      (completes_by setting (opening slots root old) b.end x y p q R W b.result b.runs (λ e. read (b.is ∙ e)) (λ e. write (b.is ∙ e)))
   completes_of R W (inr n) read write = λ accepted no_read no_write. inr n.0
-
-  pub done_asked : Runs setting status slots root old new x y p q → status ≡ 0 → IsDone setting (opening slots asked old) new x y p q
-  done_asked ran is = done_of (runs_asked ran) is
-
-  pub refused_asked : Runs setting status slots root old new x y p q → status ≡ 7 → IsRefused setting (opening slots asked old) new x y p q
-  refused_asked ran is = refused_of (runs_asked ran) is
-
-  pub unread_asked : Runs setting status slots root old new x y p q → status ≡ 5 → IsUnread setting (opening slots asked old) new x y p q
-  unread_asked ran is = unread_of (runs_asked ran) is
-
-  pub completes_asked : (R W : Type 0) → Runs setting status slots root old new x y p q → (status ≡ 5 → R) → (status ≡ 6 → W) → Completes status R W setting (opening slots asked old) x
-  completes_asked R W ran read write = completes_of R W (runs_asked ran) read write
-
--- the root that was asked for is the one that was found
-pub asked_root : (found given asked : List ℕ) (request : Option Request) → Some (runs found) ≡ request → request ≡ Some (runs asked) → given ≡ found → given ≡ asked
-asked_root found given asked request is same taken =
-    let e : Some (runs found) ≡ Some (runs asked) = is ∙ same in
-    let f : found ≡ asked = cc in
-    taken ∙ f

@@ -1,24 +1,31 @@
 -- What a run of frames says by its status.
-use Rattle.std.proofs.Common.{◌≡◌, ◌⊎◌, inl, inr, ℕ, ◌<◌, if◌then◌else◌, List, [], ◌∷◌, ◌++◌, length, Option, Some, None, Result, Ok, Err, refl, sym, ap, ◌∙◌, subst, arith}
+use Rattle.std.proofs.Common.{◌≡◌, ◌⊎◌, inl, inr, ℕ, ◌<◌, if◌then◌else◌, List, [], ◌∷◌, ◌++◌, length, Option, Some, None, Result, Ok, Err, IfOk, refl, sym, ap, ◌∙◌, subst, subst₂, arith}
 use Rattle.std.specs.Int.{w16, to_be_bytes}
 use Rattle.std.specs.Prelude.{nat_eq}
 use Rattle.pam_outside.specs.Streams.{SourceState, SinkState}
+use Rattle.pam_base.specs.declared.code.Code.{Code}
+use Rattle.pam_room.specs.Module.{Player}
 use Rattle.pam_room.specs.State.{PlainWorld}
 use Rattle.session_check.specs.pam_library.specs.Slots.{PlainSlot}
 use Rattle.session_wire.specs.pam_wire.specs.Frame.{sized}
 use Rattle.session_wire.specs.pam_wire.specs.Stream.{IsOpen}
+use Rattle.pam_outside.specs.Counts.{RisesIf}
+use Rattle.item_stream.specs.Turns.{has_read_fault}
 use Rattle.item_stream.specs.declared.ending.Ending.{Ending}
 use Rattle.item_stream.specs.declared.ending.Ending.TheVariants.{Done, ReadFault, Refused}
 use Rattle.item_stream.specs.declared.ending.Stop.{Stop}
 use Rattle.item_stream.specs.declared.ending.Stop.TheVariants.{NoMemory, WriteFault}
 use Rattle.session_wire.specs.frame_stream.specs.declared.fault.FrameFault.{FrameFault}
 use Rattle.session_wire.specs.frame_stream.specs.declared.fault.FrameFault.TheVariants.{BadFrame, TooManyFrames}
-use Rattle.session_login.specs.session_run.specs.State.{Setting, state_of}
+use Rattle.session_login.specs.session_run.specs.State.{Setting, setting_of, state_of}
 use Rattle.session_wire.specs.Reading.{EndsAtBytes, ReadsFrames}
 use Rattle.session_wire.specs.Whole.{Answers, Completes}
-use Rattle.session_program.specs.Command.{Request, wires}
-use Rattle.session_program.specs.Run.{IsUnder, opening}
+use Rattle.session_login.specs.session_run.specs.Seen.{Seen}
+use Rattle.session_program.specs.ByCommand.{Setup}
+use Rattle.session_program.specs.Opened.{IsOpened}
+use Rattle.session_program.specs.Run.{IsReset, opening, under_root}
 use Rattle.session_program.specs.Wire.{AnswersBy, IsReadThrough, IsServed, IsWireStatus, ReadsFramesBy, Serves, WireCompletes, wire_status}
+use Rattle.session_program.proofs.Telling.{under_now}
 
 -- ---- the ending of a status
 
@@ -64,39 +71,53 @@ pub no_fault_read : (status before now : ℕ) → IsWireStatus status → (IsRea
 no_fault_read status before now known through (inl zero) = through (inl zero)
 no_fault_read status before now known through (inr seven) = not_seven known.0 (sym known.1 ∙ seven)
 
+-- a source that was read to its end, or to what is refused, didn't fail
+through_by : (result : Result (Ending FrameFault) Stop) (before now : ℕ) → IfOk result (λ ending. RisesIf (has_read_fault (Ok (Some ending))) before now) → IsReadThrough (wire_status result) → now ≡ before
+through_by (Ok Done) before now rises is = rises
+through_by (Ok (Refused BadFrame)) before now rises is = rises
+through_by (Ok (Refused TooManyFrames)) before now rises is = rises
+through_by (Ok ReadFault) before now rises (inl is) = absurd (omega (arith, is))
+through_by (Ok ReadFault) before now rises (inr (inl is)) = absurd (omega (arith, is))
+through_by (Ok ReadFault) before now rises (inr (inr is)) = absurd (omega (arith, is))
+through_by (Err NoMemory) before now rises (inl is) = absurd (omega (arith, is))
+through_by (Err NoMemory) before now rises (inr (inl is)) = absurd (omega (arith, is))
+through_by (Err NoMemory) before now rises (inr (inr is)) = absurd (omega (arith, is))
+through_by (Err WriteFault) before now rises (inl is) = absurd (omega (arith, is))
+through_by (Err WriteFault) before now rises (inr (inl is)) = absurd (omega (arith, is))
+through_by (Err WriteFault) before now rises (inr (inr is)) = absurd (omega (arith, is))
+
+pub through : (result : Result (Ending FrameFault) Stop) (status : ℕ) → status ≡ wire_status result → (before now : ℕ) → IfOk result (λ ending. RisesIf (has_read_fault (Ok (Some ending))) before now)
+    → IsReadThrough status → now ≡ before
+through result status is before now rises read = through_by result before now rises (subst IsReadThrough is read)
+
 -- ---- what is answered
 
-module _ (setting : Setting) (slots ends : List PlainSlot) (root : List ℕ) (old now new : PlainWorld) (x y : SourceState) (p q : SinkState) where
-  pub served : (result : Result (Ending FrameFault) Stop) (status : ℕ) → status ≡ wire_status result → IsUnder root old now
+module _ (root : List ℕ) (setup : Setup) (old : PlainWorld) (s : Seen) (now new : PlainWorld) (ends : List PlainSlot) (x y : SourceState) (p q : SinkState) where
+  served_at : (setting : Setting) (slots : List PlainSlot) (result : Result (Ending FrameFault) Stop) (status : ℕ) → status ≡ wire_status result → now ≡ under_root root old
       → Answers setting result (state_of slots now) (state_of ends new) x y p q → IsServed setting status (opening slots root old) new x y p q
-  served result status is under answers = record {
+  served_at setting slots result status is under answers = record {
     result = result;
     is = is;
     end = state_of ends new;
     world_is = refl;
-    answers = subst (λ (w : PlainWorld). Answers setting result (state_of slots w) (state_of ends new) x y p q) under.world_is answers;
+    answers = subst (λ (w : PlainWorld). Answers setting result (state_of slots w) (state_of ends new) x y p q) under answers;
   }
 
-module _ (setting : Setting) (status : ℕ) (slots : List PlainSlot) (root asked : List ℕ) (old new : PlainWorld) (x y : SourceState) (p q : SinkState) (same : root ≡ asked) where
-  pub serves_asked : Serves setting status slots root old new x y p q → Serves setting status slots asked old new x y p q
-  serves_asked served = subst (λ (r : List ℕ). Serves setting status slots r old new x y p q) same served
+  pub served : (number : Code → ℕ → ℕ) (result : Result (Ending FrameFault) Stop) (status : ℕ) → status ≡ wire_status result → IsOpened root setup old s → IsReset s.world now
+      → Answers (setting_of s.players number) result (state_of s.slots now) (state_of ends new) x y p q
+      → IsServed (setting_of setup.players number) status (opening setup.slots root old) new x y p q
+  served number result status is opened reset answers =
+      subst₂ (λ (players : List Player) (slots : List PlainSlot). IsServed (setting_of players number) status (opening slots root old) new x y p q) opened.players opened.slots
+      (served_at (setting_of s.players number) s.slots result status is (under_now root old s.world now opened.world_is reset) answers)
 
-  answered : Serves setting status slots asked old new x y p q → AnswersBy setting status (opening slots asked old) new x y p q
+module _ (setting : Setting) (status : ℕ) (slots : List PlainSlot) (root : List ℕ) (old new : PlainWorld) (x y : SourceState) (p q : SinkState) where
+  pub answered : Serves setting status slots root old new x y p q → AnswersBy setting status (opening slots root old) new x y p q
   answered (inl s) = λ ending is. record {
     end = s.end;
     world_is = s.world_is;
-    all = subst (λ (r : Result (Ending FrameFault) Stop). Answers setting r (opening slots asked old) s.end x y p q) (is_ending s.result ending (sym s.is ∙ is)) s.answers;
+    all = subst (λ (r : Result (Ending FrameFault) Stop). Answers setting r (opening slots root old) s.end x y p q) (is_ending s.result ending (sym s.is ∙ is)) s.answers;
   }
   answered (inr n) = λ ending is. no_ending status ending n.0 is
-
-  pub answers_asked : Serves setting status slots root old new x y p q → AnswersBy setting status (opening slots asked old) new x y p q
-  answers_asked served = answered (serves_asked served)
-
--- the root that was asked for is the one that was found
-pub wire_root : (found asked : List ℕ) (request : Option Request) → Some (wires found) ≡ request → request ≡ Some (wires asked) → found ≡ asked
-wire_root found asked request is same =
-    let e : Some (wires found) ≡ Some (wires asked) = is ∙ same in
-    cc
 
 -- ---- what the bytes say
 

@@ -13,7 +13,7 @@ use Rattle.session_login.specs.declared.attempt.Verdict.{Verdict}
 use Rattle.session_login.specs.Ends.{IsEndOfLogin}
 use Rattle.session_login.specs.session_run.specs.Ends.{EndsAre, IsEndOfRun}
 use Rattle.session_wire.specs.Ends.{IsEndOfRun as IsEndOfWire}
-use Rattle.session_program.specs.Command.{Request, runs, logs_in, generates, wires}
+use Rattle.session_program.specs.Command.{Command, runs, logs_in, generates, wires}
 use Rattle.session_program.specs.Generate.{generate_status}
 use Rattle.session_program.specs.Login.{login_status}
 
@@ -43,7 +43,7 @@ EndsGenerate status number ended = (result : Result Generated Stop)
 -- Which ends there may be, by the command and the exit status. In a run whose script is modelled, each transaction was
 -- ended with the status that one of the script's lines asks for, for that number, or with one of those with which a run
 -- ends what is open; if frames are modelled, likewise by the frames. The commands that open no transaction end none.
-abbrev pub MayEnd : Option Request → Bool → List ℕ → ℕ → ℕ → ℕ → Type 0
+abbrev pub MayEnd : Option Command → Bool → List ℕ → ℕ → ℕ → ℕ → Type 0
 MayEnd (Some (runs root)) tells script status number ended = IsEndOfRun tells script number ended
 MayEnd (Some (logs_in root service user)) tells script status number ended =
     EndsLogin status number ended

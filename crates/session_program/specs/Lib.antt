@@ -7,3 +7,5 @@ pub mod Wire
 pub mod CleanedUp
 pub mod Status
 pub mod Audit
+pub mod ByCommand
+pub mod Opened

@@ -27,8 +27,9 @@ under_root root w = record w {
   process = record w.process { root = root };
 }
 
-pub record IsUnder (root : List ℕ) (old new : PlainWorld) : Type 0 where
-  pub world_is : new ≡ under_root root old
+-- the world at that time, with that word
+pub record IsReset (old new : PlainWorld) : Type 0 where
+  pub world_is : new ≡ record old { clock = record old.clock { moment = 0; word = 0 } }
 
 -- before the first line: sixteen closed slots
 abbrev pub opening : List PlainSlot → List ℕ → PlainWorld → RunState

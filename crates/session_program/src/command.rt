@@ -1,23 +1,23 @@
 ghost use Rattle.std.specs.Prelude.{◌≡◌, false, IfNone, IfSome, string_bytes};
-ghost use Rattle.session_program.specs.Command.{audit_request, check_request, draw_request, generate_request, is_operand, is_place, is_service, is_user, login_request, number_operand, request_of, run_request, tally_request, wire_request};
-ghost use Rattle.session_program.specs.Asked.{IsPlace, asked};
+ghost use Rattle.session_program.specs.Command.{audit_command, check_command, lines_command, generate_command, is_operand, is_target, is_service, is_user, login_command, number_operand, command_of, run_command, tally_command, wire_command};
+ghost use Rattle.session_program.specs.Asked.{IsTarget, asked};
 
-use crate::operand::{Draw, Place};
+use crate::operand::{Draw, Target};
 use pam_base::{is_service_name, number_in};
 use session_generate::drawn_files::MAX_DRAWN;
 use session_tally::mod_tally::is_no_file;
 
 /// What the arguments of the command line ask for.
 #[derive(Clone, Copy)]
-pub enum Request<'a> {
+pub enum Command<'a> {
     /// The calls of a script, under this root.
     Run(&'a [u8]),
     /// The configuration of a service, under this root.
     Check(&'a [u8], &'a [u8]),
     /// A login under this root, with this service; the conversation asks for the user.
-    Login(Place<'a>),
+    Login(Target<'a>),
     /// A login of this user.
-    LoginAs(Place<'a>, &'a [u8]),
+    LoginAs(Target<'a>, &'a [u8]),
     /// Lines generated from a seed.
     Generate(Draw),
     /// The failures of a user, under this root.
@@ -29,75 +29,75 @@ pub enum Request<'a> {
 }
 
 /// What the arguments ask for; None if they are not a command.
-pub fn request_in(words: &[String]) -> Option<Request<'_>>
-    ensures { asked result ≡ request_of words.now }
+pub fn command_in(words: &[String]) -> Option<Command<'_>>
+    ensures { asked result ≡ command_of words.now }
 {
     let (command, operands) = words.split_first()?;
     match command.as_str() {
-        "run" => run_request(operands),
-        "check" => check_request(operands),
-        "login" => login_request(operands),
-        "generate" => generate_request(operands),
-        "tally" => tally_request(operands),
-        "audit" => audit_request(operands),
-        "wire" => wire_request(operands),
+        "run" => run_command(operands),
+        "check" => check_command(operands),
+        "login" => login_command(operands),
+        "generate" => generate_command(operands),
+        "tally" => tally_command(operands),
+        "audit" => audit_command(operands),
+        "wire" => wire_command(operands),
         _ => None,
     }
 }
 
-fn run_request(operands: &[String]) -> Option<Request<'_>>
-    ensures { asked result ≡ run_request operands.now }
+fn run_command(operands: &[String]) -> Option<Command<'_>>
+    ensures { asked result ≡ run_command operands.now }
 {
     match operands {
-        [root] if is_operand(root.as_bytes()) => Some(Request::Run(root.as_bytes())),
+        [root] if is_operand(root.as_bytes()) => Some(Command::Run(root.as_bytes())),
         _ => None,
     }
 }
 
-fn check_request(operands: &[String]) -> Option<Request<'_>>
-    ensures { asked result ≡ check_request operands.now }
+fn check_command(operands: &[String]) -> Option<Command<'_>>
+    ensures { asked result ≡ check_command operands.now }
 {
     match operands {
         [root, service] if is_operand(root.as_bytes()) && is_service(service.as_bytes()) => {
-            Some(Request::Check(root.as_bytes(), service.as_bytes()))
+            Some(Command::Check(root.as_bytes(), service.as_bytes()))
         }
         _ => None,
     }
 }
 
-fn login_request(operands: &[String]) -> Option<Request<'_>>
-    ensures { asked result ≡ login_request operands.now }
+fn login_command(operands: &[String]) -> Option<Command<'_>>
+    ensures { asked result ≡ login_command operands.now }
 {
     match operands {
-        [root, service] => Some(Request::Login(place_in(root, service)?)),
-        [root, service, user] if is_operand(user.as_bytes()) => Some(Request::LoginAs(
-            place_in(root, service)?,
+        [root, service] => Some(Command::Login(target_in(root, service)?)),
+        [root, service, user] if is_operand(user.as_bytes()) => Some(Command::LoginAs(
+            target_in(root, service)?,
             user.as_bytes(),
         )),
         _ => None,
     }
 }
 
-fn place_in<'a>(root: &'a String, service: &'a String) -> Option<Place<'a>>
-    ensures some { IfSome result (λ place. IsPlace place (string_bytes root.now)
+fn target_in<'a>(root: &'a String, service: &'a String) -> Option<Target<'a>>
+    ensures some { IfSome result (λ target. IsTarget target (string_bytes root.now)
         (string_bytes service.now)) }
-    ensures none { IfNone result (is_place (string_bytes root.now) (string_bytes service.now)
+    ensures none { IfNone result (is_target (string_bytes root.now) (string_bytes service.now)
         ≡ false) }
 {
     let root = root.as_bytes();
     let service = service.as_bytes();
     if is_operand(root) && is_operand(service) && is_service_name(service) {
-        Some(Place { root, service })
+        Some(Target { root, service })
     } else {
         None
     }
 }
 
-fn generate_request(operands: &[String]) -> Option<Request<'_>>
-    ensures { asked result ≡ generate_request operands.now }
+fn generate_command(operands: &[String]) -> Option<Command<'_>>
+    ensures { asked result ≡ generate_command operands.now }
 {
     match operands {
-        [seed, lines] => draw_request(
+        [seed, lines] => lines_command(
             number_operand(seed.as_bytes()),
             number_operand(lines.as_bytes()),
         ),
@@ -105,12 +105,12 @@ fn generate_request(operands: &[String]) -> Option<Request<'_>>
     }
 }
 
-fn draw_request<'a>(seed: Option<u32>, lines: Option<u32>) -> Option<Request<'a>>
-    ensures { asked result ≡ draw_request seed lines }
+fn lines_command<'a>(seed: Option<u32>, lines: Option<u32>) -> Option<Command<'a>>
+    ensures { asked result ≡ lines_command seed lines }
 {
     match (seed, lines) {
         (Some(seed), Some(lines)) if 1 <= lines && lines <= MAX_DRAWN => {
-            Some(Request::Generate(Draw { seed, lines }))
+            Some(Command::Generate(Draw { seed, lines }))
         }
         _ => None,
     }
@@ -126,33 +126,33 @@ fn number_operand(word: &[u8]) -> Option<u32>
     }
 }
 
-fn tally_request(operands: &[String]) -> Option<Request<'_>>
-    ensures { asked result ≡ tally_request operands.now }
+fn tally_command(operands: &[String]) -> Option<Command<'_>>
+    ensures { asked result ≡ tally_command operands.now }
 {
     match operands {
         [root, user] if is_operand(root.as_bytes()) && is_user(user.as_bytes()) => {
-            Some(Request::Tally(root.as_bytes(), user.as_bytes()))
+            Some(Command::Tally(root.as_bytes(), user.as_bytes()))
         }
         _ => None,
     }
 }
 
-fn audit_request(operands: &[String]) -> Option<Request<'_>>
-    ensures { asked result ≡ audit_request operands.now }
+fn audit_command(operands: &[String]) -> Option<Command<'_>>
+    ensures { asked result ≡ audit_command operands.now }
 {
     match operands {
         [root, service] if is_operand(root.as_bytes()) && is_service(service.as_bytes()) => {
-            Some(Request::Audit(root.as_bytes(), service.as_bytes()))
+            Some(Command::Audit(root.as_bytes(), service.as_bytes()))
         }
         _ => None,
     }
 }
 
-fn wire_request(operands: &[String]) -> Option<Request<'_>>
-    ensures { asked result ≡ wire_request operands.now }
+fn wire_command(operands: &[String]) -> Option<Command<'_>>
+    ensures { asked result ≡ wire_command operands.now }
 {
     match operands {
-        [root] if is_operand(root.as_bytes()) => Some(Request::Wire(root.as_bytes())),
+        [root] if is_operand(root.as_bytes()) => Some(Command::Wire(root.as_bytes())),
         _ => None,
     }
 }

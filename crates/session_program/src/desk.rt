@@ -17,51 +17,51 @@ pub struct Desk {
 
 /// What contracts see of a `Desk`.
 pub trait DeskTold {
-    ghost use Rattle.std.specs.Prelude.{Bool, List};
-    ghost use Rattle.session_check.specs.pam_library.specs.Slots.{PlainSlot};
-    ghost use Rattle.pam_room.specs.Module.{Player};
+    ghost use Rattle.session_program.specs.ByCommand.{Setup};
 
-    /// Whether all conversations of the transactions are modelled.
-    ghost tells: { Self → Bool };
-
-    /// The closed slots that they make.
-    ghost slots: { Self → List PlainSlot };
+    /// What transactions get of it.
+    ghost given: { Self → Setup };
 
     /// The same with the terminal's conversation in the first slot.
-    ghost login_tells: { Self → Bool };
-
-    ghost login_slots: { Self → List PlainSlot };
-
-    /// The modules, in order.
-    ghost players: { Self → List Player };
+    ghost at_terminal: { Self → Setup };
 }
 
 impl DeskTold for Desk {
     ghost use Rattle.std.specs.Prelude.{map, slice_set};
     ghost use Rattle.std.specs.List.{list_all};
+    ghost use Rattle.fail_delay.specs.DelayFn.{IsNumberGiven};
     ghost use Rattle.session_check.specs.pam_library.specs.Slots.{closed};
     ghost use Rattle.pam_room.specs.Module.{player_of};
 
-    ghost tells = { λ d. list_all (λ b. (Conv-box b).conv_tells b.value) d.convs.items };
+    ghost given = { λ d. record {
+      players = map (player_of (λ b. (Module-box b).label b.value) (λ b.
+          (Module-box b).plays b.value) (λ b. (Module-box b).note b.value) (λ b.
+          (Module-box b).breaks b.value)) d.mods.items;
+      slots = map (λ b. closed ((Conv-box b).conv_holds b.value)) d.convs.items;
+      gives = IsNumberGiven (DelayRule.post d.delay);
+      tells = list_all (λ b. (Conv-box b).conv_tells b.value) d.convs.items;
+    } };
 
-    ghost slots = { λ d. map (λ b. closed ((Conv-box b).conv_holds b.value)) d.convs.items };
-
-    ghost login_tells = { λ d. list_all (λ b. (Conv-box b).conv_tells b.value)
-        (slice_set d.convs.items 0 d.term) };
-
-    ghost login_slots = { λ d. map (λ b. closed ((Conv-box b).conv_holds b.value))
-        (slice_set d.convs.items 0 d.term) };
-
-    ghost players = { λ d. map (player_of (λ b. (Module-box b).label b.value)
-        (λ b. (Module-box b).plays b.value) (λ b. (Module-box b).note b.value)
-        (λ b. (Module-box b).breaks b.value)) d.mods.items };
+    ghost at_terminal = { λ d. record {
+      players = map (player_of (λ b. (Module-box b).label b.value) (λ b.
+          (Module-box b).plays b.value) (λ b. (Module-box b).note b.value) (λ b.
+          (Module-box b).breaks b.value)) d.mods.items;
+      slots = map (λ b. closed ((Conv-box b).conv_holds b.value))
+          (slice_set d.convs.items 0 d.term);
+      gives = IsNumberGiven (DelayRule.post d.delay);
+      tells = list_all (λ b. (Conv-box b).conv_tells b.value) (slice_set d.convs.items 0 d.term);
+    } };
 }
 
 /// Puts the terminal's conversation in the first slot.
-pub(crate) fn seat_at_terminal(desk: Desk) -> Desk
+pub(crate) fn with_terminal(desk: Desk) -> Desk
     requires { 0 < length desk.convs.items }
-    ensures tells { ⟦<Desk as DeskTold>⟧.tells result ≡ ⟦<Desk as DeskTold>⟧.login_tells desk }
-    ensures slots { ⟦<Desk as DeskTold>⟧.slots result ≡ ⟦<Desk as DeskTold>⟧.login_slots desk }
+    ensures players { (⟦<Desk as DeskTold>⟧.given result).players
+        ≡ (⟦<Desk as DeskTold>⟧.at_terminal desk).players }
+    ensures slots { (⟦<Desk as DeskTold>⟧.given result).slots
+        ≡ (⟦<Desk as DeskTold>⟧.at_terminal desk).slots }
+    ensures tells { (⟦<Desk as DeskTold>⟧.given result).tells
+        ≡ (⟦<Desk as DeskTold>⟧.at_terminal desk).tells }
     ensures sixteen { length result.convs.items ≡ length desk.convs.items }
     ensures mods { result.mods ≡ desk.mods }
     ensures delay { result.delay ≡ desk.delay }

@@ -11,7 +11,7 @@ pub struct Draw {
 
 /// A root, and the name of a service below it.
 #[derive(Clone, Copy)]
-pub struct Place<'a> {
+pub struct Target<'a> {
     pub root: &'a [u8],
     pub service: &'a [u8],
     ghost named: { IsTrue (is_service_name service.now) },

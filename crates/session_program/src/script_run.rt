@@ -1,27 +1,18 @@
-ghost use Rattle.std.specs.Prelude.{◌≡◌, ◌≢◌, ◌⊎◌, ◌≤◌, ◌<◌, ◌^◌, ◌&&◌, ℕ, [], IsTrue, length};
-ghost use Rattle.pam_base.specs.declared.code.Code.{Code};
-ghost use Rattle.fail_delay.specs.DelayFn.{GivesOneNumber, IsNumberGiven};
-ghost use Rattle.pam_outside.specs.Counts.{Rose};
-ghost use Rattle.session_login.specs.session_run.specs.Reading.{WritesScript};
-ghost use Rattle.session_login.specs.session_run.specs.State.{setting_of};
-ghost use Rattle.data_due.specs.Stands.{StandFor};
+ghost use Rattle.std.specs.Prelude.{◌≡◌, length};
 ghost use Rattle.pam_room.specs.Module.{notes_of};
-ghost use Rattle.session_check.specs.pam_library.specs.Slots.{handle_limit, lists_of};
-ghost use Rattle.session_check.specs.pam_library.specs.Plain.{gear_in};
-ghost use Rattle.session_check.specs.pam_library.specs.Sound.{IsSoundFor};
-ghost use Rattle.session_program.specs.CleanedUp.{IsCleanedUp};
 ghost use Rattle.session_login.specs.session_run.specs.Ends.{IsEndOfRun};
-ghost use Rattle.session_program.specs.Run.{IsBegun, IsStatus, ReadsBy, Runs, opening, status_of};
+ghost use Rattle.session_program.specs.ByCommand.{IsReady, ReadCauses, RunsSo, WriteCauses, object_of};
+ghost use Rattle.session_program.specs.CleanedUp.{IsCleanedUp};
+ghost use Rattle.session_program.specs.Run.{status_of};
 
 use crate::desk::{Desk, DeskTold};
-use crate::opening::{go_under, library_of};
-use fail_delay::{DelayFn, DelayRule, DelayTold, LONGEST_ASKED};
+use crate::opening::{library_under, reset_clock};
+use crate::outside::{Outside, OutsideTold};
+use fail_delay::DelayRule;
 use item_stream::{Ending, Stop};
-use pam_base::{Code, ScriptKind, Text};
+use pam_base::{NoMemory, ScriptKind};
 use pam_outside::{Sink, Source};
-use pam_room::{World, WorldTold};
-use session_check::pam_handle::{Gear, GearTold};
-use session_check::pam_library::{Library, LibraryTold};
+use pam_room::World;
 use session_login::session_run::run_script;
 use std::alloc::Global;
 
@@ -35,99 +26,33 @@ pub(crate) fn run<S: Source, K: Sink>(
     world: &mut World,
     desk: Desk,
 ) -> u8
-    requires sixteen { length desk.convs.items ≡ 16 }
-    requires few { length desk.mods.items < 2 ^ 32 }
-    requires callable { (code : Code) (asked : ℕ) → asked ≤ LONGEST_ASKED →
-        DelayRule.pre desk.delay code asked }
-    requires one_number { GivesOneNumber (DelayRule.post desk.delay) }
-    requires no_births { world.old.process.ledger.births ≡ [] }
-    requires no_receipts { world.old.process.ledger.filed ≡ [] }
-    ensures told { (number : Code → ℕ → ℕ) → IsNumberGiven (DelayRule.post desk.delay) number →
-        IsTrue (S.source_tells script.old) → IsTrue (K.sink_tells out.old) →
-        IsTrue (⟦<World as WorldTold>⟧.tells world.old && ⟦<Desk as DeskTold>⟧.tells desk) →
-        Runs (setting_of (⟦<Desk as DeskTold>⟧.players desk) number) result
-        (⟦<Desk as DeskTold>⟧.slots desk) root.now (⟦<World as WorldTold>⟧.plain world.old)
-        (⟦<World as WorldTold>⟧.plain world.new)
-        (S.source_holds script.old) (S.source_holds script.new) (K.sink_holds out.old)
-        (K.sink_holds out.new) }
-    ensures statuses { IsStatus result }
-    ensures reads { IsTrue (S.source_tells script.old) →
-        ReadsBy result (S.source_holds script.old) (S.source_holds script.new) }
-    ensures writes { IsTrue (K.sink_tells out.old) →
-        WritesScript (K.sink_holds out.old) (K.sink_holds out.new) }
+    requires { IsReady (length desk.convs.items) (length desk.mods.items)
+        (DelayRule.pre desk.delay) (DelayRule.post desk.delay) world.old.process.ledger }
+    ensures run { RunsSo root.now result (⟦<Desk as DeskTold>⟧.given desk)
+        (⟦<Outside as OutsideTold>⟧.around world.old world.new)
+        (object_of S.source_tells S.source_holds S.source_faults script.old script.new)
+        (object_of K.sink_tells K.sink_holds K.sink_faults out.old out.new) }
+    ensures read_causes { ReadCauses result
+        (object_of S.source_tells S.source_holds S.source_faults script.old script.new) }
+    ensures write_causes { WriteCauses result
+        (⟦<Outside as OutsideTold>⟧.around world.old world.new)
+        (object_of K.sink_tells K.sink_holds K.sink_faults out.old out.new) }
     ensures cleaned_up { IsCleanedUp (IsEndOfRun (S.source_tells script.old)
         (S.source_holds script.old).left)
-        (notes_of (⟦<Desk as DeskTold>⟧.players desk)) world.new.process.ledger }
-    ensures read_fault { result ≡ 5 → Rose (S.source_faults script.old)
-        (S.source_faults script.new) }
-    ensures no_read_fault { (result ≡ 0) ⊎ (result ≡ 7) →
-        S.source_faults script.new ≡ S.source_faults script.old }
-    ensures write_fault { result ≡ 6 → Rose (K.sink_faults out.old) (K.sink_faults out.new) }
-    ensures no_write_fault { result ≢ 6 → K.sink_faults out.new ≡ K.sink_faults out.old }
-    ensures source_tells { S.source_tells script.new ≡ S.source_tells script.old }
-    ensures sink_tells { K.sink_tells out.new ≡ K.sink_tells out.old }
-    ensures world_tells { ⟦<World as WorldTold>⟧.tells world.new
-        ≡ ⟦<World as WorldTold>⟧.tells world.old }
-{
-    let Ok(root) = Text::from_bytes(alloc, root) else {
-        return status_of(Err(Stop::NoMemory));
-    };
-    let Ok(library) = library_of(alloc, desk, &world.process.ledger) else {
-        return status_of(Err(Stop::NoMemory));
-    };
-    run_over(alloc, library, root, script, out, world)
-}
-
-// Runs them over a library in which no transaction is open.
-fn run_over<S: Source, K: Sink>(
-    alloc: Global,
-    library: Library,
-    root: Text,
-    script: &mut S,
-    out: &mut K,
-    world: &mut World,
-) -> u8
-    requires first { StandFor (notes_of (⟦<Gear as GearTold>⟧.players (gear_in library)))
-        handle_limit world.old.process.ledger
-        (lists_of (⟦<Library as LibraryTold>⟧.slots library)) [] }
-    requires sound { IsSoundFor (⟦<Gear as GearTold>⟧.players (gear_in library))
-        (⟦<Library as LibraryTold>⟧.slots library) world.old.process.ledger }
-    ensures told { (number : Code → ℕ → ℕ) →
-        ⟦<DelayFn as DelayTold>⟧.delay_is (gear_in library).delay number →
-        IsTrue (S.source_tells script.old) → IsTrue (K.sink_tells out.old) →
-        IsTrue (⟦<World as WorldTold>⟧.tells world.old
-        && ⟦<Library as LibraryTold>⟧.tells library) →
-        IsBegun (setting_of (⟦<Gear as GearTold>⟧.players (gear_in library)) number) result
-        (opening (⟦<Library as LibraryTold>⟧.slots library) root
-        (⟦<World as WorldTold>⟧.plain world.old)) (⟦<World as WorldTold>⟧.plain world.new)
-        (S.source_holds script.old) (S.source_holds script.new) (K.sink_holds out.old)
-        (K.sink_holds out.new) }
-    ensures statuses { IsStatus result }
-    ensures reads { IsTrue (S.source_tells script.old) →
-        ReadsBy result (S.source_holds script.old) (S.source_holds script.new) }
-    ensures writes { IsTrue (K.sink_tells out.old) →
-        WritesScript (K.sink_holds out.old) (K.sink_holds out.new) }
-    ensures cleaned_up { IsCleanedUp (IsEndOfRun (S.source_tells script.old)
-        (S.source_holds script.old).left)
-        (notes_of (⟦<Gear as GearTold>⟧.players (gear_in library))) world.new.process.ledger }
-    ensures read_fault { result ≡ 5 → Rose (S.source_faults script.old)
-        (S.source_faults script.new) }
-    ensures no_read_fault { (result ≡ 0) ⊎ (result ≡ 7) →
-        S.source_faults script.new ≡ S.source_faults script.old }
-    ensures write_fault { result ≡ 6 → Rose (K.sink_faults out.old) (K.sink_faults out.new) }
-    ensures no_write_fault { result ≢ 6 → K.sink_faults out.new ≡ K.sink_faults out.old }
-    ensures source_tells { S.source_tells script.new ≡ S.source_tells script.old }
-    ensures sink_tells { K.sink_tells out.new ≡ K.sink_tells out.old }
-    ensures world_tells { ⟦<World as WorldTold>⟧.tells world.new
-        ≡ ⟦<World as WorldTold>⟧.tells world.old }
+        (notes_of (⟦<Desk as DeskTold>⟧.given desk).players) world.new.process.ledger }
 {
     session_login::session_run::laws::proceeding_stands();
     session_login::session_run::laws::numbers_stand_side_by_side();
-    go_under(world, root);
-    let mut library = library;
-    let result = run_script(alloc, &mut library, script, out, world);
-    library.dismiss();
-    status_of(result)
+    match library_under(alloc, root, desk, world) {
+        Err(NoMemory) => status_of(Err(Stop::NoMemory)),
+        Ok(library) => {
+            reset_clock(world);
+            let mut library = library;
+            let result = run_script(alloc, &mut library, script, out, world);
+            library.dismiss();
+            status_of(result)
+        }
+    }
 }
 
 fn status_of(run: Result<Ending<ScriptKind>, Stop>) -> u8

@@ -1,27 +1,26 @@
-use Rattle.std.proofs.Common.{◌∙◌, inl}
-use Rattle.session_program.proofs.Cleaning.{nothing_to_clean}
-use Rattle.session_program.proofs.LoggingIn.{nothing_shown}
-use Rattle.session_program.proofs.Telling.{both_left, both_right, both_true}
+use Rattle.std.proofs.Common.{◌∙◌, refl}
+use Rattle.session_program.proofs.Cleaning.{cleaned_at, nothing_since}
+use Rattle.session_program.proofs.LoggingIn.{logs_in_not, logs_in_so}
 use Rattle.session_program.proofs.login.log_in.Goals as goal
 
-pub returns-clause-told : goal.returns-clause-told
-returns-clause-told g c number given sink both =
-    inl (rw (c.in-Ok-library_of.ensures.players, c.seat_at_terminal-desk.ensures.mods, c.in-Ok-library_of.ensures.slots, c.seat_at_terminal-desk.ensures.slots, c.in-Ok.ensures) at
-    (c.log_in_over.ensures.told number (c.in-Ok-library_of.ensures.delay number (rw c.seat_at_terminal-desk.ensures.delay given)) sink
-    (both_true _ _ (both_left _ _ both) (c.in-Ok-library_of.ensures.tells ∙ c.seat_at_terminal-desk.ensures.tells ∙ both_right _ _ both))))
+pub library_under-requires : goal.library_under-requires
+library_under-requires g c = rw (c.with_terminal-desk.ensures.sixteen, c.with_terminal-desk.ensures.mods, c.with_terminal-desk.ensures.delay) c.requires.ready
 
-pub returns-in_default-clause-shows : goal.returns-in_default-clause-shows
-returns-in_default-clause-shows g c = λ sink. nothing_shown _ _ c.status_of_login.ensures
+pub returns-in-Err-clause-login : goal.returns-in-Err-clause-login
+returns-in-Err-clause-login g c = logs_in_not _ _ _ _ _ _ _ c.status_of_login.ensures c.in-Err.ensures.stays refl
 
-pub returns-in_default-clause-cleaned_up : goal.returns-in_default-clause-cleaned_up
-returns-in_default-clause-cleaned_up g c = nothing_to_clean _ _ _ c.requires.no_births c.requires.no_receipts
+pub returns-in-Err-clause-cleaned_up : goal.returns-in-Err-clause-cleaned_up
+returns-in-Err-clause-cleaned_up g c = nothing_since _ _ _ _ c.in-Err.ensures.stays c.requires.ready.no_births c.requires.ready.no_receipts
 
-pub returns-in_default-library_of-clause-shows : goal.returns-in_default-library_of-clause-shows
-returns-in_default-library_of-clause-shows g c = λ sink. nothing_shown _ _ c.status_of_login-in_default-library_of.ensures
+pub returns-in-Ok-clause-login : goal.returns-in-Ok-clause-login
+returns-in-Ok-clause-login g c =
+    logs_in_so _ _ _ _ _ _ _ _ _ _ c.login-verdict.result c.in-Ok.ensures.opened c.with_terminal-desk.ensures.players c.with_terminal-desk.ensures.slots c.with_terminal-desk.ensures.tells
+    (λ number given. rw c.with_terminal-desk.ensures.delay given) c.library_under.ensures.tells c.status_of_login-in-Ok.ensures
+    (λ number gives both sink. c.login-verdict.ensures.told number gives both sink)
+    (λ sink. record { result = c.login-verdict.result; is = c.status_of_login-in-Ok.ensures; shows = c.login-verdict.ensures.shows sink })
 
-pub returns-in_default-library_of-clause-cleaned_up : goal.returns-in_default-library_of-clause-cleaned_up
-returns-in_default-library_of-clause-cleaned_up g c = nothing_to_clean _ _ _ c.requires.no_births c.requires.no_receipts
-
-pub returns-clause-cleaned_up : goal.returns-clause-cleaned_up
-returns-clause-cleaned_up g c =
-    rw (c.in-Ok-library_of.ensures.players, c.seat_at_terminal-desk.ensures.mods) at c.log_in_over.ensures.cleaned_up
+pub returns-in-Ok-clause-cleaned_up : goal.returns-in-Ok-clause-cleaned_up
+returns-in-Ok-clause-cleaned_up g c =
+    rw c.with_terminal-desk.ensures.players at
+    (cleaned_at _ _ (λ number ended is. (c.login-verdict.result, c.status_of_login-in-Ok.ensures, is)) _ _ _ _ _ _ (c.proceeding_stands.ensures _) c.in-Ok.ensures.opened refl refl refl
+    c.login-verdict.ensures.went c.login-verdict.ensures.none_open)

@@ -1,98 +1,125 @@
-use Rattle.std.proofs.Common.{refl}
-use Rattle.session_program.proofs.Alone.{accepted, has_refused}
-use Rattle.session_program.proofs.LoggingIn.{drawn_asked, logged_asked}
-use Rattle.session_program.proofs.Cleaning.{cleaned_as, nothing_to_clean}
-use Rattle.session_program.proofs.Telling.{asked_root, runs_asked, done_asked, refused_asked, unread_asked, completes_asked}
-use Rattle.session_program.proofs.Wiring.{answers_asked, no_fault_read, serves_asked, wire_root}
+use Rattle.std.proofs.Common.{refl, subst, sym, ◌∙◌}
+use Rattle.session_program.specs.ByCommand.{AuditsSo, ChecksSo, GeneratesSo, LogsInSo, RunsSo, TalliesSo, WiresSo}
+use Rattle.session_program.proofs.Cleaning.{cleaned_as, nothing_cleaned, nothing_to_clean}
+use Rattle.session_program.proofs.Commands.{audit_not_two, by_audits, by_checks, by_generates, by_logs_in, by_runs, by_tallies, by_wires, check_is_other, generate_is_other, goes_reading, goes_unread, login_is_other, not_read, run_not_two, tally_is_other, wire_not_two}
 use Rattle.session_program.proofs.program.pamsess.Goals as goal
 
-pub returns-in-Some-Run-clause-done : goal.returns-in-Some-Run-clause-done
-returns-in-Some-Run-clause-done g c root number asked given source sink both is =
-    done_asked _ _ _ _ _ _ _ _ _ _ _ (asked_root c.in-Some-Run.root.now _ root _ (rw c.in-Some-Run.field-0-is at c.in-Some-Run.ensures) asked refl) (c.run.ensures.told number given source sink both) is
+pub returns-in-Some-Run-clause-run : goal.returns-in-Some-Run-clause-run
+returns-in-Some-Run-clause-run g c root asked =
+    by_runs _ (λ r. RunsSo r _ _ _ _ _) _ root (rw c.in-Some-Run.field-0-is at c.in-Some-Run.ensures) asked c.run.ensures.run
 
-pub returns-in-Some-Run-clause-refused : goal.returns-in-Some-Run-clause-refused
-returns-in-Some-Run-clause-refused g c root number asked given source sink both is =
-    refused_asked _ _ _ _ _ _ _ _ _ _ _ (asked_root c.in-Some-Run.root.now _ root _ (rw c.in-Some-Run.field-0-is at c.in-Some-Run.ensures) asked refl) (c.run.ensures.told number given source sink both) is
-
-pub returns-in-Some-Run-clause-unread : goal.returns-in-Some-Run-clause-unread
-returns-in-Some-Run-clause-unread g c root number asked given source sink both is =
-    unread_asked _ _ _ _ _ _ _ _ _ _ _ (asked_root c.in-Some-Run.root.now _ root _ (rw c.in-Some-Run.field-0-is at c.in-Some-Run.ensures) asked refl) (c.run.ensures.told number given source sink both) is
-
-pub returns-in-Some-Run-clause-told : goal.returns-in-Some-Run-clause-told
-returns-in-Some-Run-clause-told g c root number asked given source sink both =
-    runs_asked _ _ _ _ _ _ _ _ _ _ _ (asked_root c.in-Some-Run.root.now _ root _ (rw c.in-Some-Run.field-0-is at c.in-Some-Run.ensures) asked refl) (c.run.ensures.told number given source sink both)
-
-pub returns-in-Some-Run-clause-complete : goal.returns-in-Some-Run-clause-complete
-returns-in-Some-Run-clause-complete g c root number asked given source sink both =
-    completes_asked _ _ _ _ _ _ _ _ _ _ _ (asked_root c.in-Some-Run.root.now _ root _ (rw c.in-Some-Run.field-0-is at c.in-Some-Run.ensures) asked refl) _ _ (c.run.ensures.told number given source sink both) c.run.ensures.read_fault c.run.ensures.write_fault
-
-pub returns-in-None-clause-cleaned_up : goal.returns-in-None-clause-cleaned_up
-returns-in-None-clause-cleaned_up g c = nothing_to_clean _ _ _ c.requires.no_births c.requires.no_receipts
-
-pub returns-in-Some-Check-clause-cleaned_up : goal.returns-in-Some-Check-clause-cleaned_up
-returns-in-Some-Check-clause-cleaned_up g c = nothing_to_clean _ _ _ c.requires.no_births c.requires.no_receipts
-
-pub returns-in-Some-Run-clause-reads : goal.returns-in-Some-Run-clause-reads
-returns-in-Some-Run-clause-reads g c root asked source = c.run.ensures.reads source
-
-pub returns-in-Some-Run-clause-accepted : goal.returns-in-Some-Run-clause-accepted
-returns-in-Some-Run-clause-accepted g c root asked source is = accepted _ _ _ (c.run.ensures.reads source) is
-
-pub returns-in-Some-Run-clause-has_refused : goal.returns-in-Some-Run-clause-has_refused
-returns-in-Some-Run-clause-has_refused g c root asked source is = has_refused _ _ _ (c.run.ensures.reads source) is
-
-pub returns-in-Some-Run-clause-writes : goal.returns-in-Some-Run-clause-writes
-returns-in-Some-Run-clause-writes g c root asked sink = c.run.ensures.writes sink
-
-pub returns-in-Some-Tally-clause-cleaned_up : goal.returns-in-Some-Tally-clause-cleaned_up
-returns-in-Some-Tally-clause-cleaned_up g c = nothing_to_clean _ _ _ c.requires.no_births c.requires.no_receipts
+pub returns-in-Some-Run-clause-command : goal.returns-in-Some-Run-clause-command
+returns-in-Some-Run-clause-command g c =
+    goes_reading _ _ _ _ (rw c.in-Some-Run.field-0-is at c.in-Some-Run.ensures) (λ is. run_not_two c.run.ensures.run.statuses.0 (sym c.run.ensures.run.statuses.1 ∙ is)) (λ none. none)
 
 pub returns-in-Some-Run-clause-cleaned_up : goal.returns-in-Some-Run-clause-cleaned_up
-returns-in-Some-Run-clause-cleaned_up g c = cleaned_as _ _ _ _ _ _ _ (rw c.in-Some-Run.field-0-is at c.in-Some-Run.ensures) c.run.ensures.cleaned_up
+returns-in-Some-Run-clause-cleaned_up g c =
+    cleaned_as _ _ _ _ _ _ _ (rw c.in-Some-Run.field-0-is at c.in-Some-Run.ensures) c.run.ensures.cleaned_up
 
-pub returns-in-Some-Login-clause-logged_in : goal.returns-in-Some-Login-clause-logged_in
-returns-in-Some-Login-clause-logged_in g c root service user number asked given sink both =
-    logged_asked _ _ _ _ _ _ _ _ _ _ _ _ _ _ (rw c.in-Some-Login.field-0-is at c.in-Some-Login.ensures) asked (c.log_in.ensures.told number given sink both)
+pub returns-in-Some-Wire-clause-wire : goal.returns-in-Some-Wire-clause-wire
+returns-in-Some-Wire-clause-wire g c root asked =
+    by_wires _ (λ r. WiresSo r _ _ _ _ _) _ root (rw c.in-Some-Wire.field-0-is at c.in-Some-Wire.ensures) asked c.answer_frames.ensures.wire
 
-pub returns-in-Some-Login-clause-cleaned_up : goal.returns-in-Some-Login-clause-cleaned_up
-returns-in-Some-Login-clause-cleaned_up g c = cleaned_as _ _ _ _ _ _ _ (rw c.in-Some-Login.field-0-is at c.in-Some-Login.ensures) c.log_in.ensures.cleaned_up
-
-pub returns-in-Some-LoginAs-clause-logged_in : goal.returns-in-Some-LoginAs-clause-logged_in
-returns-in-Some-LoginAs-clause-logged_in g c root service user number asked given sink both =
-    logged_asked _ _ _ _ _ _ _ _ _ _ _ _ _ _ (rw c.in-Some-LoginAs.field-0-is at c.in-Some-LoginAs.ensures) asked (c.log_in-in-Some-LoginAs.ensures.told number given sink both)
-
-pub returns-in-Some-LoginAs-clause-cleaned_up : goal.returns-in-Some-LoginAs-clause-cleaned_up
-returns-in-Some-LoginAs-clause-cleaned_up g c = cleaned_as _ _ _ _ _ _ _ (rw c.in-Some-LoginAs.field-0-is at c.in-Some-LoginAs.ensures) c.log_in-in-Some-LoginAs.ensures.cleaned_up
-
-pub returns-in-Some-Generate-clause-generated : goal.returns-in-Some-Generate-clause-generated
-returns-in-Some-Generate-clause-generated g c seed lines number asked given sink both =
-    drawn_asked _ _ _ _ _ _ _ _ _ _ _ _ (rw c.in-Some-Generate.field-0-is at c.in-Some-Generate.ensures) asked (c.draw.ensures.told number given sink both)
-
-pub returns-in-Some-Generate-clause-cleaned_up : goal.returns-in-Some-Generate-clause-cleaned_up
-returns-in-Some-Generate-clause-cleaned_up g c = cleaned_as _ _ _ _ _ _ _ (rw c.in-Some-Generate.field-0-is at c.in-Some-Generate.ensures) c.draw.ensures.cleaned_up
-
-pub returns-in-Some-Wire-clause-wire_answered : goal.returns-in-Some-Wire-clause-wire_answered
-returns-in-Some-Wire-clause-wire_answered g c root number asked given source sink both =
-    answers_asked _ _ _ _ _ _ _ _ _ _ _ (wire_root c.in-Some-Wire.root.now root _ (rw c.in-Some-Wire.field-0-is at c.in-Some-Wire.ensures) asked) (c.answer_frames.ensures.told number given source sink both)
-
-pub returns-in-Some-Wire-clause-wire_told : goal.returns-in-Some-Wire-clause-wire_told
-returns-in-Some-Wire-clause-wire_told g c root number asked given source sink both =
-    serves_asked _ _ _ _ _ _ _ _ _ _ _ (wire_root c.in-Some-Wire.root.now root _ (rw c.in-Some-Wire.field-0-is at c.in-Some-Wire.ensures) asked) (c.answer_frames.ensures.told number given source sink both)
-
-pub returns-in-Some-Wire-clause-wire_reads : goal.returns-in-Some-Wire-clause-wire_reads
-returns-in-Some-Wire-clause-wire_reads g c root asked source = c.answer_frames.ensures.reads source
-
-pub returns-in-Some-Wire-clause-wire_complete : goal.returns-in-Some-Wire-clause-wire_complete
-returns-in-Some-Wire-clause-wire_complete g c root asked source = c.answer_frames.ensures.complete source
-
-pub returns-in-Some-Wire-clause-wire_writes : goal.returns-in-Some-Wire-clause-wire_writes
-returns-in-Some-Wire-clause-wire_writes g c root asked sink = c.answer_frames.ensures.writes sink
+pub returns-in-Some-Wire-clause-command : goal.returns-in-Some-Wire-clause-command
+returns-in-Some-Wire-clause-command g c =
+    goes_reading _ _ _ _ (rw c.in-Some-Wire.field-0-is at c.in-Some-Wire.ensures) (λ is. wire_not_two c.answer_frames.ensures.wire.wire_statuses.0 (sym c.answer_frames.ensures.wire.wire_statuses.1 ∙ is)) (λ none. none)
 
 pub returns-in-Some-Wire-clause-cleaned_up : goal.returns-in-Some-Wire-clause-cleaned_up
-returns-in-Some-Wire-clause-cleaned_up g c = cleaned_as _ _ _ _ _ _ _ (rw c.in-Some-Wire.field-0-is at c.in-Some-Wire.ensures) c.answer_frames.ensures.cleaned_up
+returns-in-Some-Wire-clause-cleaned_up g c =
+    cleaned_as _ _ _ _ _ _ _ (rw c.in-Some-Wire.field-0-is at c.in-Some-Wire.ensures) c.answer_frames.ensures.cleaned_up
 
-pub returns-in-Some-Wire-clause-no_read_fault : goal.returns-in-Some-Wire-clause-no_read_fault
-returns-in-Some-Wire-clause-no_read_fault g c = no_fault_read _ _ _ c.answer_frames.ensures.statuses c.answer_frames.ensures.no_read_fault
+pub returns-in-Some-Check-clause-check : goal.returns-in-Some-Check-clause-check
+returns-in-Some-Check-clause-check g c root service asked =
+    by_checks _ (λ r s. ChecksSo r s _ _ _) _ _ root service (rw c.in-Some-Check.field-0-is at c.in-Some-Check.ensures) asked c.check_service.ensures.check
+
+pub returns-in-Some-Check-clause-command : goal.returns-in-Some-Check-clause-command
+returns-in-Some-Check-clause-command g c =
+    goes_unread _ _ _ _ (rw c.in-Some-Check.field-0-is at c.in-Some-Check.ensures) (check_is_other _ c.check_service.ensures.check.check_statuses) refl
+
+pub returns-in-Some-Check-clause-read_causes : goal.returns-in-Some-Check-clause-read_causes
+returns-in-Some-Check-clause-read_causes g c =
+    not_read _ _ (check_is_other _ c.check_service.ensures.check.check_statuses) refl refl
+
+pub returns-in-Some-Check-clause-cleaned_up : goal.returns-in-Some-Check-clause-cleaned_up
+returns-in-Some-Check-clause-cleaned_up g c =
+    nothing_cleaned _ _ _ _ c.check_service.ensures.ledger c.requires.no_births c.requires.no_receipts
+
+pub returns-in-Some-Tally-clause-tally : goal.returns-in-Some-Tally-clause-tally
+returns-in-Some-Tally-clause-tally g c root user asked =
+    by_tallies _ (λ r s. TalliesSo r s _ _ _) _ _ root user (rw c.in-Some-Tally.field-0-is at c.in-Some-Tally.ensures) asked c.tally_user.ensures.tally
+
+pub returns-in-Some-Tally-clause-command : goal.returns-in-Some-Tally-clause-command
+returns-in-Some-Tally-clause-command g c =
+    goes_unread _ _ _ _ (rw c.in-Some-Tally.field-0-is at c.in-Some-Tally.ensures) (tally_is_other _ c.tally_user.ensures.tally.tally_statuses) refl
+
+pub returns-in-Some-Tally-clause-read_causes : goal.returns-in-Some-Tally-clause-read_causes
+returns-in-Some-Tally-clause-read_causes g c =
+    not_read _ _ (tally_is_other _ c.tally_user.ensures.tally.tally_statuses) refl refl
+
+pub returns-in-Some-Tally-clause-cleaned_up : goal.returns-in-Some-Tally-clause-cleaned_up
+returns-in-Some-Tally-clause-cleaned_up g c =
+    nothing_cleaned _ _ _ _ c.tally_user.ensures.ledger c.requires.no_births c.requires.no_receipts
+
+pub returns-in-Some-Audit-clause-audit : goal.returns-in-Some-Audit-clause-audit
+returns-in-Some-Audit-clause-audit g c root service asked =
+    by_audits _ (λ r s. AuditsSo r s _ _ _ _) _ _ root service (rw c.in-Some-Audit.field-0-is at c.in-Some-Audit.ensures) asked c.audit_service.ensures.audit
+
+pub returns-in-Some-Audit-clause-command : goal.returns-in-Some-Audit-clause-command
+returns-in-Some-Audit-clause-command g c =
+    goes_reading _ _ _ _ (rw c.in-Some-Audit.field-0-is at c.in-Some-Audit.ensures) (λ is. audit_not_two c.audit_service.ensures.audit.audit_statuses.0 (sym c.audit_service.ensures.audit.audit_statuses.1 ∙ is)) (λ none. none)
 
 pub returns-in-Some-Audit-clause-cleaned_up : goal.returns-in-Some-Audit-clause-cleaned_up
-returns-in-Some-Audit-clause-cleaned_up g c = nothing_to_clean _ _ _ c.requires.no_births c.requires.no_receipts
+returns-in-Some-Audit-clause-cleaned_up g c =
+    nothing_cleaned _ _ _ _ c.audit_service.ensures.ledger c.requires.no_births c.requires.no_receipts
+
+pub returns-in-Some-Generate-clause-generate : goal.returns-in-Some-Generate-clause-generate
+returns-in-Some-Generate-clause-generate g c seed lines asked =
+    by_generates _ (λ r s. GeneratesSo r s _ _ _ _) _ _ seed lines (rw c.in-Some-Generate.field-0-is at c.in-Some-Generate.ensures) asked c.generate_lines.ensures.generate
+
+pub returns-in-Some-Generate-clause-command : goal.returns-in-Some-Generate-clause-command
+returns-in-Some-Generate-clause-command g c =
+    goes_unread _ _ _ _ (rw c.in-Some-Generate.field-0-is at c.in-Some-Generate.ensures) (generate_is_other _ c.generate_lines.ensures.generate.generate_statuses) refl
+
+pub returns-in-Some-Generate-clause-read_causes : goal.returns-in-Some-Generate-clause-read_causes
+returns-in-Some-Generate-clause-read_causes g c =
+    not_read _ _ (generate_is_other _ c.generate_lines.ensures.generate.generate_statuses) refl refl
+
+pub returns-in-Some-Generate-clause-cleaned_up : goal.returns-in-Some-Generate-clause-cleaned_up
+returns-in-Some-Generate-clause-cleaned_up g c =
+    cleaned_as _ _ _ _ _ _ _ (rw c.in-Some-Generate.field-0-is at c.in-Some-Generate.ensures) c.generate_lines.ensures.cleaned_up
+
+pub returns-in-Some-Login-clause-login : goal.returns-in-Some-Login-clause-login
+returns-in-Some-Login-clause-login g c root service user asked =
+    by_logs_in _ (λ r s u. LogsInSo r s u _ _ _ _) _ _ _ root service user (rw c.in-Some-Login.field-0-is at c.in-Some-Login.ensures) asked c.log_in.ensures.login
+
+pub returns-in-Some-Login-clause-command : goal.returns-in-Some-Login-clause-command
+returns-in-Some-Login-clause-command g c =
+    goes_unread _ _ _ _ (rw c.in-Some-Login.field-0-is at c.in-Some-Login.ensures) (login_is_other _ c.log_in.ensures.login.login_statuses) refl
+
+pub returns-in-Some-Login-clause-read_causes : goal.returns-in-Some-Login-clause-read_causes
+returns-in-Some-Login-clause-read_causes g c =
+    not_read _ _ (login_is_other _ c.log_in.ensures.login.login_statuses) refl refl
+
+pub returns-in-Some-Login-clause-cleaned_up : goal.returns-in-Some-Login-clause-cleaned_up
+returns-in-Some-Login-clause-cleaned_up g c =
+    cleaned_as _ _ _ _ _ _ _ (rw c.in-Some-Login.field-0-is at c.in-Some-Login.ensures) c.log_in.ensures.cleaned_up
+
+pub returns-in-Some-LoginAs-clause-login : goal.returns-in-Some-LoginAs-clause-login
+returns-in-Some-LoginAs-clause-login g c root service user asked =
+    by_logs_in _ (λ r s u. LogsInSo r s u _ _ _ _) _ _ _ root service user (rw c.in-Some-LoginAs.field-0-is at c.in-Some-LoginAs.ensures) asked c.log_in-in-Some-LoginAs.ensures.login
+
+pub returns-in-Some-LoginAs-clause-command : goal.returns-in-Some-LoginAs-clause-command
+returns-in-Some-LoginAs-clause-command g c =
+    goes_unread _ _ _ _ (rw c.in-Some-LoginAs.field-0-is at c.in-Some-LoginAs.ensures) (login_is_other _ c.log_in-in-Some-LoginAs.ensures.login.login_statuses) refl
+
+pub returns-in-Some-LoginAs-clause-read_causes : goal.returns-in-Some-LoginAs-clause-read_causes
+returns-in-Some-LoginAs-clause-read_causes g c =
+    not_read _ _ (login_is_other _ c.log_in-in-Some-LoginAs.ensures.login.login_statuses) refl refl
+
+pub returns-in-Some-LoginAs-clause-cleaned_up : goal.returns-in-Some-LoginAs-clause-cleaned_up
+returns-in-Some-LoginAs-clause-cleaned_up g c =
+    cleaned_as _ _ _ _ _ _ _ (rw c.in-Some-LoginAs.field-0-is at c.in-Some-LoginAs.ensures) c.log_in-in-Some-LoginAs.ensures.cleaned_up
+
+pub returns-in-None-clause-cleaned_up : goal.returns-in-None-clause-cleaned_up
+returns-in-None-clause-cleaned_up g c =
+    nothing_to_clean _ _ _ c.requires.no_births c.requires.no_receipts

@@ -1,0 +1,242 @@
+-- What is said of each command, by what was proved of its run.
+use Rattle.std.proofs.Common.{◌≡◌, ◌≢◌, ◌⊎◌, inl, inr, ℕ, List, IsTrue, Option, Some, None, Result, Ok, Err, IfOk, refl, sym, ap, ◌∙◌, subst, arith}
+use Rattle.pam_base.specs.declared.fault.ScriptKind.{ScriptKind}
+use Rattle.pam_outside.specs.Counts.{RisesIf, Rose}
+use Rattle.pam_outside.specs.Streams.{SourceState, SinkState}
+use Rattle.item_stream.specs.Turns.{has_read_fault, has_write_fault}
+use Rattle.item_stream.specs.declared.ending.Ending.{Ending}
+use Rattle.item_stream.specs.declared.ending.Ending.TheVariants.{Done, ReadFault, Refused}
+use Rattle.item_stream.specs.declared.ending.Stop.{Stop}
+use Rattle.item_stream.specs.declared.ending.Stop.TheVariants.{NoMemory, WriteFault}
+use Rattle.session_login.specs.session_run.specs.Reading.{WritesScript}
+use Rattle.session_login.specs.session_run.specs.State.{setting_of}
+use Rattle.session_wire.specs.frame_stream.specs.declared.fault.FrameFault.{FrameFault}
+use Rattle.session_program.specs.ByCommand.{Around, GoesBy, IfAllTold, Object, ReadCauses, ReadsNone, RunsSo, Setup, WiresSo, WriteCauses}
+use Rattle.session_check.specs.declared.finding.Found.{Found}
+use Rattle.session_check.specs.declared.finding.Found.TheVariants as founds
+use Rattle.session_generate.specs.declared.generating.Generated.{Generated}
+use Rattle.session_generate.specs.declared.generating.Generated.TheVariants as generations
+use Rattle.session_login.specs.declared.attempt.Verdict.{Verdict}
+use Rattle.session_login.specs.declared.attempt.Verdict.TheVariants as verdicts
+use Rattle.session_tally.specs.declared.finding.Tallied.{Tallied}
+use Rattle.session_tally.specs.declared.finding.Tallied.TheVariants as lists
+use Rattle.session_wire.specs.frame_stream.specs.declared.fault.FrameFault.TheVariants.{BadFrame, TooManyFrames}
+use Rattle.transcript_audit.specs.declared.finding.Audited.{Audited}
+use Rattle.transcript_audit.specs.declared.finding.Audited.TheVariants as audits_found
+use Rattle.session_program.specs.Audit.{audit_status}
+use Rattle.session_program.specs.Generate.{IsGenerateStatus, generate_status}
+use Rattle.session_program.specs.Login.{IsLoginStatus, login_status}
+use Rattle.session_program.specs.Status.{IsCheckStatus, IsTallyStatus, check_status, tally_status}
+use Rattle.session_program.specs.Command.{Command, runs, checks, logs_in, generates, tallies, audits, wires}
+use Rattle.session_program.specs.Run.{IsStatus, ReadsBy, Runs, opening, status_of}
+use Rattle.session_program.specs.Wire.{IsReadThrough, IsWireStatus, ReadsFramesBy, Serves, WireCompletes, wire_status}
+use Rattle.session_program.proofs.Alone.{is_accepted, is_refused, nothing_read, nothing_written}
+use Rattle.session_program.proofs.Telling.{completes_of, done_of, refused_of, unread_of}
+use Rattle.session_program.proofs.Wiring.{answered, no_frame_read}
+
+-- ---- failures
+
+module _ (status before now : ℕ) where
+  pub run_read_fault : (result : Result (Ending ScriptKind) Stop) → status ≡ status_of result → IfOk result (λ ending. RisesIf (has_read_fault (Ok (Some ending))) before now) → status ≡ 5 → Rose before now
+  run_read_fault (Ok Done) is rises five = absurd (omega (arith, is, five))
+  run_read_fault (Ok ReadFault) is rises five = rises
+  run_read_fault (Ok (Refused kind)) is rises five = absurd (omega (arith, is, five))
+  run_read_fault (Err NoMemory) is rises five = absurd (omega (arith, is, five))
+  run_read_fault (Err WriteFault) is rises five = absurd (omega (arith, is, five))
+
+  pub run_write_fault : (result : Result (Ending ScriptKind) Stop) → status ≡ status_of result → RisesIf (has_write_fault result) before now → status ≡ 6 → Rose before now
+  run_write_fault (Ok Done) is rises six = absurd (omega (arith, is, six))
+  run_write_fault (Ok ReadFault) is rises six = absurd (omega (arith, is, six))
+  run_write_fault (Ok (Refused kind)) is rises six = absurd (omega (arith, is, six))
+  run_write_fault (Err NoMemory) is rises six = absurd (omega (arith, is, six))
+  run_write_fault (Err WriteFault) is rises six = rises
+
+module _ (root : List ℕ) (status : ℕ) (setup : Setup) (world : Around) (input : Object SourceState) (output : Object SinkState) where
+  -- a run of a script
+  pub runs_so : IfAllTold setup world input output (λ setting. Runs setting status setup.slots root world.old world.new input.old input.new output.old output.new) → IsStatus status
+      → (IsTrue input.tells → ReadsBy status input.old input.new) → (IsTrue output.tells → WritesScript output.old output.new)
+      → (status ≡ 5 → Rose input.faults_before input.faults_after) → (status ≡ 6 → Rose output.faults_before output.faults_after)
+      → RunsSo root status setup world input output
+  runs_so told known reads writes read_fault write_fault = record {
+    done = λ number given source sink both. λ is.
+        done_of (setting_of setup.players number) status setup.slots root world.old world.new input.old input.new output.old output.new (told number given source sink both) is;
+    refused = λ number given source sink both. λ is.
+        refused_of (setting_of setup.players number) status setup.slots root world.old world.new input.old input.new output.old output.new (told number given source sink both) is;
+    unread = λ number given source sink both. λ is.
+        unread_of (setting_of setup.players number) status setup.slots root world.old world.new input.old input.new output.old output.new (told number given source sink both) is;
+    told = told;
+    statuses = known;
+    complete = λ number given source sink both.
+        completes_of (setting_of setup.players number) status setup.slots root world.old world.new input.old input.new output.old output.new
+        (Rose input.faults_before input.faults_after) (Rose output.faults_before output.faults_after) (told number given source sink both) read_fault write_fault;
+    reads = reads;
+    accepted = λ source is. is_accepted status input.old input.new (reads source) is;
+    has_refused = λ source is. is_refused status input.old input.new (reads source) is;
+    writes = writes;
+  }
+
+  -- one for which an allocation failed
+  pub runs_not : status ≡ 4 → world.new ≡ world.old → input.new ≡ input.old → output.new ≡ output.old → RunsSo root status setup world input output
+  runs_not four same taken written =
+      runs_so (λ number given source sink both. inr (four, record { world = same; source = taken; sink = written })) (Err NoMemory, four)
+      (λ source. subst (λ (y : SourceState). ReadsBy status input.old y) (sym taken) (nothing_read status input.old four))
+      (λ sink. subst (λ (q : SinkState). WritesScript output.old q) (sym written) (nothing_written output.old))
+      (λ five. absurd (omega (arith, four, five))) (λ six. absurd (omega (arith, four, six)))
+
+  -- a run of frames
+  pub wires_so : IfAllTold setup world input output (λ setting. Serves setting status setup.slots root world.old world.new input.old input.new output.old output.new) → IsWireStatus status
+      → (IsTrue input.tells → ReadsFramesBy status input.old input.new)
+      → (IsTrue input.tells → WireCompletes status input.old.left (Rose input.faults_before input.faults_after) (Rose output.faults_before output.faults_after))
+      → (IsTrue output.tells → WritesScript output.old output.new) → (IsReadThrough status → input.faults_after ≡ input.faults_before)
+      → WiresSo root status setup world input output
+  wires_so told known reads complete writes through = record {
+    wire_answered = λ number given source sink both.
+        answered (setting_of setup.players number) status setup.slots root world.old world.new input.old input.new output.old output.new (told number given source sink both);
+    wire_told = told;
+    wire_statuses = known;
+    wire_reads = reads;
+    wire_complete = complete;
+    wire_writes = writes;
+    wire_no_read_fault = through;
+  }
+
+  pub wires_not : status ≡ 4 → world.new ≡ world.old → input.new ≡ input.old → output.new ≡ output.old → input.faults_after ≡ input.faults_before → WiresSo root status setup world input output
+  wires_not four same taken written faults =
+      wires_so (λ number given source sink both. inr (four, record { world = same; source = taken; sink = written })) (Err NoMemory, four)
+      (λ source. subst (λ (y : SourceState). ReadsFramesBy status input.old y) (sym taken) (no_frame_read status input.old four))
+      (λ source. λ steps rest fault bytes spells no_read no_write. inr four)
+      (λ sink. subst (λ (q : SinkState). WritesScript output.old q) (sym written) (nothing_written output.old)) (λ through. faults)
+
+-- ---- statuses
+
+module _ {A : Type 0} where
+  -- no command that was found ends with status 2
+  pub run_not_two : (result : Result (Ending ScriptKind) Stop) → status_of result ≡ 2 → A
+  run_not_two (Ok Done) is = absurd (omega (arith, is))
+  run_not_two (Ok ReadFault) is = absurd (omega (arith, is))
+  run_not_two (Ok (Refused kind)) is = absurd (omega (arith, is))
+  run_not_two (Err NoMemory) is = absurd (omega (arith, is))
+  run_not_two (Err WriteFault) is = absurd (omega (arith, is))
+
+  pub wire_not_two : (result : Result (Ending FrameFault) Stop) → wire_status result ≡ 2 → A
+  wire_not_two (Ok Done) is = absurd (omega (arith, is))
+  wire_not_two (Ok ReadFault) is = absurd (omega (arith, is))
+  wire_not_two (Ok (Refused BadFrame)) is = absurd (omega (arith, is))
+  wire_not_two (Ok (Refused TooManyFrames)) is = absurd (omega (arith, is))
+  wire_not_two (Err NoMemory) is = absurd (omega (arith, is))
+  wire_not_two (Err WriteFault) is = absurd (omega (arith, is))
+
+  pub audit_not_two : (result : Result Audited Stop) → audit_status result ≡ 2 → A
+  audit_not_two (Ok audits_found.Fits) is = absurd (omega (arith, is))
+  audit_not_two (Ok audits_found.Differs) is = absurd (omega (arith, is))
+  audit_not_two (Ok audits_found.Refused) is = absurd (omega (arith, is))
+  audit_not_two (Ok audits_found.TooLong) is = absurd (omega (arith, is))
+  audit_not_two (Ok audits_found.Unread) is = absurd (omega (arith, is))
+  audit_not_two (Err NoMemory) is = absurd (omega (arith, is))
+  audit_not_two (Err WriteFault) is = absurd (omega (arith, is))
+
+-- the commands that read no input end neither with 2 nor with 5
+abbrev pub IsOther : ℕ → Type 0
+IsOther n = (n ≡ 2 → ⊥) × (n ≡ 5 → ⊥)
+
+check_other : (result : Result Found Stop) → IsOther (check_status result)
+check_other (Ok founds.Configured) = (λ is. omega (arith, is), λ is. omega (arith, is))
+check_other (Ok founds.Refused) = (λ is. omega (arith, is), λ is. omega (arith, is))
+check_other (Err NoMemory) = (λ is. omega (arith, is), λ is. omega (arith, is))
+check_other (Err WriteFault) = (λ is. omega (arith, is), λ is. omega (arith, is))
+
+login_other : (result : Result Verdict Stop) → IsOther (login_status result)
+login_other (Ok verdicts.Passed) = (λ is. omega (arith, is), λ is. omega (arith, is))
+login_other (Ok verdicts.Refused) = (λ is. omega (arith, is), λ is. omega (arith, is))
+login_other (Ok (verdicts.Denied code)) = (λ is. omega (arith, is), λ is. omega (arith, is))
+login_other (Err NoMemory) = (λ is. omega (arith, is), λ is. omega (arith, is))
+login_other (Err WriteFault) = (λ is. omega (arith, is), λ is. omega (arith, is))
+
+generate_other : (result : Result Generated Stop) → IsOther (generate_status result)
+generate_other (Ok generations.Written) = (λ is. omega (arith, is), λ is. omega (arith, is))
+generate_other (Ok generations.Refused) = (λ is. omega (arith, is), λ is. omega (arith, is))
+generate_other (Err NoMemory) = (λ is. omega (arith, is), λ is. omega (arith, is))
+generate_other (Err WriteFault) = (λ is. omega (arith, is), λ is. omega (arith, is))
+
+tally_other : (result : Result Tallied Stop) → IsOther (tally_status result)
+tally_other (Ok lists.Listed) = (λ is. omega (arith, is), λ is. omega (arith, is))
+tally_other (Ok lists.Damaged) = (λ is. omega (arith, is), λ is. omega (arith, is))
+tally_other (Ok lists.Unread) = (λ is. omega (arith, is), λ is. omega (arith, is))
+tally_other (Err NoMemory) = (λ is. omega (arith, is), λ is. omega (arith, is))
+tally_other (Err WriteFault) = (λ is. omega (arith, is), λ is. omega (arith, is))
+
+pub check_is_other : (n : ℕ) → IsCheckStatus n → IsOther n
+check_is_other n known = subst IsOther (sym known.1) (check_other known.0)
+
+pub login_is_other : (n : ℕ) → IsLoginStatus n → IsOther n
+login_is_other n known = subst IsOther (sym known.1) (login_other known.0)
+
+pub generate_is_other : (n : ℕ) → IsGenerateStatus n → IsOther n
+generate_is_other n known = subst IsOther (sym known.1) (generate_other known.0)
+
+pub tally_is_other : (n : ℕ) → IsTallyStatus n → IsOther n
+tally_is_other n known = subst IsOther (sym known.1) (tally_other known.0)
+
+module _ (status : ℕ) (input : Object SourceState) where
+  -- the input wasn't read
+  pub not_read : IsOther status → input.faults_after ≡ input.faults_before → input.tells_after ≡ input.tells → ReadCauses status input
+  not_read other faults tells = record { read_fault = λ five. absurd (other.1 five); no_read_fault = λ is. faults; source_tells = tells }
+
+  module _ (command found : Option Command) (is : found ≡ command) where
+    pub goes_unread : IsOther status → input.is_kept → GoesBy command status input
+    goes_unread other kept = record { words_only = λ two. absurd (other.0 two); input_stays = λ none. kept }
+
+    pub goes_reading : (status ≡ 2 → ⊥) → (ReadsNone found → ⊥) → GoesBy command status input
+    goes_reading other reads = record { words_only = λ two. absurd (other two); input_stays = λ none. absurd (reads (subst ReadsNone (sym is) none)) }
+
+-- ---- what was asked for is what was found
+
+module _ (command : Option Command) where
+  pub by_runs : (P : List ℕ → Type 0) (found root : List ℕ) → Some (runs found) ≡ command → command ≡ Some (runs root) → P found → P root
+  by_runs P found root is asked p =
+      let e : Some (runs found) ≡ Some (runs root) = is ∙ asked in
+      let a : found ≡ root = cc in
+      subst P a p
+
+  pub by_wires : (P : List ℕ → Type 0) (found root : List ℕ) → Some (wires found) ≡ command → command ≡ Some (wires root) → P found → P root
+  by_wires P found root is asked p =
+      let e : Some (wires found) ≡ Some (wires root) = is ∙ asked in
+      let a : found ≡ root = cc in
+      subst P a p
+
+  pub by_checks : (P : List ℕ → List ℕ → Type 0) (r s root service : List ℕ) → Some (checks r s) ≡ command → command ≡ Some (checks root service) → P r s → P root service
+  by_checks P r s root service is asked p =
+      let e : Some (checks r s) ≡ Some (checks root service) = is ∙ asked in
+      let a : r ≡ root = cc in
+      let b : s ≡ service = cc in
+      subst (λ (x : List ℕ). P x service) a (subst (P r) b p)
+
+  pub by_audits : (P : List ℕ → List ℕ → Type 0) (r s root service : List ℕ) → Some (audits r s) ≡ command → command ≡ Some (audits root service) → P r s → P root service
+  by_audits P r s root service is asked p =
+      let e : Some (audits r s) ≡ Some (audits root service) = is ∙ asked in
+      let a : r ≡ root = cc in
+      let b : s ≡ service = cc in
+      subst (λ (x : List ℕ). P x service) a (subst (P r) b p)
+
+  pub by_tallies : (P : List ℕ → List ℕ → Type 0) (r u root user : List ℕ) → Some (tallies r u) ≡ command → command ≡ Some (tallies root user) → P r u → P root user
+  by_tallies P r u root user is asked p =
+      let e : Some (tallies r u) ≡ Some (tallies root user) = is ∙ asked in
+      let a : r ≡ root = cc in
+      let b : u ≡ user = cc in
+      subst (λ (x : List ℕ). P x user) a (subst (P r) b p)
+
+  pub by_generates : (P : ℕ → ℕ → Type 0) (m n seed lines : ℕ) → Some (generates m n) ≡ command → command ≡ Some (generates seed lines) → P m n → P seed lines
+  by_generates P m n seed lines is asked p =
+      let e : Some (generates m n) ≡ Some (generates seed lines) = is ∙ asked in
+      let a : m ≡ seed = cc in
+      let b : n ≡ lines = cc in
+      subst (λ (x : ℕ). P x lines) a (subst (P m) b p)
+
+  pub by_logs_in : (P : List ℕ → List ℕ → Option (List ℕ) → Type 0) (r s : List ℕ) (u : Option (List ℕ)) (root service : List ℕ) (user : Option (List ℕ))
+      → Some (logs_in r s u) ≡ command → command ≡ Some (logs_in root service user) → P r s u → P root service user
+  by_logs_in P r s u root service user is asked p =
+      let e : Some (logs_in r s u) ≡ Some (logs_in root service user) = is ∙ asked in
+      let a : r ≡ root = cc in
+      let b : s ≡ service = cc in
+      let d : u ≡ user = cc in
+      subst (λ (x : List ℕ). P x service user) a (subst (λ (x : List ℕ). P r x user) b (subst (P r s) d p))

@@ -1,0 +1,24 @@
+-- A library that a command opens, over a world under its root (this project's own).
+use Rattle.std.specs.Prelude.{◌≡◌, ℕ, List, []}
+use Rattle.pam_base.specs.declared.code.Code.{Code}
+use Rattle.data_due.specs.Stands.{StandFor}
+use Rattle.pam_room.specs.Module.{notes_of}
+use Rattle.pam_room.specs.State.{PlainWorld}
+use Rattle.session_check.specs.pam_library.specs.Slots.{handle_limit, lists_of}
+use Rattle.session_login.specs.session_run.specs.Seen.{IsSoundIn, NoneIsOpenIn, Seen}
+use Rattle.session_program.specs.ByCommand.{Setup}
+use Rattle.session_program.specs.Login.{at_root}
+
+-- It has these modules, conversations and delay function, and no transaction is open. The world is the one before, with
+-- this root, and no module data have been set.
+pub record IsOpened (root : List ℕ) (setup : Setup) (before : PlainWorld) (seen : Seen) : Type
+    0 where
+  pub players : seen.players ≡ setup.players
+  pub slots : seen.slots ≡ setup.slots
+  pub tells : seen.tells ≡ setup.tells
+  pub gives : (number : Code → ℕ → ℕ) → setup.gives number → seen.gives number
+  pub world_is : seen.world ≡ at_root root before
+  pub none_open : NoneIsOpenIn seen
+  pub sound : IsSoundIn seen
+  pub none_yet : StandFor (notes_of seen.players) handle_limit before.process.ledger
+      (lists_of seen.slots) []
