@@ -12,8 +12,8 @@ use Rattle.session_login.specs.session_run.specs.Reading.{WritesScript}
 use Rattle.session_login.specs.session_run.specs.State.{setting_of}
 use Rattle.session_wire.specs.frame_stream.specs.declared.fault.FrameFault.{FrameFault}
 use Rattle.session_program.specs.ByCommand.{Around, GoesBy, IfAllTold, Object, ReadCauses, ReadsNone, RunsSo, Setup, WiresSo, WriteCauses}
-use Rattle.session_check.specs.declared.finding.Found.{Found}
-use Rattle.session_check.specs.declared.finding.Found.TheVariants as founds
+use Rattle.session_check.specs.declared.finding.Checked.{Checked}
+use Rattle.session_check.specs.declared.finding.Checked.TheVariants as founds
 use Rattle.session_generate.specs.declared.generating.Generated.{Generated}
 use Rattle.session_generate.specs.declared.generating.Generated.TheVariants as generations
 use Rattle.session_login.specs.declared.attempt.Verdict.{Verdict}
@@ -139,7 +139,7 @@ module _ {A : Type 0} where
 abbrev pub IsOther : ℕ → Type 0
 IsOther n = (n ≡ 2 → ⊥) × (n ≡ 5 → ⊥)
 
-check_other : (result : Result Found Stop) → IsOther (check_status result)
+check_other : (result : Result Checked Stop) → IsOther (check_status result)
 check_other (Ok founds.Configured) = (λ is. omega (arith, is), λ is. omega (arith, is))
 check_other (Ok founds.Refused) = (λ is. omega (arith, is), λ is. omega (arith, is))
 check_other (Err NoMemory) = (λ is. omega (arith, is), λ is. omega (arith, is))
