@@ -54,8 +54,8 @@ fn read_numbered(
 // Reads a line of a transaction, by its word.
 fn read_words(alloc: Global, line: NumberedLine, word: &[u8]) -> Result<Option<Form>, NoMemory>
     ensures { Reads result
-        (told_or line.bytes.now line.number (guessed_told word.now line.words.now)
-        (guessed_result word.now line.words.now)) }
+        (told_or line.entry.bytes.now line.entry.number (guessed_told word.now line.entry.words.now)
+        (guessed_result word.now line.entry.words.now)) }
 {
     if word == b"say".as_slice() {
         read_message(alloc, line)

@@ -21,8 +21,8 @@ impl NumberedLine<'_> {
     /// A line before a result, if its text is the line.
     pub fn if_told(self, text: &str, visit: Option<Seen>) -> Option<Form>
         ensures { (s : Says) → says_text s ≡ text.now →
-            IsRead (Some (Form.Told self.number visit)) (Some s) →
-            IsRead result (if_printed self.bytes.now s) }
+            IsRead (Some (Form.Told self.entry.number visit)) (Some s) →
+            IsRead result (if_printed self.entry.bytes.now s) }
     {
         let number = self.number;
         if_printed(text, self.bytes, Form::Told { number, visit })
@@ -31,8 +31,8 @@ impl NumberedLine<'_> {
     /// A result, if its text is the line.
     pub fn if_result(self, text: &str, outcome: ReportedOutcome) -> Option<Form>
         ensures { (s : Says) → says_text s ≡ text.now →
-            IsRead (Some (Form.Result self.number outcome)) (Some s) →
-            IsRead result (if_printed self.bytes.now s) }
+            IsRead (Some (Form.Result self.entry.number outcome)) (Some s) →
+            IsRead result (if_printed self.entry.bytes.now s) }
     {
         let number = self.number;
         if_printed(text, self.bytes, Form::Result { number, outcome })
@@ -55,9 +55,9 @@ impl AnswerLine<'_> {
     /// An answer, if its text is the line.
     pub fn if_answer(self, text: &str, answer: ReportedAnswer) -> Option<Form>
         ensures { (s : Says) → says_text s ≡ text.now →
-            IsRead (Some (Form.Result self.line.number
-            (ReportedOutcome.Answered self.command answer))) (Some s) →
-            IsRead result (if_printed self.line.bytes.now s) }
+            IsRead (Some (Form.Result self.entry.line.number
+            (ReportedOutcome.Answered self.entry.command answer))) (Some s) →
+            IsRead result (if_printed self.entry.line.bytes.now s) }
     {
         let outcome = ReportedOutcome::Answered(self.command, answer);
         self.line.if_result(text, outcome)

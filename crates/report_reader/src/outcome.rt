@@ -18,8 +18,8 @@ use std::alloc::Global;
 
 /// Reads a result, by the line's word.
 pub fn read_result(alloc: Global, line: NumberedLine, word: &[u8]) -> Result<Option<Form>, NoMemory>
-    ensures { Reads result (if_printed line.bytes.now
-        (results line.number (guessed_result word.now line.words.now))) }
+    ensures { Reads result (if_printed line.entry.bytes.now
+        (results line.entry.number (guessed_result word.now line.entry.words.now))) }
 {
     if word == b"closed".as_slice() {
         return read_closed(alloc, line, code_in(before_space(line.words)));
@@ -29,8 +29,8 @@ pub fn read_result(alloc: Global, line: NumberedLine, word: &[u8]) -> Result<Opt
 }
 
 fn read_closed(alloc: Global, line: NumberedLine, code: Code) -> Result<Option<Form>, NoMemory>
-    ensures { Reads result (if_printed line.bytes.now
-        (results line.number (closed_by_program code))) }
+    ensures { Reads result (if_printed line.entry.bytes.now
+        (results line.entry.number (closed_by_program code))) }
 {
     let mut text = String::new(alloc);
     write_code_result(&mut text, line.number, "closed", code)?;
@@ -40,8 +40,8 @@ fn read_closed(alloc: Global, line: NumberedLine, code: Code) -> Result<Option<F
 // Reads the result of a command, by the first of its words.
 fn read_shown(alloc: Global, answer: AnswerLine) -> Result<Option<Form>, NoMemory>
     ensures { Reads result
-        (if_printed answer.line.bytes.now (results answer.line.number
-        (answered (command_of answer.command) (guessed_shown answer.line.words.now)))) }
+        (if_printed answer.entry.line.bytes.now (results answer.entry.line.number
+        (answered (command_of answer.entry.command) (guessed_shown answer.entry.line.words.now)))) }
 {
     let word = before_space(answer.line.words);
     if are_digits(word) {

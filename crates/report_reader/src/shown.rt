@@ -21,7 +21,8 @@ use std::alloc::Global;
 fn result_line(alloc: Global, answer: AnswerLine, words: &str) -> Result<String, NoMemory>
     ensures { IfOk result
         (λ text. string_bytes text
-        ≡ words_text answer.line.number (command_word (command_of answer.command)) words.now) }
+        ≡ words_text answer.entry.line.number (command_word (command_of answer.entry.command))
+        words.now) }
 {
     let mut text = String::new(alloc);
     let command = command_word(answer.command);
@@ -32,9 +33,9 @@ fn result_line(alloc: Global, answer: AnswerLine, words: &str) -> Result<String,
 /// Reads a count.
 pub fn read_count(alloc: Global, answer: AnswerLine) -> Result<Option<Form>, NoMemory>
     ensures { Reads result
-        (if_printed answer.line.bytes.now (results answer.line.number
-        (answered (command_of answer.command)
-        (shows_count (guessed_number (before_space answer.line.words.now)))))) }
+        (if_printed answer.entry.line.bytes.now (results answer.entry.line.number
+        (answered (command_of answer.entry.command)
+        (shows_count (guessed_number (before_space answer.entry.line.words.now)))))) }
 {
     let count = number_of(before_space(answer.line.words));
     let command = command_word(answer.command);
@@ -46,9 +47,9 @@ pub fn read_count(alloc: Global, answer: AnswerLine) -> Result<Option<Form>, NoM
 /// Reads why a start was refused: `refused FILE LINE NAME NUMBER`.
 pub fn read_refusal(alloc: Global, answer: AnswerLine) -> Result<Option<Form>, NoMemory>
     ensures { Reads result
-        (if_printed answer.line.bytes.now (results answer.line.number
-        (answered (command_of answer.command)
-        (shows_fault (guessed_refusal (after_space answer.line.words.now)))))) }
+        (if_printed answer.entry.line.bytes.now (results answer.entry.line.number
+        (answered (command_of answer.entry.command)
+        (shows_fault (guessed_refusal (after_space answer.entry.line.words.now)))))) }
 {
     let named = before_last(after_space(answer.line.words));
     let placed = before_last(named);
@@ -71,9 +72,9 @@ pub fn read_refusal(alloc: Global, answer: AnswerLine) -> Result<Option<Form>, N
 /// Reads a value that is set: `set TEXT`.
 pub fn read_set(alloc: Global, answer: AnswerLine) -> Result<Option<Form>, NoMemory>
     ensures { Reads result
-        (if_printed answer.line.bytes.now (results answer.line.number
-        (answered (command_of answer.command)
-        (shows_value (Some (unquoted (after_space answer.line.words.now))))))) }
+        (if_printed answer.entry.line.bytes.now (results answer.entry.line.number
+        (answered (command_of answer.entry.command)
+        (shows_value (Some (unquoted (after_space answer.entry.line.words.now))))))) }
 {
     let value: Option<Text> = Some(unquoted(alloc, after_space(answer.line.words))?);
     let command = command_word(answer.command);
@@ -85,8 +86,8 @@ pub fn read_set(alloc: Global, answer: AnswerLine) -> Result<Option<Form>, NoMem
 /// Reads a value that isn't set.
 pub fn read_unset(alloc: Global, answer: AnswerLine) -> Result<Option<Form>, NoMemory>
     ensures { Reads result
-        (if_printed answer.line.bytes.now (results answer.line.number
-        (answered (command_of answer.command) (shows_value None)))) }
+        (if_printed answer.entry.line.bytes.now (results answer.entry.line.number
+        (answered (command_of answer.entry.command) (shows_value None)))) }
 {
     let text = result_line(alloc, answer, "unset")?;
     Ok(answer.if_answer(text.as_str(), ReportedAnswer::Value))
@@ -95,8 +96,8 @@ pub fn read_unset(alloc: Global, answer: AnswerLine) -> Result<Option<Form>, NoM
 /// Reads that no transaction is open.
 pub fn read_not_open(alloc: Global, answer: AnswerLine) -> Result<Option<Form>, NoMemory>
     ensures { Reads result
-        (if_printed answer.line.bytes.now (results answer.line.number
-        (answered (command_of answer.command) shows_not_open))) }
+        (if_printed answer.entry.line.bytes.now (results answer.entry.line.number
+        (answered (command_of answer.entry.command) shows_not_open))) }
 {
     let text = result_line(alloc, answer, "not open")?;
     Ok(answer.if_answer(text.as_str(), ReportedAnswer::NotOpen))
@@ -105,8 +106,8 @@ pub fn read_not_open(alloc: Global, answer: AnswerLine) -> Result<Option<Form>, 
 /// Reads that a transaction is open already.
 pub fn read_already_open(alloc: Global, answer: AnswerLine) -> Result<Option<Form>, NoMemory>
     ensures { Reads result
-        (if_printed answer.line.bytes.now (results answer.line.number
-        (answered (command_of answer.command) shows_already_open))) }
+        (if_printed answer.entry.line.bytes.now (results answer.entry.line.number
+        (answered (command_of answer.entry.command) shows_already_open))) }
 {
     let text = result_line(alloc, answer, "already open")?;
     Ok(answer.if_answer(text.as_str(), ReportedAnswer::AlreadyOpen))
@@ -115,8 +116,8 @@ pub fn read_already_open(alloc: Global, answer: AnswerLine) -> Result<Option<For
 /// Reads that no transaction can have the number.
 pub fn read_bad_number(alloc: Global, answer: AnswerLine) -> Result<Option<Form>, NoMemory>
     ensures { Reads result
-        (if_printed answer.line.bytes.now (results answer.line.number
-        (answered (command_of answer.command) shows_bad_number))) }
+        (if_printed answer.entry.line.bytes.now (results answer.entry.line.number
+        (answered (command_of answer.entry.command) shows_bad_number))) }
 {
     let text = result_line(alloc, answer, "bad number")?;
     Ok(answer.if_answer(text.as_str(), ReportedAnswer::BadNumber))
@@ -126,8 +127,9 @@ pub fn read_bad_number(alloc: Global, answer: AnswerLine) -> Result<Option<Form>
 /// pending NAME`.
 pub fn read_answer(alloc: Global, answer: AnswerLine) -> Result<Option<Form>, NoMemory>
     ensures { Reads result
-        (if_printed answer.line.bytes.now (results answer.line.number
-        (answered (command_of answer.command) (guessed_answer answer.line.words.now)))) }
+        (if_printed answer.entry.line.bytes.now (results answer.entry.line.number
+        (answered (command_of answer.entry.command)
+        (guessed_answer answer.entry.line.words.now)))) }
 {
     let words = answer.line.words;
     let behind_code = after_space(after_space(words));
@@ -140,8 +142,8 @@ pub fn read_answer(alloc: Global, answer: AnswerLine) -> Result<Option<Form>, No
 
 fn read_pending(alloc: Global, answer: AnswerLine, func: Func) -> Result<Option<Form>, NoMemory>
     ensures { Reads result
-        (if_printed answer.line.bytes.now (results answer.line.number
-        (answered (command_of answer.command) (shows_pending func)))) }
+        (if_printed answer.entry.line.bytes.now (results answer.entry.line.number
+        (answered (command_of answer.entry.command) (shows_pending func)))) }
 {
     let mut text = String::new(alloc);
     let command = command_word(answer.command);
@@ -151,8 +153,8 @@ fn read_pending(alloc: Global, answer: AnswerLine, func: Func) -> Result<Option<
 
 fn read_code(alloc: Global, answer: AnswerLine, code: Code) -> Result<Option<Form>, NoMemory>
     ensures { Reads result
-        (if_printed answer.line.bytes.now (results answer.line.number
-        (answered (command_of answer.command) (shows_code code)))) }
+        (if_printed answer.entry.line.bytes.now (results answer.entry.line.number
+        (answered (command_of answer.entry.command) (shows_code code)))) }
 {
     let mut text = String::new(alloc);
     let command = command_word(answer.command);

@@ -18,8 +18,8 @@ use std::alloc::Global;
 
 /// Reads the line of a message, after its word: `STYLE TEXT`.
 pub fn read_message(alloc: Global, line: NumberedLine) -> Result<Option<Form>, NoMemory>
-    ensures { Reads result (if_printed line.bytes.now
-        (tells line.number (guessed_message line.words.now))) }
+    ensures { Reads result (if_printed line.entry.bytes.now
+        (tells line.entry.number (guessed_message line.entry.words.now))) }
 {
     let style = style_in(number_of(before_space(line.words)));
     let message = unquoted(alloc, after_space(line.words))?;
@@ -30,8 +30,8 @@ pub fn read_message(alloc: Global, line: NumberedLine) -> Result<Option<Form>, N
 
 /// Reads the line of a rule that was run: `PLACE MODULE NAME NUMBER`.
 pub fn read_visit(alloc: Global, line: NumberedLine) -> Result<Option<Form>, NoMemory>
-    ensures { Reads result (if_printed line.bytes.now
-        (tells line.number (told_visit (guessed_seen line.words.now)))) }
+    ensures { Reads result (if_printed line.entry.bytes.now
+        (tells line.entry.number (told_visit (guessed_seen line.entry.words.now)))) }
 {
     let place = number_of(before_space(line.words));
     let named = before_last(after_space(line.words));
@@ -49,8 +49,8 @@ pub fn read_visit(alloc: Global, line: NumberedLine) -> Result<Option<Form>, NoM
 
 /// Reads the line of module data that was cleaned up: `ID STATUS NOTE MODULE DATUM`.
 pub fn read_cleanup(alloc: Global, line: NumberedLine) -> Result<Option<Form>, NoMemory>
-    ensures { Reads result (if_printed line.bytes.now
-        (tells line.number (told_cleanup (guessed_cleanup line.words.now)))) }
+    ensures { Reads result (if_printed line.entry.bytes.now
+        (tells line.entry.number (told_cleanup (guessed_cleanup line.entry.words.now)))) }
 {
     let behind_id = after_space(line.words);
     let behind_status = after_space(behind_id);
@@ -70,8 +70,8 @@ pub fn read_cleanup(alloc: Global, line: NumberedLine) -> Result<Option<Form>, N
 
 /// Reads the line of a delay: `NAME NUMBER ASKED WAIT`.
 pub fn read_wait(alloc: Global, line: NumberedLine) -> Result<Option<Form>, NoMemory>
-    ensures { Reads result (if_printed line.bytes.now
-        (tells line.number (guessed_wait line.words.now))) }
+    ensures { Reads result (if_printed line.entry.bytes.now
+        (tells line.entry.number (guessed_wait line.entry.words.now))) }
 {
     let behind_code = after_space(after_space(line.words));
     let code = code_in(before_space(line.words));
@@ -84,8 +84,8 @@ pub fn read_wait(alloc: Global, line: NumberedLine) -> Result<Option<Form>, NoMe
 
 /// Reads the line of a module that is missing: `missing MODULE`.
 pub fn read_missing(alloc: Global, line: NumberedLine) -> Result<Option<Form>, NoMemory>
-    ensures { Reads result (if_printed line.bytes.now
-        (tells line.number (told_missing (unquoted (after_space line.words.now))))) }
+    ensures { Reads result (if_printed line.entry.bytes.now
+        (tells line.entry.number (told_missing (unquoted (after_space line.entry.words.now))))) }
 {
     let name = unquoted(alloc, after_space(line.words))?;
     let mut text = String::new(alloc);
@@ -95,9 +95,9 @@ pub fn read_missing(alloc: Global, line: NumberedLine) -> Result<Option<Form>, N
 
 /// Reads the line of a variable: `NAME=VALUE`.
 pub fn read_variable(alloc: Global, line: NumberedLine) -> Result<Option<Form>, NoMemory>
-    ensures { Reads result (if has_form (told_variable (unquoted line.words.now))
-        then if_printed line.bytes.now
-        (tells line.number (told_variable (unquoted line.words.now))) else None) }
+    ensures { Reads result (if has_form (told_variable (unquoted line.entry.words.now))
+        then if_printed line.entry.bytes.now
+        (tells line.entry.number (told_variable (unquoted line.entry.words.now))) else None) }
 {
     let variable = unquoted(alloc, line.words)?;
     if first_place(b'=', variable.bytes()).is_none() {
