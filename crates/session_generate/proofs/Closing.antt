@@ -1,5 +1,6 @@
 -- The first place, after each call.
 use Rattle.std.proofs.Common.{◌≡◌, ℕ, zero, suc, Bool, true, false, ◌&&◌, List, [], ◌∷◌, Option, Some, None, Result, Ok, Err, slice_get, inl, inr, refl, sym, ap, subst, ◌∙◌}
+use Rattle.std.specs.Result.{IsErrAnd}
 use Rattle.pam_base.specs.declared.call.AppCall.{AppCall}
 use Rattle.pam_base.specs.declared.call.AppCall.TheVariants as calls
 use Rattle.pam_base.specs.declared.call.Step.{Step}
@@ -18,7 +19,7 @@ use Rattle.session_run.specs.pam_library.specs.Step.{StepsAs, stepped}
 use Rattle.session_run.specs.State.{RunState, Setting, state_of}
 use Rattle.session_run.specs.Step.{CallFails}
 use Rattle.session_generate.specs.declared.login.Login.{Login}
-use Rattle.session_generate.specs.Login.{Authenticates, ComesTo, LoginStops, Starts, Tries, authenticate_call, behind_start, called, end_status, ended, logged_in, login_of, refusal_in, start_call, state_in, step_of}
+use Rattle.session_generate.specs.Login.{Attempt, Authenticates, ComesTo, LoginStops, Starts, Tries, authenticate_call, behind_start, called, end_status, ended, logged_in, login_of, refusal_in, start_call, state_in, step_of}
 
 -- ---- places that are closed
 
@@ -138,10 +139,24 @@ module _ (setting : Setting) (s : RunState) (outcome : PlainOutcome) (slots : Li
       → Authenticates (Ok login) setting s (state_of slots w)
   authenticates steps login e = (e ∙ login_is setting s authenticate_call outcome slots w steps, state_is setting s authenticate_call outcome slots w steps)
 
+-- an allocation failed before a start, and before a login
+pub start_unbegun : (setting : Setting) (s : RunState) (result : Result (Unit {0}) (Refuse LoadFault)) → IsErrAnd result (λ (refuse : Refuse LoadFault). refuse ≡ NoMemory)
+    → Starts {T = Unit {0}} result setting s s
+start_unbegun setting s (Ok done) none = absurd none
+start_unbegun setting s (Err refuse) none = subst (λ (x : Refuse LoadFault). Starts {T = Unit {0}} (Err x) setting s s) (sym none) (inl refl)
+
+pub login_unbegun : (a : Attempt) (Stops : RunState → Type 0) (s : RunState) (result : Result Login (Refuse LoadFault)) → IsErrAnd result (λ (refuse : Refuse LoadFault). refuse ≡ NoMemory)
+    → Stops s → ComesTo result a Stops s
+login_unbegun a Stops s (Ok login) none stops = absurd none
+login_unbegun a Stops s (Err refuse) none stops = subst (λ (x : Refuse LoadFault). ComesTo (Err x) a Stops s) (sym none) stops
+
 module _ (setting : Setting) (s t : RunState) where
   pub tries_not : (refuse : Refuse LoadFault) → Starts {T = Unit {0}} (Err refuse) setting s t → Tries (Err refuse) setting s t
   tries_not (Named fault) starts = starts
   tries_not NoMemory starts = inl starts
+
+  pub authenticate_failed : (step : Step) → step ≡ step_of authenticate_call → CallFails setting step s t → CallFails setting (step_of authenticate_call) s t
+  authenticate_failed step is fails = subst (λ (x : Step). CallFails setting x s t) is fails
 
   pub start_failed : (step : Step) → step ≡ step_of start_call → CallFails setting step s t → Starts {T = Unit {0}} (Err NoMemory) setting s t
   start_failed step is fails = inr (subst (λ (x : Step). CallFails setting x s t) is fails)

@@ -3,7 +3,7 @@ ghost use Rattle.pam_base.specs.declared.code.Code.{Code as TheCode};
 ghost use Rattle.pam_base.specs.Code.{number_of};
 ghost use Rattle.session_run.specs.pam_library.specs.Slots.{is_open_at, slot_at};
 ghost use Rattle.session_run.specs.Seen.{AllTell, IsSoundIn, NoneIsOpenIn, Went, setting_in, state};
-ghost use Rattle.session_generate.specs.Login.{Authenticates, ComesTo, IsEndWith, LoginStops, NoEnd, Starts, Tries, code_in, end_status, ended, logged_in, refusal_in, start_call, step_of};
+ghost use Rattle.session_generate.specs.Login.{Authenticates, ComesTo, IsEndWith, LoginStops, NoEnd, Starts, Tries, authenticate_call, code_in, end_status, ended, logged_in, refusal_in, start_call, step_of};
 
 use pam_base::{AppCall, Code, NoMemory, Refuse, Step, Text, code_number};
 use service_load::LoadFault;
@@ -145,16 +145,22 @@ fn authenticate(alloc: Global, library: &mut Library, world: &mut World) -> Resu
     ensures went { let seen = ⟦<Session as Told>⟧.seen in Went NoEnd (seen library.old world.old)
         (seen library.new world.new) }
 {
-    let step = Step {
-        number: NUMBER,
-        call: AppCall::Authenticate { flags: 0 },
-    };
+    let step = authenticate_step();
     match library.apply(alloc, world, &step) {
         Err(NoMemory) => Err(NoMemory),
         Ok(outcome) => Ok(Login {
             code: code_in(&outcome.answer),
             visited: outcome.trail.len(),
         }),
+    }
+}
+
+fn authenticate_step() -> Step
+    ensures { result ≡ step_of authenticate_call }
+{
+    Step {
+        number: NUMBER,
+        call: AppCall::Authenticate { flags: 0 },
     }
 }
 

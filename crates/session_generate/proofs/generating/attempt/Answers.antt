@@ -3,7 +3,7 @@ use Rattle.session_run.specs.pam_room.specs.Plain.{plain_world}
 use Rattle.session_run.specs.pam_room.specs.State.{PlainWorld}
 use Rattle.session_run.specs.State.{state_of}
 use Rattle.session_generate.proofs.Attempting.{all_placed, not_begun, not_drawn, not_placed, vault_of}
-use Rattle.session_generate.proofs.Closing.{both_tell}
+use Rattle.session_generate.proofs.Closing.{both_tell, login_unbegun}
 use Rattle.session_run.proofs.Going.{went_on, went_quietly}
 use Rattle.session_generate.proofs.generating.attempt.Goals as goal
 
@@ -22,10 +22,14 @@ returns-clause-went g c =
     c.log_in.ensures.went
 
 pub returns-in_err-set_process-clause-told : goal.returns-in_err-set_process-clause-told
-returns-in_err-set_process-clause-told g c = λ delay is told. not_begun _ c.args.seed c.args.lines _ _ (rw c.in_err-set_process.ensures.err refl)
+returns-in_err-set_process-clause-told g c = λ delay is told.
+    let old : PlainWorld = plain_world (λ b. (goal.Vault-dyn g (b.vtable, b.value)).vault_holds b.value) (λ b. (goal.Clock-dyn g (b.vtable, b.value)).clock_holds b.value) (λ b. (goal.Nap-dyn g (b.vtable, b.value)).nap_holds b.value) c.args.world.now in
+    login_unbegun _ _ _ c.from_residual.result c.from_residual.ensures.1 (not_begun _ c.args.seed c.args.lines (state_of _ old) _ (rw c.in_err-set_process.ensures.err refl))
 
 pub returns-in_err-files-clause-told : goal.returns-in_err-files-clause-told
-returns-in_err-files-clause-told g c = λ delay is told. not_drawn _ c.args.seed c.args.lines _ _ c.in_ok-set_process.ensures.ok
+returns-in_err-files-clause-told g c = λ delay is told.
+    let old : PlainWorld = plain_world (λ b. (goal.Vault-dyn g (b.vtable, b.value)).vault_holds b.value) (λ b. (goal.Clock-dyn g (b.vtable, b.value)).clock_holds b.value) (λ b. (goal.Nap-dyn g (b.vtable, b.value)).nap_holds b.value) c.args.world.now in
+    login_unbegun _ _ _ c.from_residual-in_err-files.result c.from_residual-in_err-files.ensures.1 (not_drawn _ c.args.seed c.args.lines (state_of _ old) _ c.in_ok-set_process.ensures.ok)
 
 pub returns-in-Err-clause-told : goal.returns-in-Err-clause-told
 returns-in-Err-clause-told g c = λ delay is told.

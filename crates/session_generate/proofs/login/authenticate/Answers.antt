@@ -1,31 +1,42 @@
 use Rattle.std.proofs.Common.{refl}
-use Rattle.session_generate.proofs.Closing.{authenticates}
+use Rattle.session_generate.proofs.Closing.{authenticate_failed, authenticates}
 use Rattle.session_run.proofs.Going.{went_once}
 use Rattle.session_run.proofs.Serving.{failed_place, failed_stack}
 use Rattle.session_generate.proofs.Proceeding.{authenticate_ends_none}
 use Rattle.session_generate.proofs.login.authenticate.Goals as goal
 
+pub apply-requires-clause-fit : goal.apply-requires-clause-fit
+apply-requires-clause-fit g c = rw c.authenticate_step-step.ensures refl
+
 pub returns-in-Err-clause-told : goal.returns-in-Err-clause-told
-returns-in-Err-clause-told g c = λ delay is told. record {
-  place = failed_place _ _ _ _ _ told c.in-Err.ensures.fails;
-  others = c.apply.ensures.others;
-  stops = failed_stack _ _ _ _ _ _ _ told c.in-Err.ensures.stops;
-  spends = c.apply.ensures.spends;
-  root = c.apply.ensures.root;
-  caller = c.apply.ensures.caller;
-  world = λ h. rw (c.apply.ensures.world h) refl;
-  nap = rw c.in-Err.ensures.no_nap refl;
-}
+returns-in-Err-clause-told g c = λ delay is told.
+    authenticate_failed _ _ _ _ c.authenticate_step-step.ensures (record {
+      place = failed_place _ _ _ _ _ told c.in-Err.ensures.fails;
+      others = c.apply.ensures.others;
+      stops = failed_stack _ _ _ _ _ _ _ told c.in-Err.ensures.stops;
+      spends = c.apply.ensures.spends;
+      root = c.apply.ensures.root;
+      caller = c.apply.ensures.caller;
+      world = λ h. rw (c.apply.ensures.world h) refl;
+      nap = rw c.in-Err.ensures.no_nap refl;
+    })
 
 pub returns-clause-told : goal.returns-clause-told
-returns-clause-told g c = λ delay is told. authenticates _ _ _ _ _ (c.in-Ok.ensures.told delay is told) _ (rw (c.code_in.ensures, c.len.ensures) refl)
+returns-clause-told g c = λ delay is told.
+    authenticates _ _ _ _ _ (rw c.authenticate_step-step.ensures at (c.in-Ok.ensures.told delay is told)) _ (rw (c.code_in.ensures, c.len.ensures) refl)
 
 pub returns-in-Err-clause-went : goal.returns-in-Err-clause-went
 returns-in-Err-clause-went g c =
     went_once _ _ _ (rw c.apply.ensures.gear refl) c.apply.ensures.tells c.apply.ensures.world_tells (λ number gives. rw c.apply.ensures.gear gives)
-    _ c.apply.ensures.moves (authenticate_ends_none _) c.apply.ensures.sound
+    _ (rw c.authenticate_step-step.ensures at c.apply.ensures.moves) (authenticate_ends_none _) c.apply.ensures.sound
 
 pub returns-clause-went : goal.returns-clause-went
 returns-clause-went g c =
     went_once _ _ _ (rw c.apply.ensures.gear refl) c.apply.ensures.tells c.apply.ensures.world_tells (λ number gives. rw c.apply.ensures.gear gives)
-    _ c.apply.ensures.moves (authenticate_ends_none _) c.apply.ensures.sound
+    _ (rw c.authenticate_step-step.ensures at c.apply.ensures.moves) (authenticate_ends_none _) c.apply.ensures.sound
+
+pub returns-in-Err-clause-others : goal.returns-in-Err-clause-others
+returns-in-Err-clause-others g c = rw c.authenticate_step-step.ensures at c.apply.ensures.others
+
+pub returns-clause-others : goal.returns-clause-others
+returns-clause-others g c = rw c.authenticate_step-step.ensures at c.apply.ensures.others

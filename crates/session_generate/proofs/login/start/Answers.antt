@@ -1,5 +1,5 @@
-use Rattle.std.proofs.Common.{inl, refl}
-use Rattle.session_generate.proofs.Closing.{start_failed, starts_done, starts_refused}
+use Rattle.std.proofs.Common.{refl}
+use Rattle.session_generate.proofs.Closing.{start_failed, start_unbegun, starts_done, starts_refused}
 use Rattle.session_run.proofs.Going.{went_nowhere, went_once}
 use Rattle.session_run.proofs.Serving.{failed_place, failed_stack}
 use Rattle.session_generate.proofs.Proceeding.{start_ends_none}
@@ -9,7 +9,7 @@ pub apply-requires-clause-fit : goal.apply-requires-clause-fit
 apply-requires-clause-fit g c = rw c.in_ok-step.ensures refl
 
 pub returns-in_err-step-clause-told : goal.returns-in_err-step-clause-told
-returns-in_err-step-clause-told g c = λ delay is told. inl refl
+returns-in_err-step-clause-told g c = λ delay is told. start_unbegun _ _ c.from_residual.result c.from_residual.ensures.1
 
 pub returns-in-Err-clause-told : goal.returns-in-Err-clause-told
 returns-in-Err-clause-told g c = λ delay is told.
