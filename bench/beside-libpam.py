@@ -2,7 +2,7 @@
 """Measures the built program beside the installed libpam, which a small driver calls in the same order (libpam.c) and whose report it
 prints, and beside pamtester. Prints the tables of docs/speed.md.
 
-  bench/beside-libpam.py [--page] [--rounds N] [TABLE..]    all tables, or those named: transactions, processes, memory, counts, calls
+  bench/beside-libpam.py [--page] [--rounds N] [TABLE..]    all tables, or those named: transactions, processes, memory, counts, calls, parts
 
 With --page the tables also take the place of those in docs/speed.md; its sentences have to be read again then.
 
@@ -28,7 +28,7 @@ TOP = os.path.dirname(os.path.dirname(os.path.abspath(__file__)))
 PROGRAM = os.path.abspath(os.environ.get("PAMSESS") or f"{TOP}/crates/pam_session_cli/out/pam_session_cli")
 PLACES = ("/lib/*/security", "/usr/lib/*/security", "/lib64/security", "/usr/lib64/security", "/lib/security", "/usr/lib/security")
 PAGE = f"{TOP}/docs/speed.md"
-TABLES = ("transactions", "processes", "memory", "counts", "calls")
+TABLES = ("transactions", "processes", "memory", "counts", "calls", "parts")
 TUNABLES = "glibc.cpu.x86_rep_stosb_threshold=100000000:glibc.cpu.x86_rep_movsb_threshold=100000000"
 TYPES = ("auth", "account", "password", "session")
 PERMIT = "required pam_permit.so"
@@ -295,6 +295,42 @@ def calls(bench):
     print("|---|--:|--:|")
     print(f"| files that stay open | {alone[0][0]} | {alone[1][0]} |")
     print(f"| each file opened and closed | {alone[0][1]} | {alone[1][1]} |", flush=True)
+
+
+def part_of(mode, file, name):
+    """Which part of the time a symbol belongs to, as perf names it."""
+    if mode == "k":
+        return "kernel"
+    if "libc.so" not in file:
+        return "program"
+    if re.search("alloc|free|consolidate|unlink_chunk", name):
+        return "malloc"
+    return "bytes" if re.search("^_*(mem|str)", name) else "libc"
+
+
+def parts(bench):
+    """Where the time of pamsess goes, by samples of its run."""
+    if not shutil.which("perf"):
+        stop("there is no perf (linux-perf)")
+    print("| Microseconds of pamsess | whole | kernel | malloc and free | bytes cleared, copied, compared by the C library | other calls of the C library | program |")
+    print("|---|--:|--:|--:|--:|--:|--:|", flush=True)
+    for name, service, lines, starts, passes, *_ in CASES[:6]:
+        if (service, passes) == ("1000", 1):
+            continue
+        # (a script has 65,536 lines at most)
+        starts = min(10 * starts, 20000)
+        command = bench.ours(service, lines, starts, passes)
+        whole = bench.in_turns([command])[0][0] / starts
+        words = ["perf", "record", "-q", "-F", "8000", "-e", "cpu-clock", "-o", f"{bench.room}/perf", *command[1:]]
+        with open(command[0], "rb") as file:
+            subprocess.run(words, stdin=file, stdout=subprocess.DEVNULL, stderr=subprocess.DEVNULL, check=True)
+        words = ["perf", "report", "-q", "--stdio", "--sort", "dso,sym", "-i", f"{bench.room}/perf"]
+        report = subprocess.run(words, stdout=subprocess.PIPE, stderr=subprocess.DEVNULL, text=True, check=True).stdout
+        shares = dict.fromkeys(("kernel", "malloc", "bytes", "libc", "program"), 0.0)
+        for share, file, mode, symbol in re.findall(r"(?m)^ *([0-9.]+)% +(\S+) +\[(.)\] +(\S+)", report):
+            shares[part_of(mode, file, symbol)] += float(share)
+        total = sum(shares.values())
+        print(f"| {name} | {whole:,.1f} | " + " | ".join(f"{whole * share / total:,.1f}" for share in shares.values()) + " |", flush=True)
 
 
 def into_page(printed):

@@ -82,9 +82,10 @@ fn write_after(
 ) -> Result<(), NoMemory>
     requires bounded { AreBounded call.trees.now }
     ensures { OnOk result (string_bytes text.new ≡ string_bytes text.old
-        ++ call_after_text (stacks_in call.trees.now) call.sources.now call.number func
-        call.past.now (kept_answers first.now) (held_of call.held.now)
-        (telling (visits_in call.told.now))) }
+        ++ call_after_text (stacks_in call.entry.trees.now) call.entry.sources.now
+        call.entry.number func
+        call.entry.past.now (kept_answers first.now) (held_of call.entry.held.now)
+        (telling (visits_in call.entry.told.now))) }
 {
     if func != Func::ChAuthTok {
         return write_first(call, text, func);
@@ -97,8 +98,10 @@ fn write_after(
 fn write_change(call: Call, text: &mut String, first: &Option<Answers>) -> Result<(), NoMemory>
     requires bounded { AreBounded call.trees.now }
     ensures { OnOk result (string_bytes text.new ≡ string_bytes text.old
-        ++ change_text (stacks_in call.trees.now) call.sources.now call.number call.past.now
-        (kept_answers first.now) (held_of call.held.now) (telling (visits_in call.told.now))) }
+        ++ change_text (stacks_in call.entry.trees.now) call.entry.sources.now call.entry.number
+        call.entry.past.now
+        (kept_answers first.now) (held_of call.entry.held.now)
+        (telling (visits_in call.entry.told.now))) }
 {
     match first {
         Some(_) => write_second(call, text, first, 0, false),
@@ -110,8 +113,9 @@ fn write_change(call: Call, text: &mut String, first: &Option<Answers>) -> Resul
 fn write_first(call: Call, text: &mut String, func: Func) -> Result<(), NoMemory>
     requires bounded { AreBounded call.trees.now }
     ensures { OnOk result (string_bytes text.new ≡ string_bytes text.old
-        ++ first_text (stacks_in call.trees.now) call.sources.now call.number func call.past.now
-        (held_of call.held.now) (telling (visits_in call.told.now))) }
+        ++ first_text (stacks_in call.entry.trees.now) call.entry.sources.now call.entry.number
+        func call.entry.past.now
+        (held_of call.entry.held.now) (telling (visits_in call.entry.told.now))) }
 {
     match func {
         Func::Authenticate => write_auth(call, text, func, PassKind::Keep),
@@ -143,9 +147,10 @@ fn following(kept: &Option<Answers>) -> PassKind
 fn write_auth(call: Call, text: &mut String, func: Func, kind: PassKind) -> Result<(), NoMemory>
     requires bounded { AreBounded call.trees.now }
     ensures { OnOk result (string_bytes text.new ≡ string_bytes text.old
-        ++ run_text (stacks_in call.trees.now) call.sources.now call.number func RuleType.Auth
-        (stacks_in call.trees.now).auth kind (held_of call.held.now).authenticated
-        call.past.now (telling (visits_in call.told.now))) }
+        ++ run_text (stacks_in call.entry.trees.now) call.entry.sources.now call.entry.number func
+        RuleType.Auth
+        (stacks_in call.entry.trees.now).auth kind (held_of call.entry.held.now).authenticated
+        call.entry.past.now (telling (visits_in call.entry.told.now))) }
 {
     let kept = &call.held.authenticated;
     write_stack(call, text, func, RuleType::Auth, kind, kept, 0, false)
@@ -155,9 +160,11 @@ fn write_auth(call: Call, text: &mut String, func: Func, kind: PassKind) -> Resu
 fn write_session(call: Call, text: &mut String, func: Func, kind: PassKind) -> Result<(), NoMemory>
     requires bounded { AreBounded call.trees.now }
     ensures { OnOk result (string_bytes text.new ≡ string_bytes text.old
-        ++ run_text (stacks_in call.trees.now) call.sources.now call.number func RuleType.Session
-        (stacks_in call.trees.now).session kind (held_of call.held.now).opened call.past.now
-        (telling (visits_in call.told.now))) }
+        ++ run_text (stacks_in call.entry.trees.now) call.entry.sources.now call.entry.number func
+        RuleType.Session
+        (stacks_in call.entry.trees.now).session kind (held_of call.entry.held.now).opened
+        call.entry.past.now
+        (telling (visits_in call.entry.told.now))) }
 {
     let kept = &call.held.opened;
     write_stack(call, text, func, RuleType::Session, kind, kept, 0, false)
@@ -176,9 +183,10 @@ fn write_stack(
 ) -> Result<(), NoMemory>
     requires few { lines_in (stack_of (nodes_in call.trees.now stack).vec.items) ≤ 4096 }
     ensures { OnOk result (string_bytes text.new ≡ string_bytes text.old
-        ++ run_text (stacks_in call.trees.now) call.sources.now call.number func stack
-        (stack_of (nodes_in call.trees.now stack).vec.items) kind (kept_answers follows.now)
-        call.past.now (telling_from call.told.now next astray)) }
+        ++ run_text (stacks_in call.entry.trees.now) call.entry.sources.now call.entry.number func
+        stack
+        (stack_of (nodes_in call.entry.trees.now stack).vec.items) kind (kept_answers follows.now)
+        call.entry.past.now (telling_from call.entry.told.now next astray)) }
 {
     let run = Run {
         kind,
@@ -195,8 +203,9 @@ fn write_stack(
 fn write_check(call: Call, text: &mut String) -> Result<(), NoMemory>
     requires bounded { AreBounded call.trees.now }
     ensures { OnOk result ((h : Holding) → string_bytes text.new ≡ string_bytes text.old
-        ++ check_text (stacks_in call.trees.now) call.sources.now call.number call.past.now h
-        (telling (visits_in call.told.now))) }
+        ++ check_text (stacks_in call.entry.trees.now) call.entry.sources.now call.entry.number
+        call.entry.past.now h
+        (telling (visits_in call.entry.told.now))) }
 {
     let (func, stack, kind) = (Func::ChAuthTok, RuleType::Password, PassKind::Keep);
     write_stack(call, text, func, stack, kind, &None, 0, false)?;
@@ -226,8 +235,9 @@ fn write_second(
 ) -> Result<(), NoMemory>
     requires bounded { AreBounded call.trees.now }
     ensures { OnOk result (string_bytes text.new ≡ string_bytes text.old
-        ++ second_text (stacks_in call.trees.now) call.sources.now call.number
-        (kept_answers first.now) call.past.now (telling_from call.told.now next astray)) }
+        ++ second_text (stacks_in call.entry.trees.now) call.entry.sources.now call.entry.number
+        (kept_answers first.now) call.entry.past.now
+        (telling_from call.entry.told.now next astray)) }
 {
     let (stack, kind) = (RuleType::Password, PassKind::Follow);
     write_stack(

@@ -36,8 +36,9 @@ pub fn rows_of(
 ) -> Result<Rows, NoMemory>
     requires few { lines_in (stack_of nodes.now.vec.items) ≤ 4096 }
     ensures { IfOk result (λ rows. rows
-        ≡ pass_rows run.kind (answers_held (kept_answers run.follows.now))
-        (stack_of nodes.now.vec.items) run.past.now (telling_from run.told.now next astray)) }
+        ≡ pass_rows run.entry.kind (answers_held (kept_answers run.entry.follows.now))
+        (stack_of nodes.now.vec.items) run.entry.past.now
+        (telling_from run.entry.told.now next astray)) }
 {
     let mut replay = begun(alloc, next, astray);
     let mut rows = Rows::new(alloc);

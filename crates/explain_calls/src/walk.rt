@@ -86,22 +86,23 @@ fn walk_line(
 ) -> Result<Option<Turn>, NoMemory>
     requires few { replay.old.at < 4096 }
     ensures goes { IfOk result (λ turn. (rest : Stack) → count rest ≡ left →
-        walk run.kind (serving run.kind (answers_held (kept_answers run.follows.now)) replaying)
+        walk run.entry.kind
+        (serving run.entry.kind (answers_held (kept_answers run.entry.follows.now)) replaying)
         0 (line rule.now rest) (replay.old.at + 1) entry opinion
-        (state_in run.past.now run.told.now replay.old)
-        ≡ after_turn run.kind
-        (serving run.kind (answers_held (kept_answers run.follows.now)) replaying)
+        (state_in run.entry.past.now run.entry.told.now replay.old)
+        ≡ after_turn run.entry.kind
+        (serving run.entry.kind (answers_held (kept_answers run.entry.follows.now)) replaying)
         rest (replay.old.at + 1 + 1) entry opinion turn
-        (state_in run.past.now run.told.now replay.new)) }
+        (state_in run.entry.past.now run.entry.told.now replay.new)) }
     ensures shows { IfOk result (λ turn. (rest : Stack) → count rest ≡ left →
-        shown.old ++ rows run.kind
-        (serving run.kind (answers_held (kept_answers run.follows.now)) replaying)
+        shown.old ++ rows run.entry.kind
+        (serving run.entry.kind (answers_held (kept_answers run.entry.follows.now)) replaying)
         0 why (line rule.now rest) (replay.old.at + 1) entry opinion
-        (state_in run.past.now run.told.now replay.old)
-        ≡ shown.new ++ rows_behind run.kind
-        (serving run.kind (answers_held (kept_answers run.follows.now)) replaying)
+        (state_in run.entry.past.now run.entry.told.now replay.old)
+        ≡ shown.new ++ rows_behind run.entry.kind
+        (serving run.entry.kind (answers_held (kept_answers run.entry.follows.now)) replaying)
         rest (replay.old.at + 1 + 1) entry turn
-        (state_in run.past.now run.told.now replay.new)) }
+        (state_in run.entry.past.now run.entry.told.now replay.new)) }
     ensures at { OnOk result (replay.new.at ≡ replay.old.at + 1) }
 {
     let Some(answer) = next_answer(rule, run.past, run.told, replay)? else {
@@ -141,14 +142,15 @@ pub fn walk_nodes(
 ) -> Result<Option<Opinion>, NoMemory>
     requires few { replay.old.at + lines_in (stack_of nodes.now.vec.items) ≤ 4096 }
     ensures comes { IfOk result (λ end. WalkEnds
-        (walk run.kind (serving run.kind (answers_held (kept_answers run.follows.now)) replaying)
+        (walk run.entry.kind
+        (serving run.entry.kind (answers_held (kept_answers run.entry.follows.now)) replaying)
         0 (stack_of nodes.now.vec.items) (replay.old.at + 1) entry entry
-        (state_in run.past.now run.told.now replay.old))
-        end (state_in run.past.now run.told.now replay.new)) }
-    ensures shows { OnOk result (shown.new ≡ shown.old ++ rows run.kind
-        (serving run.kind (answers_held (kept_answers run.follows.now)) replaying)
+        (state_in run.entry.past.now run.entry.told.now replay.old))
+        end (state_in run.entry.past.now run.entry.told.now replay.new)) }
+    ensures shows { OnOk result (shown.new ≡ shown.old ++ rows run.entry.kind
+        (serving run.entry.kind (answers_held (kept_answers run.entry.follows.now)) replaying)
         0 reason (stack_of nodes.now.vec.items) (replay.old.at + 1) entry entry
-        (state_in run.past.now run.told.now replay.old)) }
+        (state_in run.entry.past.now run.entry.told.now replay.old)) }
     ensures at { OnOk result (replay.new.at
         ≡ replay.old.at + lines_in (stack_of nodes.now.vec.items)) }
 {

@@ -7,7 +7,6 @@ mod last;
 pub mod laws;
 mod line;
 mod names;
-mod numbered;
 mod outcome;
 mod printed;
 mod quoted;

@@ -4,7 +4,6 @@ ghost use Rattle.report_reader.specs.Guess.{guessed_result, guessed_told, read_l
 
 use crate::form::Form;
 use crate::last::read_last;
-use crate::numbered::NumberedLine;
 use crate::outcome::read_result;
 use crate::told::{read_cleanup, read_message, read_missing, read_variable, read_visit, read_wait};
 use crate::words::{after_space, before_space, number_of};
@@ -42,34 +41,34 @@ fn read_numbered(
     if number > u64::from(u32::MAX) {
         return Ok(None);
     }
-    let number = number as u32;
-    let line = NumberedLine {
-        bytes: line,
-        number,
-        words,
-    };
-    read_words(alloc, line, word)
+    read_words(alloc, line, number as u32, word, words)
 }
 
 // Reads a line of a transaction, by its word.
-fn read_words(alloc: Global, line: NumberedLine, word: &[u8]) -> Result<Option<Form>, NoMemory>
+fn read_words(
+    alloc: Global,
+    line: &[u8],
+    number: u32,
+    word: &[u8],
+    words: &[u8],
+) -> Result<Option<Form>, NoMemory>
     ensures { Reads result
-        (told_or line.bytes.now line.number (guessed_told word.now line.words.now)
-        (guessed_result word.now line.words.now)) }
+        (told_or line.now number (guessed_told word.now words.now)
+        (guessed_result word.now words.now)) }
 {
     if word == b"say".as_slice() {
-        read_message(alloc, line)
+        read_message(alloc, line, number, words)
     } else if word == b"line".as_slice() {
-        read_visit(alloc, line)
+        read_visit(alloc, line, number, words)
     } else if word == b"clean".as_slice() {
-        read_cleanup(alloc, line)
+        read_cleanup(alloc, line, number, words)
     } else if word == b"wait".as_slice() {
-        read_wait(alloc, line)
+        read_wait(alloc, line, number, words)
     } else if word == b"note".as_slice() {
-        read_missing(alloc, line)
+        read_missing(alloc, line, number, words)
     } else if word == b"env".as_slice() {
-        read_variable(alloc, line)
+        read_variable(alloc, line, number, words)
     } else {
-        read_result(alloc, line, word)
+        read_result(alloc, line, number, word, words)
     }
 }

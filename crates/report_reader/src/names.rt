@@ -11,14 +11,14 @@ use crate::form::Spoken;
 use pam_base::{Code, FaultKind, Func, ScriptKind, Style, code_named};
 use script_lang::{Command, func_word};
 
-const STYLES: [Style; 4] = [
+const ALL_STYLES: [Style; 4] = [
     Style::EchoOff,
     Style::EchoOn,
     Style::ErrorMsg,
     Style::TextInfo,
 ];
 
-const FAULTS: [FaultKind; 16] = [
+const ALL_FAULTS: [FaultKind; 16] = [
     FaultKind::OpenBracket,
     FaultKind::NulByte,
     FaultKind::RuleTooLong,
@@ -37,14 +37,14 @@ const FAULTS: [FaultKind; 16] = [
     FaultKind::ReadFailed,
 ];
 
-const SCRIPT_KINDS: [ScriptKind; 4] = [
+const ALL_SCRIPT_FAULTS: [ScriptKind; 4] = [
     ScriptKind::BadWord,
     ScriptKind::BadNumeral,
     ScriptKind::LineTooLong,
     ScriptKind::TooManyLines,
 ];
 
-const FUNCS: [Func; 6] = [
+const ALL_FUNCS: [Func; 6] = [
     Func::Authenticate,
     Func::SetCred,
     Func::AcctMgmt,
@@ -53,7 +53,7 @@ const FUNCS: [Func; 6] = [
     Func::ChAuthTok,
 ];
 
-const SPOKEN: [Spoken; 16] = [
+const ALL_SPOKEN: [Spoken; 16] = [
     Spoken::Start,
     Spoken::End,
     Spoken::Run(Func::Authenticate),
@@ -83,9 +83,11 @@ pub fn code_in(word: &[u8]) -> Code
 pub fn style_in(number: u64) -> Style
     ensures { result ≡ guessed_style number }
 {
-    let mut styles = STYLES.iter().copied();
-    let style = styles.find(|style| u64::from(style.number()) == number);
-    style.unwrap_or(Style::TextInfo)
+    ALL_STYLES
+        .iter()
+        .copied()
+        .find(|style| u64::from(style.number()) == number)
+        .unwrap_or(Style::TextInfo)
 }
 
 /// The fault of a configuration that a word may name.
@@ -98,7 +100,10 @@ pub fn fault_in(word: &[u8]) -> FaultKind
 fn fault_named(word: &[u8]) -> Option<FaultKind>
     ensures { result ≡ find (λ kind. bytes_eq (fault_name kind) word.now) all_faults }
 {
-    FAULTS.iter().copied().find(|kind| is_fault(*kind, word))
+    ALL_FAULTS
+        .iter()
+        .copied()
+        .find(|kind| is_fault(*kind, word))
 }
 
 fn is_fault(kind: FaultKind, word: &[u8]) -> bool
@@ -117,8 +122,10 @@ pub fn script_fault_in(word: &[u8]) -> ScriptKind
 fn script_fault_named(word: &[u8]) -> Option<ScriptKind>
     ensures { result ≡ find (λ kind. bytes_eq (script_fault_name kind) word.now) all_script_faults }
 {
-    let mut kinds = SCRIPT_KINDS.iter().copied();
-    kinds.find(|kind| is_script_fault(*kind, word))
+    ALL_SCRIPT_FAULTS
+        .iter()
+        .copied()
+        .find(|kind| is_script_fault(*kind, word))
 }
 
 fn is_script_fault(kind: ScriptKind, word: &[u8]) -> bool
@@ -137,7 +144,7 @@ pub fn func_in(word: &[u8]) -> Func
 fn func_named(word: &[u8]) -> Option<Func>
     ensures { result ≡ find (λ kind. bytes_eq (word_of_func kind) word.now) all_funcs }
 {
-    FUNCS.iter().copied().find(|func| is_func(*func, word))
+    ALL_FUNCS.iter().copied().find(|func| is_func(*func, word))
 }
 
 fn is_func(func: Func, word: &[u8]) -> bool
@@ -157,7 +164,10 @@ fn spoken_named(word: &[u8]) -> Option<Spoken>
     ensures { result ≡ find (λ command. bytes_eq (command_word (command_of command)) word.now)
         all_spoken }
 {
-    SPOKEN.iter().copied().find(|it| is_spoken(*it, word))
+    ALL_SPOKEN
+        .iter()
+        .copied()
+        .find(|command| is_spoken(*command, word))
 }
 
 fn is_spoken(command: Spoken, word: &[u8]) -> bool

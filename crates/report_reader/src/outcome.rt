@@ -4,61 +4,84 @@ ghost use Rattle.report_reader.specs.Form.{Reads, command_of};
 ghost use Rattle.report_reader.specs.Guess.{guessed_result, guessed_shown, if_printed};
 ghost use Rattle.report_reader.specs.Says.{results};
 
-use crate::form::{Form, ReportedOutcome};
+use crate::form::{Form, ReportedOutcome, Spoken};
 use crate::names::{code_in, command_in};
-use crate::numbered::{AnswerLine, NumberedLine};
+use crate::printed::if_printed;
 use crate::shown::{
     read_already_open, read_answer, read_bad_number, read_count, read_not_open, read_refusal,
     read_set, read_unset,
 };
-use crate::words::before_space;
+use crate::words::{after_space, before_space};
 use pam_base::{Code, NoMemory, are_digits};
 use report_lines::write_code_result;
 use std::alloc::Global;
 
 /// Reads a result, by the line's word.
-pub fn read_result(alloc: Global, line: NumberedLine, word: &[u8]) -> Result<Option<Form>, NoMemory>
-    ensures { Reads result (if_printed line.bytes.now
-        (results line.number (guessed_result word.now line.words.now))) }
+pub fn read_result(
+    alloc: Global,
+    line: &[u8],
+    number: u32,
+    word: &[u8],
+    words: &[u8],
+) -> Result<Option<Form>, NoMemory>
+    ensures { Reads result
+        (if_printed line.now (results number (guessed_result word.now words.now))) }
 {
     if word == b"closed".as_slice() {
-        return read_closed(alloc, line, code_in(before_space(line.words)));
+        read_closed(alloc, line, number, code_in(before_space(words)))
+    } else {
+        read_shown(alloc, line, number, command_in(word), words)
     }
-    let command = command_in(word);
-    read_shown(alloc, AnswerLine { line, command })
 }
 
-fn read_closed(alloc: Global, line: NumberedLine, code: Code) -> Result<Option<Form>, NoMemory>
-    ensures { Reads result (if_printed line.bytes.now
-        (results line.number (closed_by_program code))) }
+fn read_closed(
+    alloc: Global,
+    line: &[u8],
+    number: u32,
+    code: Code,
+) -> Result<Option<Form>, NoMemory>
+    ensures { Reads result (if_printed line.now (results number (closed_by_program code))) }
 {
     let mut text = String::new(alloc);
-    write_code_result(&mut text, line.number, "closed", code)?;
-    Ok(line.if_result(text.as_str(), ReportedOutcome::Closed))
+    write_code_result(&mut text, number, "closed", code)?;
+    Ok(if_printed(
+        text.as_str(),
+        line,
+        Form::Result {
+            number,
+            outcome: ReportedOutcome::Closed,
+        },
+    ))
 }
 
 // Reads the result of a command, by the first of its words.
-fn read_shown(alloc: Global, answer: AnswerLine) -> Result<Option<Form>, NoMemory>
+fn read_shown(
+    alloc: Global,
+    line: &[u8],
+    number: u32,
+    command: Spoken,
+    words: &[u8],
+) -> Result<Option<Form>, NoMemory>
     ensures { Reads result
-        (if_printed answer.line.bytes.now (results answer.line.number
-        (answered (command_of answer.command) (guessed_shown answer.line.words.now)))) }
+        (if_printed line.now (results number
+        (answered (command_of command) (guessed_shown words.now)))) }
 {
-    let word = before_space(answer.line.words);
+    let word = before_space(words);
     if are_digits(word) {
-        read_count(alloc, answer)
+        read_count(alloc, line, number, command, word)
     } else if word == b"refused".as_slice() {
-        read_refusal(alloc, answer)
+        read_refusal(alloc, line, number, command, after_space(words))
     } else if word == b"set".as_slice() {
-        read_set(alloc, answer)
+        read_set(alloc, line, number, command, after_space(words))
     } else if word == b"unset".as_slice() {
-        read_unset(alloc, answer)
+        read_unset(alloc, line, number, command)
     } else if word == b"not".as_slice() {
-        read_not_open(alloc, answer)
+        read_not_open(alloc, line, number, command)
     } else if word == b"already".as_slice() {
-        read_already_open(alloc, answer)
+        read_already_open(alloc, line, number, command)
     } else if word == b"bad".as_slice() {
-        read_bad_number(alloc, answer)
+        read_bad_number(alloc, line, number, command)
     } else {
-        read_answer(alloc, answer)
+        read_answer(alloc, line, number, command, words)
     }
 }

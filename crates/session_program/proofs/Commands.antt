@@ -1,5 +1,5 @@
 -- What is said of each command, by what was proved of its run.
-use Rattle.std.proofs.Common.{◌≡◌, ◌≢◌, ◌⊎◌, inl, inr, ℕ, List, IsTrue, Option, Some, None, Result, Ok, Err, IfOk, refl, sym, ap, ◌∙◌, subst, arith}
+use Rattle.std.proofs.Common.{◌≡◌, ◌≢◌, ◌⊎◌, inl, inr, ℕ, List, IsTrue, Option, Some, None, Result, Ok, Err, IfOk, refl, sym, ap, ◌∙◌, subst, subst₂, arith}
 use Rattle.pam_base.specs.declared.fault.ScriptKind.{ScriptKind}
 use Rattle.pam_outside.specs.Counts.{RisesIf, Rose}
 use Rattle.pam_outside.specs.Streams.{SourceState, SinkState}
@@ -11,9 +11,9 @@ use Rattle.item_stream.specs.declared.ending.Stop.TheVariants.{NoMemory, WriteFa
 use Rattle.session_login.specs.session_run.specs.Reading.{WritesScript}
 use Rattle.session_login.specs.session_run.specs.State.{setting_of}
 use Rattle.session_wire.specs.frame_stream.specs.declared.fault.FrameFault.{FrameFault}
-use Rattle.session_program.specs.ByCommand.{Around, GoesBy, IfAllTold, Object, ReadCauses, ReadsNone, RunsSo, Setup, WiresSo, WriteCauses}
-use Rattle.session_check.specs.declared.finding.Found.{Found}
-use Rattle.session_check.specs.declared.finding.Found.TheVariants as founds
+use Rattle.session_program.specs.ByCommand.{Around, AuditsSo, ChecksSo, GeneratesSo, GoesBy, IfAllTold, LogsInSo, Object, ReadCauses, ReadsNone, RunsSo, Setup, TalliesSo, WiresSo}
+use Rattle.session_check.specs.declared.finding.Checked.{Checked}
+use Rattle.session_check.specs.declared.finding.Checked.TheVariants as founds
 use Rattle.session_generate.specs.declared.generating.Generated.{Generated}
 use Rattle.session_generate.specs.declared.generating.Generated.TheVariants as generations
 use Rattle.session_login.specs.declared.attempt.Verdict.{Verdict}
@@ -139,7 +139,7 @@ module _ {A : Type 0} where
 abbrev pub IsOther : ℕ → Type 0
 IsOther n = (n ≡ 2 → ⊥) × (n ≡ 5 → ⊥)
 
-check_other : (result : Result Found Stop) → IsOther (check_status result)
+check_other : (result : Result Checked Stop) → IsOther (check_status result)
 check_other (Ok founds.Configured) = (λ is. omega (arith, is), λ is. omega (arith, is))
 check_other (Ok founds.Refused) = (λ is. omega (arith, is), λ is. omega (arith, is))
 check_other (Err NoMemory) = (λ is. omega (arith, is), λ is. omega (arith, is))
@@ -191,52 +191,55 @@ module _ (status : ℕ) (input : Object SourceState) where
 
 -- ---- what was asked for is what was found
 
-module _ (command : Option Command) where
-  pub by_runs : (P : List ℕ → Type 0) (found root : List ℕ) → Some (runs found) ≡ command → command ≡ Some (runs root) → P found → P root
-  by_runs P found root is asked p =
-      let e : Some (runs found) ≡ Some (runs root) = is ∙ asked in
-      let a : found ≡ root = cc in
-      subst P a p
+module _ (command : Option Command) (status : ℕ) (setup : Setup) (world : Around) (input : Object SourceState) (output : Object SinkState) where
+  pub run_asked : (r root : List ℕ) → Some (runs r) ≡ command → command ≡ Some (runs root) → RunsSo r status setup world input output → RunsSo root status setup world input output
+  run_asked r root is asked so =
+      let e : Some (runs r) ≡ Some (runs root) = is ∙ asked in
+      let same : r ≡ root = cc in
+      subst (λ (x : List ℕ). RunsSo x status setup world input output) same so
 
-  pub by_wires : (P : List ℕ → Type 0) (found root : List ℕ) → Some (wires found) ≡ command → command ≡ Some (wires root) → P found → P root
-  by_wires P found root is asked p =
-      let e : Some (wires found) ≡ Some (wires root) = is ∙ asked in
-      let a : found ≡ root = cc in
-      subst P a p
+  pub wire_asked : (r root : List ℕ) → Some (wires r) ≡ command → command ≡ Some (wires root) → WiresSo r status setup world input output → WiresSo root status setup world input output
+  wire_asked r root is asked so =
+      let e : Some (wires r) ≡ Some (wires root) = is ∙ asked in
+      let same : r ≡ root = cc in
+      subst (λ (x : List ℕ). WiresSo x status setup world input output) same so
 
-  pub by_checks : (P : List ℕ → List ℕ → Type 0) (r s root service : List ℕ) → Some (checks r s) ≡ command → command ≡ Some (checks root service) → P r s → P root service
-  by_checks P r s root service is asked p =
-      let e : Some (checks r s) ≡ Some (checks root service) = is ∙ asked in
-      let a : r ≡ root = cc in
-      let b : s ≡ service = cc in
-      subst (λ (x : List ℕ). P x service) a (subst (P r) b p)
-
-  pub by_audits : (P : List ℕ → List ℕ → Type 0) (r s root service : List ℕ) → Some (audits r s) ≡ command → command ≡ Some (audits root service) → P r s → P root service
-  by_audits P r s root service is asked p =
+module _ (command : Option Command) (status : ℕ) (world : Around) (input : Object SourceState) (output : Object SinkState) where
+  pub audit_asked : (r s root service : List ℕ) → Some (audits r s) ≡ command → command ≡ Some (audits root service) → AuditsSo r s status world input output → AuditsSo root service status world input output
+  audit_asked r s root service is asked so =
       let e : Some (audits r s) ≡ Some (audits root service) = is ∙ asked in
-      let a : r ≡ root = cc in
-      let b : s ≡ service = cc in
-      subst (λ (x : List ℕ). P x service) a (subst (P r) b p)
+      let first : r ≡ root = cc in
+      let second : s ≡ service = cc in
+      subst₂ (λ (x y : List ℕ). AuditsSo x y status world input output) first second so
 
-  pub by_tallies : (P : List ℕ → List ℕ → Type 0) (r u root user : List ℕ) → Some (tallies r u) ≡ command → command ≡ Some (tallies root user) → P r u → P root user
-  by_tallies P r u root user is asked p =
-      let e : Some (tallies r u) ≡ Some (tallies root user) = is ∙ asked in
-      let a : r ≡ root = cc in
-      let b : u ≡ user = cc in
-      subst (λ (x : List ℕ). P x user) a (subst (P r) b p)
+module _ (command : Option Command) (status : ℕ) (world : Around) (output : Object SinkState) where
+  pub check_asked : (r s root service : List ℕ) → Some (checks r s) ≡ command → command ≡ Some (checks root service) → ChecksSo r s status world output → ChecksSo root service status world output
+  check_asked r s root service is asked so =
+      let e : Some (checks r s) ≡ Some (checks root service) = is ∙ asked in
+      let first : r ≡ root = cc in
+      let second : s ≡ service = cc in
+      subst₂ (λ (x y : List ℕ). ChecksSo x y status world output) first second so
 
-  pub by_generates : (P : ℕ → ℕ → Type 0) (m n seed lines : ℕ) → Some (generates m n) ≡ command → command ≡ Some (generates seed lines) → P m n → P seed lines
-  by_generates P m n seed lines is asked p =
-      let e : Some (generates m n) ≡ Some (generates seed lines) = is ∙ asked in
-      let a : m ≡ seed = cc in
-      let b : n ≡ lines = cc in
-      subst (λ (x : ℕ). P x lines) a (subst (P m) b p)
+  pub tally_asked : (r s root user : List ℕ) → Some (tallies r s) ≡ command → command ≡ Some (tallies root user) → TalliesSo r s status world output → TalliesSo root user status world output
+  tally_asked r s root user is asked so =
+      let e : Some (tallies r s) ≡ Some (tallies root user) = is ∙ asked in
+      let first : r ≡ root = cc in
+      let second : s ≡ user = cc in
+      subst₂ (λ (x y : List ℕ). TalliesSo x y status world output) first second so
 
-  pub by_logs_in : (P : List ℕ → List ℕ → Option (List ℕ) → Type 0) (r s : List ℕ) (u : Option (List ℕ)) (root service : List ℕ) (user : Option (List ℕ))
-      → Some (logs_in r s u) ≡ command → command ≡ Some (logs_in root service user) → P r s u → P root service user
-  by_logs_in P r s u root service user is asked p =
+module _ (command : Option Command) (status : ℕ) (setup : Setup) (world : Around) (output : Object SinkState) where
+  pub generate_asked : (r s seed lines : ℕ) → Some (generates r s) ≡ command → command ≡ Some (generates seed lines) → GeneratesSo r s status setup world output → GeneratesSo seed lines status setup world output
+  generate_asked r s seed lines is asked so =
+      let e : Some (generates r s) ≡ Some (generates seed lines) = is ∙ asked in
+      let first : r ≡ seed = cc in
+      let second : s ≡ lines = cc in
+      subst₂ (λ (x y : ℕ). GeneratesSo x y status setup world output) first second so
+
+  pub login_asked : (r s : List ℕ) (u : Option (List ℕ)) (root service : List ℕ) (user : Option (List ℕ)) → Some (logs_in r s u) ≡ command → command ≡ Some (logs_in root service user)
+      → LogsInSo r s u status setup world output → LogsInSo root service user status setup world output
+  login_asked r s u root service user is asked so =
       let e : Some (logs_in r s u) ≡ Some (logs_in root service user) = is ∙ asked in
-      let a : r ≡ root = cc in
-      let b : s ≡ service = cc in
-      let d : u ≡ user = cc in
-      subst (λ (x : List ℕ). P x service user) a (subst (λ (x : List ℕ). P r x user) b (subst (P r s) d p))
+      let first : r ≡ root = cc in
+      let second : s ≡ service = cc in
+      let third : u ≡ user = cc in
+      subst (λ (z : Option (List ℕ)). LogsInSo root service z status setup world output) third (subst₂ (λ (x y : List ℕ). LogsInSo x y u status setup world output) first second so)

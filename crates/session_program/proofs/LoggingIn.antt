@@ -7,14 +7,16 @@ use Rattle.pam_room.specs.State.{PlainWorld}
 use Rattle.session_check.specs.pam_library.specs.Slots.{PlainSlot}
 use Rattle.item_stream.specs.declared.ending.Stop.{Stop}
 use Rattle.session_generate.specs.declared.generating.Generated.{Generated}
-use Rattle.session_generate.specs.Generated.{Generates, generation}
+use Rattle.session_generate.specs.Generated.{Generates, IsEndOfGenerate, generation}
 use Rattle.session_login.specs.declared.attempt.Verdict.{Verdict}
+use Rattle.session_login.specs.Ends.{IsEndOfLogin}
 use Rattle.session_login.specs.Login.{login_of}
 use Rattle.item_stream.specs.declared.ending.Stop.TheVariants.{NoMemory}
 use Rattle.session_login.specs.Told.{LogsIn}
 use Rattle.session_login.specs.session_run.specs.Seen.{Seen}
 use Rattle.session_login.specs.session_run.specs.State.{Setting, setting_of, state_of}
 use Rattle.session_program.specs.ByCommand.{Around, LogsInSo, Object, Setup}
+use Rattle.session_program.specs.CleanedUp.{EndsGenerate, EndsLogin}
 use Rattle.session_program.specs.Generate.{GeneratesBy, IsGenerated, generate_status}
 use Rattle.session_program.specs.Login.{IsLogin, ShowsLogin, at_root, entry, login_status}
 use Rattle.session_program.specs.Opened.{IsOpened}
@@ -59,6 +61,13 @@ nothing_shown status p is = record {
   is = is;
   shows = record { text = []; written = sym (append-nil p.written); calls = omega arith; calls_ok = tt; says = tt };
 }
+
+-- the ends of a login and of a generation, by the status
+pub ends_login : (result : Result Verdict Stop) (status : ℕ) → status ≡ login_status result → (number ended : ℕ) → IsEndOfLogin result number ended → EndsLogin status number ended
+ends_login result status is number ended e = (result, is, e)
+
+pub ends_generate : (result : Result Generated Stop) (status : ℕ) → status ≡ generate_status result → (number ended : ℕ) → IsEndOfGenerate result number ended → EndsGenerate status number ended
+ends_generate result status is number ended e = (result, is, e)
 
 -- a login, over a library of a setup that gives the same
 pub logs_in_so : (root service : List ℕ) (user : Option (List ℕ)) (status : ℕ) (setup : Setup) (world : Around) (output : Object SinkState) (given : Setup) (s : Seen) (ends : List PlainSlot) (result : Result Verdict Stop)

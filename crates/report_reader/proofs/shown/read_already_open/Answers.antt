@@ -5,4 +5,4 @@ use Rattle.report_reader.specs.Says.{results}
 use Rattle.report_reader.proofs.shown.read_already_open.Goals as goal
 
 pub returns : goal.returns
-returns c = c.if_answer.ensures (results c.args.answer.line.number (answered (command_of c.args.answer.command) shows_already_open)) (sym c.in_ok-text.ensures ∙ sym c.as_str.ensures.value) (search rules)
+returns c = c.if_printed.ensures (results c.args.number (answered (command_of c.args.command) shows_already_open)) (sym c.in_ok-text.ensures ∙ sym c.as_str.ensures.value) (search rules)

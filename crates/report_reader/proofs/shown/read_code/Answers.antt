@@ -5,4 +5,4 @@ use Rattle.report_reader.specs.Says.{results}
 use Rattle.report_reader.proofs.shown.read_code.Goals as goal
 
 pub returns : goal.returns
-returns c = c.if_answer.ensures (results c.args.answer.line.number (answered (command_of c.args.answer.command) (shows_code c.args.code))) (search rules) (search rules)
+returns c = c.if_printed.ensures (results c.args.number (answered (command_of c.args.command) (shows_code c.args.code))) (search rules) (search rules)

@@ -5,4 +5,4 @@ use Rattle.report_reader.specs.Guess.{guessed_cleanup}
 use Rattle.report_reader.proofs.told.read_cleanup.Goals as goal
 
 pub returns : goal.returns
-returns c = c.if_told.ensures (tells c.args.line.number (told_cleanup (guessed_cleanup c.args.line.words.now))) (search rules) (search rules)
+returns c = c.if_printed.ensures (tells c.args.number (told_cleanup (guessed_cleanup c.args.words.now))) (search rules) (search rules)

@@ -4,4 +4,4 @@ use Rattle.report_reader.specs.Guess.{guessed_message}
 use Rattle.report_reader.proofs.told.read_message.Goals as goal
 
 pub returns : goal.returns
-returns c = c.if_told.ensures (tells c.args.line.number (guessed_message c.args.line.words.now)) (search rules) (search rules)
+returns c = c.if_printed.ensures (tells c.args.number (guessed_message c.args.words.now)) (search rules) (search rules)

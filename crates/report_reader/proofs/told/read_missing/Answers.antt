@@ -5,4 +5,4 @@ use Rattle.report_reader.specs.Words.{after_space, unquoted}
 use Rattle.report_reader.proofs.told.read_missing.Goals as goal
 
 pub returns : goal.returns
-returns c = c.if_told.ensures (tells c.args.line.number (told_missing (unquoted (after_space c.args.line.words.now)))) (search rules) (search rules)
+returns c = c.if_printed.ensures (tells c.args.number (told_missing (unquoted (after_space c.args.words.now)))) (search rules) (search rules)

@@ -5,4 +5,4 @@ use Rattle.report_reader.specs.Guess.{guessed_seen}
 use Rattle.report_reader.proofs.told.read_visit.Goals as goal
 
 pub returns : goal.returns
-returns c = c.if_told.ensures (tells c.args.line.number (told_visit (guessed_seen c.args.line.words.now))) (search rules) (search rules)
+returns c = c.if_printed.ensures (tells c.args.number (told_visit (guessed_seen c.args.words.now))) (search rules) (search rules)

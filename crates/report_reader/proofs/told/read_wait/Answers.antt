@@ -4,4 +4,4 @@ use Rattle.report_reader.specs.Guess.{guessed_wait}
 use Rattle.report_reader.proofs.told.read_wait.Goals as goal
 
 pub returns : goal.returns
-returns c = c.if_told.ensures (tells c.args.line.number (guessed_wait c.args.line.words.now)) (search rules) (search rules)
+returns c = c.if_printed.ensures (tells c.args.number (guessed_wait c.args.words.now)) (search rules) (search rules)

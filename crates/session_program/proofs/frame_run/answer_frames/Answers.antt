@@ -15,9 +15,9 @@ pub returns-in-Ok-clause-wire : goal.returns-in-Ok-clause-wire
 returns-in-Ok-clause-wire g c =
     wires_so _ _ _ _ _ _
     (λ number given source sink both. inl
-        (served _ _ _ _ _ _ _ _ _ _ _ number c.run_frames-result.result _ c.status_of_frames-in-Ok.ensures c.in-Ok.ensures.opened (c.reset_clock.ensures.told (c.library_under.ensures.tells ∙ both_left _ _ both))
-        (c.run_frames-result.ensures.answered number (c.in-Ok.ensures.opened.gives number given)
-        (both_true _ _ (c.in-Ok.ensures.opened.tells ∙ both_right _ _ both) (c.reset_clock.ensures.tells ∙ c.library_under.ensures.tells ∙ both_left _ _ both)) source sink)))
+    (served _ _ _ _ _ _ _ _ _ _ _ number c.run_frames-result.result _ c.status_of_frames-in-Ok.ensures c.in-Ok.ensures.opened (c.reset_clock.ensures.told (c.library_under.ensures.tells ∙ both_left _ _ both))
+    (c.run_frames-result.ensures.answered number (c.in-Ok.ensures.opened.gives number given)
+    (both_true _ _ (c.in-Ok.ensures.opened.tells ∙ both_right _ _ both) (c.reset_clock.ensures.tells ∙ c.library_under.ensures.tells ∙ both_left _ _ both)) source sink)))
     (c.run_frames-result.result, c.status_of_frames-in-Ok.ensures)
     (λ source. read_by _ _ c.status_of_frames-in-Ok.ensures _ _ (c.run_frames-result.ensures.reads source))
     (λ source. completes_by _ _ c.status_of_frames-in-Ok.ensures _ _ _ (c.run_frames-result.ensures.complete source))

@@ -2,7 +2,7 @@ use Rattle.std.proofs.Common.{◌∙◌, inr, refl, Err}
 use Rattle.item_stream.specs.declared.ending.Stop.TheVariants.{NoMemory}
 use Rattle.session_program.proofs.Alone.{nothing_written}
 use Rattle.session_program.proofs.Cleaning.{cleaned_up, nothing_to_clean, proceeds_too}
-use Rattle.session_program.proofs.LoggingIn.{generated}
+use Rattle.session_program.proofs.LoggingIn.{ends_generate, generated}
 use Rattle.session_program.proofs.Telling.{both_left, both_right, both_true}
 use Rattle.session_program.proofs.generation.generate_lines.Goals as goal
 
@@ -29,4 +29,4 @@ pub returns-in-Ok-clause-cleaned_up : goal.returns-in-Ok-clause-cleaned_up
 returns-in-Ok-clause-cleaned_up g c =
     rw c.in-Ok.ensures.players at
     (cleaned_up _ _ _ _ _ _ _ (c.proceeding_stands.ensures _) c.in-Ok.ensures.first refl
-    (proceeds_too _ _ (λ number ended is. (c.generate-generated.result, c.status_of_generate-in-Ok.ensures, is)) _ _ _ _ _ c.generate-generated.ensures.went.proceeds) c.generate-generated.ensures.none_open)
+    (proceeds_too _ _ (ends_generate c.generate-generated.result _ c.status_of_generate-in-Ok.ensures) _ _ _ _ _ c.generate-generated.ensures.went.proceeds) c.generate-generated.ensures.none_open)

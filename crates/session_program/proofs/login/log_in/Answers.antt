@@ -1,6 +1,6 @@
 use Rattle.std.proofs.Common.{◌∙◌, refl}
 use Rattle.session_program.proofs.Cleaning.{cleaned_at, nothing_since}
-use Rattle.session_program.proofs.LoggingIn.{logs_in_not, logs_in_so}
+use Rattle.session_program.proofs.LoggingIn.{ends_login, logs_in_not, logs_in_so}
 use Rattle.session_program.proofs.login.log_in.Goals as goal
 
 pub library_under-requires : goal.library_under-requires
@@ -22,5 +22,5 @@ returns-in-Ok-clause-login g c =
 pub returns-in-Ok-clause-cleaned_up : goal.returns-in-Ok-clause-cleaned_up
 returns-in-Ok-clause-cleaned_up g c =
     rw c.with_terminal-desk.ensures.players at
-    (cleaned_at _ _ (λ number ended is. (c.login-verdict.result, c.status_of_login-in-Ok.ensures, is)) _ _ _ _ _ _ (c.proceeding_stands.ensures _) c.in-Ok.ensures.opened refl refl refl
+    (cleaned_at _ _ (ends_login c.login-verdict.result _ c.status_of_login-in-Ok.ensures) _ _ _ _ _ _ (c.proceeding_stands.ensures _) c.in-Ok.ensures.opened refl refl refl
     c.login-verdict.ensures.went c.login-verdict.ensures.none_open)

@@ -1,12 +1,11 @@
-use Rattle.std.proofs.Common.{refl, subst, sym, ◌∙◌}
-use Rattle.session_program.specs.ByCommand.{AuditsSo, ChecksSo, GeneratesSo, LogsInSo, RunsSo, TalliesSo, WiresSo}
+use Rattle.std.proofs.Common.{refl, sym, ◌∙◌}
 use Rattle.session_program.proofs.Cleaning.{cleaned_as, nothing_cleaned, nothing_to_clean}
-use Rattle.session_program.proofs.Commands.{audit_not_two, by_audits, by_checks, by_generates, by_logs_in, by_runs, by_tallies, by_wires, check_is_other, generate_is_other, goes_reading, goes_unread, login_is_other, not_read, run_not_two, tally_is_other, wire_not_two}
+use Rattle.session_program.proofs.Commands.{audit_asked, audit_not_two, check_asked, check_is_other, generate_asked, generate_is_other, goes_reading, goes_unread, login_asked, login_is_other, not_read, run_asked, run_not_two, tally_asked, tally_is_other, wire_asked, wire_not_two}
 use Rattle.session_program.proofs.program.pamsess.Goals as goal
 
 pub returns-in-Some-Run-clause-run : goal.returns-in-Some-Run-clause-run
 returns-in-Some-Run-clause-run g c root asked =
-    by_runs _ (λ r. RunsSo r _ _ _ _ _) _ root (rw c.in-Some-Run.field-0-is at c.in-Some-Run.ensures) asked c.run.ensures.run
+    run_asked _ _ _ _ _ _ _ root (rw c.in-Some-Run.field-0-is at c.in-Some-Run.ensures) asked c.run.ensures.run
 
 pub returns-in-Some-Run-clause-command : goal.returns-in-Some-Run-clause-command
 returns-in-Some-Run-clause-command g c =
@@ -18,7 +17,7 @@ returns-in-Some-Run-clause-cleaned_up g c =
 
 pub returns-in-Some-Wire-clause-wire : goal.returns-in-Some-Wire-clause-wire
 returns-in-Some-Wire-clause-wire g c root asked =
-    by_wires _ (λ r. WiresSo r _ _ _ _ _) _ root (rw c.in-Some-Wire.field-0-is at c.in-Some-Wire.ensures) asked c.answer_frames.ensures.wire
+    wire_asked _ _ _ _ _ _ _ root (rw c.in-Some-Wire.field-0-is at c.in-Some-Wire.ensures) asked c.answer_frames.ensures.wire
 
 pub returns-in-Some-Wire-clause-command : goal.returns-in-Some-Wire-clause-command
 returns-in-Some-Wire-clause-command g c =
@@ -30,7 +29,7 @@ returns-in-Some-Wire-clause-cleaned_up g c =
 
 pub returns-in-Some-Check-clause-check : goal.returns-in-Some-Check-clause-check
 returns-in-Some-Check-clause-check g c root service asked =
-    by_checks _ (λ r s. ChecksSo r s _ _ _) _ _ root service (rw c.in-Some-Check.field-0-is at c.in-Some-Check.ensures) asked c.check_service.ensures.check
+    check_asked _ _ _ _ _ _ root service (rw c.in-Some-Check.field-0-is at c.in-Some-Check.ensures) asked c.check_service.ensures.check
 
 pub returns-in-Some-Check-clause-command : goal.returns-in-Some-Check-clause-command
 returns-in-Some-Check-clause-command g c =
@@ -46,7 +45,7 @@ returns-in-Some-Check-clause-cleaned_up g c =
 
 pub returns-in-Some-Tally-clause-tally : goal.returns-in-Some-Tally-clause-tally
 returns-in-Some-Tally-clause-tally g c root user asked =
-    by_tallies _ (λ r s. TalliesSo r s _ _ _) _ _ root user (rw c.in-Some-Tally.field-0-is at c.in-Some-Tally.ensures) asked c.tally_user.ensures.tally
+    tally_asked _ _ _ _ _ _ root user (rw c.in-Some-Tally.field-0-is at c.in-Some-Tally.ensures) asked c.tally_user.ensures.tally
 
 pub returns-in-Some-Tally-clause-command : goal.returns-in-Some-Tally-clause-command
 returns-in-Some-Tally-clause-command g c =
@@ -62,7 +61,7 @@ returns-in-Some-Tally-clause-cleaned_up g c =
 
 pub returns-in-Some-Audit-clause-audit : goal.returns-in-Some-Audit-clause-audit
 returns-in-Some-Audit-clause-audit g c root service asked =
-    by_audits _ (λ r s. AuditsSo r s _ _ _ _) _ _ root service (rw c.in-Some-Audit.field-0-is at c.in-Some-Audit.ensures) asked c.audit_service.ensures.audit
+    audit_asked _ _ _ _ _ _ _ root service (rw c.in-Some-Audit.field-0-is at c.in-Some-Audit.ensures) asked c.audit_service.ensures.audit
 
 pub returns-in-Some-Audit-clause-command : goal.returns-in-Some-Audit-clause-command
 returns-in-Some-Audit-clause-command g c =
@@ -74,7 +73,7 @@ returns-in-Some-Audit-clause-cleaned_up g c =
 
 pub returns-in-Some-Generate-clause-generate : goal.returns-in-Some-Generate-clause-generate
 returns-in-Some-Generate-clause-generate g c seed lines asked =
-    by_generates _ (λ r s. GeneratesSo r s _ _ _ _) _ _ seed lines (rw c.in-Some-Generate.field-0-is at c.in-Some-Generate.ensures) asked c.generate_lines.ensures.generate
+    generate_asked _ _ _ _ _ _ _ seed lines (rw c.in-Some-Generate.field-0-is at c.in-Some-Generate.ensures) asked c.generate_lines.ensures.generate
 
 pub returns-in-Some-Generate-clause-command : goal.returns-in-Some-Generate-clause-command
 returns-in-Some-Generate-clause-command g c =
@@ -90,7 +89,7 @@ returns-in-Some-Generate-clause-cleaned_up g c =
 
 pub returns-in-Some-Login-clause-login : goal.returns-in-Some-Login-clause-login
 returns-in-Some-Login-clause-login g c root service user asked =
-    by_logs_in _ (λ r s u. LogsInSo r s u _ _ _ _) _ _ _ root service user (rw c.in-Some-Login.field-0-is at c.in-Some-Login.ensures) asked c.log_in.ensures.login
+    login_asked _ _ _ _ _ _ _ _ root service user (rw c.in-Some-Login.field-0-is at c.in-Some-Login.ensures) asked c.log_in.ensures.login
 
 pub returns-in-Some-Login-clause-command : goal.returns-in-Some-Login-clause-command
 returns-in-Some-Login-clause-command g c =
@@ -106,7 +105,7 @@ returns-in-Some-Login-clause-cleaned_up g c =
 
 pub returns-in-Some-LoginAs-clause-login : goal.returns-in-Some-LoginAs-clause-login
 returns-in-Some-LoginAs-clause-login g c root service user asked =
-    by_logs_in _ (λ r s u. LogsInSo r s u _ _ _ _) _ _ _ root service user (rw c.in-Some-LoginAs.field-0-is at c.in-Some-LoginAs.ensures) asked c.log_in-in-Some-LoginAs.ensures.login
+    login_asked _ _ _ _ _ _ _ _ root service user (rw c.in-Some-LoginAs.field-0-is at c.in-Some-LoginAs.ensures) asked c.log_in-in-Some-LoginAs.ensures.login
 
 pub returns-in-Some-LoginAs-clause-command : goal.returns-in-Some-LoginAs-clause-command
 returns-in-Some-LoginAs-clause-command g c =

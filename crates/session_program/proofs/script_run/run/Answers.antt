@@ -14,10 +14,10 @@ pub returns-in-Ok-clause-run : goal.returns-in-Ok-clause-run
 returns-in-Ok-clause-run g c =
     runs_so _ _ _ _ _ _
     (λ number given source sink both. inl
-        (begun _ _ _ _ _ _ _ _ _ _ _ number c.run_script-result.result _ c.status_of-in-Ok.ensures c.in-Ok.ensures.opened (c.reset_clock.ensures.told (c.library_under.ensures.tells ∙ both_left _ _ both))
-        (c.numbers_stand_side_by_side.ensures.alone _) (c.numbers_stand_side_by_side.ensures.steps _)
-        (c.run_script-result.ensures.told number (c.in-Ok.ensures.opened.gives number given)
-        (both_true _ _ (c.in-Ok.ensures.opened.tells ∙ both_right _ _ both) (c.reset_clock.ensures.tells ∙ c.library_under.ensures.tells ∙ both_left _ _ both)) source sink)))
+    (begun _ _ _ _ _ _ _ _ _ _ _ number c.run_script-result.result _ c.status_of-in-Ok.ensures c.in-Ok.ensures.opened (c.reset_clock.ensures.told (c.library_under.ensures.tells ∙ both_left _ _ both))
+    (c.numbers_stand_side_by_side.ensures.alone _) (c.numbers_stand_side_by_side.ensures.steps _)
+    (c.run_script-result.ensures.told number (c.in-Ok.ensures.opened.gives number given)
+    (both_true _ _ (c.in-Ok.ensures.opened.tells ∙ both_right _ _ both) (c.reset_clock.ensures.tells ∙ c.library_under.ensures.tells ∙ both_left _ _ both)) source sink)))
     (c.run_script-result.result, c.status_of-in-Ok.ensures)
     (λ source. record { result = c.run_script-result.result; is = c.status_of-in-Ok.ensures; reads = c.run_script-result.ensures.reads source })
     c.run_script-result.ensures.writes
