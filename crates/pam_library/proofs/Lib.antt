@@ -22,5 +22,7 @@ pub mod Placewise
 pub mod Isolating
 pub mod Ordering
 pub mod Filing
+pub mod Gathering
+pub mod Coding
 mod Rows
 pub mod Quietly

@@ -28,7 +28,7 @@ use Rattle.pam_library.specs.Outcome.{PlainOutcome, plain_outcome, answers_only}
 use Rattle.pam_library.specs.Slots.{PlainSlot, opened}
 use Rattle.pam_library.specs.SlotStep.{SlotStepped, SlotStepsAs, answered, filed_in, is_refused_for_flags, other_pending, slot_step, stack_step, told_by, unless_pending}
 use Rattle.pam_library.specs.Sound.{IsPlaced}
-use Rattle.pam_library.specs.AnyWorld.{AnswersBy, CanAnswer, Fails, SpendsAt, StopsBy, is_free, needs_outside, refusal, stack_refusal, stays_inside, takes_no_memory}
+use Rattle.pam_library.specs.AnyWorld.{AnswersBy, CanAnswer, Fails, SpendsAt, StopsBy, is_free, leaves_world, needs_outside, refusal, stack_refusal, stays_inside, takes_no_memory, touches_world}
 use Rattle.pam_library.specs.InPlace.{GoesInPlace, stack_app_call}
 
 -- ---- the six calls
@@ -66,6 +66,14 @@ needs_is funcs.AcctMgmt flags = refl
 needs_is funcs.OpenSession flags = refl
 needs_is funcs.CloseSession flags = refl
 needs_is funcs.ChAuthTok flags = refl
+
+touches_is : (func : Func) (flags : ℕ) → touches_world (stack_app_call func flags) ≡ true
+touches_is funcs.Authenticate flags = refl
+touches_is funcs.SetCred flags = refl
+touches_is funcs.AcctMgmt flags = refl
+touches_is funcs.OpenSession flags = refl
+touches_is funcs.CloseSession flags = refl
+touches_is funcs.ChAuthTok flags = refl
 
 free_is : (func : Func) (flags : ℕ) → is_free (stack_app_call func flags) ≡ false
 free_is funcs.Authenticate flags = refl
@@ -160,6 +168,11 @@ inside_not : (func : Func) (flags : ℕ) (h : PlainHandle) → ◌≡◌ {A = Op
 inside_not func flags h none e =
     let r : refusal (Some (opened h)) (stack_app_call func flags) ≡ None = refusal_is func flags h ∙ none in
     inside_false (refusal (Some (opened h)) (stack_app_call func flags)) (needs_outside (stack_app_call func flags)) r (needs_is func flags) e
+
+pub world_not : (func : Func) (flags : ℕ) (h : PlainHandle) → ◌≡◌ {A = Option Answer} (stack_refusal h.pending func flags) None
+    → leaves_world (Some (opened h)) (stack_app_call func flags) ≡ true → ⊥
+world_not func flags h none e =
+    inside_false (refusal (Some (opened h)) (stack_app_call func flags)) (touches_world (stack_app_call func flags)) (refusal_is func flags h ∙ none) (touches_is func flags) e
 
 memory_not : (func : Func) (flags : ℕ) (h : PlainHandle) → ◌≡◌ {A = Option Answer} (stack_refusal h.pending func flags) None
     → takes_no_memory (Some (opened h)) (stack_app_call func flags) ≡ true → ⊥

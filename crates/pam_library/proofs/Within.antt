@@ -90,7 +90,7 @@ answers_by_none result call r e = subst (λ (s : Option Answer). IfOk result (λ
 filed_by : {E : Type 0} (result : Result Outcome E) (n m : ℕ) → n ≡ m → IfOk result (λ o. o.filed_from ≡ n) → IfOk result (λ o. o.filed_from ≡ m)
 filed_by result n m e = subst (λ (k : ℕ). IfOk result (λ o. o.filed_from ≡ k)) e
 
-pub failed_by : {E : Type 0} (result : Result Outcome E) (P Q : Type 0) → (P → Q) → OnErr result P → OnErr result Q
+pub failed_by : {T E : Type 0} (result : Result T E) (P Q : Type 0) → (P → Q) → OnErr result P → OnErr result Q
 failed_by (Ok o) P Q f p = p
 failed_by (Err e) P Q f p = f p
 

@@ -1,7 +1,8 @@
 -- The result of a call in one slot, in one record for the private functions that make it.
-use Rattle.std.specs.Prelude.{◌≡◌, ℕ, Bool, true, false, ◌&&◌, IsTrue, IsOk, OnErr, IfOk, List, Some, Result, Ok, Err, length}
+use Rattle.std.specs.Prelude.{◌≡◌, ℕ, Bool, true, false, ◌&&◌, IsTrue, IsOk, OnErr, IfOk, List, [], Some, Result, Ok, Err, length}
 use Rattle.pam_base.specs.declared.code.Code.{Code}
 use Rattle.pam_base.specs.declared.code.Code.TheVariants as codes
+use Rattle.pam_base.specs.declared.fault.BadItem.{BadItem}
 use Rattle.pam_base.specs.declared.fault.Refuse.{Refuse}
 use Rattle.pam_base.specs.declared.fault.Refuse.TheVariants as refusals
 use Rattle.pam_base.specs.declared.call.Func.{Func}
@@ -15,8 +16,10 @@ use Rattle.pam_handle.specs.pam_room.specs.Module.{Player, notes_of}
 use Rattle.pam_handle.specs.pam_room.specs.State.{PlainWorld, PlainProcess}
 use Rattle.pam_handle.specs.pam_room.specs.Stays.{IsReady}
 use Rattle.pam_handle.specs.Handle.{PlainHandle}
-use Rattle.pam_handle.specs.Items.{missing_from}
+use Rattle.pam_handle.specs.Items.{all_told, missing_from}
+use Rattle.pam_handle.specs.Ready.{IsReadyFor}
 use Rattle.pam_library.specs.declared.outcome.Outcome.{Outcome}
+use Rattle.pam_library.specs.declared.outcome.Answer.{Answer}
 use Rattle.pam_library.specs.declared.outcome.Answer.TheVariants as answers
 use Rattle.pam_library.specs.Outcome.{PlainOutcome, answers_only, plain_outcome}
 use Rattle.pam_library.specs.Slots.{PlainSlot, closed, opened, data_in}
@@ -53,21 +56,65 @@ pub record GoesInPlace (players : List Player) (gives : (Code → ℕ → ℕ) �
   pub root : after.process.root ≡ before.process.root
   pub caller : after.process.caller ≡ before.process.caller
 
--- A step in a slot, with the world before and after it: its result, and what it leaves of the world. The two functions
--- say whether a world is modelled and what it holds; `tells` and `faults`, whether the slot's conversation is modelled
--- and the file store's count of failures.
-pub record StepsPlace {World : Type 0} (players : List Player) (gives : (Code → ℕ → ℕ) → Type 0)
-    (number : ℕ) (call : AppCall) (world_tell : World → Bool) (plain_world : World → PlainWorld)
-    (tells : Bool) (old : PlainSlot) (before : World) (faults : ℕ)
-    (result : Result Outcome NoMemory)
-    (tells_after : Bool) (new : PlainSlot) (after : World) (faults_after : ℕ) : Type 0 where
-  pub still_tells : tells_after ≡ tells
-  pub world_tells : world_tell after ≡ world_tell before
-  pub goes : GoesInPlace players gives tells (world_tell before) number call old
-      (plain_world before) result new (plain_world after)
-  pub world : leaves_world (Some old) call ≡ true → after ≡ before
-  pub counts : IfOk result (λ o. CountsRefusal o.answer faults faults_after)
-  pub hides_none : OnErr result (HidesNoFault call faults faults_after)
+-- what a step in one slot works with: the modules and the delay function, the slot and the world, whether the slot's
+-- conversation is modelled, and the objects of the world, and the file store's count of failed accesses
+pub record SlotSeen : Type 1 where
+  pub players : List Player
+  pub gives : (Code → ℕ → ℕ) → Type 0
+  pub slot : PlainSlot
+  pub world : PlainWorld
+  pub tells : Bool
+  pub world_tells : Bool
+  pub faults : ℕ
+
+-- the slot of a number may be called
+pub record MayStep (number : ℕ) (s : SlotSeen) : Type 0 where
+  pub placed : IsAtPlace (names_of s.players) number s.slot
+  pub ready : IsReadyAt (length s.players) s.slot s.world.process
+
+-- an open transaction may be called with these modules, whatever its number
+abbrev pub IsReadyWith : List Player → PlainSlot → PlainProcess → Type 0
+IsReadyWith players (closed conv) process = Unit {0}
+IsReadyWith players (opened h) process = IsReadyFor players h process
+
+abbrev pub IsReadyIn : SlotSeen → Type 0
+IsReadyIn s = IsReadyWith s.players s.slot s.world.process
+
+-- a transaction without anything to report
+abbrev pub IsToldAll : PlainHandle → Type 0
+IsToldAll h = h ≡ all_told h
+
+abbrev pub HasNoData : PlainHandle → Type 0
+HasNoData h = h.room.transaction.datums.live ≡ []
+
+-- A call in the slot of a number, with the world before and after it: its result, and what it leaves of the world.
+pub record CallsPlace {World : Type 0} (number : ℕ) (call : AppCall) (old : SlotSeen)
+    (before : World) (result : Result Outcome NoMemory) (new : SlotSeen) (after : World)
+    : Type 0 where
+  pub still_tells : new.tells ≡ old.tells
+  pub world_tells : new.world_tells ≡ old.world_tells
+  pub goes : GoesInPlace old.players old.gives old.tells old.world_tells number call old.slot
+      old.world result new.slot new.world
+  pub world : leaves_world (Some old.slot) call ≡ true → after ≡ before
+
+-- the number of the transaction in a slot
+abbrev pub number_in : PlainSlot → ℕ
+number_in (closed conv) = 0
+number_in (opened h) = h.room.transaction.handle
+
+-- a call on an open transaction, whatever its number
+abbrev pub CallsOpen : {World : Type 0} → AppCall → SlotSeen → World → Result Outcome NoMemory
+    → SlotSeen → World → Type 0
+CallsOpen call old before result new after =
+    CallsPlace (number_in old.slot) call old before result new after
+
+-- A step, which may be a start: a call that counts failed accesses as its result says.
+pub record StepsPlace {World : Type 0} (number : ℕ) (call : AppCall) (old : SlotSeen)
+    (before : World) (result : Result Outcome NoMemory) (new : SlotSeen) (after : World)
+    : Type 0 where
+  pub calls : CallsPlace number call old before result new after
+  pub counts : IfOk result (λ o. CountsRefusal o.answer old.faults new.faults)
+  pub hides_none : OnErr result (HidesNoFault call old.faults new.faults)
 
 -- A call that stays inside an open transaction without anything to report: its result is exact with real objects too.
 pub record GoesInside (call : AppCall) (filed : ℕ) (old : PlainHandle)
@@ -83,6 +130,21 @@ pub record GoesInside (call : AppCall) (filed : ℕ) (old : PlainHandle)
   pub datums : new.room.transaction.datums ≡ old.room.transaction.datums
   pub handle : new.room.transaction.handle ≡ old.room.transaction.handle
   pub names : new.names ≡ old.names
+
+-- an outcome has nothing to report except its answer
+pub record SaysOnly (filed : ℕ) (answer : Answer) (o : Outcome) : Type 0 where
+  pub outcome_is : plain_outcome o ≡ answers_only filed answer
+  pub answer_is : o.answer ≡ answer
+  pub filed_is : o.filed_from ≡ filed
+
+-- a call that sets something returned SUCCESS, or BAD_ITEM if it was refused; or memory ran out
+abbrev pub IsCoded : ℕ → Result (Unit {0}) (Refuse BadItem) → Result Outcome NoMemory → Type 0
+IsCoded filed (Ok done) (Ok o) = SaysOnly filed (answers.Code codes.Success) o
+IsCoded filed (Ok done) (Err e) = ⊥
+IsCoded filed (Err (refusals.Named item)) (Ok o) = SaysOnly filed (answers.Code codes.BadItem) o
+IsCoded filed (Err (refusals.Named item)) (Err e) = ⊥
+IsCoded filed (Err refusals.NoMemory) (Ok o) = ⊥
+IsCoded filed (Err refusals.NoMemory) (Err e) = Unit {0}
 
 -- the application's call of a stack function
 abbrev pub stack_app_call : Func → ℕ → AppCall
@@ -123,13 +185,8 @@ IsOpened filed h (Ok o) slot = OpensPlace filed h o slot
 IsOpened filed h (Err e) slot = slot ≡ closed h.room.conv
 
 -- a start was refused by a fault of the configuration, or ran out of memory
-pub record RefusesPlace (filed : ℕ) (fault : LoadFault) (o : Outcome) : Type 0 where
-  pub outcome_is : plain_outcome o ≡ answers_only filed (answers.Refused fault)
-  pub answer_is : o.answer ≡ answers.Refused fault
-  pub filed_is : o.filed_from ≡ filed
-
 abbrev pub IsRefused : ℕ → Refuse LoadFault → Result Outcome NoMemory → Type 0
-IsRefused filed (refusals.Named fault) (Ok o) = RefusesPlace filed fault o
+IsRefused filed (refusals.Named fault) (Ok o) = SaysOnly filed (answers.Refused fault) o
 IsRefused filed (refusals.Named fault) (Err e) = ⊥
 IsRefused filed refusals.NoMemory (Ok o) = ⊥
 IsRefused filed refusals.NoMemory (Err e) = Unit {0}

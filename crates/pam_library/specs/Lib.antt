@@ -18,3 +18,5 @@ pub mod Calls
 pub mod Plain
 pub mod InPlace
 pub mod Plays
+pub mod Seen
+pub mod Applied

@@ -1,25 +1,19 @@
-ghost use Rattle.std.specs.Prelude.{◌≡◌, ◌&&◌, ℕ, true, IfOk, IsOk, OnErr, IsTrue, length};
+ghost use Rattle.std.specs.Prelude.{◌≡◌, ℕ, true, IfOk, IsOk, OnErr, IsTrue};
 ghost use Rattle.pam_base.specs.declared.code.Code.{Code};
-ghost use Rattle.data_due.specs.Moves.{Moves};
-ghost use Rattle.pam_handle.specs.pam_room.specs.Module.{notes_of};
-ghost use Rattle.pam_handle.specs.Plain.{in_box};
-ghost use Rattle.pam_library.specs.Outcome.{plain_outcome};
-ghost use Rattle.pam_library.specs.Slots.{handle_limit, lists_of, slot_at};
-ghost use Rattle.pam_library.specs.Sound.{IsSoundFor};
 ghost use Rattle.pam_base.specs.Call.{is_fit};
-ghost use Rattle.pam_library.specs.Step.{StepsAs, stepped};
-ghost use Rattle.pam_library.specs.AnyWorld.{AnswersBy, CountsRefusal, FailsAt, HidesNoFault, SpendsAt, StopsAt, end_at, leaves_world, refusal, stays_inside, takes_no_memory};
+ghost use Rattle.pam_library.specs.AnyWorld.{leaves_world, stays_inside, takes_no_memory};
+ghost use Rattle.pam_library.specs.Applied.{Answers, Keeps, LeavesIn, RunsOut, StepsIn, ended_by};
+ghost use Rattle.pam_library.specs.Seen.{AllTell, IsSoundIn, slot_of};
 
 use crate::laws;
-use crate::library::{Library, LibraryTold};
+use crate::library::Library;
 use crate::outcome::{Answer, Outcome};
 use crate::place::put_back;
+use crate::session::{Session, Told};
 use crate::slot::Stepped;
 use crate::world::receipts_in;
-use fail_delay::{DelayFn, DelayTold};
 use pam_base::{NoMemory, Step};
-use pam_handle::pam_room::{World, WorldTold};
-use pam_handle::{Gear, GearTold};
+use pam_handle::pam_room::World;
 use std::alloc::Global;
 
 impl Library {
@@ -50,93 +44,41 @@ impl Library {
         world: &mut World,
         step: &Step,
     ) -> Result<Outcome, NoMemory>
-        requires sound { IsSoundFor (⟦<Gear as GearTold>⟧.players (gear_in self.old))
-            (⟦<Library as LibraryTold>⟧.slots self.old)
-            (⟦<World as WorldTold>⟧.plain world.old).process.ledger }
+        requires sound { IsSoundIn (⟦<Session as Told>⟧.seen self.old world.old) }
         requires fit { IsTrue (is_fit step.now.call) }
 
         // With real objects, with every result, and out of memory too.
-        ensures sound { IsSoundFor (⟦<Gear as GearTold>⟧.players (gear_in self.new))
-            (⟦<Library as LibraryTold>⟧.slots self.new)
-            (⟦<World as WorldTold>⟧.plain world.new).process.ledger }
         ensures gear { gear_in self.new ≡ gear_in self.old }
-        ensures tells { ⟦<Library as LibraryTold>⟧.tells self.new
-            ≡ ⟦<Library as LibraryTold>⟧.tells self.old }
-        ensures world_tells { ⟦<World as WorldTold>⟧.tells world.new
-            ≡ ⟦<World as WorldTold>⟧.tells world.old }
-        ensures others { (number : ℕ) → (number ≡ step.now.number → ⊥) →
-            slot_at (⟦<Library as LibraryTold>⟧.slots self.new) number
-            ≡ slot_at (⟦<Library as LibraryTold>⟧.slots self.old) number }
-        ensures spends { SpendsAt (notes_of (⟦<Gear as GearTold>⟧.players (gear_in self.old)))
-            (length (⟦<Gear as GearTold>⟧.players (gear_in self.old)))
-            (slot_at (⟦<Library as LibraryTold>⟧.slots self.old) step.now.number) step.now.call
-            (lists_of (⟦<Library as LibraryTold>⟧.slots self.old) step.now.number)
-            (⟦<World as WorldTold>⟧.plain world.old).process.ledger
-            (lists_of (⟦<Library as LibraryTold>⟧.slots self.new) step.now.number)
-            (⟦<World as WorldTold>⟧.plain world.new).process.ledger }
-        ensures moves { Moves (notes_of (⟦<Gear as GearTold>⟧.players (gear_in self.old)))
-            handle_limit
-            (end_at (slot_at (⟦<Library as LibraryTold>⟧.slots self.old) step.now.number)
-            step.now.number step.now.call)
-            (⟦<World as WorldTold>⟧.plain world.old).process.ledger
-            (lists_of (⟦<Library as LibraryTold>⟧.slots self.old))
-            (⟦<World as WorldTold>⟧.plain world.new).process.ledger
-            (lists_of (⟦<Library as LibraryTold>⟧.slots self.new)) }
-        ensures root { (⟦<World as WorldTold>⟧.plain world.new).process.root
-            ≡ (⟦<World as WorldTold>⟧.plain world.old).process.root }
-        ensures caller { (⟦<World as WorldTold>⟧.plain world.new).process.caller
-            ≡ (⟦<World as WorldTold>⟧.plain world.old).process.caller }
-        ensures world { leaves_world (slot_at (⟦<Library as LibraryTold>⟧.slots self.old)
-            step.now.number) step.now.call ≡ true → world.new ≡ world.old }
+        ensures keeps { let seen = ⟦<Session as Told>⟧.seen in
+            Keeps (ended_by step.now (seen self.old world.old)) (seen self.old world.old)
+            (seen self.new world.new) }
+        ensures leaves { let seen = ⟦<Session as Told>⟧.seen in
+            LeavesIn step.now (seen self.old world.old) (seen self.new world.new) }
+        ensures world { leaves_world
+            (slot_of step.now (⟦<Session as Told>⟧.seen self.old world.old)) step.now.call ≡ true →
+            world.new ≡ world.old }
 
-        // The result, with real objects too: by number, slot and pending call, else one of those that the call has.
-        ensures answer { IfOk result (λ outcome. AnswersBy
-            (refusal
-            (slot_at (⟦<Library as LibraryTold>⟧.slots self.old) step.now.number) step.now.call)
-            step.now.call outcome.answer) }
-        ensures filed_from { IfOk result (λ outcome. outcome.filed_from
-            ≡ length (⟦<World as WorldTold>⟧.plain world.old).process.ledger.filed) }
-        ensures faults { IfOk result (λ outcome. CountsRefusal outcome.answer
-            (vault_faults (in_box world.old.vault)) (vault_faults (in_box world.new.vault))) }
+        // The outcome, with real objects too: by number, slot and pending call, else one of those that the call has.
+        ensures answers { let seen = ⟦<Session as Told>⟧.seen in IfOk result (λ outcome.
+            Answers step.now (seen self.old world.old) (seen self.new world.new) outcome) }
 
         // The result of a step: with real objects too if it uses nothing outside, else if everything that it uses is
         // modelled.
-        ensures inside { (number_of : Code → ℕ → ℕ) →
-            stays_inside
-            (slot_at (⟦<Library as LibraryTold>⟧.slots self.old) step.now.number) step.now.call
-            ≡ true →
-            IfOk result (λ outcome. StepsAs
-            (stepped (⟦<Gear as GearTold>⟧.players (gear_in self.old)) number_of
-            (⟦<Library as LibraryTold>⟧.slots self.old)
-            (⟦<World as WorldTold>⟧.plain world.old) step.now)
-            (plain_outcome outcome) (⟦<Library as LibraryTold>⟧.slots self.new)
-            (⟦<World as WorldTold>⟧.plain world.new)) }
-        ensures told { (number_of : Code → ℕ → ℕ) →
-            ⟦<DelayFn as DelayTold>⟧.delay_is (gear_in self.old).delay number_of →
-            IsTrue (⟦<Library as LibraryTold>⟧.tells self.old
-            && ⟦<World as WorldTold>⟧.tells world.old) →
-            IfOk result (λ outcome. StepsAs
-            (stepped (⟦<Gear as GearTold>⟧.players (gear_in self.old)) number_of
-            (⟦<Library as LibraryTold>⟧.slots self.old)
-            (⟦<World as WorldTold>⟧.plain world.old) step.now)
-            (plain_outcome outcome) (⟦<Library as LibraryTold>⟧.slots self.new)
-            (⟦<World as WorldTold>⟧.plain world.new)) }
+        ensures inside { let seen = ⟦<Session as Told>⟧.seen in (delay : Code → ℕ → ℕ) →
+            stays_inside (slot_of step.now (seen self.old world.old)) step.now.call ≡ true →
+            IfOk result (λ outcome. StepsIn delay step.now (seen self.old world.old)
+            (seen self.new world.new) outcome) }
+        ensures told { let seen = ⟦<Session as Told>⟧.seen in (delay : Code → ℕ → ℕ) →
+            (seen self.old world.old).gives delay → AllTell (seen self.old world.old) →
+            IfOk result (λ outcome. StepsIn delay step.now (seen self.old world.old)
+            (seen self.new world.new) outcome) }
 
         // Out of memory.
-        ensures succeeds { takes_no_memory (slot_at
-            (⟦<Library as LibraryTold>⟧.slots self.old) step.now.number) step.now.call ≡ true →
+        ensures succeeds { takes_no_memory
+            (slot_of step.now (⟦<Session as Told>⟧.seen self.old world.old)) step.now.call ≡ true →
             IsOk result }
-        ensures fails { OnErr result (FailsAt (⟦<Library as LibraryTold>⟧.tells self.old)
-            step.now.call (slot_at (⟦<Library as LibraryTold>⟧.slots self.old) step.now.number)
-            (slot_at (⟦<Library as LibraryTold>⟧.slots self.new) step.now.number)) }
-        ensures stops { OnErr result (StopsAt (⟦<Gear as GearTold>⟧.players (gear_in self.old))
-            (⟦<Library as LibraryTold>⟧.tells self.old && ⟦<World as WorldTold>⟧.tells world.old)
-            step.now.call (slot_at (⟦<Library as LibraryTold>⟧.slots self.old) step.now.number)
-            (slot_at (⟦<Library as LibraryTold>⟧.slots self.new) step.now.number)
-            (⟦<World as WorldTold>⟧.plain world.old) (⟦<World as WorldTold>⟧.plain world.new)) }
-        ensures no_nap { OnErr result (world.new.nap ≡ world.old.nap) }
-        ensures hides_none { OnErr result (HidesNoFault step.now.call
-            (vault_faults (in_box world.old.vault)) (vault_faults (in_box world.new.vault))) }
+        ensures fails { let seen = ⟦<Session as Told>⟧.seen in OnErr result (RunsOut step.now
+            (seen self.old world.old) (seen self.new world.new) world.old.nap world.new.nap) }
     {
         laws::one_place_moves();
         data_due::laws::nothing_moves();

@@ -1,24 +1,19 @@
-ghost use Rattle.std.specs.Prelude.{◌≡◌, ◌<◌, ◌^◌, false, true, Some, IsTrue, OnErr, length};
-ghost use Rattle.pam_handle.specs.Items.{all_told};
-ghost use Rattle.pam_handle.specs.Plain.{plain_handle, room_in};
-ghost use Rattle.pam_handle.specs.Ready.{IsReadyFor};
-ghost use Rattle.pam_library.specs.AnyWorld.{leaves_world};
-ghost use Rattle.pam_library.specs.InPlace.{GoesInPlace, is_end};
-ghost use Rattle.pam_library.specs.Slots.{opened};
+ghost use Rattle.std.specs.Prelude.{◌≡◌, false, IsTrue, OnErr};
 ghost use Rattle.pam_base.specs.Call.{is_fit};
+ghost use Rattle.pam_handle.specs.Plain.{plain_handle};
+ghost use Rattle.pam_library.specs.InPlace.{CallsOpen, IsReadyIn, IsToldAll, is_end};
 
 use crate::outcome::{Answer, Outcome};
 use crate::reply::offer_open;
+use crate::session::{Session, StepTold};
+use crate::slot::Slot;
 use crate::stack_call::call_stack;
-use crate::values::{
-    get_env, get_item, list_env, put_env, request_delay, set_delay_enabled, set_item,
-};
+use crate::values::{get_env, get_item, list_env, put_env, set_item};
 use crate::world::receipts_in;
 use data_cleanup::laws;
-use fail_delay::{DelayFn, DelayTold};
-use pam_base::{AppCall, Func, NoMemory};
-use pam_handle::pam_room::{Room, RoomTold, World, WorldTold};
-use pam_handle::{Gear, GearTold, Handle};
+use pam_base::{AppCall, Code, Func, NoMemory};
+use pam_handle::pam_room::{Room, RoomTold, World};
+use pam_handle::{Gear, Handle};
 use std::alloc::Global;
 
 // Any call except the end, on a transaction without anything to report.
@@ -29,28 +24,14 @@ pub(crate) fn call_open(
     handle: &mut Handle,
     call: &AppCall,
 ) -> Result<Outcome, NoMemory>
-    requires told { plain_handle ⟦<Room as RoomTold>⟧.plain handle.old
-        ≡ all_told (plain_handle ⟦<Room as RoomTold>⟧.plain handle.old) }
-    requires ready { IsReadyFor (⟦<Gear as GearTold>⟧.players gear.now)
-        (plain_handle ⟦<Room as RoomTold>⟧.plain handle.old)
-        (⟦<World as WorldTold>⟧.plain world.old).process }
+    requires told { IsToldAll (plain_handle ⟦<Room as RoomTold>⟧.plain handle.old) }
+    requires ready { let seen = ⟦<Session as StepTold>⟧.seen in
+        IsReadyIn (seen gear.now (Slot.Open handle.old) world.old) }
     requires fit { IsTrue (is_fit call.now) }
     requires goes_on { is_end call.now ≡ false }
-    ensures tells { ⟦<Room as RoomTold>⟧.tells (room_in handle.new)
-        ≡ ⟦<Room as RoomTold>⟧.tells (room_in handle.old) }
-    ensures world_tells { ⟦<World as WorldTold>⟧.tells world.new
-        ≡ ⟦<World as WorldTold>⟧.tells world.old }
-    ensures goes { GoesInPlace (⟦<Gear as GearTold>⟧.players gear.now)
-        (⟦<DelayFn as DelayTold>⟧.delay_is gear.now.delay)
-        (⟦<Room as RoomTold>⟧.tells (room_in handle.old)) (⟦<World as WorldTold>⟧.tells world.old)
-        (plain_handle ⟦<Room as RoomTold>⟧.plain handle.old).room.transaction.handle call.now
-        (opened (plain_handle ⟦<Room as RoomTold>⟧.plain handle.old))
-        (⟦<World as WorldTold>⟧.plain world.old)
-        result (opened (plain_handle ⟦<Room as RoomTold>⟧.plain handle.new))
-        (⟦<World as WorldTold>⟧.plain world.new) }
-    ensures world { leaves_world (Some (opened
-        (plain_handle ⟦<Room as RoomTold>⟧.plain handle.old))) call.now ≡ true →
-        world.new ≡ world.old }
+    ensures called { let seen = ⟦<Session as StepTold>⟧.seen in
+        CallsOpen call.now (seen gear.now (Slot.Open handle.old) world.old) world.old result
+        (seen gear.now (Slot.Open handle.new) world.new) world.new }
     ensures no_nap { OnErr result (world.new.nap ≡ world.old.nap) }
 {
     laws::nothing_grows();
@@ -79,8 +60,14 @@ pub(crate) fn call_open(
         AppCall::PutEnv { text } => put_env(alloc, handle, filed, text),
         AppCall::GetEnv { name } => get_env(alloc, handle, filed, name),
         AppCall::EnvList => list_env(alloc, handle, filed),
-        AppCall::FailDelay { micros } => request_delay(alloc, handle, filed, *micros),
-        AppCall::DelayFn { on } => set_delay_enabled(alloc, handle, filed, *on),
+        AppCall::FailDelay { micros } => {
+            handle.fail_delay(*micros);
+            Ok(Outcome::code(alloc, filed, Code::Success))
+        }
+        AppCall::DelayFn { on } => {
+            handle.set_delay(*on);
+            Ok(Outcome::code(alloc, filed, Code::Success))
+        }
         AppCall::Reply { text } => offer_open(alloc, handle, filed, text),
     }
 }

@@ -1,16 +1,14 @@
-ghost use Rattle.std.specs.Prelude.{◌≡◌, ◌↔◌, map, IsNone, IfSome, slice_get};
-ghost use Rattle.data_due.specs.Moves.{Moves};
-ghost use Rattle.pam_handle.specs.pam_room.specs.Module.{notes_of};
-ghost use Rattle.pam_library.specs.Slots.{NoneIsOpen, handle_limit, lists_of};
-ghost use Rattle.pam_library.specs.Sound.{IsSoundFor};
-ghost use Rattle.pam_library.specs.Closing.{ClosesAs, IsFirstOpen, closed_one, end_of, first_open};
+ghost use Rattle.std.specs.Prelude.{◌≡◌, ◌↔◌, map, IsNone};
+ghost use Rattle.pam_library.specs.Applied.{ClosesIn, Keeps};
+ghost use Rattle.pam_library.specs.Closing.{IsFirstOpen, end_of, first_open};
+ghost use Rattle.pam_library.specs.Seen.{IsSoundIn, NoneIsOpenIn};
 
 use crate::laws;
-use crate::library::{Library, LibraryTold};
+use crate::library::Library;
 use crate::place::put_back;
+use crate::session::{Session, Told};
 use crate::slot::{Slot, SlotTold};
-use pam_handle::pam_room::{World, WorldTold};
-use pam_handle::{Gear, GearTold};
+use pam_handle::pam_room::World;
 
 // The slot of the first open transaction, from 0.
 fn place_of_first_open(slots: &[Slot]) -> Option<usize>
@@ -34,30 +32,13 @@ impl Library {
     /// As with `apply`, the sets in the world's cleanup log without a cleanup record are exactly
     /// the module data of the open transactions.
     pub fn close_one(&mut self, world: &mut World, status: u32) -> Option<u32>
-        requires { IsSoundFor (⟦<Gear as GearTold>⟧.players (gear_in self.old))
-            (⟦<Library as LibraryTold>⟧.slots self.old)
-            (⟦<World as WorldTold>⟧.plain world.old).process.ledger }
-        ensures sound { IsSoundFor (⟦<Gear as GearTold>⟧.players (gear_in self.new))
-            (⟦<Library as LibraryTold>⟧.slots self.new)
-            (⟦<World as WorldTold>⟧.plain world.new).process.ledger }
+        requires { IsSoundIn (⟦<Session as Told>⟧.seen self.old world.old) }
         ensures gear { gear_in self.new ≡ gear_in self.old }
-        ensures tells { ⟦<Library as LibraryTold>⟧.tells self.new
-            ≡ ⟦<Library as LibraryTold>⟧.tells self.old }
-        ensures world_tells { ⟦<World as WorldTold>⟧.tells world.new
-            ≡ ⟦<World as WorldTold>⟧.tells world.old }
-        ensures closes { ClosesAs (closed_one (notes_of
-            (⟦<Gear as GearTold>⟧.players (gear_in self.old))) status
-            (⟦<Library as LibraryTold>⟧.slots self.old) (⟦<World as WorldTold>⟧.plain world.old))
-            result (⟦<Library as LibraryTold>⟧.slots self.old)
-            (⟦<World as WorldTold>⟧.plain world.old) (⟦<Library as LibraryTold>⟧.slots self.new)
-            (⟦<World as WorldTold>⟧.plain world.new) }
-        ensures none { IsNone result ↔ NoneIsOpen (⟦<Library as LibraryTold>⟧.slots self.old) }
-        ensures moves { Moves (notes_of (⟦<Gear as GearTold>⟧.players (gear_in self.old)))
-            handle_limit (end_of status result)
-            (⟦<World as WorldTold>⟧.plain world.old).process.ledger
-            (lists_of (⟦<Library as LibraryTold>⟧.slots self.old))
-            (⟦<World as WorldTold>⟧.plain world.new).process.ledger
-            (lists_of (⟦<Library as LibraryTold>⟧.slots self.new)) }
+        ensures keeps { let seen = ⟦<Session as Told>⟧.seen in Keeps (end_of status result)
+            (seen self.old world.old) (seen self.new world.new) }
+        ensures closes { let seen = ⟦<Session as Told>⟧.seen in ClosesIn status result
+            (seen self.old world.old) (seen self.new world.new) }
+        ensures none { IsNone result ↔ NoneIsOpenIn (⟦<Session as Told>⟧.seen self.old world.old) }
         ensures others { world.new ≡ record world.old { process = world.new.process } }
     {
         laws::one_place_moves();

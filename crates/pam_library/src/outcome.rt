@@ -65,6 +65,15 @@ impl Outcome {
         }
     }
 
+    // A code without anything to report. Allocates nothing.
+    pub(crate) fn code(alloc: Global, filed_from: u64, code: Code) -> Self
+        ensures plain { plain_outcome result ≡ answers_only filed_from (Answer.Code code) }
+        ensures answer { result.answer ≡ Answer.Code code }
+        ensures filed_from { result.filed_from ≡ filed_from }
+    {
+        Outcome::only(alloc, filed_from, Answer::Code(code))
+    }
+
     // SUCCESS of a start, and the missing modules. Allocates nothing.
     pub(crate) fn missing(alloc: Global, filed_from: u64, missing: Texts) -> Self
         ensures plain { plain_outcome result ≡ record

@@ -1,14 +1,13 @@
-ghost use Rattle.std.specs.Prelude.{◌≡◌, ◌<◌, ◌^◌, true, Some, OnErr};
-ghost use Rattle.pam_handle.specs.Items.{all_told};
-ghost use Rattle.pam_handle.specs.Plain.{plain_handle, room_in};
+ghost use Rattle.std.specs.Prelude.{◌≡◌, OnErr};
+ghost use Rattle.pam_handle.specs.Plain.{plain_handle};
 ghost use Rattle.pam_handle.specs.Ready.{IsReadyFor};
 ghost use Rattle.pam_handle.specs.StackCalled.{StackCalled};
-ghost use Rattle.pam_library.specs.AnyWorld.{leaves_world, stack_refusal};
-ghost use Rattle.pam_library.specs.InPlace.{GoesInPlace, stack_app_call};
-ghost use Rattle.pam_library.specs.Slots.{opened};
-ghost use Rattle.pam_library.specs.Sound.{IsPlaced};
+ghost use Rattle.pam_library.specs.AnyWorld.{stack_refusal};
+ghost use Rattle.pam_library.specs.InPlace.{CallsOpen, IsReadyIn, IsToldAll, stack_app_call};
 
 use crate::outcome::{Answer, Outcome};
+use crate::session::{Session, StepTold};
+use crate::slot::Slot;
 use crate::world::receipts_in;
 use data_cleanup::laws;
 use fail_delay::{DelayFn, DelayTold};
@@ -34,10 +33,10 @@ fn refusal(handle: &Handle, func: Func, flags: u32) -> Option<Answer>
 
 // Runs the stack of a call that isn't refused.
 fn call_handle(
+    handle: &mut Handle,
     alloc: Global,
     gear: &Gear,
     world: &mut World,
-    handle: &mut Handle,
     func: Func,
     flags: u32,
 ) -> Result<Code, NoMemory>
@@ -70,26 +69,12 @@ pub(crate) fn call_stack(
     func: Func,
     flags: u32,
 ) -> Result<Outcome, NoMemory>
-    requires told { plain_handle ⟦<Room as RoomTold>⟧.plain handle.old
-        ≡ all_told (plain_handle ⟦<Room as RoomTold>⟧.plain handle.old) }
-    requires ready { IsReadyFor (⟦<Gear as GearTold>⟧.players gear.now)
-        (plain_handle ⟦<Room as RoomTold>⟧.plain handle.old)
-        (⟦<World as WorldTold>⟧.plain world.old).process }
-    ensures tells { ⟦<Room as RoomTold>⟧.tells (room_in handle.new)
-        ≡ ⟦<Room as RoomTold>⟧.tells (room_in handle.old) }
-    ensures world_tells { ⟦<World as WorldTold>⟧.tells world.new
-        ≡ ⟦<World as WorldTold>⟧.tells world.old }
-    ensures goes { GoesInPlace (⟦<Gear as GearTold>⟧.players gear.now)
-        (⟦<DelayFn as DelayTold>⟧.delay_is gear.now.delay)
-        (⟦<Room as RoomTold>⟧.tells (room_in handle.old)) (⟦<World as WorldTold>⟧.tells world.old)
-        (plain_handle ⟦<Room as RoomTold>⟧.plain handle.old).room.transaction.handle
-        (stack_app_call func flags) (opened (plain_handle ⟦<Room as RoomTold>⟧.plain handle.old))
-        (⟦<World as WorldTold>⟧.plain world.old)
-        result (opened (plain_handle ⟦<Room as RoomTold>⟧.plain handle.new))
-        (⟦<World as WorldTold>⟧.plain world.new) }
-    ensures world { leaves_world (Some (opened
-        (plain_handle ⟦<Room as RoomTold>⟧.plain handle.old))) (stack_app_call func flags) ≡ true →
-        world.new ≡ world.old }
+    requires told { IsToldAll (plain_handle ⟦<Room as RoomTold>⟧.plain handle.old) }
+    requires ready { let seen = ⟦<Session as StepTold>⟧.seen in
+        IsReadyIn (seen gear.now (Slot.Open handle.old) world.old) }
+    ensures called { let seen = ⟦<Session as StepTold>⟧.seen in
+        CallsOpen (stack_app_call func flags) (seen gear.now (Slot.Open handle.old) world.old)
+        world.old result (seen gear.now (Slot.Open handle.new) world.new) world.new }
     ensures no_nap { OnErr result (world.new.nap ≡ world.old.nap) }
 {
     laws::nothing_grows();
@@ -97,7 +82,7 @@ pub(crate) fn call_stack(
     if let Some(refused) = refusal(handle, func, flags) {
         return Ok(Outcome::only(alloc, filed_from, refused));
     }
-    let code = call_handle(alloc, gear, world, handle, func, flags)?;
+    let code = call_handle(handle, alloc, gear, world, func, flags)?;
     let told = handle.take_told(alloc);
     Ok(Outcome::telling(alloc, filed_from, told, Answer::Code(code)))
 }

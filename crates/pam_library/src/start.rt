@@ -1,30 +1,26 @@
-ghost use Rattle.std.specs.Prelude.{◌≡◌, ◌<◌, ◌^◌, [], IfOk, IsTrue, OnErr, length};
+ghost use Rattle.std.specs.Prelude.{◌≡◌, IsTrue};
 ghost use Rattle.pam_base.specs.ServiceName.{is_service_name};
-ghost use Rattle.pam_handle.specs.Plain.{in_box, plain_handle, room_in};
-ghost use Rattle.pam_handle.specs.Ready.{IsReadyFor};
-ghost use Rattle.pam_library.specs.AnyWorld.{CountsRefusal};
-ghost use Rattle.pam_library.specs.InPlace.{GoesInPlace, IsOpened, IsRefused};
+ghost use Rattle.pam_handle.specs.Plain.{plain_handle, room_in};
+ghost use Rattle.pam_library.specs.InPlace.{HasNoData, IsOpened, IsReadyIn, IsRefused, StepsPlace};
 ghost use Rattle.pam_library.specs.Slots.{closed};
 
 use crate::outcome::{Answer, Outcome};
+use crate::session::{Session, StepTold};
 use crate::slot::{Slot, SlotTold, Stepped};
 use crate::texts::bytes_of;
 use crate::world::receipts_in;
 use conv_port::Conv;
-use fail_delay::{DelayFn, DelayTold};
 use pam_base::{AppCall, Code, NoMemory, Refuse, Text};
-use pam_handle::pam_room::{Room, RoomTold, World, WorldTold};
-use pam_handle::{Gear, GearTold, Handle, StartCache, StartRefused};
+use pam_handle::pam_room::{Room, RoomTold, World};
+use pam_handle::{Gear, Handle, StartCache, StartRefused};
 use std::alloc::Global;
 
 // Opens a slot for a transaction that was started, and reports the missing modules; if memory runs out for their names,
 // the transaction, which has no module data yet, is ended again.
 fn open(alloc: Global, gear: &Gear, world: &mut World, handle: Handle, filed_from: u64) -> Stepped
-    requires ready { IsReadyFor (⟦<Gear as GearTold>⟧.players gear.now)
-        (plain_handle ⟦<Room as RoomTold>⟧.plain handle)
-        (⟦<World as WorldTold>⟧.plain world.old).process }
-    requires no_data { (plain_handle ⟦<Room as RoomTold>⟧.plain handle).room.transaction.datums.live
-        ≡ [] }
+    requires ready { let seen = ⟦<Session as StepTold>⟧.seen in
+        IsReadyIn (seen gear.now (Slot.Open handle) world.old) }
+    requires no_data { HasNoData (plain_handle ⟦<Room as RoomTold>⟧.plain handle) }
     ensures tells { ⟦<Slot as SlotTold>⟧.tells result.slot
         ≡ ⟦<Room as RoomTold>⟧.tells (room_in handle) }
     ensures opened { IsOpened filed_from (plain_handle ⟦<Room as RoomTold>⟧.plain handle)
@@ -71,23 +67,12 @@ pub(crate) fn start(
     conv: Box<dyn Conv>,
     cache: &mut StartCache,
 ) -> Stepped
-    requires service { IsTrue (is_service_name service.now) }
-    ensures tells { ⟦<Slot as SlotTold>⟧.tells result.slot ≡ conv_tells conv }
-    ensures world_tells { ⟦<World as WorldTold>⟧.tells world.new
-        ≡ ⟦<World as WorldTold>⟧.tells world.old }
-    ensures goes { GoesInPlace (⟦<Gear as GearTold>⟧.players gear.now)
-        (⟦<DelayFn as DelayTold>⟧.delay_is gear.now.delay) (conv_tells conv)
-        (⟦<World as WorldTold>⟧.tells world.old)
-        number (AppCall.Start service.now user.now) (closed (conv_holds conv))
-        (⟦<World as WorldTold>⟧.plain world.old)
-        result.outcome (⟦<Slot as SlotTold>⟧.plain result.slot)
-        (⟦<World as WorldTold>⟧.plain world.new) }
-    ensures faults { IfOk result.outcome (λ outcome.
-        CountsRefusal outcome.answer (vault_faults (in_box world.old.vault))
-        (vault_faults (in_box world.new.vault))) }
+    requires { IsTrue (is_service_name service.now) }
+    ensures called { let seen = ⟦<Session as StepTold>⟧.seen in
+        StepsPlace number (AppCall.Start service.now user.now)
+        (seen gear.now (Slot.Closed conv) world.old) world.old
+        result.outcome (seen gear.now result.slot world.new) world.new }
     ensures no_nap { world.new.nap ≡ world.old.nap }
-    ensures hides_none { OnErr result.outcome (vault_faults (in_box world.new.vault)
-        ≡ vault_faults (in_box world.old.vault)) }
 {
     let filed_from = receipts_in(world);
     match Handle::start_with(

@@ -1,7 +1,6 @@
 ghost use Rattle.std.specs.Prelude.{◌≡◌};
-ghost use Rattle.pam_handle.specs.Items.{all_told};
 ghost use Rattle.pam_handle.specs.Plain.{plain_handle, room_in};
-ghost use Rattle.pam_library.specs.InPlace.{GoesInside};
+ghost use Rattle.pam_library.specs.InPlace.{GoesInside, IsCoded, IsToldAll};
 
 use crate::outcome::{Answer, Outcome};
 use crate::texts::{bytes_of, copy_of};
@@ -9,6 +8,21 @@ use pam_base::{AppCall, BadItem, Code, ItemName, NoMemory, Refuse, Text};
 use pam_handle::Handle;
 use pam_handle::pam_room::{Room, RoomTold};
 use std::alloc::Global;
+
+// SUCCESS, or BAD_ITEM if the call was refused.
+fn coded(
+    alloc: Global,
+    filed_from: u64,
+    done: Result<(), Refuse<BadItem>>,
+) -> Result<Outcome, NoMemory>
+    ensures { IsCoded filed_from done result }
+{
+    match done {
+        Ok(()) => Ok(Outcome::code(alloc, filed_from, Code::Success)),
+        Err(Refuse::Named(BadItem)) => Ok(Outcome::code(alloc, filed_from, Code::BadItem)),
+        Err(Refuse::NoMemory) => Err(NoMemory),
+    }
+}
 
 // Each of these calls is one on a transaction without anything to report.
 
@@ -19,23 +33,14 @@ pub(crate) fn set_item(
     item: ItemName,
     value: &Option<Text>,
 ) -> Result<Outcome, NoMemory>
-    requires { plain_handle ⟦<Room as RoomTold>⟧.plain handle.old
-        ≡ all_told (plain_handle ⟦<Room as RoomTold>⟧.plain handle.old) }
+    requires { IsToldAll (plain_handle ⟦<Room as RoomTold>⟧.plain handle.old) }
     ensures goes { GoesInside (AppCall.SetItem item value.now) filed_from
         (plain_handle ⟦<Room as RoomTold>⟧.plain handle.old) result
         (plain_handle ⟦<Room as RoomTold>⟧.plain handle.new) }
     ensures tells { ⟦<Room as RoomTold>⟧.tells (room_in handle.new)
         ≡ ⟦<Room as RoomTold>⟧.tells (room_in handle.old) }
 {
-    match handle.set_item(item, bytes_of(value)) {
-        Ok(()) => Ok(Outcome::only(alloc, filed_from, Answer::Code(Code::Success))),
-        Err(Refuse::Named(BadItem)) => Ok(Outcome::only(
-            alloc,
-            filed_from,
-            Answer::Code(Code::BadItem),
-        )),
-        Err(Refuse::NoMemory) => Err(NoMemory),
-    }
+    coded(alloc, filed_from, handle.set_item(item, bytes_of(value)))
 }
 
 pub(crate) fn get_item(
@@ -44,8 +49,7 @@ pub(crate) fn get_item(
     filed_from: u64,
     item: ItemName,
 ) -> Result<Outcome, NoMemory>
-    requires { plain_handle ⟦<Room as RoomTold>⟧.plain handle.now
-        ≡ all_told (plain_handle ⟦<Room as RoomTold>⟧.plain handle.now) }
+    requires { IsToldAll (plain_handle ⟦<Room as RoomTold>⟧.plain handle.now) }
     ensures { GoesInside (AppCall.GetItem item) filed_from
         (plain_handle ⟦<Room as RoomTold>⟧.plain handle.now) result
         (plain_handle ⟦<Room as RoomTold>⟧.plain handle.now) }
@@ -55,7 +59,7 @@ pub(crate) fn get_item(
             let text = copy_of(alloc, value)?;
             Ok(Outcome::only(alloc, filed_from, Answer::Value(text)))
         }
-        Err(BadItem) => Ok(Outcome::only(alloc, filed_from, Answer::Code(Code::BadItem))),
+        Err(BadItem) => Ok(Outcome::code(alloc, filed_from, Code::BadItem)),
     }
 }
 
@@ -65,23 +69,14 @@ pub(crate) fn put_env(
     filed_from: u64,
     text: &Text,
 ) -> Result<Outcome, NoMemory>
-    requires { plain_handle ⟦<Room as RoomTold>⟧.plain handle.old
-        ≡ all_told (plain_handle ⟦<Room as RoomTold>⟧.plain handle.old) }
+    requires { IsToldAll (plain_handle ⟦<Room as RoomTold>⟧.plain handle.old) }
     ensures goes { GoesInside (AppCall.PutEnv text.now) filed_from
         (plain_handle ⟦<Room as RoomTold>⟧.plain handle.old) result
         (plain_handle ⟦<Room as RoomTold>⟧.plain handle.new) }
     ensures tells { ⟦<Room as RoomTold>⟧.tells (room_in handle.new)
         ≡ ⟦<Room as RoomTold>⟧.tells (room_in handle.old) }
 {
-    match handle.putenv(text.bytes()) {
-        Ok(()) => Ok(Outcome::only(alloc, filed_from, Answer::Code(Code::Success))),
-        Err(Refuse::Named(BadItem)) => Ok(Outcome::only(
-            alloc,
-            filed_from,
-            Answer::Code(Code::BadItem),
-        )),
-        Err(Refuse::NoMemory) => Err(NoMemory),
-    }
+    coded(alloc, filed_from, handle.putenv(text.bytes()))
 }
 
 pub(crate) fn get_env(
@@ -90,8 +85,7 @@ pub(crate) fn get_env(
     filed_from: u64,
     name: &Text,
 ) -> Result<Outcome, NoMemory>
-    requires { plain_handle ⟦<Room as RoomTold>⟧.plain handle.now
-        ≡ all_told (plain_handle ⟦<Room as RoomTold>⟧.plain handle.now) }
+    requires { IsToldAll (plain_handle ⟦<Room as RoomTold>⟧.plain handle.now) }
     ensures { GoesInside (AppCall.GetEnv name.now) filed_from
         (plain_handle ⟦<Room as RoomTold>⟧.plain handle.now) result
         (plain_handle ⟦<Room as RoomTold>⟧.plain handle.now) }
@@ -101,48 +95,11 @@ pub(crate) fn get_env(
 }
 
 pub(crate) fn list_env(alloc: Global, handle: &Handle, filed_from: u64) -> Result<Outcome, NoMemory>
-    requires { plain_handle ⟦<Room as RoomTold>⟧.plain handle.now
-        ≡ all_told (plain_handle ⟦<Room as RoomTold>⟧.plain handle.now) }
+    requires { IsToldAll (plain_handle ⟦<Room as RoomTold>⟧.plain handle.now) }
     ensures { GoesInside AppCall.EnvList filed_from
         (plain_handle ⟦<Room as RoomTold>⟧.plain handle.now) result
         (plain_handle ⟦<Room as RoomTold>⟧.plain handle.now) }
 {
     let texts = handle.getenvlist(alloc)?;
     Ok(Outcome::only(alloc, filed_from, Answer::List(texts)))
-}
-
-pub(crate) fn request_delay(
-    alloc: Global,
-    handle: &mut Handle,
-    filed_from: u64,
-    micros: u32,
-) -> Result<Outcome, NoMemory>
-    requires { plain_handle ⟦<Room as RoomTold>⟧.plain handle.old
-        ≡ all_told (plain_handle ⟦<Room as RoomTold>⟧.plain handle.old) }
-    ensures goes { GoesInside (AppCall.FailDelay micros) filed_from
-        (plain_handle ⟦<Room as RoomTold>⟧.plain handle.old) result
-        (plain_handle ⟦<Room as RoomTold>⟧.plain handle.new) }
-    ensures tells { ⟦<Room as RoomTold>⟧.tells (room_in handle.new)
-        ≡ ⟦<Room as RoomTold>⟧.tells (room_in handle.old) }
-{
-    handle.fail_delay(micros);
-    Ok(Outcome::only(alloc, filed_from, Answer::Code(Code::Success)))
-}
-
-pub(crate) fn set_delay_enabled(
-    alloc: Global,
-    handle: &mut Handle,
-    filed_from: u64,
-    on: bool,
-) -> Result<Outcome, NoMemory>
-    requires { plain_handle ⟦<Room as RoomTold>⟧.plain handle.old
-        ≡ all_told (plain_handle ⟦<Room as RoomTold>⟧.plain handle.old) }
-    ensures goes { GoesInside (AppCall.DelayFn on) filed_from
-        (plain_handle ⟦<Room as RoomTold>⟧.plain handle.old) result
-        (plain_handle ⟦<Room as RoomTold>⟧.plain handle.new) }
-    ensures tells { ⟦<Room as RoomTold>⟧.tells (room_in handle.new)
-        ≡ ⟦<Room as RoomTold>⟧.tells (room_in handle.old) }
-{
-    handle.set_delay(on);
-    Ok(Outcome::only(alloc, filed_from, Answer::Code(Code::Success)))
 }

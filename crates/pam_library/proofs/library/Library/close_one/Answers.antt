@@ -5,11 +5,15 @@ use Rattle.pam_handle.specs.Plain.{plain_handle}
 use Rattle.pam_library.specs.Slots.{closed, opened, is_open}
 use Rattle.pam_library.specs.declared.slot.Slot.TheVariants.{Closed}
 use Rattle.pam_library.specs.Plain.{plain_slot, slot_tells}
-use Rattle.pam_library.specs.Closing.{IsFirstOpen, first_open}
+use Rattle.pam_library.specs.Closing.{IsFirstOpen, end_of, first_open}
 use Rattle.pam_library.proofs.Applying.{IsPut, IsReplaced, put, ready_at, tell_as}
 use Rattle.pam_library.proofs.Ending.{closes_none, closes_one, end_moves, end_sound, found_as, found_at, found_none, none_is_open, place_is, place_there, place_within, put_as, put_there, some_is_open}
+use Rattle.pam_library.proofs.Gathering.{keeps_still}
 use Rattle.pam_library.proofs.library.Library.close_one.Given as given
 use Rattle.pam_library.proofs.library.Library.close_one.Goals as goal
+
+pub returns-in_err-place-clause-keeps : goal.returns-in_err-place-clause-keeps
+returns-in_err-place-clause-keeps g c = keeps_still _ _ (ap (end_of c.args.status) c.from_residual.ensures) c.nothing_moves.ensures c.requires
 
 pub returns-in_err-place-clause-closes : goal.returns-in_err-place-clause-closes
 returns-in_err-place-clause-closes g c = closes_none _ _ _ _ _ c.from_residual.ensures (found_none _ _ (subst (λ t. IsFirstOpen c.place_of_first_open.result (first_open 1 (map (plain_slot (λ b. (goal.Conv-dyn g (b.vtable, b.value)).conv_holds b.value)) t))) c.deref.ensures.value c.place_of_first_open.ensures) c.in_err-place.was)
@@ -76,18 +80,17 @@ put_here : (g : given.Over) (c : goal.After-ledger_is_sound g)
     → IsPut (map (plain_slot (λ b. (goal.Conv-dyn g (b.vtable, b.value)).conv_holds b.value)) c.args.self.now.slots.items) (map (plain_slot (λ b. (goal.Conv-dyn g (b.vtable, b.value)).conv_holds b.value)) c.put_back.new.slots.items) (c.in_ok-place.place + 1) (opened (plain_handle (plain_room (λ b. (goal.Conv-dyn g (b.vtable, b.value)).conv_holds b.value)) c.in-Open.handle)) (closed ((plain_handle (plain_room (λ b. (goal.Conv-dyn g (b.vtable, b.value)).conv_holds b.value)) c.in-Open.handle)).room.conv)
 put_here g c = put_as _ _ _ _ _ _ _ (put (plain_slot (λ b. (goal.Conv-dyn g (b.vtable, b.value)).conv_holds b.value)) _ _ _ _ _ (omega arith) (replaced_here g c)) (ap (plain_slot (λ b. (goal.Conv-dyn g (b.vtable, b.value)).conv_holds b.value)) c.in-Open.is) (ap (λ b. closed ((goal.Conv-dyn g (b.vtable, b.value)).conv_holds b.value)) c.end-conv.ensures.conv)
 
-pub returns-clause-sound : goal.returns-clause-sound
-returns-clause-sound g c = end_sound (notes_of (map (player_of (λ b. (goal.Module-dyn g (b.vtable, b.value)).label b.value) (λ b. (goal.Module-dyn g (b.vtable, b.value)).plays b.value) (λ b. (goal.Module-dyn g (b.vtable, b.value)).note b.value) (λ b. (goal.Module-dyn g (b.vtable, b.value)).breaks b.value)) c.args.self.now.gear.mods.items)) _ _ _ _ _ (plain_handle (plain_room (λ b. (goal.Conv-dyn g (b.vtable, b.value)).conv_holds b.value)) c.in-Open.handle) c.args.status _ _ (put_here g c) c.requires c.end-conv.ensures.world c.ledger_is_sound.ensures.numbered c.one_place_moves.ensures.sound
-
-pub returns-clause-tells : goal.returns-clause-tells
-returns-clause-tells g c = tell_as (slot_tells (λ b. (goal.Conv-dyn g (b.vtable, b.value)).conv_tells b.value)) _ _ _ _ _ (replaced_here g c)
-    (ap (λ b. (goal.Conv-dyn g (b.vtable, b.value)).conv_tells b.value) c.end-conv.ensures.conv ∙ sym (ap (slot_tells (λ b. (goal.Conv-dyn g (b.vtable, b.value)).conv_tells b.value)) c.in-Open.is))
+pub returns-clause-keeps : goal.returns-clause-keeps
+returns-clause-keeps g c = record {
+  tells = tell_as (slot_tells (λ b. (goal.Conv-dyn g (b.vtable, b.value)).conv_tells b.value)) _ _ _ _ _ (replaced_here g c)
+      (ap (λ b. (goal.Conv-dyn g (b.vtable, b.value)).conv_tells b.value) c.end-conv.ensures.conv ∙ sym (ap (slot_tells (λ b. (goal.Conv-dyn g (b.vtable, b.value)).conv_tells b.value)) c.in-Open.is));
+  world_tells = c.end-conv.ensures.tells;
+  sound = end_sound (notes_of (map (player_of (λ b. (goal.Module-dyn g (b.vtable, b.value)).label b.value) (λ b. (goal.Module-dyn g (b.vtable, b.value)).plays b.value) (λ b. (goal.Module-dyn g (b.vtable, b.value)).note b.value) (λ b. (goal.Module-dyn g (b.vtable, b.value)).breaks b.value)) c.args.self.now.gear.mods.items)) _ _ _ _ _ (plain_handle (plain_room (λ b. (goal.Conv-dyn g (b.vtable, b.value)).conv_holds b.value)) c.in-Open.handle) c.args.status _ _ (put_here g c) c.requires c.end-conv.ensures.world c.ledger_is_sound.ensures.numbered c.one_place_moves.ensures.sound;
+  moves = end_moves _ _ _ _ _ _ (plain_handle (plain_room (λ b. (goal.Conv-dyn g (b.vtable, b.value)).conv_holds b.value)) c.in-Open.handle) c.args.status _ _ (put_here g c) c.requires c.end-conv.ensures.world c.ledger_is_sound.ensures.numbered c.one_place_moves.ensures.moves;
+}
 
 pub returns-clause-closes : goal.returns-clause-closes
 returns-clause-closes g c = closes_one _ _ _ _ _ _ (plain_handle (plain_room (λ b. (goal.Conv-dyn g (b.vtable, b.value)).conv_holds b.value)) c.in-Open.handle) _ (found_here g c) (put_here g c).next_is c.end-conv.ensures.world
 
 pub returns-clause-none : goal.returns-clause-none
 returns-clause-none g c = some_is_open _ c.in_ok-place.place (plain_handle (plain_room (λ b. (goal.Conv-dyn g (b.vtable, b.value)).conv_holds b.value)) c.in-Open.handle) (c.in_ok-place.place + 1) (found_here g c)
-
-pub returns-clause-moves : goal.returns-clause-moves
-returns-clause-moves g c = end_moves _ _ _ _ _ _ (plain_handle (plain_room (λ b. (goal.Conv-dyn g (b.vtable, b.value)).conv_holds b.value)) c.in-Open.handle) c.args.status _ _ (put_here g c) c.requires c.end-conv.ensures.world c.ledger_is_sound.ensures.numbered c.one_place_moves.ensures.moves
