@@ -19,7 +19,7 @@ use Rattle.transcript_audit.specs.declared.transcript.Transcript.{Transcript}
 use Rattle.transcript_audit.specs.declared.transcript.Transcript.TheVariants.{Whole, TooLong, Unread}
 use Rattle.explain.specs.Explained.{Explains, ExplainsBy, IsExplained, OrUnread, Written, explained_of, refused_explained, unread_explained}
 use Rattle.transcript_audit.specs.Transcript.{IsRead, IsShort, is_unread}
-use Rattle.explain.specs.Program.{Answers, Asked, Ends, Exits, ExplainsIf, ExplainsInput, ExplainsRead, ShowsInput, ShowsRead, too_long_written, usage_written}
+use Rattle.explain.specs.Program.{Answers, Asked, Ends, Exits, ExplainsIf, ExplainsInput, ExplainsRead, IsOutputOfInput, IsOutputOfRead, too_long_written, usage_written}
 
 -- ---- what was read
 
@@ -41,7 +41,7 @@ module _ (old new : VaultState) (root service : List ℕ) (before now : ℕ) whe
   given_by (Err x) report left read short rises is = tt
 
 pub shown_input : {E : Type 0} (r : Result Output E) (report : Transcript) (input_before input_now before now : ℕ) → RisesIf (is_unread report) input_before input_now
-    → IfOk r (λ e. ShowsRead e report before now) → IfOk r (λ e. ShowsInput e input_before input_now before now)
+    → IfOk r (λ e. IsOutputOfRead e report before now) → IfOk r (λ e. IsOutputOfInput e input_before input_now before now)
 shown_input (Ok e) report input_before input_now before now rises shows = record { report = report; read = rises; shown = shows }
 shown_input (Err x) report input_before input_now before now rises shows = tt
 

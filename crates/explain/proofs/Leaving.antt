@@ -12,9 +12,9 @@ use Rattle.explain_report.specs.Report.{explained_from}
 use Rattle.explain.specs.declared.explaining.Output.{Output}
 use Rattle.transcript_audit.specs.declared.transcript.Transcript.{Transcript}
 use Rattle.transcript_audit.specs.declared.transcript.Transcript.TheVariants.{Whole, TooLong, Unread}
-use Rattle.explain.specs.Explained.{IsExplained, Shows, ShowsBy, explained_by}
+use Rattle.explain.specs.Explained.{IsExplained, IsOutputOf, IsOutputBy, explained_by}
 use Rattle.transcript_audit.specs.Transcript.{is_unread}
-use Rattle.explain.specs.Program.{Asked, Causes, Leaves, ShowsInput, ShowsRead, usage_written}
+use Rattle.explain.specs.Program.{Asked, Causes, Leaves, IsOutputOfInput, IsOutputOfRead, usage_written}
 
 module _ (input_before input_now before now : ℕ) where
   -- ---- of an output
@@ -51,18 +51,18 @@ module _ (input_before input_now before now : ℕ) where
   explained_status place status None text is = other_status place 0 status is (λ e. omega (arith, e)) (λ e. omega (arith, e)) (λ e. omega (arith, e)) (λ e. omega (arith, e))
   explained_status place status (Some line) text is = other_status place 11 status is (λ e. omega (arith, e)) (λ e. omega (arith, e)) (λ e. omega (arith, e)) (λ e. omega (arith, e))
 
-  stacks_status : (place : Asked) (e : Output) (text : List ℕ) (stacks : Stacks) → ShowsBy e stacks text before now
+  stacks_status : (place : Asked) (e : Output) (text : List ℕ) (stacks : Stacks) → IsOutputBy e stacks text before now
       → Causes e.status (Some place) input_before input_now before now
   stacks_status place e text stacks (inl by) =
       explained_status place e.status (differs stacks (lines_read read_line text)) (explained_from stacks by.sources all_shut [] (bare_lines text)) by.explained.status
   stacks_status place e text stacks (inr failure) = unread_status place e.status failure.nothing.status (inr failure.failed)
 
-  shown_status : (place : Asked) (e : Output) (text : List ℕ) → Shows e text before now → Causes e.status (Some place) input_before input_now before now
+  shown_status : (place : Asked) (e : Output) (text : List ℕ) → IsOutputOf e text before now → Causes e.status (Some place) input_before input_now before now
   shown_status place e text (inl by) = stacks_status place e text by.0 by.1
   shown_status place e text (inr fault) =
       other_status place 3 e.status fault.refused.status (λ e. omega (arith, e)) (λ e. omega (arith, e)) (λ e. omega (arith, e)) (λ e. omega (arith, e))
 
-  read_status : (place : Asked) (e : Output) (report : Transcript) → RisesIf (is_unread report) input_before input_now → ShowsRead e report before now
+  read_status : (place : Asked) (e : Output) (report : Transcript) → RisesIf (is_unread report) input_before input_now → IsOutputOfRead e report before now
       → Causes e.status (Some place) input_before input_now before now
   read_status place e (Whole text) rises shown = shown_status place e text shown
   read_status place e TooLong rises shown =
@@ -70,7 +70,7 @@ module _ (input_before input_now before now : ℕ) where
   read_status place e Unread rises shown = unread_status place e.status shown.0.status (inl rises)
 
   pub asked_causes : {E : Type 0} (r : Result Output E) (words : Option Asked) (place : Asked) → Some place ≡ words
-      → IfOk r (λ e. ShowsInput e input_before input_now before now) → IfOk r (λ e. Causes e.status words input_before input_now before now)
+      → IfOk r (λ e. IsOutputOfInput e input_before input_now before now) → IfOk r (λ e. Causes e.status words input_before input_now before now)
   asked_causes (Ok e) words place is shows =
       subst (λ (o : Option Asked). Causes e.status o input_before input_now before now) is (read_status place e shows.report shows.read shows.shown)
   asked_causes (Err x) words place is shows = tt

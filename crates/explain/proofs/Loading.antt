@@ -20,7 +20,7 @@ use Rattle.explain_origins.specs.Placed.{sources_at}
 use Rattle.explain_origins.specs.Reading.{CountsReads, ends_failing}
 use Rattle.explain_report.specs.explain_lines.specs.declared.origin.Sources.{Sources}
 use Rattle.explain.specs.declared.explaining.Output.{Output}
-use Rattle.explain.specs.Explained.{Explains, ExplainsBy, IsExplained, IsExplainedWith, IsRefused, OrUnread, Shows, ShowsBy, explained_of}
+use Rattle.explain.specs.Explained.{Explains, ExplainsBy, IsExplained, IsExplainedWith, IsRefused, OrUnread, IsOutputOf, IsOutputBy, explained_of}
 
 -- ---- the second reading
 
@@ -34,7 +34,7 @@ told_with (Ok e) (Err NoMemory) stacks sources report vault same planned is = ab
 told_with (Err x) found stacks sources report vault same planned is = tt
 
 pub shows_with : {E : Type 0} (r : Result Output E) (found : Result Sources (Refuse Failed)) (stacks : Stacks) (report : List ℕ) (before now : ℕ)
-    → CountsReads found before now → IfOk r (λ e. IsExplainedWith e stacks found report) → IfOk r (λ e. ShowsBy e stacks report before now)
+    → CountsReads found before now → IfOk r (λ e. IsExplainedWith e stacks found report) → IfOk r (λ e. IsOutputBy e stacks report before now)
 shows_with (Ok e) (Ok s) stacks report before now counts is = inl (record { sources = s; explained = is; no_fault = counts })
 shows_with (Ok e) (Err (Named f)) stacks report before now counts is = inr (record { nothing = is; failed = counts })
 shows_with (Ok e) (Err NoMemory) stacks report before now counts is = absurd is
@@ -85,12 +85,12 @@ refused_so r stop first mid root service report fails is =
 -- ---- the same with any files
 
 pub loaded_shows : {E : Type 0} (r : Result Output E) (stacks : Stacks) (report : List ℕ) (before mid now : ℕ) → mid ≡ before
-    → IfOk r (λ e. ShowsBy e stacks report mid now) → IfOk r (λ e. Shows e report before now)
-loaded_shows (Ok e) stacks report before mid now same shows = inl (stacks, subst (λ (b : ℕ). ShowsBy e stacks report b now) same shows)
+    → IfOk r (λ e. IsOutputBy e stacks report mid now) → IfOk r (λ e. IsOutputOf e report before now)
+loaded_shows (Ok e) stacks report before mid now same shows = inl (stacks, subst (λ (b : ℕ). IsOutputBy e stacks report b now) same shows)
 loaded_shows (Err x) stacks report before mid now same shows = tt
 
 pub refused_shows : {E : Type 0} (r : Result Output E) (stop : Refuse LoadFault) (report : List ℕ) (before now : ℕ) → CountsFaults {A = Trees} (Err stop) before now
-    → IfOk r (λ e. IsRefused e stop) → IfOk r (λ e. Shows e report before now)
+    → IfOk r (λ e. IsRefused e stop) → IfOk r (λ e. IsOutputOf e report before now)
 refused_shows (Ok e) (Named fault) report before now counts is = inr (record { fault = fault; refused = is; counts = counts })
 refused_shows (Ok e) NoMemory report before now counts is = absurd is
 refused_shows (Err x) stop report before now counts is = tt

@@ -96,13 +96,13 @@ pub record IsByFault (e : Output) (before now : ℕ) : Type 0 where
   pub refused : IsExplained e (refused_explained fault)
   pub counts : KindCounts fault.kind before now
 
-abbrev pub ShowsBy : Output → Stacks → List ℕ → ℕ → ℕ → Type 0
-ShowsBy e stacks report before now =
+abbrev pub IsOutputBy : Output → Stacks → List ℕ → ℕ → ℕ → Type 0
+IsOutputBy e stacks report before now =
     IsByStacks e stacks report before now ⊎ IsByFailure e before now
 
-abbrev pub Shows : Output → List ℕ → ℕ → ℕ → Type 0
-Shows e report before now =
-    ((stacks : Stacks) × ShowsBy e stacks report before now) ⊎ IsByFault e before now
+abbrev pub IsOutputOf : Output → List ℕ → ℕ → ℕ → Type 0
+IsOutputOf e report before now =
+    ((stacks : Stacks) × IsOutputBy e stacks report before now) ⊎ IsByFault e before now
 
 -- ---- by the results of its parts
 

@@ -8,7 +8,7 @@ use Rattle.explain.specs.declared.explaining.Output.{Output}
 use Rattle.transcript_audit.specs.declared.transcript.Transcript.{Transcript}
 use Rattle.transcript_audit.specs.declared.transcript.Transcript.TheVariants.{Whole, TooLong, Unread}
 use Rattle.explain.specs.declared.program.Target.{Target}
-use Rattle.explain.specs.Explained.{Written, written, IsExplained, Explains, Shows, unread_explained}
+use Rattle.explain.specs.Explained.{Written, written, IsExplained, Explains, IsOutputOf, unread_explained}
 use Rattle.transcript_audit.specs.Transcript.{is_unread}
 
 -- ---- the arguments
@@ -83,16 +83,16 @@ Ends status words old input new before now out_old out_new =
 -- ---- with any objects
 
 -- of what was read, with the failures of the files before and after it
-abbrev pub ShowsRead : Output → Transcript → ℕ → ℕ → Type 0
-ShowsRead e (Whole text) before now = Shows e text before now
-ShowsRead e TooLong before now = IsExplained e too_long_written × (now ≡ before)
-ShowsRead e Unread before now = IsExplained e unread_explained × (now ≡ before)
+abbrev pub IsOutputOfRead : Output → Transcript → ℕ → ℕ → Type 0
+IsOutputOfRead e (Whole text) before now = IsOutputOf e text before now
+IsOutputOfRead e TooLong before now = IsExplained e too_long_written × (now ≡ before)
+IsOutputOfRead e Unread before now = IsExplained e unread_explained × (now ≡ before)
 
 -- of some report, with the failures of the input and of the files
-pub record ShowsInput (e : Output) (input_before input_now before now : ℕ) : Type 0 where
+pub record IsOutputOfInput (e : Output) (input_before input_now before now : ℕ) : Type 0 where
   pub report : Transcript
   pub read : RisesIf (is_unread report) input_before input_now
-  pub shown : ShowsRead e report before now
+  pub shown : IsOutputOfRead e report before now
 
 -- what the status of an output says of the arguments and of failures
 pub record Causes (status : ℕ) (words : Option Asked) (input_before input_now before now : ℕ) :

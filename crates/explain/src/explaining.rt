@@ -3,7 +3,7 @@ ghost use Rattle.session_audit.specs.pass_replay.specs.Retold.{stacks_in};
 ghost use Rattle.session_audit.specs.service_load.specs.Load.{AreBounded, has_folder};
 ghost use Rattle.session_audit.specs.service_load.specs.Loading.{OnlyCalls, texts_of};
 ghost use Rattle.explain_origins.specs.Placed.{sources_at};
-ghost use Rattle.explain.specs.Explained.{Explains, IsExplained, IsExplainedWith, IsRefused, OrUnread, Shows, ShowsBy, explained_of, refused_explained, unread_explained, written};
+ghost use Rattle.explain.specs.Explained.{Explains, IsExplained, IsExplainedWith, IsRefused, OrUnread, IsOutputOf, IsOutputBy, explained_of, refused_explained, unread_explained, written};
 
 use explain_origins::sources_of;
 use explain_report::explain_lines::Sources;
@@ -50,7 +50,7 @@ pub fn explanation(
         OnlyCalls (vault_holds vault.old) (vault_holds vault.new) }
     // With real files too.
     ensures shows { IfOk result (λ output.
-        Shows output report.now (vault_faults vault.old) (vault_faults vault.new)) }
+        IsOutputOf output report.now (vault_faults vault.old) (vault_faults vault.new)) }
 {
     match load(alloc, vault, root, service) {
         Ok(trees) => explained_by(alloc, root, service, &trees, report, vault),
@@ -86,7 +86,7 @@ fn explained_by(
         service.now) report.now) (vault_holds vault.new)) }
     ensures stays { IsTrue (vault_tells vault.old) →
         OnlyCalls (vault_holds vault.old) (vault_holds vault.new) }
-    ensures shows { IfOk result (λ output. ShowsBy output (stacks_in trees.now) report.now
+    ensures shows { IfOk result (λ output. IsOutputBy output (stacks_in trees.now) report.now
         (vault_faults vault.old) (vault_faults vault.new)) }
 {
     let found = sources_of(alloc, vault, root, service);

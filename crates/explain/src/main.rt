@@ -10,54 +10,22 @@
 mod explaining;
 mod program;
 
-ghost use Rattle.std.specs.Prelude.{◌≡◌, IfOk, OnErr};
-
 use crate::program::explain_to;
+use command_line::{arguments, exit_status};
 use pam_outside::{FolderVault, ReaderSource, WriterSink};
-use std::io::ErrorKind;
+use std::io;
 use std::process::ExitCode;
-use std::rt::Env;
-use std::{env, io};
-
-/// The status if the program couldn't be called.
-const NO_MEMORY: u8 = 4;
 
 fn main(rt: HostRuntime) -> ExitCode {
     ExitCode::from(exit_status(run(rt)))
 }
 
-// The status that the program returned, or NO_MEMORY if it couldn't be called.
-fn exit_status(returned: io::Result<u8>) -> u8
-    ensures answered { IfOk returned (λ status. result ≡ status) }
-    ensures not_called { OnErr returned (result ≡ NO_MEMORY) }
-{
-    match returned {
-        Ok(status) => status,
-        Err(_) => NO_MEMORY,
-    }
-}
-
-// Makes the streams and the files, and calls the program with them.
+// Makes the streams and the files, and calls the program with them, without arguments if one of them isn't UTF-8.
 fn run(rt: HostRuntime) -> io::Result<u8> {
     let alloc = rt.alloc();
-    let words = words(&rt)?;
+    let words = arguments(&rt)?.unwrap_or(Vec::new(alloc));
     let mut source = ReaderSource::new(rt.reader());
     let mut out = WriterSink::new(io::writer(&rt));
     let mut vault = FolderVault::new(rt);
     Ok(explain_to(alloc, &words, &mut source, &mut out, &mut vault))
-}
-
-// The arguments of the command line; none if one of them isn't UTF-8.
-fn words<R: Env + AllocGlobal>(rt: &R) -> io::Result<Vec<String>> {
-    let mut words = Vec::new(rt.alloc());
-    match env::args(rt) {
-        Ok(all) => {
-            for word in all.skip(1) {
-                words.push(word)?;
-            }
-            Ok(words)
-        }
-        Err(error) if error.kind() == ErrorKind::InvalidData => Ok(words),
-        Err(error) => Err(error),
-    }
 }

@@ -3,7 +3,7 @@ ghost use Rattle.pam_outside.specs.Counts.{Rose};
 ghost use Rattle.session_audit.specs.service_load.specs.Loading.{OnlyCalls};
 ghost use Rattle.transcript_audit.specs.Transcript.{IsShort};
 ghost use Rattle.explain.specs.Explained.{IsExplained, Written};
-ghost use Rattle.explain.specs.Program.{Answers, Causes, Ends, Exits, ExplainsInput, ExplainsRead, Leaves, ShowsInput, ShowsRead, asked, asked_of};
+ghost use Rattle.explain.specs.Program.{Answers, Causes, Ends, Exits, ExplainsInput, ExplainsRead, Leaves, IsOutputOfInput, IsOutputOfRead, asked, asked_of};
 
 use crate::explaining::{Output, explanation, line_by, unread};
 use pam_base::{Failed, NoMemory};
@@ -123,7 +123,7 @@ fn explained_input<S: Source>(
         (S.source_faults source.old) (S.source_faults source.new)) }
     ensures stays { IsTrue (vault_tells vault.old) →
         OnlyCalls (vault_holds vault.old) (vault_holds vault.new) }
-    ensures shows { IfOk result (λ output. ShowsInput output (S.source_faults source.old)
+    ensures shows { IfOk result (λ output. IsOutputOfInput output (S.source_faults source.old)
         (S.source_faults source.new) (vault_faults vault.old) (vault_faults vault.new)) }
 {
     let report = read_transcript(alloc, source)?;
@@ -146,7 +146,7 @@ fn explained_report(
     ensures stays { IsTrue (vault_tells vault.old) →
         OnlyCalls (vault_holds vault.old) (vault_holds vault.new) }
     ensures shows { IfOk result (λ output.
-        ShowsRead output report (vault_faults vault.old) (vault_faults vault.new)) }
+        IsOutputOfRead output report (vault_faults vault.old) (vault_faults vault.new)) }
 {
     match report {
         Transcript::Whole(text) => explanation(alloc, root, service, text.bytes(), vault),

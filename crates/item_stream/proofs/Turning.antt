@@ -11,7 +11,7 @@ use Rattle.item_stream.specs.declared.ending.Stop.TheVariants.{NoMemory, WriteFa
 use Rattle.item_stream.specs.Cutting.{Cuts, Keeps}
 use Rattle.item_stream.specs.Run.{Looks, Refuses, ItemStep, Run, come_to, after, run_items, run_of}
 use Rattle.item_stream.specs.Taking.{Finds, IsFound, IsLast, LastGot}
-use Rattle.item_stream.specs.Turns.{StopsAt, ServesTold, EndsBy, Tells, LastRead, Turns, after_item, after_rest, items_after, held_after}
+use Rattle.item_stream.specs.Turns.{StopsAt, ServesItem, EndsBy, Tells, LastRead, Turns, after_item, after_rest, items_after, held_after}
 use Rattle.item_stream.proofs.Running.{items-one}
 
 module _ {State Kind : Type 0} (looked : Looks) (refuses : Refuses) (step : ItemStep State Kind) (Fails : State → List ℕ → State → Type 0) where
@@ -88,7 +88,7 @@ module _ {State Kind : Type 0} (looked : Looks) (refuses : Refuses) (step : Item
     unfolding run_of run_items
     whole = ap (run_items step n c) first_held
 
-    item_tells : (o : Result (Option Kind) Stop) (s : ServesTold step Fails o n (take item_size held) c d p q)
+    item_tells : (o : Result (Option Kind) Stop) (s : ServesItem step Fails o n (take item_size held) c d p q)
         → Tells looked step Fails (after_item o) n (items_after o n) c d held (held_after o size held) y.left s.text
     unfolding run_items
     item_tells (Ok None) s = record {
@@ -145,7 +145,7 @@ module _ {State Kind : Type 0} (looked : Looks) (refuses : Refuses) (step : Item
     calls_after (Ok (Some k)) a b h = h
     calls_after (Err stop) a b h = tt
 
-    pub item_turn : (o : Result (Option Kind) Stop) → ServesTold step Fails o n (take item_size held) c d p q
+    pub item_turn : (o : Result (Option Kind) Stop) → ServesItem step Fails o n (take item_size held) c d p q
         → Turns looked step Fails (after_item o) n (items_after o n) c d before (held_after o size held) x y p q
     item_turn o s = record {
       got = f.got;
@@ -178,7 +178,7 @@ module _ {State Kind : Type 0} (looked : Looks) (refuses : Refuses) (step : Item
     only : (left : List ℕ) → left ≡ [] → how.ended ≡ true → looked n (held ++ left) true ≡ held ∷ []
     only left none end = ap (λ (l : List ℕ). looked n (held ++ l) true) none ∙ ap (λ (l : List ℕ). looked n l true) (append-nil held) ∙ ap (looked n held) (sym end) ∙ how.seen
 
-    rest_tells : (o : Result (Option Kind) Stop) (s : ServesTold step Fails o n held c d p q)
+    rest_tells : (o : Result (Option Kind) Stop) (s : ServesItem step Fails o n held c d p q)
         → Tells looked step Fails (after_rest o) n (items_after o n) c d held held y.left s.text
     unfolding run_items
     rest_tells (Ok None) s = record {
@@ -245,7 +245,7 @@ module _ {State Kind : Type 0} (looked : Looks) (refuses : Refuses) (step : Item
     rest_calls (Ok (Some k)) a b h = h
     rest_calls (Err stop) a b h = tt
 
-    pub rest_turn : (o : Result (Option Kind) Stop) → ServesTold step Fails o n held c d p q
+    pub rest_turn : (o : Result (Option Kind) Stop) → ServesItem step Fails o n held c d p q
         → Turns looked step Fails (after_rest o) n (items_after o n) c d before held x y p q
     rest_turn o s = record {
       got = f.got;

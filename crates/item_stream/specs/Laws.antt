@@ -9,7 +9,7 @@ use Rattle.item_stream.specs.declared.ending.Stop.{Stop}
 use Rattle.item_stream.specs.declared.ending.Stop.TheVariants.{NoMemory, WriteFault}
 use Rattle.item_stream.specs.Run.{Looks, Refuses, ItemStep}
 use Rattle.item_stream.specs.Taking.{Finds, IsFound}
-use Rattle.item_stream.specs.Turns.{IsBegun, ServesTold, Turns, after_item, after_rest, items_after, held_after}
+use Rattle.item_stream.specs.Turns.{IsBegun, ServesItem, Turns, after_item, after_rest, items_after, held_after}
 use Rattle.item_stream.specs.Whole.{at_last, Runs}
 
 -- how an item was served that has text to write
@@ -24,29 +24,29 @@ module _ {State Kind : Type 0} (step : ItemStep State Kind)
   -- it has no text to write
   abbrev pub SilentIsServed : Type 0
   SilentIsServed = (n : ℕ) (item : List ℕ) (c d : State) (p : SinkState) →
-      step n c item ≡ Ok (d, []) → ServesTold step Fails (Ok None) n item c d p p
+      step n c item ≡ Ok (d, []) → ServesItem step Fails (Ok None) n item c d p p
 
   -- its text was written, in full or up to a failed write
   abbrev pub WrittenIsServed : Type 0
   WrittenIsServed = (result : Result (Unit {0}) Failed) (n : ℕ) (item text : List ℕ) (c d : State)
       (p q : SinkState) →
       step n c item ≡ Ok (d, text) → WritesWhole result text p q →
-      ServesTold step Fails (written_by result) n item c d p q
+      ServesItem step Fails (written_by result) n item c d p q
 
   -- it is refused
   abbrev pub RefusedIsServed : Type 0
   RefusedIsServed = (kind : Kind) (n : ℕ) (item : List ℕ) (c : State) (p : SinkState) →
-      step n c item ≡ Err kind → ServesTold step Fails (Ok (Some kind)) n item c c p p
+      step n c item ≡ Err kind → ServesItem step Fails (Ok (Some kind)) n item c c p p
 
   -- out of memory before it was begun
   abbrev pub UnbegunIsServed : Type 0
   UnbegunIsServed = (n : ℕ) (item : List ℕ) (c : State) (p : SinkState)
-      → ServesTold step Fails (Err NoMemory) n item c c p p
+      → ServesItem step Fails (Err NoMemory) n item c c p p
 
   -- out of memory after that
   abbrev pub BegunIsServed : Type 0
   BegunIsServed = (n : ℕ) (item : List ℕ) (c d : State) (p : SinkState) →
-      IsBegun step Fails n item c d → ServesTold step Fails (Err NoMemory) n item c d p p
+      IsBegun step Fails n item c d → ServesItem step Fails (Err NoMemory) n item c d p p
 
 module _ {State Kind : Type 0} (looked : Looks) (step : ItemStep State Kind)
     (Fails : State → List ℕ → State → Type 0) where
@@ -101,7 +101,7 @@ module _ {State Kind : Type 0} (looked : Looks) (refuses : Refuses) (step : Item
       (p q : SinkState) (result : Result (Option Kind) Stop) →
       IsFound looked (Ok (Item item_size size)) n held
       → Finds looked refuses (Ok (Item item_size size)) n before held x y →
-      ServesTold step Fails result n (take item_size held) c d p q →
+      ServesItem step Fails result n (take item_size held) c d p q →
       Turns looked step Fails (after_item result) n (items_after result n) c d before
       (held_after result size held) x y p q
 
@@ -110,5 +110,5 @@ module _ {State Kind : Type 0} (looked : Looks) (refuses : Refuses) (step : Item
   RestIsTurn = (n : ℕ) (before held : List ℕ) (c d : State) (x y : SourceState) (p q : SinkState)
       (result : Result (Option Kind) Stop) →
       IsFound looked (Ok Rest) n held → Finds looked refuses (Ok Rest) n before held x y →
-      ServesTold step Fails result n held c d p q →
+      ServesItem step Fails result n held c d p q →
       Turns looked step Fails (after_rest result) n (items_after result n) c d before held x y p q

@@ -7,3 +7,4 @@ pub mod Turns
 pub mod Whole
 pub mod Laws
 pub mod Written
+pub mod Object

@@ -47,7 +47,7 @@ Serves step Fails (Err stop) n item c d written = StopsAt step Fails stop n (Som
     ⊎ StopsAt step Fails stop n None c d written
 
 -- what a modelled sink holds after it
-pub record ServesTold {State Kind : Type 0} (step : ItemStep State Kind)
+pub record ServesItem {State Kind : Type 0} (step : ItemStep State Kind)
     (Fails : State → List ℕ → State → Type 0) (result : Result (Option Kind) Stop) (n : ℕ)
     (item : List ℕ) (c d : State) (old new : SinkState) : Type 0 where
   pub text : List ℕ

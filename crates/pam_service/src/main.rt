@@ -6,7 +6,7 @@
 //! Begin at `run`; `answer_frames` has the contract.
 #![tactic(auto)]
 
-ghost use Rattle.std.specs.Prelude.{◌≡◌, ◌≤◌, ◌<◌, ◌^◌, ℕ, nat_eq, List, [], IfOk, OnErr, length};
+ghost use Rattle.std.specs.Prelude.{◌≡◌, ◌≤◌, ◌<◌, ◌^◌, ℕ, nat_eq, List, [], IfOk, length};
 ghost use Rattle.pam_base.specs.declared.code.Code.{Code};
 ghost use Rattle.pam_room.specs.Module.{Player};
 ghost use Rattle.fail_delay.specs.DelayFn.{GivesOneNumber, IsNumberGiven};
@@ -15,6 +15,7 @@ ghost use Rattle.pam_service.specs.Service.{IsOfFrames, StatusOf, served_wait, s
 ghost use Rattle.pam_service.specs.Serving.{ServesFrames};
 ghost use Rattle.session_program.specs.ByCommand.{object_of, setup_of};
 
+use command_line::{arguments, exit_status};
 use data_cleanup::Ledger;
 use fail_delay::{DelayRule, LONGEST_ASKED};
 use front_conv::FrontConv;
@@ -30,13 +31,8 @@ use pam_room::{Module, Process, World};
 use session_program::mod_tally::Faillock;
 use session_program::{Desk, DeskTold, Outside, OutsideTold, pamsess};
 use std::alloc::Global;
-use std::io::ErrorKind;
+use std::io;
 use std::process::ExitCode;
-use std::rt::Env;
-use std::{env, io};
-
-/// The exit status if an allocation for the program's objects fails.
-const NO_MEMORY: u8 = 4;
 
 /// How many transactions may be open at a time, each with a conversation.
 const TRANSACTIONS: usize = 16;
@@ -101,24 +97,13 @@ fn main(rt: HostRuntime) -> ExitCode {
     ExitCode::from(exit_status(run(rt)))
 }
 
-// The status that the program returned, or 4 if it couldn't be called.
-fn exit_status(answered: io::Result<u8>) -> u8
-    ensures answered { IfOk answered (λ status. result ≡ status) }
-    ensures not_called { OnErr answered (result ≡ NO_MEMORY) }
-{
-    match answered {
-        Ok(status) => status,
-        Err(_) => NO_MEMORY,
-    }
-}
-
 // Makes the streams, the conversation with the front end for transaction 1, and the world, and calls the program.
 fn run(rt: HostRuntime) -> io::Result<u8> {
     let alloc = rt.alloc();
     let status = own_status(rt);
     let user = ids_in(&status, "Uid:");
     let group = ids_in(&status, "Gid:");
-    let words = words_for(alloc, &words(&rt)?, has_own_ids(&user, &group))?;
+    let words = words_for(alloc, &words_of(&rt)?, has_own_ids(&user, &group))?;
     let mut script = ReaderSource::new(rt.reader());
     let mut out = WriterSink::new(io::writer(&rt));
     let term: Box<dyn Conv> = Box::new(alloc, TermConv::new(rt.stdin(), rt.stderr()))?;
@@ -310,19 +295,13 @@ fn answer_frames<S: Source, K: Sink>(
 }
 
 // The arguments of the command line; one that names no root if one of them isn't UTF-8.
-fn words<R: Env + AllocGlobal>(rt: &R) -> io::Result<Vec<String>> {
-    let mut words = Vec::new(rt.alloc());
-    match env::args(rt) {
-        Ok(all) => {
-            for word in all.skip(1) {
-                words.push(word)?;
-            }
-            Ok(words)
-        }
-        Err(error) if error.kind() == ErrorKind::InvalidData => {
+fn words_of(rt: &HostRuntime) -> io::Result<Vec<String>> {
+    match arguments(rt)? {
+        Some(words) => Ok(words),
+        None => {
+            let mut words = Vec::new(rt.alloc());
             words.push(String::new(rt.alloc()))?;
             Ok(words)
         }
-        Err(error) => Err(error),
     }
 }

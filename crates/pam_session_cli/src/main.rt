@@ -1,15 +1,16 @@
 //! `pamsess`: makes the calls of a script or of a front end in the transactions of a configuration and reports what each
 //! returns, logs a user in, audits a report, or prints a configuration or a tally.
 //!
-//! Begin at `main`: `run` and `run_in_world` make the objects that objects.rt names for a command, and `serve` calls
+//! Begin at `main`: `run` makes the objects that objects.rt names for a command, and `serve` calls
 //! `session_program::pamsess` with them.
 #![tactic(auto)]
 
 mod objects;
 
-ghost use Rattle.std.specs.Prelude.{◌≡◌, [], IfOk, OnErr, length};
+ghost use Rattle.std.specs.Prelude.{◌≡◌, [], length};
 
-use crate::objects::{Files, Objects, Replies, Time, objects_of};
+use crate::objects::{Files, Replies, Time, objects_of};
+use command_line::{arguments, exit_status};
 use mod_basic::conv_port::{Conv, QueueConv, TermConv, WireConv};
 use mod_basic::data_cleanup::Ledger;
 use mod_basic::pam_room::{Module, Process, World};
@@ -26,16 +27,11 @@ use pam_outside::{
 use session_program::mod_tally::Faillock;
 use session_program::{Desk, pamsess};
 use std::alloc::Global;
-use std::io::ErrorKind;
+use std::io;
 use std::process::ExitCode;
-use std::rt::Env;
-use std::{env, io};
 
 #[cfg(test)]
 mod tests;
-
-/// The status if the objects that the program gets can't be allocated.
-const NO_MEMORY: u8 = 4;
 
 /// How many transactions may be open at a time, each with a conversation.
 const TRANSACTIONS: usize = 16;
@@ -50,49 +46,12 @@ fn main(rt: HostRuntime) -> ExitCode {
     ExitCode::from(exit_status(run(rt)))
 }
 
-// The status that the program returned, or NO_MEMORY if it couldn't be called.
-fn exit_status(returned: io::Result<u8>) -> u8
-    ensures answered { IfOk returned (λ status. result ≡ status) }
-    ensures not_called { OnErr returned (result ≡ NO_MEMORY) }
-{
-    match returned {
-        Ok(status) => status,
-        Err(_) => NO_MEMORY,
-    }
-}
-
-// Makes the streams, a conversation for each transaction and one for the terminal, and calls the program with them.
+// Makes the objects that the command gets, a conversation for each transaction and one for the terminal, and calls the
+// program with them, without arguments if one of them isn't UTF-8.
 fn run(rt: HostRuntime) -> io::Result<u8> {
     let alloc = rt.alloc();
-    let words = words(&rt)?;
-    let mut script = ReaderSource::new(rt.reader());
-    let mut out = WriterSink::new(io::writer(&rt));
-    let term: Box<dyn Conv> = Box::new(alloc, TermConv::new(rt.stdin(), rt.stderr()))?;
-    let mut convs: Vec<Box<dyn Conv>> = Vec::new(alloc);
+    let words = arguments(&rt)?.unwrap_or(Vec::new(alloc));
     let objects = objects_of(&words);
-    for _ in 0..TRANSACTIONS {
-        let conv: Box<dyn Conv> = match objects.replies {
-            Replies::Awaited => Box::new(alloc, WireConv::new(alloc))?,
-            Replies::Queued => Box::new(alloc, QueueConv::new(alloc))?,
-        };
-        convs.push(conv)?;
-    }
-    run_in_world(rt, objects, &words, convs, term, &mut script, &mut out)
-}
-
-// Calls it in the world that the command gets.
-fn run_in_world<S: Source, K: Sink>(
-    rt: HostRuntime,
-    objects: Objects,
-    words: &[String],
-    convs: Vec<Box<dyn Conv>>,
-    term: Box<dyn Conv>,
-    script: &mut S,
-    out: &mut K,
-) -> io::Result<u8>
-    requires { length convs.items ≡ TRANSACTIONS }
-{
-    let alloc = rt.alloc();
     let clock: Box<dyn Clock> = match objects.time {
         Time::Real => Box::new(alloc, RealClock::new(rt))?,
         Time::Fixed => Box::new(alloc, FixedClock::new(0, 0))?,
@@ -111,7 +70,26 @@ fn run_in_world<S: Source, K: Sink>(
         nap,
         process: process_of_nobody(alloc),
     };
-    serve(alloc, words, convs, term, script, out, &mut world)
+    let mut script = ReaderSource::new(rt.reader());
+    let mut out = WriterSink::new(io::writer(&rt));
+    let term: Box<dyn Conv> = Box::new(alloc, TermConv::new(rt.stdin(), rt.stderr()))?;
+    let mut convs: Vec<Box<dyn Conv>> = Vec::new(alloc);
+    for _ in 0..TRANSACTIONS {
+        let conv: Box<dyn Conv> = match objects.replies {
+            Replies::Awaited => Box::new(alloc, WireConv::new(alloc))?,
+            Replies::Queued => Box::new(alloc, QueueConv::new(alloc))?,
+        };
+        convs.push(conv)?;
+    }
+    serve(
+        alloc,
+        &words,
+        convs,
+        term,
+        &mut script,
+        &mut out,
+        &mut world,
+    )
 }
 
 // A process of nobody, with an empty cleanup log.
@@ -172,19 +150,4 @@ fn serve<S: Source, K: Sink>(
         delay: Box::new(alloc, delay)?,
     };
     Ok(pamsess(alloc, words, script, out, world, desk))
-}
-
-/// The arguments of the command line; none if one of them isn't UTF-8.
-fn words<R: Env + AllocGlobal>(rt: &R) -> io::Result<Vec<String>> {
-    let mut words = Vec::new(rt.alloc());
-    match env::args(rt) {
-        Ok(all) => {
-            for word in all.skip(1) {
-                words.push(word)?;
-            }
-            Ok(words)
-        }
-        Err(error) if error.kind() == ErrorKind::InvalidData => Ok(words),
-        Err(error) => Err(error),
-    }
 }

@@ -23,10 +23,10 @@ abbrev pub IsBegun : {State : Type 0} → LineStep State → LineFails State →
 IsBegun step Fails = items.IsBegun (step_at step) Fails
 
 -- one line is served
-abbrev pub ServesTold : {State : Type 0} → LineStep State → LineFails State
+abbrev pub ServesItem : {State : Type 0} → LineStep State → LineFails State
     → Result (Option ScriptKind) Stop → ℕ → List ℕ → State → State → SinkState
     → SinkState → Type 0
-ServesTold step Fails = items.ServesTold (step_at step) Fails
+ServesItem step Fails = items.ServesItem (step_at step) Fails
 
 -- the run has stopped
 abbrev pub StopsBy : {State : Type 0} → LineStep State → LineFails State → Stop → ℕ → ℕ → State

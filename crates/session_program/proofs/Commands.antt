@@ -30,9 +30,9 @@ use Rattle.session_program.specs.Status.{IsCheckStatus, IsTallyStatus, check_sta
 use Rattle.session_program.specs.Command.{Command, runs, checks, logs_in, generates, tallies, audits, wires}
 use Rattle.session_program.specs.Run.{IsStatus, ReadsBy, Runs, opening, status_of}
 use Rattle.session_program.specs.Wire.{IsReadThrough, IsWireStatus, ReadsFramesBy, Serves, WireCompletes, wire_status}
-use Rattle.session_program.proofs.Alone.{is_accepted, is_refused, nothing_read, nothing_written}
+use Rattle.session_program.proofs.Alone.{is_accepted, is_refused}
 use Rattle.session_program.proofs.Telling.{completes_of, done_of, refused_of, unread_of}
-use Rattle.session_program.proofs.Wiring.{answered, no_frame_read}
+use Rattle.session_program.proofs.Wiring.{answered}
 
 -- ---- failures
 
@@ -75,14 +75,6 @@ module _ (root : List ℕ) (status : ℕ) (setup : Setup) (world : Around) (inpu
     writes = writes;
   }
 
-  -- one for which an allocation failed
-  pub runs_not : status ≡ 4 → world.new ≡ world.old → input.new ≡ input.old → output.new ≡ output.old → RunsSo root status setup world input output
-  runs_not four same taken written =
-      runs_so (λ number given source sink both. inr (four, record { world = same; source = taken; sink = written })) (Err NoMemory, four)
-      (λ source. subst (λ (y : SourceState). ReadsBy status input.old y) (sym taken) (nothing_read status input.old four))
-      (λ sink. subst (λ (q : SinkState). WritesScript output.old q) (sym written) (nothing_written output.old))
-      (λ five. absurd (omega (arith, four, five))) (λ six. absurd (omega (arith, four, six)))
-
   -- a run of frames
   pub wires_so : IfAllTold setup world input output (λ setting. Serves setting status setup.slots root world.old world.new input.old input.new output.old output.new) → IsWireStatus status
       → (IsTrue input.tells → ReadsFramesBy status input.old input.new)
@@ -99,13 +91,6 @@ module _ (root : List ℕ) (status : ℕ) (setup : Setup) (world : Around) (inpu
     wire_writes = writes;
     wire_no_read_fault = through;
   }
-
-  pub wires_not : status ≡ 4 → world.new ≡ world.old → input.new ≡ input.old → output.new ≡ output.old → input.faults_after ≡ input.faults_before → WiresSo root status setup world input output
-  wires_not four same taken written faults =
-      wires_so (λ number given source sink both. inr (four, record { world = same; source = taken; sink = written })) (Err NoMemory, four)
-      (λ source. subst (λ (y : SourceState). ReadsFramesBy status input.old y) (sym taken) (no_frame_read status input.old four))
-      (λ source. λ steps rest fault bytes spells no_read no_write. inr four)
-      (λ sink. subst (λ (q : SinkState). WritesScript output.old q) (sym written) (nothing_written output.old)) (λ through. faults)
 
 -- ---- statuses
 

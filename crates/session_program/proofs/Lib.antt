@@ -5,3 +5,4 @@ pub mod LoggingIn
 pub mod Statuses
 pub mod Telling
 pub mod Wiring
+pub mod Under

@@ -8,20 +8,22 @@ use Rattle.pam_outside.specs.Streams.{SourceState, SinkState}
 use Rattle.pam_base.specs.declared.code.Code.{Code}
 use Rattle.pam_room.specs.Module.{Player, notes_of}
 use Rattle.pam_room.specs.State.{PlainWorld}
-use Rattle.session_check.specs.pam_library.specs.Slots.{NoneIsOpen, PlainSlot, closed, lists_of, slot_at}
+use Rattle.session_check.specs.pam_library.specs.Slots.{NoneIsOpen, PlainSlot, closed, lists_of}
 use Rattle.session_check.specs.pam_library.specs.Sound.{IsSound}
 use Rattle.session_login.specs.script_stream.specs.Turns.{Ending}
+use Rattle.item_stream.specs.declared.ending.Ending.{Ending as StreamEnding}
 use Rattle.item_stream.specs.declared.ending.Ending.TheVariants.{Done, ReadFault, Refused}
 use Rattle.item_stream.specs.declared.ending.Stop.{Stop}
 use Rattle.item_stream.specs.declared.ending.Stop.TheVariants.{NoMemory, WriteFault}
-use Rattle.session_login.specs.session_run.specs.SideBySide.{ComesAlone, TellsSteps}
+use Rattle.session_login.specs.session_run.specs.Run.{RunTold}
 use Rattle.session_login.specs.session_run.specs.State.{Setting, RunState, setting_of, state_of}
 use Rattle.session_login.specs.session_run.specs.Whole.{RunsScript}
 use Rattle.session_login.specs.session_run.specs.Seen.{Seen}
 use Rattle.session_program.specs.ByCommand.{Setup}
 use Rattle.session_program.specs.Login.{at_root}
 use Rattle.session_program.specs.Opened.{IsOpened}
-use Rattle.session_program.specs.Run.{Completes, IsBegun, IsDone, IsRefused, IsReset, IsUnread, Runs, opening, status_of, under_root}
+use Rattle.session_program.specs.Under.{IsBegunSo}
+use Rattle.session_program.specs.Run.{Completes, IsDone, IsRefused, IsReset, IsUnread, Runs, opening, status_of, under_root}
 use Rattle.session_program.proofs.Statuses.{done_whole, refused_whole, unread_whole}
 
 pub both_left : (a b : Bool) → IsTrue (a && b) → IsTrue a
@@ -74,31 +76,23 @@ none_open_at_first holds convs slots are = subst NoneIsOpen (sym are) (none_open
 pub under_now : (root : List ℕ) (old at now : PlainWorld) → at ≡ at_root root old → IsReset at now → now ≡ under_root root old
 under_now root old at now is reset = reset.world_is ∙ ap (λ (w : PlainWorld). record w { clock = record w.clock { moment = 0; word = 0 } }) is
 
-module _ (setting : Setting) (slots ends : List PlainSlot) (root : List ℕ) (old now new : PlainWorld) (x y : SourceState) (p q : SinkState) where
-  begun_at : (result : Result Ending Stop) (status : ℕ) → status ≡ status_of result → now ≡ under_root root old
+module _ {Kind : Type 0} (runs_so : RunTold Kind) where
+  begun_at : (setting : Setting) (slots ends : List PlainSlot) (root : List ℕ) (old now new : PlainWorld) (x y : SourceState) (p q : SinkState) (result : Result (StreamEnding Kind) Stop) → now ≡ under_root root old
       → StandFor (notes_of setting.players) 17 old.process.ledger (lists_of slots) []
-      → ((start : RunState) (bytes : List ℕ) (ended : Bool) (number : ℕ) (slot : PlainSlot) → slot_at start.slots number ≡ Some slot → ComesAlone setting start bytes ended number slot)
-      → ((start : RunState) (bytes : List ℕ) (ended : Bool) → TellsSteps setting start bytes ended)
-      → RunsScript setting result (state_of slots now) (state_of ends new) x y p q → IsBegun setting status (opening slots root old) new x y p q
-  begun_at result status is under none_yet alone steps ran = record {
-    result = result;
-    is = is;
+      → runs_so setting result (state_of slots now) (state_of ends new) x y p q → IsBegunSo runs_so setting result (opening slots root old) new x y p q
+  begun_at setting slots ends root old now new x y p q result under none_yet ran = record {
     end = state_of ends new;
     world_is = refl;
-    runs = subst (λ (w : PlainWorld). RunsScript setting result (state_of slots w) (state_of ends new) x y p q) under ran;
+    runs = subst (λ (w : PlainWorld). runs_so setting result (state_of slots w) (state_of ends new) x y p q) under ran;
     none_yet = none_yet;
-    side_by_side = λ bytes ended. record { alone = λ number slot is. alone (opening slots root old) bytes ended number slot is; steps = steps (opening slots root old) bytes ended };
   }
 
-module _ (root : List ℕ) (setup : Setup) (old : PlainWorld) (s : Seen) (now new : PlainWorld) (ends : List PlainSlot) (x y : SourceState) (p q : SinkState) where
-  pub begun : (number : Code → ℕ → ℕ) (result : Result Ending Stop) (status : ℕ) → status ≡ status_of result → IsOpened root setup old s → IsReset s.world now
-      → ((start : RunState) (bytes : List ℕ) (ended : Bool) (n : ℕ) (slot : PlainSlot) → slot_at start.slots n ≡ Some slot → ComesAlone (setting_of s.players number) start bytes ended n slot)
-      → ((start : RunState) (bytes : List ℕ) (ended : Bool) → TellsSteps (setting_of s.players number) start bytes ended)
-      → RunsScript (setting_of s.players number) result (state_of s.slots now) (state_of ends new) x y p q
-      → IsBegun (setting_of setup.players number) status (opening setup.slots root old) new x y p q
-  begun number result status is opened reset alone steps ran =
-      subst₂ (λ (players : List Player) (slots : List PlainSlot). IsBegun (setting_of players number) status (opening slots root old) new x y p q) opened.players opened.slots
-      (begun_at (setting_of s.players number) s.slots ends root old now new x y p q result status is (under_now root old s.world now opened.world_is reset) opened.none_yet alone steps ran)
+  pub begun : (root : List ℕ) (setup : Setup) (old : PlainWorld) (s : Seen) (now new : PlainWorld) (ends : List PlainSlot) (x y : SourceState) (p q : SinkState) (number : Code → ℕ → ℕ) (result : Result (StreamEnding Kind) Stop)
+      → IsOpened root setup old s → IsReset s.world now → runs_so (setting_of s.players number) result (state_of s.slots now) (state_of ends new) x y p q
+      → IsBegunSo runs_so (setting_of setup.players number) result (opening setup.slots root old) new x y p q
+  begun root setup old s now new ends x y p q number result opened reset ran =
+      subst₂ (λ (players : List Player) (slots : List PlainSlot). IsBegunSo runs_so (setting_of players number) result (opening slots root old) new x y p q) opened.players opened.slots
+      (begun_at (setting_of s.players number) s.slots ends root old now new x y p q result (under_now root old s.world now opened.world_is reset) opened.none_yet ran)
 
 -- ---- by the status
 

@@ -3,8 +3,6 @@ use Rattle.std.proofs.Common.{◌≡◌, ◌⊎◌, inl, inr, ℕ, ◌<◌, if�
 use Rattle.std.specs.Int.{w16, to_be_bytes}
 use Rattle.std.specs.Prelude.{nat_eq}
 use Rattle.pam_outside.specs.Streams.{SourceState, SinkState}
-use Rattle.pam_base.specs.declared.code.Code.{Code}
-use Rattle.pam_room.specs.Module.{Player}
 use Rattle.pam_room.specs.State.{PlainWorld}
 use Rattle.session_check.specs.pam_library.specs.Slots.{PlainSlot}
 use Rattle.session_wire.specs.pam_wire.specs.Frame.{sized}
@@ -17,15 +15,11 @@ use Rattle.item_stream.specs.declared.ending.Stop.{Stop}
 use Rattle.item_stream.specs.declared.ending.Stop.TheVariants.{NoMemory, WriteFault}
 use Rattle.session_wire.specs.frame_stream.specs.declared.fault.FrameFault.{FrameFault}
 use Rattle.session_wire.specs.frame_stream.specs.declared.fault.FrameFault.TheVariants.{BadFrame, TooManyFrames}
-use Rattle.session_login.specs.session_run.specs.State.{Setting, setting_of, state_of}
+use Rattle.session_login.specs.session_run.specs.State.{Setting}
 use Rattle.session_wire.specs.Reading.{EndsAtBytes, ReadsFrames}
 use Rattle.session_wire.specs.Whole.{Answers, Completes}
-use Rattle.session_login.specs.session_run.specs.Seen.{Seen}
-use Rattle.session_program.specs.ByCommand.{Setup}
-use Rattle.session_program.specs.Opened.{IsOpened}
-use Rattle.session_program.specs.Run.{IsReset, opening, under_root}
-use Rattle.session_program.specs.Wire.{AnswersBy, IsReadThrough, IsServed, IsWireStatus, ReadsFramesBy, Serves, WireCompletes, wire_status}
-use Rattle.session_program.proofs.Telling.{under_now}
+use Rattle.session_program.specs.Run.{opening}
+use Rattle.session_program.specs.Wire.{AnswersBy, IsReadThrough, IsWireStatus, ReadsFramesBy, Serves, WireCompletes, wire_status}
 
 -- ---- the ending of a status
 
@@ -91,24 +85,6 @@ pub through : (result : Result (Ending FrameFault) Stop) (status : ℕ) → stat
 through result status is before now rises read = through_by result before now rises (subst IsReadThrough is read)
 
 -- ---- what is answered
-
-module _ (root : List ℕ) (setup : Setup) (old : PlainWorld) (s : Seen) (now new : PlainWorld) (ends : List PlainSlot) (x y : SourceState) (p q : SinkState) where
-  served_at : (setting : Setting) (slots : List PlainSlot) (result : Result (Ending FrameFault) Stop) (status : ℕ) → status ≡ wire_status result → now ≡ under_root root old
-      → Answers setting result (state_of slots now) (state_of ends new) x y p q → IsServed setting status (opening slots root old) new x y p q
-  served_at setting slots result status is under answers = record {
-    result = result;
-    is = is;
-    end = state_of ends new;
-    world_is = refl;
-    answers = subst (λ (w : PlainWorld). Answers setting result (state_of slots w) (state_of ends new) x y p q) under answers;
-  }
-
-  pub served : (number : Code → ℕ → ℕ) (result : Result (Ending FrameFault) Stop) (status : ℕ) → status ≡ wire_status result → IsOpened root setup old s → IsReset s.world now
-      → Answers (setting_of s.players number) result (state_of s.slots now) (state_of ends new) x y p q
-      → IsServed (setting_of setup.players number) status (opening setup.slots root old) new x y p q
-  served number result status is opened reset answers =
-      subst₂ (λ (players : List Player) (slots : List PlainSlot). IsServed (setting_of players number) status (opening slots root old) new x y p q) opened.players opened.slots
-      (served_at (setting_of s.players number) s.slots result status is (under_now root old s.world now opened.world_is reset) answers)
 
 module _ (setting : Setting) (status : ℕ) (slots : List PlainSlot) (root : List ℕ) (old new : PlainWorld) (x y : SourceState) (p q : SinkState) where
   pub answered : Serves setting status slots root old new x y p q → AnswersBy setting status (opening slots root old) new x y p q

@@ -10,6 +10,7 @@ use Rattle.pam_outside.specs.Files.{VaultState}
 use Rattle.pam_outside.specs.Streams.{SourceState, SinkState}
 use Rattle.pam_room.specs.Module.{Player}
 use Rattle.pam_room.specs.State.{PlainWorld}
+pub use Rattle.item_stream.specs.Object.{Object, object_of}
 use Rattle.item_stream.specs.Written.{WritesText}
 use Rattle.session_check.specs.Check.{check_of}
 use Rattle.session_check.specs.pam_library.specs.Slots.{PlainSlot}
@@ -45,30 +46,7 @@ setup_of players slots gives tells = record {
   tells = tells;
 }
 
--- an object before and after a command: whether it is modelled, what it holds, its count of failures, and that it is as it
--- was
-pub record Object (State : Type 0) : Type 1 where
-  pub tells : Bool
-  pub tells_after : Bool
-  pub old : State
-  pub new : State
-  pub faults_before : ℕ
-  pub faults_after : ℕ
-  pub is_kept : Type 0
-
-abbrev pub object_of : {A State : Type 0} → (A → Bool) → (A → State) → (A → ℕ) → A → A
-    → Object State
-object_of tells holds faults old new = record {
-  tells = tells old;
-  tells_after = tells new;
-  old = holds old;
-  new = holds new;
-  faults_before = faults old;
-  faults_after = faults new;
-  is_kept = new ≡ old;
-}
-
--- the same of the world, with its files, and that nothing but these changed
+-- a world before and after a command, with its files, and that nothing but these changed
 pub record Around : Type 1 where
   pub tells : Bool
   pub tells_after : Bool

@@ -9,3 +9,4 @@ pub mod Status
 pub mod Audit
 pub mod ByCommand
 pub mod Opened
+pub mod Under

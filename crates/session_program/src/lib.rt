@@ -1,21 +1,20 @@
 //! The program `pamsess` over any objects: what its arguments ask for, and each command with its exit status.
 //!
-//! Begin at program.rt; command.rt reads the arguments, script_run.rt, frame_run.rt, login.rt and generation.rt run
-//! the commands that need a library, which opening.rt makes, and files.rt those that only read files.
+//! Begin at program.rt; command.rt reads the arguments, stream.rt, login.rt and generation.rt run the commands that need
+//! a library, which opening.rt makes, and files.rt those that only read files.
 #![tactic(auto)]
 
 mod command;
 mod desk;
 mod files;
-mod frame_run;
 mod generation;
 mod login;
 mod opening;
 mod operand;
 mod outside;
 mod program;
-mod script_run;
 mod status;
+mod stream;
 mod usage;
 
 pub use desk::{Desk, DeskTold};

@@ -9,16 +9,18 @@ ghost use Rattle.session_program.specs.Command.{audits, checks, command_of, gene
 use crate::command::{Command, command_in};
 use crate::desk::{Desk, DeskTold};
 use crate::files::{audit_service, check_service, tally_user};
-use crate::frame_run::answer_frames;
 use crate::generation::generate_lines;
 use crate::login::log_in;
 use crate::outside::{Outside, OutsideTold};
-use crate::script_run::run;
+use crate::status::{status_of_frames, status_of_script};
+use crate::stream::run_under;
 use crate::usage::write_usage;
 use fail_delay::{DelayRule, LONGEST_ASKED};
 use pam_base::Code;
 use pam_outside::{Sink, Source};
 use pam_room::World;
+use session_login::session_run::Script;
+use session_wire::Frames;
 use std::alloc::Global;
 
 /// The program `pamsess`. `words` are the arguments of the command line, without the program's name:
@@ -130,7 +132,10 @@ pub fn pamsess<S: Source, K: Sink>(
 {
     match command_in(words) {
         None => write_usage(out),
-        Some(Command::Run(root)) => run(alloc, root, script, out, world, desk),
+        Some(Command::Run(root)) => {
+            session_login::session_run::laws::numbers_stand_side_by_side();
+            status_of_script(run_under::<Script, S, K>(alloc, root, script, out, world, desk))
+        }
         Some(Command::Check(root, service)) => check_service(alloc, root, service, out, world),
         Some(Command::Login(target)) => {
             log_in(alloc, target.root, target.service, None, out, world, desk)
@@ -149,6 +154,8 @@ pub fn pamsess<S: Source, K: Sink>(
         Some(Command::Audit(root, service)) => {
             audit_service(alloc, root, service, script, out, world)
         }
-        Some(Command::Wire(root)) => answer_frames(alloc, root, script, out, world, desk),
+        Some(Command::Wire(root)) => {
+            status_of_frames(run_under::<Frames, S, K>(alloc, root, script, out, world, desk))
+        }
     }
 }

@@ -1,11 +1,42 @@
 ghost use Rattle.std.specs.Prelude.{◌≡◌};
 ghost use Rattle.session_program.specs.Audit.{audit_status};
+ghost use Rattle.session_program.specs.Run.{status_of};
 ghost use Rattle.session_program.specs.Status.{check_status, tally_status};
+ghost use Rattle.session_program.specs.Wire.{wire_status};
 
-use item_stream::Stop;
+use item_stream::{Ending, Stop};
+use pam_base::ScriptKind;
 use session_check::Checked;
 use session_tally::Tallied;
+use session_wire::frame_stream::FrameFault;
 use transcript_audit::Audited;
+
+/// The exit status after the run of a script.
+pub(crate) fn status_of_script(run: Result<Ending<ScriptKind>, Stop>) -> u8
+    ensures { result ≡ status_of run }
+{
+    match run {
+        Ok(Ending::Done) => 0,
+        Err(Stop::NoMemory) => 4,
+        Ok(Ending::ReadFault) => 5,
+        Err(Stop::WriteFault) => 6,
+        Ok(Ending::Refused(_)) => 7,
+    }
+}
+
+/// The exit status after the run of a front end's frames.
+pub(crate) fn status_of_frames(run: Result<Ending<FrameFault>, Stop>) -> u8
+    ensures { result ≡ wire_status run }
+{
+    match run {
+        Ok(Ending::Done) => 0,
+        Err(Stop::NoMemory) => 4,
+        Ok(Ending::ReadFault) => 5,
+        Err(Stop::WriteFault) => 6,
+        Ok(Ending::Refused(FrameFault::BadFrame)) => 13,
+        Ok(Ending::Refused(FrameFault::TooManyFrames)) => 14,
+    }
+}
 
 /// The exit status after a check.
 pub(crate) fn status_of_check(found: Result<Checked, Stop>) -> u8

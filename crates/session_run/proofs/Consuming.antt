@@ -5,7 +5,6 @@ use Rattle.std.proofs.lemmas.List.Elements.{All-append, All-drop, All-same}
 use Rattle.std.proofs.Math.Seq.{drop-append_seam}
 use Rattle.pam_base.specs.declared.fault.Failed.{Failed}
 use Rattle.pam_outside.specs.Streams.{SourceState, SinkState, WritesWhole}
-use Rattle.session_report.specs.pam_room.specs.Module.{Player}
 use Rattle.script_lang.specs.declared.line.Line.{Line}
 use Rattle.script_stream.specs.Looked.{looked}
 use Rattle.script_stream.specs.Turns.{Ending}
@@ -17,10 +16,8 @@ use Rattle.item_stream.specs.Run.{ItemStep, Looks, Refuses}
 use Rattle.item_stream.specs.Taking.{Finds}
 use Rattle.script_stream.specs.Run.{Run, step_at}
 use Rattle.session_run.specs.Asked.{Asking}
-use Rattle.session_run.specs.Closings.{closings_text}
 use Rattle.session_run.specs.Serve.{Does}
 use Rattle.session_run.specs.State.{RunState, Setting}
-use Rattle.session_run.specs.Whole.{EndsWith}
 use Rattle.session_run.specs.Reading.{ReadsAll, ReadsItem, ReadsScript, TakesBytes, WritesScript, WritesSome, line_read, read_as}
 
 -- ---- one item
@@ -118,13 +115,3 @@ err_then t stop p q r a b = record {
 
 pub script_stopped : {T : Type 0} (stop : Stop) (p q : SinkState) → WritesSome {T = T} (Err stop) p q → WritesScript p q
 script_stopped stop p q w = record { text = w.text; written = w.written; calls = w.calls }
-
-pub script_written : (players : List Player) (ending : Ending) (n : ℕ) (result : Result (Unit {0}) Stop) (s t : RunState) (p q r : SinkState)
-    → WritesSome {T = Ending} (Ok ending) p q → EndsWith players ending n result s t q r → WritesScript p r
-script_written players ending n result s t p q r a b =
-    let words : List ℕ = closings_text b.whole ++ b.part in
-    record {
-      text = a.text ++ words;
-      written = b.written ∙ ap (λ (x : List ℕ). x ++ words) a.written ∙ append_assoc p.written a.text words;
-      calls = omega (arith, a.calls_ok, b.calls, length-append a.text words);
-    }

@@ -118,7 +118,7 @@ list_here front rest x = ap (data_in (suc (length front))) (here front rest x)
 -- ---- implicit ends
 
 module _ (players : List Player) (code : Code) where
-  abbrev EndStands : Type 0
+  abbrev pub EndStands : Type 0
   EndStands = (note : Notes) (limit handle status : ℕ) (events : List Event) (before after : PlainLedger) (lists next : Lists)
       → StandFor note limit before lists events → handle < limit → after ≡ ledger_after note status (reverse (lists handle).live) before → next handle ≡ clean_list handle []
       → ((h : ℕ) → nat_eq h handle ≡ false → next h ≡ lists h) → StandFor note limit after next (events ++ ends handle status ∷ [])

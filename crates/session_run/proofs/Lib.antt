@@ -7,9 +7,10 @@ pub mod Reporting
 pub mod Parting
 pub mod Proceeding
 pub mod Going
+pub mod Finishing
 pub mod Wholly
 pub mod Filed
-pub mod Completing
+pub mod Concluding
 pub mod Isolating
 pub mod Joining
 pub mod Departing

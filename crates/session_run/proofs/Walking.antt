@@ -4,7 +4,7 @@ use Rattle.pam_outside.specs.Streams.{SinkState}
 use Rattle.session_report.specs.pam_room.specs.Module.{notes_of}
 use Rattle.session_report.specs.pam_library.specs.Slots.{lists_of}
 use Rattle.item_stream.specs.Run.{ItemStep, Looks}
-use Rattle.item_stream.specs.Turns.{ServesTold}
+use Rattle.item_stream.specs.Turns.{ServesItem}
 use Rattle.session_run.specs.Asked.{Asking, FirstAsks}
 use Rattle.session_run.specs.State.{Setting, RunState}
 use Rattle.session_run.specs.Events.{Broken, LeadOn, MovesBy, Served}
@@ -30,13 +30,13 @@ module _ {Kind : Type 0} (looked : Looks) (asked : Asking Kind) (step : Setting 
 
   module _ (fails : RunState → List ℕ → RunState → Type 0) where
     pub refused_served : (kind : Kind) (n : ℕ) (item : List ℕ) (s t : RunState) (p q : SinkState) (input : List ℕ)
-        → ServesTold (step setting) fails (Ok (Some kind)) n item s t p q
+        → ServesItem (step setting) fails (Ok (Some kind)) n item s t p q
         → (others : List (List ℕ)) × ServedIn n n s t input others p q
     refused_served kind n item s t p q input told =
         (looked n input true, record { served = []; among = refl; number = omega arith; text = told.text; written = told.written; lead = (refl, told.served.1, told.served.2) })
 
     pub one_served : (n : ℕ) (item : List ℕ) (s t : RunState) (p q : SinkState) (input : List ℕ) (others : List (List ℕ)) → looked n input true ≡ item ∷ others
-        → ServesTold (step setting) fails (Ok None) n item s t p q
+        → ServesItem (step setting) fails (Ok None) n item s t p q
         → MovesBy (notes_of setting.players) s.slots (asked n item) s.world.process.ledger t.world.process.ledger t.slots
         → ServedIn n (n + 1) s t input others p q
     one_served n item s t p q input others first told moves = record {

@@ -2,13 +2,10 @@
 use Rattle.std.proofs.Common.{◌≡◌, ℕ, ◌+◌, ◌≤◌, inl, inr, true, List, [], ◌∷◌, ◌++◌, length, map, take, Ok, Err, refl, sym, ap, ◌∙◌, append_assoc, append-nil, length-append, arith}
 use Rattle.std.proofs.Math.Seq.{take-append_seam}
 use Rattle.pam_base.specs.Lines.{lines_of}
-use Rattle.pam_base.specs.declared.fault.Failed.{Failed}
-use Rattle.pam_outside.specs.Streams.{SourceState, SinkState, WritesWhole}
+use Rattle.pam_outside.specs.Streams.{SourceState, SinkState}
 use Rattle.session_report.specs.pam_room.specs.Module.{Player, notes_of}
-use Rattle.session_report.specs.pam_library.specs.Slots.{NoneIsOpen}
 use Rattle.script_stream.specs.Turns.{Ending}
 use Rattle.item_stream.specs.declared.ending.Stop.{Stop}
-use Rattle.item_stream.specs.declared.ending.Stop.TheVariants.{NoMemory, WriteFault}
 use Rattle.item_stream.specs.Turns.{begun_items}
 use Rattle.script_stream.specs.Looked.{looked}
 use Rattle.script_stream.specs.Turns.{Runs}
@@ -16,9 +13,10 @@ use Rattle.session_run.specs.State.{Setting, RunState}
 use Rattle.session_run.specs.Step.{line_step, Fails}
 use Rattle.session_run.specs.Events.{StandOn, StandsBehind, StandsCut, run_events}
 use Rattle.session_run.specs.Closings.{Closing, closings, closings_text, last_state, all_closed}
-use Rattle.session_run.specs.Reported.{Closes, ClosesTo, wrapped_closing, wrapped_closings}
+use Rattle.session_run.specs.Reported.{wrapped_closing, wrapped_closings}
+use Rattle.session_run.specs.Run.{EndsTo, EndsWith}
 use Rattle.session_run.specs.Script.{as_it_is}
-use Rattle.session_run.specs.Whole.{ending_status, stop_status, last_line, last_words, EndsTo, EndsWith, StopsIn, StopsClosing, RunsScript}
+use Rattle.session_run.specs.Whole.{ending_status, stop_status, last_line, last_words, script_last, StopsIn, StopsClosing, RunsScript}
 use Rattle.session_run.proofs.Asking.{AllLooked}
 use Rattle.session_run.proofs.Lowest.{none_left}
 
@@ -31,68 +29,6 @@ module _ (players : List Player) (ending : Ending) (n : ℕ) where
   ended_as : (s : RunState) (whole others : List Closing) → wrapped_closings as_it_is players (ending_status ending) s ≡ whole ++ others → closings players (ending_status ending) s ≡ whole ++ others
   ended_as s whole others among = sym (as_they_are (closings players (ending_status ending) s)) ∙ among
 
-  -- ---- what is ended and written after the lines
-
-  -- the implicit ends stopped
-  cut_short : (stop : Stop) (s t : RunState) (whole others : List Closing) (part : List ℕ)
-      → ClosesTo as_it_is players (ending_status ending) (Err stop) s t whole others part → EndsTo players ending n (Err stop) s t whole others part
-  cut_short stop s t whole [] part h = absurd h
-  cut_short stop s t whole (c ∷ cs) part h = h
-
-  pub stopped_closing : (stop : Stop) (s t : RunState) (p q : SinkState) → Closes as_it_is players (ending_status ending) (Err stop) s t p q
-      → EndsWith players ending n (Err stop) s t p q
-  stopped_closing stop s t p q c = record { whole = c.whole; others = c.others; among = ended_as s c.whole c.others c.among; part = c.part; written = c.written; to = cut_short stop s t c.whole c.others c.part c.to; calls = c.calls }
-
-  -- all are ended, and then comes the last line
-  module _ (s t : RunState) (p q r : SinkState) (done : Unit {0}) (c : Closes as_it_is players (ending_status ending) (Ok done) s t p q) where
-    closed_text : closings_text c.whole ++ c.part ≡ closings_text c.whole
-    closed_text = ap (λ (x : List ℕ). closings_text c.whole ++ x) c.to.1 ∙ append-nil (closings_text c.whole)
-
-    behind : (part : List ℕ) → r.written ≡ q.written ++ part → r.written ≡ p.written ++ (closings_text c.whole ++ part)
-    behind part w = w ∙ ap (λ (x : List ℕ). x ++ part) (c.written ∙ ap (λ (x : List ℕ). p.written ++ x) closed_text) ∙ append_assoc p.written (closings_text c.whole) part
-
-    counted : (part : List ℕ) → r.calls ≤ q.calls + length part + 1 → r.calls ≤ p.calls + length (closings_text c.whole ++ part) + 1
-    counted part w =
-        let ok : q.calls ≤ p.calls + length (closings_text c.whole) = rw closed_text at c.calls_ok in
-        omega (arith, ok, w, length-append (closings_text c.whole) part)
-
-    pub line_written : (u : Unit {0}) (text : List ℕ) → text ≡ last_line ending n → WritesWhole {T = Unit {0}} (Ok u) text q r
-        → EndsWith players ending n (Ok u) s t p r
-    line_written u text is w = record {
-      whole = c.whole;
-      others = c.others;
-      among = ended_as s c.whole c.others c.among;
-      part = w.front;
-      written = behind w.front w.written;
-      to = (c.to.0, w.all ∙ is, c.to.2);
-      calls = counted w.front w.calls;
-    }
-
-    pub line_cut : (failed : Failed) (text : List ℕ) → NoneIsOpen t.slots → text ≡ last_line ending n
-        → WritesWhole {T = Unit {0}} (Err failed) text q r → EndsWith players ending n (Err WriteFault) s t p r
-    line_cut failed text none is w = record {
-      whole = c.whole;
-      others = [];
-      among = ended_as s c.whole [] (rw c.to.0 at c.among);
-      part = w.front;
-      written = behind w.front w.written;
-      to = ((w.back, sym is ∙ w.parts), c.to.2, none);
-      calls = counted w.front w.calls;
-    }
-
-  -- an allocation for it failed
-  pub line_unwritten : (s t : RunState) (p q : SinkState) (done : Unit {0}) → Closes as_it_is players (ending_status ending) (Ok done) s t p q
-      → NoneIsOpen t.slots → EndsWith players ending n (Err NoMemory) s t p q
-  line_unwritten s t p q done c none = record {
-    whole = c.whole;
-    others = [];
-    among = ended_as s c.whole [] (rw c.to.0 at c.among);
-    part = [];
-    written = rw c.to.1 at c.written;
-    to = (refl, c.to.2, none);
-    calls = rw c.to.1 at c.calls;
-  }
-
   -- ---- the state after a stop
 
   ended_all : (s : RunState) (whole : List Closing) → closings players (ending_status ending) s ≡ whole ++ []
@@ -100,24 +36,26 @@ module _ (players : List Player) (ending : Ending) (n : ℕ) where
   ended_all s whole e = ap (last_state s) (sym (append-nil whole) ∙ sym e)
 
   stops_in : (stop : Stop) (s t u : RunState) (whole others : List Closing) (part : List ℕ)
-      → closings players (ending_status ending) s ≡ whole ++ others → EndsTo players ending n (Err stop) s t whole others part
+      → closings players (ending_status ending) s ≡ whole ++ others → EndsTo as_it_is script_last players ending n (Err stop) s t whole others part
       → u ≡ all_closed players (stop_status stop) t → StopsIn players stop ending n s u others part
-  stops_in stop s t u whole [] part among to e = (to.0, e ∙ none_left players (stop_status stop) t.slots t.world to.2 ∙ to.1 ∙ ended_all s whole among)
+  stops_in stop s t u whole [] part among to e = (to.1, e ∙ none_left players (stop_status stop) t.slots t.world to.3 ∙ to.2 ∙ ended_all s whole among)
   stops_in stop s t u whole (c ∷ cs) part among to e = (to.0, e ∙ ap (all_closed players (stop_status stop)) to.1)
 
-  pub stops_closing : (stop : Stop) (s t u : RunState) (p q : SinkState) → (w : EndsWith players ending n (Err stop) s t p q)
+  pub stops_closing : (stop : Stop) (s t u : RunState) (p q : SinkState) → (w : EndsWith as_it_is script_last players ending n (Err stop) s t p q)
       → u ≡ all_closed players (stop_status stop) t → StopsClosing players stop ending n s u (closings_text w.whole ++ w.part)
-  stops_closing stop s t u p q w e = record { whole = w.whole; others = w.others; among = w.among; part = w.part; written = refl; stopped = stops_in stop s t u w.whole w.others w.part w.among w.to e }
+  stops_closing stop s t u p q w e =
+      let among = ended_as s w.whole w.others w.among in
+      record { whole = w.whole; others = w.others; among = among; part = w.part; written = refl; stopped = stops_in stop s t u w.whole w.others w.part among w.to e }
 
-  pub words_whole : (s t : RunState) (p q : SinkState) (done : Unit {0}) → (w : EndsWith players ending n (Ok done) s t p q)
+  pub words_whole : (s t : RunState) (p q : SinkState) (done : Unit {0}) → (w : EndsWith as_it_is script_last players ending n (Ok done) s t p q)
       → closings_text w.whole ++ w.part ≡ last_words players ending n s
   words_whole s t p q done w =
-      let all : w.whole ≡ closings players (ending_status ending) s = sym (append-nil w.whole) ∙ ap (λ (x : List Closing). w.whole ++ x) (sym w.to.0) ∙ sym w.among in
+      let all : w.whole ≡ closings players (ending_status ending) s = sym (append-nil w.whole) ∙ ap (λ (x : List Closing). w.whole ++ x) (sym w.to.0) ∙ sym (ended_as s w.whole w.others w.among) in
       ap (λ (x : List ℕ). closings_text w.whole ++ x) w.to.1 ∙ ap (λ (x : List Closing). closings_text x ++ last_line ending n) all
 
-  pub all_ended : (s t : RunState) (p q : SinkState) (done : Unit {0}) → EndsWith players ending n (Ok done) s t p q
+  pub all_ended : (s t : RunState) (p q : SinkState) (done : Unit {0}) → EndsWith as_it_is script_last players ending n (Ok done) s t p q
       → t ≡ all_closed players (ending_status ending) s
-  all_ended s t p q done w = w.to.2 ∙ ended_all s w.whole (rw w.to.0 at w.among)
+  all_ended s t p q done w = w.to.2 ∙ ended_all s w.whole (ended_as s w.whole [] (rw w.to.0 at w.among))
 
 -- ---- the whole run
 
@@ -161,7 +99,7 @@ module _ (setting : Setting) (start : RunState) (x y : SourceState) (p q : SinkS
     writes : (words : List ℕ) → z.calls ≤ q.calls + length words + 1 → z.calls ≤ p.calls + length (r.text ++ words) + 1
     writes words w = omega (arith, w, r.writes_ok, length-append r.text words)
 
-    pub ended_run : (done : Unit {0}) → EndsWith setting.players ending n (Ok done) s t q z
+    pub ended_run : (done : Unit {0}) → EndsWith as_it_is script_last setting.players ending n (Ok done) s t q z
         → ((t ≡ all_closed setting.players (ending_status ending) s) → StandOn (notes_of setting.players) (run_events setting (ending_status ending) start x.left n s) start t)
         → RunsScript setting (Ok ending) start t x y p z
     ended_run done w stands =
@@ -186,7 +124,7 @@ module _ (setting : Setting) (start : RunState) (x y : SourceState) (p q : SinkS
           writes = writes words w.calls;
         }
 
-    pub stopped_behind : (stop : Stop) (u : RunState) → EndsWith setting.players ending n (Err stop) s t q z
+    pub stopped_behind : (stop : Stop) (u : RunState) → EndsWith as_it_is script_last setting.players ending n (Err stop) s t q z
         → u ≡ all_closed setting.players (stop_status stop) t
         → StandsBehind setting (ending_status ending) (stop_status stop) n start u x.left → RunsScript setting (Err stop) start u x y p z
     stopped_behind stop u w e stands =

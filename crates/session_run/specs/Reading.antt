@@ -10,7 +10,7 @@ use Rattle.item_stream.specs.declared.ending.Ending.TheVariants.{Done, ReadFault
 use Rattle.item_stream.specs.declared.ending.Stop.{Stop}
 use Rattle.item_stream.specs.Laws.{EndIsTurn, FaultIsTurn, ItemIsTurn, NoTurnYet, RestIsTurn, StopsAtOnce, TurnsAreRun, TurnsGoOn}
 use Rattle.item_stream.specs.Run.{ItemStep, Looks, Refuses}
-use Rattle.item_stream.specs.Turns.{ServesTold, Turns}
+use Rattle.item_stream.specs.Turns.{ServesItem, Turns}
 use Rattle.item_stream.specs.Whole.{Runs}
 use Rattle.script_stream.specs.Run.{LineStep, run_of}
 use Rattle.script_stream.specs.Turns.{Ending}
@@ -56,7 +56,7 @@ pub record TakesBytes (before : List ℕ) (x y : SourceState) : Type 0 where
 -- one item, one turn and many, for a sink to which nothing is written
 abbrev pub ReadsItem : {Kind : Type 0} → ItemStep (Unit {0}) Kind → Result (Option Kind) Stop → ℕ
     → List ℕ → Type 0
-ReadsItem step result n item = ServesTold step AnyState result n item tt tt nowhere nowhere
+ReadsItem step result n item = ServesItem step AnyState result n item tt tt nowhere nowhere
 
 pub record ReadsTurn {Kind : Type 0} (looked : Looks) (step : ItemStep (Unit {0}) Kind)
     (result : Result (Option (StreamEnding Kind)) Stop) (n m : ℕ) (before held : List ℕ)

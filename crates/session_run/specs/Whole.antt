@@ -1,14 +1,12 @@
 -- A whole run of a script: its lines, and how the open transactions are ended after them (this project's own).
-use Rattle.std.specs.Prelude.{◌≡◌, ◌⊎◌, ℕ, ◌+◌, ◌≤◌, List, [], ◌∷◌, ◌++◌, length, take, true, None, Result, Ok, Err}
+use Rattle.std.specs.Prelude.{◌≡◌, ◌⊎◌, ℕ, ◌+◌, ◌≤◌, List, [], ◌∷◌, ◌++◌, length, take, true, Option, Some, None, Result, Ok, Err}
 use Rattle.pam_base.specs.Lines.{lines_of}
 use Rattle.pam_outside.specs.Streams.{SourceState, SinkState}
 use Rattle.session_report.specs.pam_room.specs.Module.{Player, notes_of}
-use Rattle.session_report.specs.pam_library.specs.Slots.{NoneIsOpen}
 use Rattle.script_stream.specs.Turns.{Ending}
 use Rattle.item_stream.specs.declared.ending.Ending.TheVariants.{Done, ReadFault, Refused}
 use Rattle.item_stream.specs.declared.ending.Stop.{Stop}
 use Rattle.item_stream.specs.declared.ending.Stop.TheVariants.{NoMemory}
-use Rattle.script_stream.specs.Run.{run_of}
 use Rattle.script_stream.specs.Turns.{StopsBy, LastRead}
 use Rattle.script_stream.specs.Turns.{Reports}
 use Rattle.session_report.specs.report_lines.specs.Line.{script_text}
@@ -17,16 +15,21 @@ pub use Rattle.session_run.specs.Endings.{ending_status, stop_status}
 use Rattle.session_run.specs.State.{Setting, RunState}
 use Rattle.session_run.specs.Step.{line_step, Fails}
 use Rattle.session_run.specs.Events.{StandOn, StandsBehind, StandsCut, run_events}
-use Rattle.session_run.specs.Closings.{Closing, closings, closings_text, last_state, all_closed}
+use Rattle.session_run.specs.Closings.{Closing, closings, closings_text, all_closed}
+use Rattle.session_run.specs.Reading.{refused_in}
 use Rattle.session_run.specs.Reported.{CutBy}
+use Rattle.session_run.specs.Run.{text_of}
 
 -- ---- the last line
 
 -- what is written after their lines, if n lines were applied
+abbrev pub script_last : Ending → ℕ → Option (List ℕ)
+script_last Done n = None
+script_last ReadFault n = Some read_fault_text
+script_last (Refused kind) n = Some (script_text (n + 1) kind)
+
 abbrev pub last_line : Ending → ℕ → List ℕ
-last_line Done n = []
-last_line ReadFault n = read_fault_text
-last_line (Refused kind) n = script_text (n + 1) kind
+last_line ending n = text_of (script_last ending n)
 
 module _ (players : List Player) where
   -- ---- a run that ends
@@ -35,26 +38,6 @@ module _ (players : List Player) where
   abbrev pub last_words : Ending → ℕ → RunState → List ℕ
   last_words ending n s = closings_text (closings players (ending_status ending) s)
       ++ last_line ending n
-
-  -- What was ended and written after the lines. All transactions were, and the last line is written, whole or not; or
-  -- up to one that was ended and whose lines aren't whole.
-  abbrev pub EndsTo : Ending → ℕ → Result (Unit {0}) Stop → RunState → RunState → List Closing
-      → List Closing → List ℕ → Type 0
-  EndsTo ending n (Ok done) s t whole others part = (others ≡ []) × (part ≡ last_line ending n)
-      × (t ≡ last_state s whole)
-  EndsTo ending n (Err stop) s t whole [] part = CutBy stop part (last_line ending n)
-      × (t ≡ last_state s whole) × NoneIsOpen t.slots
-  EndsTo ending n (Err stop) s t whole (c ∷ cs) part = CutBy stop part c.text × (t ≡ c.state)
-
-  pub record EndsWith (ending : Ending) (n : ℕ) (result : Result (Unit {0}) Stop) (s t : RunState)
-      (old new : SinkState) : Type 0 where
-    pub whole : List Closing
-    pub others : List Closing
-    pub among : closings players (ending_status ending) s ≡ whole ++ others
-    pub part : List ℕ
-    pub written : new.written ≡ old.written ++ (closings_text whole ++ part)
-    pub to : EndsTo ending n result s t whole others part
-    pub calls : new.calls ≤ old.calls + length (closings_text whole ++ part) + 1
 
   -- A run that stops after its lines: in the last line, with all transactions ended; or in the lines of one, after
   -- which the others are ended and not reported.
@@ -139,7 +122,7 @@ module _ (setting : Setting) where
     pub writes : q.calls ≤ p.calls + length text + 1
 
 -- If no line of the script is refused and neither source nor sink failed, it was run to its end, or out of memory.
-abbrev pub Completes : Setting → Result Ending Stop → RunState → List ℕ → Type 0 → Type 0 → Type 0
-Completes setting result start input read_failed write_failed =
-    (run_of (line_step setting) 0 start input true).refused ≡ None → (read_failed → ⊥)
-    → (write_failed → ⊥) → (result ≡ Ok Done) ⊎ (result ≡ Err NoMemory)
+abbrev pub Completes : Result Ending Stop → List ℕ → Type 0 → Type 0 → Type 0
+Completes result input read_failed write_failed =
+    refused_in input true ≡ None → (read_failed → ⊥) → (write_failed → ⊥)
+    → (result ≡ Ok Done) ⊎ (result ≡ Err NoMemory)

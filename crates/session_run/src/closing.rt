@@ -18,7 +18,7 @@ use std::alloc::Global;
 
 /// Ends every open transaction with this status, the lowest number first, and writes the report of each before it
 /// ends the next. After an Err the last report may be incomplete, and the transactions after it are open.
-pub fn close_open<P: Protocol, K: Sink>(
+pub(crate) fn close_open<P: Protocol, K: Sink>(
     alloc: Global,
     library: &mut Library,
     status: Code,
@@ -97,7 +97,7 @@ fn close_next<P: Protocol, K: Sink>(
 }
 
 /// Ends every open transaction with this status, the lowest number first, and writes nothing. It allocates nothing.
-pub fn close_silently(library: &mut Library, status: Code, world: &mut World)
+pub(crate) fn close_silently(library: &mut Library, status: Code, world: &mut World)
     requires { IsSoundIn (⟦<Session as Told>⟧.seen library.old world.old) }
     ensures closed { let seen = ⟦<Session as Told>⟧.seen in state (seen library.new world.new)
         ≡ all_closed (seen library.old world.old).players status (state (seen library.old world.old)) }

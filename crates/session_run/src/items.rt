@@ -1,12 +1,13 @@
 ghost use Rattle.std.specs.Prelude.{◌≡◌, ◌≤◌, ◌<◌, ◌+◌, ◌++◌, ℕ, None, Ok, IsTrue, All, is_err};
 ghost use Rattle.pam_base.specs.declared.code.Code.{Code};
 ghost use Rattle.pam_outside.specs.Counts.{RisesIf};
+ghost use Rattle.item_stream.specs.Object.{object_of};
 ghost use Rattle.item_stream.specs.Taking.{Finds, IsFound};
 ghost use Rattle.item_stream.specs.Turns.{has_read_fault, has_write_fault};
-ghost use Rattle.item_stream.specs.Whole.{at_last};
 ghost use Rattle.session_run.specs.Asked.{IsEndAmong, LeadsOn};
-ghost use Rattle.session_run.specs.Events.{TellsAll, TellsTurn};
-ghost use Rattle.session_run.specs.Reading.{ReadsAll, ReadsTurn, WritesSome};
+ghost use Rattle.session_run.specs.Events.{TellsTurn};
+ghost use Rattle.session_run.specs.Reading.{ReadsTurn, WritesSome};
+ghost use Rattle.session_run.specs.Run.{ServesStream};
 ghost use Rattle.session_run.specs.Seen.{AllTell, IsSoundIn, Went, setting_in, state};
 
 use crate::protocol::{Items, Protocol};
@@ -21,7 +22,7 @@ use session_report::pam_room::World;
 use std::alloc::Global;
 
 /// Applies the items of a stream one by one until they end or one is refused, and counts those that were applied.
-pub fn serve_items<P: Protocol, S: Source, K: Sink>(
+pub(crate) fn serve_items<P: Protocol, S: Source, K: Sink>(
     alloc: Global,
     library: &mut Library,
     taken: &mut u32,
@@ -31,28 +32,11 @@ pub fn serve_items<P: Protocol, S: Source, K: Sink>(
 ) -> Result<Ending<P::Kind>, Stop>
     requires first { taken.old ≡ 0 }
     requires sound { IsSoundIn (⟦<Session as Told>⟧.seen library.old world.old) }
-    ensures source_tells { S.source_tells source.new ≡ S.source_tells source.old }
-    ensures sink_tells { K.sink_tells sink.new ≡ K.sink_tells sink.old }
-    ensures told { let seen = ⟦<Session as Told>⟧.seen in (delay : Code → ℕ → ℕ) →
-        (seen library.old world.old).gives delay → AllTell (seen library.old world.old) →
-        IsTrue (S.source_tells source.old) → IsTrue (K.sink_tells sink.old) →
-        TellsAll P.looked P.asked P.step P.fails (setting_in (seen library.old world.old) delay)
-        result taken.new (state (seen library.old world.old)) (state (seen library.new world.new))
-        (S.source_holds source.old) (S.source_holds source.new) (K.sink_holds sink.old)
-        (K.sink_holds sink.new) }
-    ensures reads { IsTrue (S.source_tells source.old) →
-        ReadsAll P.looked P.read_step result taken.new (S.source_holds source.old)
-        (S.source_holds source.new) }
-    ensures writes { IsTrue (K.sink_tells sink.old) →
-        WritesSome result (K.sink_holds sink.old) (K.sink_holds sink.new) }
-    ensures few { taken.new ≤ 65536 }
-    ensures went { let seen = ⟦<Session as Told>⟧.seen in Went (IsEndAmong P.looked P.asked
-        (S.source_tells source.old) 0 (S.source_holds source.old).left) (seen library.old world.old)
-        (seen library.new world.new) }
-    ensures source_faults { RisesIf (has_read_fault (at_last result)) (S.source_faults source.old)
-        (S.source_faults source.new) }
-    ensures sink_faults { RisesIf (has_write_fault result) (K.sink_faults sink.old)
-        (K.sink_faults sink.new) }
+    ensures { let seen = ⟦<Session as Told>⟧.seen in
+        ServesStream P.looked P.asked P.step P.fails P.read_step result taken.new
+        (seen library.old world.old) (seen library.new world.new)
+        (object_of S.source_tells S.source_holds S.source_faults source.old source.new)
+        (object_of K.sink_tells K.sink_holds K.sink_faults sink.old sink.new) }
 {
     laws::first_turn::<Items<P>>();
     laws::turns_go_on::<Items<P>>();

@@ -1,13 +1,15 @@
-ghost use Rattle.std.specs.Prelude.{◌≡◌, ◌<◌, ℕ, Bool, List, Result, IfOk, string_bytes};
+ghost use Rattle.std.specs.Prelude.{◌≡◌, ◌≤◌, ◌<◌, ℕ, Bool, List, Option, Result, IfOk, IsTrue, OnErr, is_some, string_bytes};
+ghost use Rattle.item_stream.specs.declared.ending.Ending.{Ending as PlainEnding};
 ghost use Rattle.item_stream.specs.Cutting.{Cuts, Keeps};
 ghost use Rattle.item_stream.specs.Front.{IsFront};
 ghost use Rattle.script_lang.specs.declared.line.Line.{Line as PlainLine};
 ghost use Rattle.script_lang.specs.Fit.{IsFit};
 ghost use Rattle.session_run.specs.Read.{ReadsAs};
+ghost use Rattle.session_run.specs.Run.{CompletesSo, EndsSo, ReadsSo, RunComplete, RunEnd, RunRead, RunTold, RunsSo};
 ghost use Rattle.session_run.specs.Serve.{Does};
 ghost use Rattle.session_run.specs.State.{RunState, Setting};
 
-use item_stream::{Front, Stepping};
+use item_stream::{Ending, Front, Stepping};
 use pam_base::{NoMemory, Refuse, Text};
 use script_lang::Line;
 use std::alloc::Global;
@@ -40,6 +42,21 @@ pub trait Protocol {
     /// Whether an item is refused, without its effect.
     ghost read_step: { ℕ → Unit {0} → List ℕ → Result (Unit {0} × List ℕ) Self.Kind };
 
+    /// What is written after so many items, when what was open is ended.
+    ghost last_text: { PlainEnding Self.Kind → ℕ → Option (List ℕ) };
+
+    /// What a whole run is, if all objects are modelled.
+    ghost runs: { RunTold Self.Kind };
+
+    /// How the bytes that were read end a run, if only the source is modelled.
+    ghost reads: { RunRead Self.Kind };
+
+    /// That a run doesn't give up by itself, if only the source is modelled.
+    ghost completes: { RunComplete Self.Kind };
+
+    /// The ends of transactions that a run makes, by the bytes of its source if that is modelled.
+    ghost is_end: { RunEnd };
+
     /// What bytes begin with after `before` items. It waits for at most 581 bytes.
     fn front(before: u32, held: &[u8]) -> Front
         ensures { IsFront looked refuses result before held.now };
@@ -57,6 +74,13 @@ pub trait Protocol {
     fn does()
         ensures { Does asked wrapped step fails read_step };
 
+    /// A law: what is said of a whole run.
+    fn ends()
+        ensures told { RunsSo looked asked wrapped last_text step fails runs }
+        ensures read { ReadsSo looked read_step reads }
+        ensures complete { CompletesSo looked read_step completes }
+        ensures ends { EndsSo looked asked is_end };
+
     /// What an item asks for that follows `taken` others. At most 65,535 come before one that isn't refused.
     fn read(alloc: Global, taken: u32, item: &[u8]) -> Result<Line, Refuse<Self::Kind>>
         ensures asks { ReadsAs result (asked taken item.now) }
@@ -66,6 +90,16 @@ pub trait Protocol {
     /// The bytes that are written for a report.
     fn wrap(alloc: Global, report: String) -> Result<Text, NoMemory>
         ensures { IfOk result (λ bytes. bytes ≡ wrapped (string_bytes report)) };
+
+    /// What is written after so many items, when what was open is ended.
+    fn last_report(
+        alloc: Global,
+        ending: Ending<Self::Kind>,
+        taken: u32,
+    ) -> Result<Option<Text>, NoMemory>
+        requires { taken ≤ 65536 }
+        ensures ok { IfOk result (λ text. text ≡ last_text ending taken) }
+        ensures err { OnErr result (IsTrue (is_some (last_text ending taken))) };
 }
 
 /// The stream of the items of a protocol.

@@ -1,8 +1,11 @@
+ghost use Rattle.std.specs.Prelude.{◌≡◌, ◌≤◌, IfOk, IsTrue, OnErr, is_some};
+
 use crate::protocol::Protocol;
-use item_stream::{Front, Stepping};
+use item_stream::{Ending, Front, Stepping};
 use pam_base::{NoMemory, Refuse, ScriptKind, Text};
 use script_lang::{Line, parse};
 use script_stream::{LineStepping, Lines, MAX_LINES, front_of_lines};
+use session_report::{read_fault_report, script_report};
 use std::alloc::Global;
 
 /// The lines of a script; their reports are written as they are.
@@ -42,9 +45,11 @@ impl LineStepping for Refusing {
 impl Protocol for Script {
     ghost use Rattle.script_stream.specs.Looked.{IsOver, looked};
     ghost use Rattle.script_stream.specs.Run.{step_at};
-    ghost use Rattle.session_run.specs.Reading.{line_read};
+    ghost use Rattle.session_run.specs.Ends.{IsEndOfRun};
+    ghost use Rattle.session_run.specs.Reading.{ReadsScript, line_read};
     ghost use Rattle.session_run.specs.Script.{as_it_is, line_asked, script_step};
     ghost use Rattle.session_run.specs.Step.{Fails as LineFails};
+    ghost use Rattle.session_run.specs.Whole.{Completes, RunsScript, script_last};
 
     type Kind = ScriptKind;
 
@@ -62,6 +67,16 @@ impl Protocol for Script {
 
     ghost read_step = { step_at line_read };
 
+    ghost last_text = { script_last };
+
+    ghost runs = { RunsScript };
+
+    ghost reads = { ReadsScript };
+
+    ghost completes = { Completes };
+
+    ghost is_end = { IsEndOfRun };
+
     fn front(before: u32, held: &[u8]) -> Front {
         front_of_lines(before, held)
     }
@@ -77,6 +92,12 @@ impl Protocol for Script {
 
     fn does() {}
 
+    fn ends() {
+        session_report::pam_library::laws::calls_stand_for_their_events();
+        session_report::data_due::laws::end_stands();
+        script_stream::laws::whole_input_is_looked_at();
+    }
+
     fn read(alloc: Global, taken: u32, item: &[u8]) -> Result<Line, Refuse<ScriptKind>> {
         if taken >= MAX_LINES {
             return Err(Refuse::Named(ScriptKind::TooManyLines));
@@ -86,5 +107,27 @@ impl Protocol for Script {
 
     fn wrap(_alloc: Global, report: String) -> Result<Text, NoMemory> {
         Ok(Text::from_vec(report.into_bytes()))
+    }
+
+    fn last_report(
+        alloc: Global,
+        ending: Ending<ScriptKind>,
+        taken: u32,
+    ) -> Result<Option<Text>, NoMemory>
+        requires { taken ≤ 65536 }
+        ensures ok { IfOk result (λ text. text ≡ script_last ending taken) }
+        ensures err { OnErr result (IsTrue (is_some (script_last ending taken))) }
+    {
+        match ending {
+            Ending::Done => Ok(None),
+            Ending::ReadFault => {
+                let text = String::from_str(alloc, read_fault_report())?;
+                Ok(Some(Text::from_vec(text.into_bytes())))
+            }
+            Ending::Refused(kind) => {
+                let text = script_report(alloc, taken + 1, kind)?;
+                Ok(Some(Text::from_vec(text.into_bytes())))
+            }
+        }
     }
 }

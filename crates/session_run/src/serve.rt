@@ -8,7 +8,7 @@ ghost use Rattle.session_report.specs.pam_room.specs.Module.{notes_of};
 ghost use Rattle.session_report.specs.pam_library.specs.AnyWorld.{end_at};
 ghost use Rattle.session_report.specs.pam_library.specs.Slots.{handle_limit, lists_of, slot_at};
 ghost use Rattle.pam_base.specs.Call.{is_fit};
-ghost use Rattle.item_stream.specs.Turns.{ServesTold, has_write_fault};
+ghost use Rattle.item_stream.specs.Turns.{ServesItem, has_write_fault};
 ghost use Rattle.session_run.specs.Asked.{IsEnd};
 ghost use Rattle.session_run.specs.Ends.{IsEndStep};
 ghost use Rattle.session_run.specs.Events.{MovesBy};
@@ -44,7 +44,7 @@ pub(crate) fn serve<P: Protocol, K: Sink>(
         (seen library.old world.old).gives delay → AllTell (seen library.old world.old) →
         IsTrue (K.sink_tells sink.old) →
         (let setting = setting_in (seen library.old world.old) delay in
-        ServesTold (P.step setting) (P.fails setting) result taken item.now
+        ServesItem (P.step setting) (P.fails setting) result taken item.now
         (state (seen library.old world.old)) (state (seen library.new world.new))
         (K.sink_holds sink.old) (K.sink_holds sink.new)) }
     ensures went { let seen = ⟦<Session as Told>⟧.seen in Went (IsEnd (P.asked taken item.now))
@@ -103,7 +103,7 @@ fn serve_step<P: Protocol, K: Sink>(
         IsTrue (K.sink_tells sink.old) → (taken : ℕ) (item : List ℕ) →
         P.asked taken item ≡ Ok (script_lines.Step step.now) →
         (let setting = setting_in (seen library.old world.old) delay in
-        ServesTold (P.step setting) (P.fails setting) (unrefused result) taken item
+        ServesItem (P.step setting) (P.fails setting) (unrefused result) taken item
         (state (seen library.old world.old)) (state (seen library.new world.new))
         (K.sink_holds sink.old) (K.sink_holds sink.new)) }
     ensures moves { let seen = ⟦<Session as Told>⟧.seen in Moves

@@ -5,7 +5,7 @@ use item_stream::{Ending, Stop};
 use pam_base::Code;
 
 /// The status passed to pam_end for the transactions that are open when the input ends so.
-pub fn ending_status<F: Copy + Drop>(ending: Ending<F>) -> Code
+pub(crate) fn ending_status<F: Copy + Drop>(ending: Ending<F>) -> Code
     ensures { result ≡ ending_status ending }
 {
     match ending {

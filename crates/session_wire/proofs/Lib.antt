@@ -1,5 +1,5 @@
 pub mod Framing
-pub mod Consuming
+pub mod Concluding
 pub mod Asking
 pub mod Wording
 pub mod Wholly

@@ -1,10 +1,12 @@
 -- Transactions that are ended and answered, and where that stops (this project's own).
-use Rattle.std.specs.Prelude.{ℕ, List, Result}
+use Rattle.std.specs.Prelude.{ℕ, List, Option, None, Result}
 use Rattle.pam_base.specs.declared.code.Code.{Code}
 use Rattle.pam_outside.specs.Streams.{SinkState}
 use Rattle.session_run.specs.pam_room.specs.Module.{Player}
 use Rattle.pam_wire.specs.Frame.{answer_of}
+use Rattle.item_stream.specs.declared.ending.Ending.{Ending}
 use Rattle.item_stream.specs.declared.ending.Stop.{Stop}
+use Rattle.frame_stream.specs.declared.fault.FrameFault.{FrameFault}
 use Rattle.session_run.specs.State.{RunState}
 use Rattle.session_run.specs.Closings.{Closing}
 use Rattle.session_run.specs.Reported.{Closes as ClosesAs, ClosesTo as ClosesAsTo, wrapped_closing, wrapped_closings}
@@ -25,3 +27,7 @@ ClosesTo = ClosesAsTo answer_of
 abbrev pub Closes : List Player → Code → Result (Unit {0}) Stop → RunState → RunState → SinkState
     → SinkState → Type 0
 Closes = ClosesAs answer_of
+
+-- nothing is written after these answers
+abbrev pub nothing_last : Ending FrameFault → ℕ → Option (List ℕ)
+nothing_last ending n = None

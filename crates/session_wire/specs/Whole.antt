@@ -122,6 +122,12 @@ module _ (setting : Setting) where
   Answers (Err stop) start end x y p q =
       StopsAmong stop start end x y p q ⊎ StopsBehind stop start end x y p q
 
+-- by its frames, and by the steps that the bytes taken spell
+pub record RunsAnswered (setting : Setting) (result : Result (Ending FrameFault) Stop)
+    (start end : RunState) (x y : SourceState) (p q : SinkState) : Type 0 where
+  pub told : RunsFrames setting result start end x y p q
+  pub answered : Answers setting result start end x y p q
+
 -- ---- no run gives up by itself
 
 -- how a run ends whose whole input has this fault, or none

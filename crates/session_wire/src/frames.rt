@@ -1,5 +1,8 @@
+ghost use Rattle.std.specs.Prelude.{◌≡◌, ◌≤◌, IfOk, IsTrue, OnErr, is_some};
+
+use crate::laws::reading_is_of_steps;
 use frame_stream::{CallStepping, FrameFault, FramesOf, MAX_FRAMES, front_of_frames};
-use item_stream::{Front, Stepping};
+use item_stream::{Ending, Front, Stepping};
 use pam_base::{NoMemory, Refuse, Text};
 use pam_wire::{answer_of, step_of};
 use session_run::Protocol;
@@ -45,8 +48,11 @@ impl Protocol for Frames {
     ghost use Rattle.frame_stream.specs.Looked.{looked, refuses};
     ghost use Rattle.frame_stream.specs.Run.{step_at};
     ghost use Rattle.pam_wire.specs.Frame.{answer_of};
-    ghost use Rattle.session_wire.specs.Reading.{call_read};
+    ghost use Rattle.session_wire.specs.Answered.{nothing_last};
+    ghost use Rattle.session_wire.specs.Ends.{IsEndOfRun};
+    ghost use Rattle.session_wire.specs.Reading.{ReadsFrames, call_read};
     ghost use Rattle.session_wire.specs.Step.{Fails as FrameFails, frame_asked, frame_step};
+    ghost use Rattle.session_wire.specs.Whole.{Completes, RunsAnswered};
 
     type Kind = FrameFault;
 
@@ -64,6 +70,16 @@ impl Protocol for Frames {
 
     ghost read_step = { step_at call_read };
 
+    ghost last_text = { nothing_last };
+
+    ghost runs = { RunsAnswered };
+
+    ghost reads = { ReadsFrames };
+
+    ghost completes = { Completes };
+
+    ghost is_end = { IsEndOfRun };
+
     fn front(before: u32, held: &[u8]) -> Front {
         front_of_frames(before, held)
     }
@@ -79,6 +95,14 @@ impl Protocol for Frames {
 
     fn does() {}
 
+    fn ends() {
+        frame_stream::laws::bytes_spell_steps();
+        frame_stream::laws::runs_are_of_steps::<Meaning>();
+        frame_stream::laws::all_are_looked_at();
+        pam_wire::laws::frame_is_read();
+        reading_is_of_steps();
+    }
+
     fn read(alloc: Global, taken: u32, item: &[u8]) -> Result<Line, Refuse<FrameFault>> {
         if taken >= MAX_FRAMES {
             return Err(Refuse::Named(FrameFault::TooManyFrames));
@@ -92,5 +116,17 @@ impl Protocol for Frames {
 
     fn wrap(alloc: Global, report: String) -> Result<Text, NoMemory> {
         answer_of(alloc, report.as_bytes())
+    }
+
+    fn last_report(
+        _alloc: Global,
+        _ending: Ending<FrameFault>,
+        _taken: u32,
+    ) -> Result<Option<Text>, NoMemory>
+        requires { _taken ≤ 65536 }
+        ensures ok { IfOk result (λ text. text ≡ nothing_last _ending _taken) }
+        ensures err { OnErr result (IsTrue (is_some (nothing_last _ending _taken))) }
+    {
+        Ok(None)
     }
 }

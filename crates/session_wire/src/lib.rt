@@ -1,13 +1,11 @@
-//! A run of a front end's calls over sixteen transactions: each frame is applied and its answer written before the
-//! next is read, and after the last one every open transaction is ended.
+//! The protocol of a front end: a frame is a call, and its report is written as an answer. `session_run::run_stream` runs
+//! its frames.
 //!
-//! Begin at run.rt; frames.rt says how a frame is read and its report written, and session_run does the rest.
+//! Begin at frames.rt, which says how a frame is read and what is said of a run.
 #![tactic(auto)]
 
 mod frames;
 mod laws;
-mod run;
 
 pub use frame_stream;
 pub use frames::Frames;
-pub use run::run_frames;

@@ -1,31 +1,44 @@
 use Rattle.std.proofs.Common.{refl, sym, ◌∙◌}
 use Rattle.session_program.proofs.Cleaning.{cleaned_as, nothing_cleaned, nothing_to_clean}
 use Rattle.session_program.proofs.Commands.{audit_asked, audit_not_two, check_asked, check_is_other, generate_asked, generate_is_other, goes_reading, goes_unread, login_asked, login_is_other, not_read, run_asked, run_not_two, tally_asked, tally_is_other, wire_asked, wire_not_two}
+use Rattle.session_program.proofs.Under.{frames_read_causes, frames_so, frames_write_causes, script_read_causes, script_so, script_write_causes}
 use Rattle.session_program.proofs.program.pamsess.Goals as goal
 
 pub returns-in-Some-Run-clause-run : goal.returns-in-Some-Run-clause-run
 returns-in-Some-Run-clause-run g c root asked =
-    run_asked _ _ _ _ _ _ _ root (rw c.in-Some-Run.field-0-is at c.in-Some-Run.ensures) asked c.run.ensures.run
+    run_asked _ _ _ _ _ _ _ root (rw c.in-Some-Run.field-0-is at c.in-Some-Run.ensures) asked (script_so _ _ _ c.status_of_script.ensures _ _ _ _ c.run_under.ensures c.numbers_stand_side_by_side.ensures)
 
 pub returns-in-Some-Run-clause-command : goal.returns-in-Some-Run-clause-command
 returns-in-Some-Run-clause-command g c =
-    goes_reading _ _ _ _ (rw c.in-Some-Run.field-0-is at c.in-Some-Run.ensures) (λ is. run_not_two c.run.ensures.run.statuses.0 (sym c.run.ensures.run.statuses.1 ∙ is)) (λ none. none)
+    goes_reading _ _ _ _ (rw c.in-Some-Run.field-0-is at c.in-Some-Run.ensures) (λ is. run_not_two _ (sym c.status_of_script.ensures ∙ is)) (λ none. none)
+
+pub returns-in-Some-Run-clause-read_causes : goal.returns-in-Some-Run-clause-read_causes
+returns-in-Some-Run-clause-read_causes g c = script_read_causes _ _ _ c.status_of_script.ensures _ _ _ _ c.run_under.ensures
+
+pub returns-in-Some-Run-clause-write_causes : goal.returns-in-Some-Run-clause-write_causes
+returns-in-Some-Run-clause-write_causes g c = script_write_causes _ _ _ c.status_of_script.ensures _ _ _ _ c.run_under.ensures
 
 pub returns-in-Some-Run-clause-cleaned_up : goal.returns-in-Some-Run-clause-cleaned_up
 returns-in-Some-Run-clause-cleaned_up g c =
-    cleaned_as _ _ _ _ _ _ _ (rw c.in-Some-Run.field-0-is at c.in-Some-Run.ensures) c.run.ensures.cleaned_up
+    cleaned_as _ _ _ _ _ _ _ (rw c.in-Some-Run.field-0-is at c.in-Some-Run.ensures) c.run_under.ensures.cleaned_up
 
 pub returns-in-Some-Wire-clause-wire : goal.returns-in-Some-Wire-clause-wire
 returns-in-Some-Wire-clause-wire g c root asked =
-    wire_asked _ _ _ _ _ _ _ root (rw c.in-Some-Wire.field-0-is at c.in-Some-Wire.ensures) asked c.answer_frames.ensures.wire
+    wire_asked _ _ _ _ _ _ _ root (rw c.in-Some-Wire.field-0-is at c.in-Some-Wire.ensures) asked (frames_so _ _ _ c.status_of_frames.ensures _ _ _ _ c.run_under-in-Some-Wire.ensures)
 
 pub returns-in-Some-Wire-clause-command : goal.returns-in-Some-Wire-clause-command
 returns-in-Some-Wire-clause-command g c =
-    goes_reading _ _ _ _ (rw c.in-Some-Wire.field-0-is at c.in-Some-Wire.ensures) (λ is. wire_not_two c.answer_frames.ensures.wire.wire_statuses.0 (sym c.answer_frames.ensures.wire.wire_statuses.1 ∙ is)) (λ none. none)
+    goes_reading _ _ _ _ (rw c.in-Some-Wire.field-0-is at c.in-Some-Wire.ensures) (λ is. wire_not_two _ (sym c.status_of_frames.ensures ∙ is)) (λ none. none)
+
+pub returns-in-Some-Wire-clause-read_causes : goal.returns-in-Some-Wire-clause-read_causes
+returns-in-Some-Wire-clause-read_causes g c = frames_read_causes _ _ _ c.status_of_frames.ensures _ _ _ _ c.run_under-in-Some-Wire.ensures
+
+pub returns-in-Some-Wire-clause-write_causes : goal.returns-in-Some-Wire-clause-write_causes
+returns-in-Some-Wire-clause-write_causes g c = frames_write_causes _ _ _ c.status_of_frames.ensures _ _ _ _ c.run_under-in-Some-Wire.ensures
 
 pub returns-in-Some-Wire-clause-cleaned_up : goal.returns-in-Some-Wire-clause-cleaned_up
 returns-in-Some-Wire-clause-cleaned_up g c =
-    cleaned_as _ _ _ _ _ _ _ (rw c.in-Some-Wire.field-0-is at c.in-Some-Wire.ensures) c.answer_frames.ensures.cleaned_up
+    cleaned_as _ _ _ _ _ _ _ (rw c.in-Some-Wire.field-0-is at c.in-Some-Wire.ensures) c.run_under-in-Some-Wire.ensures.cleaned_up
 
 pub returns-in-Some-Check-clause-check : goal.returns-in-Some-Check-clause-check
 returns-in-Some-Check-clause-check g c root service asked =

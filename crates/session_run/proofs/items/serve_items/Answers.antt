@@ -8,23 +8,24 @@ use Rattle.session_run.proofs.Walking.{broken_off, broken_on, nothing_served, se
 use Rattle.session_run.proofs.Consuming.{err_then, err_unwritten, ok_then, ok_unwritten, takes_none, takes_on}
 use Rattle.session_run.proofs.items.serve_items.Goals as goal
 
-pub returns-in-Err-clause-told : goal.returns-in-Err-clause-told
-returns-in-Err-clause-told g c = λ delay is told source sink. record {
-  runs = rw c.requires.first (c.turns_are_a_run.ensures _ (Err NoMemory) _ _ _ _ _ _ _ _ (c.first_turn.ensures.no_memory _ _ _ _));
-  served = rw c.requires.first (broken_off _ _ _ _ _ _ _ _ [] _ _ (sym (append-nil _)) (nothing_done _ _ _ _ _ _ refl refl));
+pub returns-in-Err : goal.returns-in-Err
+returns-in-Err g c = record {
+  source_tells = refl;
+  sink_tells = refl;
+  told = λ delay is told source sink. record {
+    runs = rw c.requires.first (c.turns_are_a_run.ensures _ (Err NoMemory) _ _ _ _ _ _ _ _ (c.first_turn.ensures.no_memory _ _ _ _));
+    served = rw c.requires.first (broken_off _ _ _ _ _ _ _ _ [] _ _ (sym (append-nil _)) (nothing_done _ _ _ _ _ _ refl refl));
+  };
+  reads = λ source. record {
+    runs = rw c.requires.first (c.reading_is_turns.ensures.run (Err NoMemory) _ _ _ _ _ _ _ _ (c.reading_is_turns.ensures.no_memory _ _ _));
+    takes = takes_none _;
+  };
+  writes = λ sink. err_unwritten _ _;
+  few = omega (arith, c.requires.first);
+  went = went_nowhere _ _ c.requires.sound;
+  source_faults = refl;
+  sink_faults = refl;
 }
-
-pub returns-in-Err-clause-went : goal.returns-in-Err-clause-went
-returns-in-Err-clause-went g c = went_nowhere _ _ c.requires.sound
-
-pub returns-in-Err-clause-reads : goal.returns-in-Err-clause-reads
-returns-in-Err-clause-reads g c = λ source. record {
-  runs = rw c.requires.first (c.reading_is_turns.ensures.run (Err NoMemory) _ _ _ _ _ _ _ _ (c.reading_is_turns.ensures.no_memory _ _ _));
-  takes = takes_none _;
-}
-
-pub returns-in-Err-clause-writes : goal.returns-in-Err-clause-writes
-returns-in-Err-clause-writes g c = λ sink. err_unwritten _ _
 
 pub loop-ending-init : goal.loop-ending-init
 loop-ending-init g c = record {
@@ -75,61 +76,55 @@ loop-ending-preserved g c =
       went = went_on _ _ _ _ was.went (went_so _ _ (λ number status has source. asks_before _ _ _ _ _ _ (was.leads source) number status (has (was.source_tells ∙ source))) _ _ c.serve_next.ensures.went);
     }
 
-pub returns-in-Ok-Some-clause-told : goal.returns-in-Ok-Some-clause-told
-returns-in-Ok-Some-clause-told g c = λ delay is told source sink.
-    let turn = rw c.in-Ok-Some.field-0-is at c.in-Ok-Some.ensures.told in
+pub returns-in-Ok-Some : goal.returns-in-Ok-Some
+returns-in-Ok-Some g c =
     let was = c.loop-ending.invariant in
-    let before = was.told delay is told source sink in
-    let next = rw was.went.players at (turn delay (was.went.gives delay is) (still_told _ _ _ was.went told) (was.source_tells ∙ source) (was.sink_tells ∙ sink)) in
     record {
-      runs = c.turns_are_a_run.ensures _ (Ok c.in-Ok-Some.ending) _ _ _ _ _ _ _ _ (c.turns_go_on.ensures _ (Ok (Some c.in-Ok-Some.ending)) _ _ _ _ _ _ _ _ _ _ _ _ _ _ before.turns next.turns);
-      served = served_to _ _ _ _ _ _ _ _ _ _ _ _ _ _ _ before.served next.served;
+      source_tells = c.serve_next.ensures.source_tells ∙ was.source_tells;
+      sink_tells = c.serve_next.ensures.sink_tells ∙ was.sink_tells;
+      told = λ delay is told source sink.
+          let turn = rw c.in-Ok-Some.field-0-is at c.in-Ok-Some.ensures.told in
+          let before = was.told delay is told source sink in
+          let next = rw was.went.players at (turn delay (was.went.gives delay is) (still_told _ _ _ was.went told) (was.source_tells ∙ source) (was.sink_tells ∙ sink)) in
+          record {
+            runs = c.turns_are_a_run.ensures _ (Ok c.in-Ok-Some.ending) _ _ _ _ _ _ _ _ (c.turns_go_on.ensures _ (Ok (Some c.in-Ok-Some.ending)) _ _ _ _ _ _ _ _ _ _ _ _ _ _ before.turns next.turns);
+            served = served_to _ _ _ _ _ _ _ _ _ _ _ _ _ _ _ before.served next.served;
+          };
+      reads = λ source.
+          let next = (rw c.in-Ok-Some.field-0-is at c.in-Ok-Some.ensures.reads) (was.source_tells ∙ source) in
+          record {
+            runs = c.reading_is_turns.ensures.run (Ok c.in-Ok-Some.ending) _ _ _ _ _ _ _ _ (c.reading_is_turns.ensures.on (Ok (Some c.in-Ok-Some.ending)) _ _ _ _ _ _ _ _ _ _ _ _ _ _ (was.reads source).turns next.turns);
+            takes = takes_on _ _ _ _ (was.reads source).takes next.takes;
+          };
+      writes = λ sink. ok_then _ c.in-Ok-Some.field-0 _ _ _ _ (was.writes sink) (c.in-Ok-Some.ensures.writes (was.sink_tells ∙ sink));
+      few = c.serve_next.ensures.few;
+      went = went_on _ _ _ _ was.went (went_so _ _ (λ number status has source. asks_before _ _ _ _ _ _ (was.leads source) number status (has (was.source_tells ∙ source))) _ _ c.serve_next.ensures.went);
+      source_faults = rw was.source_faults at (rw c.in-Ok-Some.field-0-is at c.in-Ok-Some.ensures.source_faults);
+      sink_faults = c.in-Ok-Some.ensures.sink_faults ∙ was.sink_faults;
     }
 
-pub returns-in-Err-serve_next-clause-told : goal.returns-in-Err-serve_next-clause-told
-returns-in-Err-serve_next-clause-told g c = λ delay is told source sink.
+pub returns-in-Err-serve_next : goal.returns-in-Err-serve_next
+returns-in-Err-serve_next g c =
     let was = c.loop-ending.invariant in
-    let before = was.told delay is told source sink in
-    let next = rw was.went.players at (c.in-Err-serve_next.ensures.told delay (was.went.gives delay is) (still_told _ _ _ was.went told) (was.source_tells ∙ source) (was.sink_tells ∙ sink)) in
     record {
-      runs = c.turns_are_a_run.ensures _ (Err c.in-Err-serve_next.stop) _ _ _ _ _ _ _ _ (c.turns_go_on.ensures _ (Err c.in-Err-serve_next.stop) _ _ _ _ _ _ _ _ _ _ _ _ _ _ before.turns next.turns);
-      served = broken_on _ _ _ _ _ _ _ _ _ _ _ _ _ _ _ before.served next.served;
+      source_tells = c.serve_next.ensures.source_tells ∙ was.source_tells;
+      sink_tells = c.serve_next.ensures.sink_tells ∙ was.sink_tells;
+      told = λ delay is told source sink.
+          let before = was.told delay is told source sink in
+          let next = rw was.went.players at (c.in-Err-serve_next.ensures.told delay (was.went.gives delay is) (still_told _ _ _ was.went told) (was.source_tells ∙ source) (was.sink_tells ∙ sink)) in
+          record {
+            runs = c.turns_are_a_run.ensures _ (Err c.in-Err-serve_next.stop) _ _ _ _ _ _ _ _ (c.turns_go_on.ensures _ (Err c.in-Err-serve_next.stop) _ _ _ _ _ _ _ _ _ _ _ _ _ _ before.turns next.turns);
+            served = broken_on _ _ _ _ _ _ _ _ _ _ _ _ _ _ _ before.served next.served;
+          };
+      reads = λ source.
+          let next = c.in-Err-serve_next.ensures.reads (was.source_tells ∙ source) in
+          record {
+            runs = c.reading_is_turns.ensures.run (Err c.in-Err-serve_next.stop) _ _ _ _ _ _ _ _ (c.reading_is_turns.ensures.on (Err c.in-Err-serve_next.stop) _ _ _ _ _ _ _ _ _ _ _ _ _ _ (was.reads source).turns next.turns);
+            takes = takes_on _ _ _ _ (was.reads source).takes next.takes;
+          };
+      writes = λ sink. err_then _ c.in-Err-serve_next.stop _ _ _ (was.writes sink) (c.in-Err-serve_next.ensures.writes (was.sink_tells ∙ sink));
+      few = c.serve_next.ensures.few;
+      went = went_on _ _ _ _ was.went (went_so _ _ (λ number status has source. asks_before _ _ _ _ _ _ (was.leads source) number status (has (was.source_tells ∙ source))) _ _ c.serve_next.ensures.went);
+      source_faults = c.in-Err-serve_next.ensures.source_faults ∙ was.source_faults;
+      sink_faults = rw was.sink_faults at c.in-Err-serve_next.ensures.sink_faults;
     }
-
-pub returns-in-Ok-Some-clause-went : goal.returns-in-Ok-Some-clause-went
-returns-in-Ok-Some-clause-went g c =
-    let was = c.loop-ending.invariant in
-    went_on _ _ _ _ was.went (went_so _ _ (λ number status has source. asks_before _ _ _ _ _ _ (was.leads source) number status (has (was.source_tells ∙ source))) _ _ c.serve_next.ensures.went)
-
-pub returns-in-Err-serve_next-clause-went : goal.returns-in-Err-serve_next-clause-went
-returns-in-Err-serve_next-clause-went g c =
-    let was = c.loop-ending.invariant in
-    went_on _ _ _ _ was.went (went_so _ _ (λ number status has source. asks_before _ _ _ _ _ _ (was.leads source) number status (has (was.source_tells ∙ source))) _ _ c.serve_next.ensures.went)
-
-pub returns-in-Ok-Some-clause-reads : goal.returns-in-Ok-Some-clause-reads
-returns-in-Ok-Some-clause-reads g c = λ source.
-    let was = c.loop-ending.invariant in
-    let next = (rw c.in-Ok-Some.field-0-is at c.in-Ok-Some.ensures.reads) (was.source_tells ∙ source) in
-    record {
-      runs = c.reading_is_turns.ensures.run (Ok c.in-Ok-Some.ending) _ _ _ _ _ _ _ _ (c.reading_is_turns.ensures.on (Ok (Some c.in-Ok-Some.ending)) _ _ _ _ _ _ _ _ _ _ _ _ _ _ (was.reads source).turns next.turns);
-      takes = takes_on _ _ _ _ (was.reads source).takes next.takes;
-    }
-
-pub returns-in-Err-serve_next-clause-reads : goal.returns-in-Err-serve_next-clause-reads
-returns-in-Err-serve_next-clause-reads g c = λ source.
-    let was = c.loop-ending.invariant in
-    let next = c.in-Err-serve_next.ensures.reads (was.source_tells ∙ source) in
-    record {
-      runs = c.reading_is_turns.ensures.run (Err c.in-Err-serve_next.stop) _ _ _ _ _ _ _ _ (c.reading_is_turns.ensures.on (Err c.in-Err-serve_next.stop) _ _ _ _ _ _ _ _ _ _ _ _ _ _ (was.reads source).turns next.turns);
-      takes = takes_on _ _ _ _ (was.reads source).takes next.takes;
-    }
-
-pub returns-in-Ok-Some-clause-writes : goal.returns-in-Ok-Some-clause-writes
-returns-in-Ok-Some-clause-writes g c = λ sink.
-    let was = c.loop-ending.invariant in
-    ok_then _ c.in-Ok-Some.field-0 _ _ _ _ (was.writes sink) (c.in-Ok-Some.ensures.writes (was.sink_tells ∙ sink))
-
-pub returns-in-Err-serve_next-clause-writes : goal.returns-in-Err-serve_next-clause-writes
-returns-in-Err-serve_next-clause-writes g c = λ sink.
-    let was = c.loop-ending.invariant in
-    err_then _ c.in-Err-serve_next.stop _ _ _ (was.writes sink) (c.in-Err-serve_next.ensures.writes (was.sink_tells ∙ sink))

@@ -1,0 +1,45 @@
+ghost use Rattle.std.specs.Prelude.{length};
+ghost use Rattle.session_program.specs.ByCommand.{IsReady, object_of};
+ghost use Rattle.session_program.specs.Under.{RunsUnder};
+
+use crate::desk::{Desk, DeskTold};
+use crate::opening::{library_under, reset_clock};
+use crate::outside::{Outside, OutsideTold};
+use fail_delay::DelayRule;
+use item_stream::{Ending, Stop};
+use pam_base::NoMemory;
+use pam_outside::{Sink, Source};
+use pam_room::World;
+use session_login::session_run::{Protocol, run_stream};
+use std::alloc::Global;
+
+/// Runs a stream of calls under a root, in sixteen transactions with the conversations of `desk`. It begins at the time 0
+/// with the random word 0.
+pub(crate) fn run_under<P: Protocol, S: Source, K: Sink>(
+    alloc: Global,
+    root: &[u8],
+    script: &mut S,
+    out: &mut K,
+    world: &mut World,
+    desk: Desk,
+) -> Result<Ending<P::Kind>, Stop>
+    requires { IsReady (length desk.convs.items) (length desk.mods.items)
+        (DelayRule.pre desk.delay) (DelayRule.post desk.delay) world.old.process.ledger }
+    ensures { RunsUnder P.runs P.reads P.completes P.is_end root.now result
+        (⟦<Desk as DeskTold>⟧.given desk) (⟦<Outside as OutsideTold>⟧.around world.old world.new)
+        (object_of S.source_tells S.source_holds S.source_faults script.old script.new)
+        (object_of K.sink_tells K.sink_holds K.sink_faults out.old out.new) }
+{
+    session_login::session_run::laws::proceeding_stands();
+    P::ends();
+    match library_under(alloc, root, desk, world) {
+        Err(NoMemory) => Err(Stop::NoMemory),
+        Ok(library) => {
+            reset_clock(world);
+            let mut library = library;
+            let result = run_stream::<P, S, K>(alloc, &mut library, script, out, world);
+            library.dismiss();
+            result
+        }
+    }
+}
