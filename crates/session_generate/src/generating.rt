@@ -16,10 +16,9 @@ use pam_base::{Failed, NoMemory, Refuse, Text, code_name, code_number};
 use pam_outside::{Sink, write_all};
 use service_load::LoadFault;
 use session_run::item_stream::Stop;
-use session_run::pam_library::Library;
+use session_run::pam_library::{Library, Session, Told};
 use session_run::pam_room::World;
 use session_run::session_report::refused_report;
-use session_run::{Session, Told};
 use std::alloc::Global;
 
 /// The result of a generation.

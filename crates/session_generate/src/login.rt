@@ -7,9 +7,8 @@ ghost use Rattle.session_generate.specs.Login.{Authenticates, ComesTo, IsEndWith
 
 use pam_base::{AppCall, Code, NoMemory, Refuse, Step, Text, code_number};
 use service_load::LoadFault;
-use session_run::pam_library::{Answer, Library, Outcome};
+use session_run::pam_library::{Answer, Library, Outcome, Session, Told};
 use session_run::pam_room::World;
-use session_run::{Session, Told};
 use std::alloc::Global;
 
 /// The number of the transaction.

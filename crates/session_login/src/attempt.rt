@@ -18,9 +18,9 @@ use crate::making::make;
 use item_stream::Stop;
 use pam_base::{AppCall, Code, Failed, NoMemory, Step, Text, code_name, code_number};
 use pam_outside::{Sink, write_all};
-use session_run::pam_library::{Answer, Library};
+use session_run::pam_library::{Answer, Library, Session, Told};
 use session_run::pam_room::World;
-use session_run::{Session, Told, stop_status};
+use session_run::stop_status;
 use std::alloc::Global;
 
 /// The result of a login.

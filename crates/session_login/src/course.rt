@@ -14,9 +14,8 @@ use crate::making::make;
 use item_stream::Stop;
 use pam_base::Code;
 use pam_outside::Sink;
-use session_run::pam_library::Library;
+use session_run::pam_library::{Library, Session, Told};
 use session_run::pam_room::World;
-use session_run::{Session, Told};
 use std::alloc::Global;
 
 /// Makes these calls one after another, skips those that the code before them doesn't ask for, and stops at the first

@@ -14,10 +14,9 @@ ghost use Rattle.session_login.specs.Told.{Makes, SaysAnswer, WritesLines};
 use item_stream::Stop;
 use pam_base::{AppCall, Failed, NoMemory, Step};
 use pam_outside::{Sink, write_all};
-use session_run::pam_library::{Answer, Library};
+use session_run::pam_library::{Answer, Library, Session, Told};
 use session_run::pam_room::World;
 use session_run::session_report::{refused_report, result_report};
-use session_run::{Session, Told};
 use std::alloc::Global;
 
 /// Makes a call in the first transaction, and writes the result line alone, not the rest of the report. If a start is

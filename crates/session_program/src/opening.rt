@@ -18,8 +18,7 @@ use pam_base::{NoMemory, Text};
 use pam_outside::{set_moment, set_word};
 use pam_room::{World, WorldTold};
 use session_check::pam_handle::{Gear, GearTold};
-use session_check::pam_library::{Library, LibraryTold};
-use session_login::session_run::{Session, Told};
+use session_check::pam_library::{Library, LibraryTold, Session, Told};
 use std::alloc::Global;
 
 /// A library with the modules, conversations and delay function of `desk`, in which no transaction

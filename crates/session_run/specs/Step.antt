@@ -1,12 +1,12 @@
 -- What one line of a script does (this project's own).
-use Rattle.std.specs.Prelude.{◌≡◌, ℕ, true, List, [], length, Option, None, Result, Ok, Err}
+use Rattle.std.specs.Prelude.{◌≡◌, ℕ, true, List, [], Option, None, Result, Ok, Err}
 use Rattle.pam_base.specs.declared.call.Step.{Step}
 use Rattle.pam_base.specs.declared.fault.ScriptKind.{ScriptKind}
 use Rattle.session_report.specs.dispatch_core.specs.Lines.{names_of}
-use Rattle.session_report.specs.pam_room.specs.Module.{notes_of}
 use Rattle.session_report.specs.pam_room.specs.State.{PlainWorld}
-use Rattle.session_report.specs.pam_library.specs.AnyWorld.{FailsAt, SpendsAt, StopsAt, leaves_world}
-use Rattle.session_report.specs.pam_library.specs.Slots.{lists_of, slot_at}
+use Rattle.session_report.specs.pam_library.specs.AnyWorld.{FailsAt, StopsAt, leaves_world}
+use Rattle.session_report.specs.pam_library.specs.Applied.{Leaves}
+use Rattle.session_report.specs.pam_library.specs.Slots.{slot_at}
 use Rattle.session_report.specs.pam_library.specs.Step.{Stepped, stepped}
 use Rattle.script_lang.specs.declared.line.Line.{Line}
 use Rattle.script_lang.specs.declared.line.Line.TheVariants as lines
@@ -57,16 +57,9 @@ module _ (setting : Setting) where
 -- There was no sleep.
 pub record CallFails (setting : Setting) (step : Step) (s t : RunState) : Type 0 where
   pub place : FailsAt true step.call (slot_at s.slots step.number) (slot_at t.slots step.number)
-  pub others : (number : ℕ) → (number ≡ step.number → ⊥)
-      → slot_at t.slots number ≡ slot_at s.slots number
+  pub leaves : Leaves setting.players step s.slots t.slots s.world t.world
   pub stops : StopsAt setting.players true step.call (slot_at s.slots step.number)
       (slot_at t.slots step.number) s.world t.world
-  pub spends : SpendsAt (notes_of setting.players) (length setting.players)
-      (slot_at s.slots step.number) step.call
-      (lists_of s.slots step.number) s.world.process.ledger (lists_of t.slots step.number)
-      t.world.process.ledger
-  pub root : t.world.process.root ≡ s.world.process.root
-  pub caller : t.world.process.caller ≡ s.world.process.caller
   pub world : leaves_world (slot_at s.slots step.number) step.call ≡ true → t.world ≡ s.world
   pub nap : t.world.nap ≡ s.world.nap
 

@@ -7,12 +7,11 @@ ghost use Rattle.session_run.specs.Closings.{EndsNext, all_closed, open_count};
 ghost use Rattle.session_run.specs.Reported.{Closes, ClosesNext};
 
 use crate::protocol::Protocol;
-use crate::session::{Session, Told};
 use item_stream::Stop;
 use pam_base::{Code, Failed, NoMemory, code_number};
 use pam_outside::{Sink, write_all};
 use session_report::closing_report;
-use session_report::pam_library::Library;
+use session_report::pam_library::{Library, Session, Told};
 use session_report::pam_room::World;
 use std::alloc::Global;
 

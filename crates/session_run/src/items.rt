@@ -13,11 +13,10 @@ ghost use Rattle.session_run.specs.Seen.{AllTell, IsSoundIn, Went, setting_in, s
 use crate::protocol::{Items, Protocol};
 use crate::reading::reading_is_turns;
 use crate::serve::serve;
-use crate::session::{Session, Told};
 use item_stream::{Ending, NextItem, Reader, Stop, laws};
 use pam_base::{Failed, NoMemory};
 use pam_outside::{Sink, Source};
-use session_report::pam_library::Library;
+use session_report::pam_library::{Library, Session, Told};
 use session_report::pam_room::World;
 use std::alloc::Global;
 

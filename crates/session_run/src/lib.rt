@@ -13,7 +13,6 @@ mod reading;
 mod run;
 mod script;
 mod serve;
-mod session;
 mod status;
 mod world;
 
@@ -23,7 +22,6 @@ pub use protocol::Protocol;
 pub use run::run_stream;
 pub use script::Script;
 pub use script_lang;
-pub use session::{Session, Told};
 pub use session_report;
 pub use session_report::{data_due, fail_delay, pam_handle, pam_library, pam_room};
 pub use status::stop_status;

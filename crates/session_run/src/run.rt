@@ -10,12 +10,11 @@ ghost use Rattle.session_run.specs.Whole.{ending_status};
 use crate::closing::{close_open, close_silently};
 use crate::items::serve_items;
 use crate::protocol::Protocol;
-use crate::session::{Session, Told};
 use crate::status::{ending_status, stop_status};
 use item_stream::{Ending, Stop};
 use pam_base::{Failed, NoMemory};
 use pam_outside::{Sink, Source, write_all};
-use session_report::pam_library::Library;
+use session_report::pam_library::{Library, Session, Told};
 use session_report::pam_room::World;
 use std::alloc::Global;
 

@@ -17,13 +17,12 @@ ghost use Rattle.session_run.specs.Seen.{AllTell, IsSoundIn, Went, setting_in, s
 ghost use Rattle.session_run.specs.Step.{unrefused};
 
 use crate::protocol::{Items, Protocol};
-use crate::session::{Session, Told};
 use crate::world::{set_caller, set_world_moment, set_world_word};
 use item_stream::{Stop, laws};
 use pam_base::{Failed, NoMemory, Refuse, Step};
 use pam_outside::{Sink, write_all};
 use script_lang::Line;
-use session_report::pam_library::Library;
+use session_report::pam_library::{Library, Session, Told};
 use session_report::pam_room::World;
 use session_report::step_report;
 use std::alloc::Global;

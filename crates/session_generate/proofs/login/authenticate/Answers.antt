@@ -11,14 +11,11 @@ apply-requires-clause-fit g c = rw c.authenticate_step-step.ensures refl
 pub returns-in-Err-clause-told : goal.returns-in-Err-clause-told
 returns-in-Err-clause-told g c = λ delay is told.
     authenticate_failed _ _ _ _ c.authenticate_step-step.ensures (record {
-      place = failed_place _ _ _ _ _ told c.in-Err.ensures.fails;
-      others = c.apply.ensures.others;
-      stops = failed_stack _ _ _ _ _ _ _ told c.in-Err.ensures.stops;
-      spends = c.apply.ensures.spends;
-      root = c.apply.ensures.root;
-      caller = c.apply.ensures.caller;
+      place = failed_place _ _ _ _ _ told c.in-Err.ensures.fails.fails;
+      leaves = c.apply.ensures.leaves;
+      stops = failed_stack _ _ _ _ _ _ _ told c.in-Err.ensures.fails.stops;
       world = λ h. rw (c.apply.ensures.world h) refl;
-      nap = rw c.in-Err.ensures.no_nap refl;
+      nap = rw c.in-Err.ensures.fails.no_nap refl;
     })
 
 pub returns-clause-told : goal.returns-clause-told
@@ -27,16 +24,16 @@ returns-clause-told g c = λ delay is told.
 
 pub returns-in-Err-clause-went : goal.returns-in-Err-clause-went
 returns-in-Err-clause-went g c =
-    went_once _ _ _ (rw c.apply.ensures.gear refl) c.apply.ensures.tells c.apply.ensures.world_tells (λ number gives. rw c.apply.ensures.gear gives)
-    _ (rw c.authenticate_step-step.ensures at c.apply.ensures.moves) (authenticate_ends_none _) c.apply.ensures.sound
+    went_once _ _ _ (rw c.apply.ensures.gear refl) c.apply.ensures.keeps.tells c.apply.ensures.keeps.world_tells (λ number gives. rw c.apply.ensures.gear gives)
+    _ (rw c.authenticate_step-step.ensures at c.apply.ensures.keeps.moves) (authenticate_ends_none _) c.apply.ensures.keeps.sound
 
 pub returns-clause-went : goal.returns-clause-went
 returns-clause-went g c =
-    went_once _ _ _ (rw c.apply.ensures.gear refl) c.apply.ensures.tells c.apply.ensures.world_tells (λ number gives. rw c.apply.ensures.gear gives)
-    _ (rw c.authenticate_step-step.ensures at c.apply.ensures.moves) (authenticate_ends_none _) c.apply.ensures.sound
+    went_once _ _ _ (rw c.apply.ensures.gear refl) c.apply.ensures.keeps.tells c.apply.ensures.keeps.world_tells (λ number gives. rw c.apply.ensures.gear gives)
+    _ (rw c.authenticate_step-step.ensures at c.apply.ensures.keeps.moves) (authenticate_ends_none _) c.apply.ensures.keeps.sound
 
 pub returns-in-Err-clause-others : goal.returns-in-Err-clause-others
-returns-in-Err-clause-others g c = rw c.authenticate_step-step.ensures at c.apply.ensures.others
+returns-in-Err-clause-others g c = rw c.authenticate_step-step.ensures at c.apply.ensures.leaves.others
 
 pub returns-clause-others : goal.returns-clause-others
-returns-clause-others g c = rw c.authenticate_step-step.ensures at c.apply.ensures.others
+returns-clause-others g c = rw c.authenticate_step-step.ensures at c.apply.ensures.leaves.others

@@ -14,14 +14,11 @@ returns-in_err-step-clause-told g c = λ delay is told. start_unbegun _ _ c.from
 pub returns-in-Err-clause-told : goal.returns-in-Err-clause-told
 returns-in-Err-clause-told g c = λ delay is told.
     start_failed _ _ _ _ c.in_ok-step.ensures (record {
-      place = failed_place _ _ _ _ _ told c.in-Err.ensures.fails;
-      others = c.apply.ensures.others;
-      stops = failed_stack _ _ _ _ _ _ _ told c.in-Err.ensures.stops;
-      spends = c.apply.ensures.spends;
-      root = c.apply.ensures.root;
-      caller = c.apply.ensures.caller;
+      place = failed_place _ _ _ _ _ told c.in-Err.ensures.fails.fails;
+      leaves = c.apply.ensures.leaves;
+      stops = failed_stack _ _ _ _ _ _ _ told c.in-Err.ensures.fails.stops;
       world = λ h. rw (c.apply.ensures.world h) refl;
-      nap = rw c.in-Err.ensures.no_nap refl;
+      nap = rw c.in-Err.ensures.fails.no_nap refl;
     })
 
 pub returns-in-Some-clause-told : goal.returns-in-Some-clause-told
@@ -37,24 +34,24 @@ returns-in_err-step-clause-went g c = went_nowhere _ _ c.requires.sound
 
 pub returns-in-Err-clause-went : goal.returns-in-Err-clause-went
 returns-in-Err-clause-went g c =
-    went_once _ _ _ (rw c.apply.ensures.gear refl) c.apply.ensures.tells c.apply.ensures.world_tells (λ number gives. rw c.apply.ensures.gear gives)
-    _ (rw c.in_ok-step.ensures at c.apply.ensures.moves) (start_ends_none _) c.apply.ensures.sound
+    went_once _ _ _ (rw c.apply.ensures.gear refl) c.apply.ensures.keeps.tells c.apply.ensures.keeps.world_tells (λ number gives. rw c.apply.ensures.gear gives)
+    _ (rw c.in_ok-step.ensures at c.apply.ensures.keeps.moves) (start_ends_none _) c.apply.ensures.keeps.sound
 
 pub returns-in-Some-clause-went : goal.returns-in-Some-clause-went
 returns-in-Some-clause-went g c =
-    went_once _ _ _ (rw c.apply.ensures.gear refl) c.apply.ensures.tells c.apply.ensures.world_tells (λ number gives. rw c.apply.ensures.gear gives)
-    _ (rw c.in_ok-step.ensures at c.apply.ensures.moves) (start_ends_none _) c.apply.ensures.sound
+    went_once _ _ _ (rw c.apply.ensures.gear refl) c.apply.ensures.keeps.tells c.apply.ensures.keeps.world_tells (λ number gives. rw c.apply.ensures.gear gives)
+    _ (rw c.in_ok-step.ensures at c.apply.ensures.keeps.moves) (start_ends_none _) c.apply.ensures.keeps.sound
 
 pub returns-clause-went : goal.returns-clause-went
 returns-clause-went g c =
-    went_once _ _ _ (rw c.apply.ensures.gear refl) c.apply.ensures.tells c.apply.ensures.world_tells (λ number gives. rw c.apply.ensures.gear gives)
-    _ (rw c.in_ok-step.ensures at c.apply.ensures.moves) (start_ends_none _) c.apply.ensures.sound
+    went_once _ _ _ (rw c.apply.ensures.gear refl) c.apply.ensures.keeps.tells c.apply.ensures.keeps.world_tells (λ number gives. rw c.apply.ensures.gear gives)
+    _ (rw c.in_ok-step.ensures at c.apply.ensures.keeps.moves) (start_ends_none _) c.apply.ensures.keeps.sound
 
 pub returns-in-Err-clause-others : goal.returns-in-Err-clause-others
-returns-in-Err-clause-others g c = rw c.in_ok-step.ensures at c.apply.ensures.others
+returns-in-Err-clause-others g c = rw c.in_ok-step.ensures at c.apply.ensures.leaves.others
 
 pub returns-in-Some-clause-others : goal.returns-in-Some-clause-others
-returns-in-Some-clause-others g c = rw c.in_ok-step.ensures at c.apply.ensures.others
+returns-in-Some-clause-others g c = rw c.in_ok-step.ensures at c.apply.ensures.leaves.others
 
 pub returns-clause-others : goal.returns-clause-others
-returns-clause-others g c = rw c.in_ok-step.ensures at c.apply.ensures.others
+returns-clause-others g c = rw c.in_ok-step.ensures at c.apply.ensures.leaves.others

@@ -10,14 +10,11 @@ use Rattle.session_login.proofs.making.make.Goals as goal
 pub returns-in-Err-clause-told : goal.returns-in-Err-clause-told
 returns-in-Err-clause-told g c = λ delay is told sink.
     call_failed _ _ _ _ _ (record {
-      place = failed_place _ _ _ _ _ told c.in-Err.ensures.fails;
-      others = c.apply.ensures.others;
-      stops = failed_stack _ _ _ _ _ _ _ told c.in-Err.ensures.stops;
-      spends = c.apply.ensures.spends;
-      root = c.apply.ensures.root;
-      caller = c.apply.ensures.caller;
+      place = failed_place _ _ _ _ _ told c.in-Err.ensures.fails.fails;
+      leaves = c.apply.ensures.leaves;
+      stops = failed_stack _ _ _ _ _ _ _ told c.in-Err.ensures.fails.stops;
       world = λ h. rw (c.apply.ensures.world h) refl;
-      nap = rw c.in-Err.ensures.no_nap refl;
+      nap = rw c.in-Err.ensures.fails.no_nap refl;
     })
 
 pub returns-in-Err-line_of-clause-told : goal.returns-in-Err-line_of-clause-told
@@ -33,23 +30,23 @@ returns-clause-told g c = λ delay is told sink.
 
 pub returns-in-Err-clause-went : goal.returns-in-Err-clause-went
 returns-in-Err-clause-went g c =
-    went_once _ _ _ (rw c.apply.ensures.gear refl) c.apply.ensures.tells c.apply.ensures.world_tells (λ number gives. rw c.apply.ensures.gear gives)
-    _ c.apply.ensures.moves (call_ends _ _ _) c.apply.ensures.sound
+    went_once _ _ _ (rw c.apply.ensures.gear refl) c.apply.ensures.keeps.tells c.apply.ensures.keeps.world_tells (λ number gives. rw c.apply.ensures.gear gives)
+    _ c.apply.ensures.keeps.moves (call_ends _ _ _) c.apply.ensures.keeps.sound
 
 pub returns-in-Err-line_of-clause-went : goal.returns-in-Err-line_of-clause-went
 returns-in-Err-line_of-clause-went g c =
-    went_once _ _ _ (rw c.apply.ensures.gear refl) c.apply.ensures.tells c.apply.ensures.world_tells (λ number gives. rw c.apply.ensures.gear gives)
-    _ c.apply.ensures.moves (call_ends _ _ _) c.apply.ensures.sound
+    went_once _ _ _ (rw c.apply.ensures.gear refl) c.apply.ensures.keeps.tells c.apply.ensures.keeps.world_tells (λ number gives. rw c.apply.ensures.gear gives)
+    _ c.apply.ensures.keeps.moves (call_ends _ _ _) c.apply.ensures.keeps.sound
 
 pub returns-in-Ok-write_all-clause-went : goal.returns-in-Ok-write_all-clause-went
 returns-in-Ok-write_all-clause-went g c =
-    went_once _ _ _ (rw c.apply.ensures.gear refl) c.apply.ensures.tells c.apply.ensures.world_tells (λ number gives. rw c.apply.ensures.gear gives)
-    _ c.apply.ensures.moves (call_ends _ _ _) c.apply.ensures.sound
+    went_once _ _ _ (rw c.apply.ensures.gear refl) c.apply.ensures.keeps.tells c.apply.ensures.keeps.world_tells (λ number gives. rw c.apply.ensures.gear gives)
+    _ c.apply.ensures.keeps.moves (call_ends _ _ _) c.apply.ensures.keeps.sound
 
 pub returns-clause-went : goal.returns-clause-went
 returns-clause-went g c =
-    went_once _ _ _ (rw c.apply.ensures.gear refl) c.apply.ensures.tells c.apply.ensures.world_tells (λ number gives. rw c.apply.ensures.gear gives)
-    _ c.apply.ensures.moves (call_ends _ _ _) c.apply.ensures.sound
+    went_once _ _ _ (rw c.apply.ensures.gear refl) c.apply.ensures.keeps.tells c.apply.ensures.keeps.world_tells (λ number gives. rw c.apply.ensures.gear gives)
+    _ c.apply.ensures.keeps.moves (call_ends _ _ _) c.apply.ensures.keeps.sound
 
 pub returns-in-Err-clause-shows : goal.returns-in-Err-clause-shows
 returns-in-Err-clause-shows g c = λ sink. shows_none _ _ _
@@ -71,8 +68,8 @@ returns-in-Err-line_of-clause-reports g c = λ sink. reports_none _ _ _ _ _ (pos
 
 pub returns-in-Ok-write_all-clause-reports : goal.returns-in-Ok-write_all-clause-reports
 returns-in-Ok-write_all-clause-reports g c = λ sink.
-    reports_whole _ _ c.in-Ok-write_all.field-0 _ _ _ (rw c.as_bytes.ensures.value at (c.in-Ok-write_all.ensures.told sink)) (by_sound _ _ _ _ c.requires.sound _ _ c.in-Ok.ensures.answer, c.in-Ok-line_of.ensures)
+    reports_whole _ _ c.in-Ok-write_all.field-0 _ _ _ (rw c.as_bytes.ensures.value at (c.in-Ok-write_all.ensures.told sink)) (by_sound _ _ _ _ c.requires.sound _ _ c.in-Ok.ensures.answers.answer, c.in-Ok-line_of.ensures)
 
 pub returns-clause-reports : goal.returns-clause-reports
 returns-clause-reports g c = λ sink.
-    reports_front _ c.in-Err-write_all.field-0 _ _ _ _ (rw c.as_bytes.ensures.value at (c.in-Err-write_all.ensures.told sink)) (by_sound _ _ _ _ c.requires.sound _ _ c.in-Ok.ensures.answer, c.in-Ok-line_of.ensures)
+    reports_front _ c.in-Err-write_all.field-0 _ _ _ _ (rw c.as_bytes.ensures.value at (c.in-Err-write_all.ensures.told sink)) (by_sound _ _ _ _ c.requires.sound _ _ c.in-Ok.ensures.answers.answer, c.in-Ok-line_of.ensures)

@@ -3,7 +3,7 @@ use Rattle.session_run.specs.Ends.{IsStatusOf}
 use Rattle.session_run.specs.Closings.{open_count}
 use Rattle.session_run.specs.Seen.{Seen, Went, state}
 use Rattle.session_run.proofs.Reporting.{ClosesSome}
-use Rattle.session_run.specs.contracts.session.SessionTold.TheImpl as session_told
+use Rattle.session_report.specs.pam_library.specs.contracts.session.SessionTold.TheImpl as session_told
 use Rattle.session_run.proofs.closing.close_open.Given as goal
 
 abbrev pub invariant-loop-stop : goal.invariant-loop-stop

@@ -2,7 +2,7 @@ use Rattle.std.proofs.Common.{◌≡◌}
 use Rattle.session_run.specs.Ends.{IsStatusOf}
 use Rattle.session_run.specs.Closings.{all_closed, open_count}
 use Rattle.session_run.specs.Seen.{Seen, Went, state}
-use Rattle.session_run.specs.contracts.session.SessionTold.TheImpl as session_told
+use Rattle.session_report.specs.pam_library.specs.contracts.session.SessionTold.TheImpl as session_told
 use Rattle.session_run.proofs.closing.close_silently.Given as goal
 
 abbrev pub invariant-loop-number : goal.invariant-loop-number

@@ -4,7 +4,7 @@ use Rattle.session_run.specs.Asked.{IsEndAmong, LeadsOn}
 use Rattle.session_run.specs.Events.{TellsTurn}
 use Rattle.session_run.specs.Reading.{ReadsTurn, WritesSome}
 use Rattle.session_run.specs.Seen.{AllTell, Seen, Went, setting_in, state}
-use Rattle.session_run.specs.contracts.session.SessionTold.TheImpl as session_told
+use Rattle.session_report.specs.pam_library.specs.contracts.session.SessionTold.TheImpl as session_told
 use Rattle.session_run.proofs.items.serve_items.Given as goal
 
 abbrev pub invariant-loop-ending : goal.invariant-loop-ending

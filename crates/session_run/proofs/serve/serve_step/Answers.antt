@@ -8,14 +8,11 @@ use Rattle.session_run.proofs.serve.serve_step.Goals as goal
 pub returns-in-Err-clause-told : goal.returns-in-Err-clause-told
 returns-in-Err-clause-told g c = λ delay is told sink taken item asked.
     c.item_is_served.ensures.begun _ _ _ _ _ _ (failed_call _ _ _ _ _ c.does.ensures _ _ _ _ _ asked _ (record {
-      place = failed_place _ _ _ _ _ told c.in-Err.ensures.fails;
-      others = c.apply.ensures.others;
-      stops = failed_stack _ _ _ _ _ _ _ told c.in-Err.ensures.stops;
-      spends = c.apply.ensures.spends;
-      root = c.apply.ensures.root;
-      caller = c.apply.ensures.caller;
+      place = failed_place _ _ _ _ _ told c.in-Err.ensures.fails.fails;
+      leaves = c.apply.ensures.leaves;
+      stops = failed_stack _ _ _ _ _ _ _ told c.in-Err.ensures.fails.stops;
       world = λ h. rw (c.apply.ensures.world h) refl;
-      nap = rw c.in-Err.ensures.no_nap refl;
+      nap = rw c.in-Err.ensures.fails.no_nap refl;
     }))
 
 pub returns-in-Err-step_report-clause-told : goal.returns-in-Err-step_report-clause-told
@@ -37,47 +34,47 @@ returns-clause-told g c = λ delay is told sink taken item asked.
     (rw c.bytes.ensures at (c.in-Err-write_all.ensures.told sink))
 
 pub step_report-requires-clause-from : goal.step_report-requires-clause-from
-step_report-requires-clause-from g c = rw c.in-Ok.ensures.filed_from (receipts_stay _ _ _ _ _ _ _ _ c.apply.ensures.spends)
+step_report-requires-clause-from g c = rw c.in-Ok.ensures.answers.filed_from (receipts_stay _ _ _ _ _ _ _ _ c.apply.ensures.leaves.spends)
 
 pub returns-in-Err-clause-went : goal.returns-in-Err-clause-went
 returns-in-Err-clause-went g c =
-    went_once _ _ _ (rw c.apply.ensures.gear refl) c.apply.ensures.tells c.apply.ensures.world_tells (λ number gives. rw c.apply.ensures.gear gives)
-    _ c.apply.ensures.moves (call_ends _ _ _) c.apply.ensures.sound
+    went_once _ _ _ (rw c.apply.ensures.gear refl) c.apply.ensures.keeps.tells c.apply.ensures.keeps.world_tells (λ number gives. rw c.apply.ensures.gear gives)
+    _ c.apply.ensures.keeps.moves (call_ends _ _ _) c.apply.ensures.keeps.sound
 
 pub returns-in-Err-step_report-clause-went : goal.returns-in-Err-step_report-clause-went
 returns-in-Err-step_report-clause-went g c =
-    went_once _ _ _ (rw c.apply.ensures.gear refl) c.apply.ensures.tells c.apply.ensures.world_tells (λ number gives. rw c.apply.ensures.gear gives)
-    _ c.apply.ensures.moves (call_ends _ _ _) c.apply.ensures.sound
+    went_once _ _ _ (rw c.apply.ensures.gear refl) c.apply.ensures.keeps.tells c.apply.ensures.keeps.world_tells (λ number gives. rw c.apply.ensures.gear gives)
+    _ c.apply.ensures.keeps.moves (call_ends _ _ _) c.apply.ensures.keeps.sound
 
 pub returns-in-Err-wrap-clause-went : goal.returns-in-Err-wrap-clause-went
 returns-in-Err-wrap-clause-went g c =
-    went_once _ _ _ (rw c.apply.ensures.gear refl) c.apply.ensures.tells c.apply.ensures.world_tells (λ number gives. rw c.apply.ensures.gear gives)
-    _ c.apply.ensures.moves (call_ends _ _ _) c.apply.ensures.sound
+    went_once _ _ _ (rw c.apply.ensures.gear refl) c.apply.ensures.keeps.tells c.apply.ensures.keeps.world_tells (λ number gives. rw c.apply.ensures.gear gives)
+    _ c.apply.ensures.keeps.moves (call_ends _ _ _) c.apply.ensures.keeps.sound
 
 pub returns-in-Ok-write_all-clause-went : goal.returns-in-Ok-write_all-clause-went
 returns-in-Ok-write_all-clause-went g c =
-    went_once _ _ _ (rw c.apply.ensures.gear refl) c.apply.ensures.tells c.apply.ensures.world_tells (λ number gives. rw c.apply.ensures.gear gives)
-    _ c.apply.ensures.moves (call_ends _ _ _) c.apply.ensures.sound
+    went_once _ _ _ (rw c.apply.ensures.gear refl) c.apply.ensures.keeps.tells c.apply.ensures.keeps.world_tells (λ number gives. rw c.apply.ensures.gear gives)
+    _ c.apply.ensures.keeps.moves (call_ends _ _ _) c.apply.ensures.keeps.sound
 
 pub returns-clause-went : goal.returns-clause-went
 returns-clause-went g c =
-    went_once _ _ _ (rw c.apply.ensures.gear refl) c.apply.ensures.tells c.apply.ensures.world_tells (λ number gives. rw c.apply.ensures.gear gives)
-    _ c.apply.ensures.moves (call_ends _ _ _) c.apply.ensures.sound
+    went_once _ _ _ (rw c.apply.ensures.gear refl) c.apply.ensures.keeps.tells c.apply.ensures.keeps.world_tells (λ number gives. rw c.apply.ensures.gear gives)
+    _ c.apply.ensures.keeps.moves (call_ends _ _ _) c.apply.ensures.keeps.sound
 
 pub returns-in-Err-clause-moves : goal.returns-in-Err-clause-moves
-returns-in-Err-clause-moves g c = c.apply.ensures.moves
+returns-in-Err-clause-moves g c = c.apply.ensures.keeps.moves
 
 pub returns-in-Err-step_report-clause-moves : goal.returns-in-Err-step_report-clause-moves
-returns-in-Err-step_report-clause-moves g c = c.apply.ensures.moves
+returns-in-Err-step_report-clause-moves g c = c.apply.ensures.keeps.moves
 
 pub returns-in-Err-wrap-clause-moves : goal.returns-in-Err-wrap-clause-moves
-returns-in-Err-wrap-clause-moves g c = c.apply.ensures.moves
+returns-in-Err-wrap-clause-moves g c = c.apply.ensures.keeps.moves
 
 pub returns-in-Ok-write_all-clause-moves : goal.returns-in-Ok-write_all-clause-moves
-returns-in-Ok-write_all-clause-moves g c = c.apply.ensures.moves
+returns-in-Ok-write_all-clause-moves g c = c.apply.ensures.keeps.moves
 
 pub returns-clause-moves : goal.returns-clause-moves
-returns-clause-moves g c = c.apply.ensures.moves
+returns-clause-moves g c = c.apply.ensures.keeps.moves
 
 pub returns-in-Err-clause-writes : goal.returns-in-Err-clause-writes
 returns-in-Err-clause-writes g c = λ sink. err_unwritten _ _
