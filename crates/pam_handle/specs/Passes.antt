@@ -138,8 +138,8 @@ StopsIn func players flags stacks tells h first past start end before after =
     ⊎ StopsAt players func (flags_seen func false flags) (first_stack func stacks)
     (first_kind func h) (answers_held (first_kept func h)) past tells start end
 
--- They have returned: `first` is what the first pass of a change of token had cached, `later` what it has cached, if the
--- second one is to be resumed.
+-- They have returned: `first` is what the first pass of a change of token had cached, and `later` what it has cached
+-- now, if the second one is to be resumed.
 pub record PassesGive {World : Type 0} (players : List Player) (func : Func) (flags : ℕ)
     (tells : Bool) (first later : Option KeptAnswers) (past : List Code)
     (pausing : Option (List Code)) (result : Result Code NoMemory) (old new : PlainHandle)

@@ -35,13 +35,11 @@ impl Handle {
             ⟦<Room as RoomTold>⟧.tells ⟦<Room as RoomTold>⟧.plain
             ⟦<World as WorldTold>⟧.tells ⟦<World as WorldTold>⟧.plain
             result self.old self.new world.old world.new }
-        ensures waited { is_other_pending (plain_handle ⟦<Room as RoomTold>⟧.plain self.old).pending
-            Func.Authenticate ≡ false →
-            IfOk result (λ code. (plain_handle ⟦<Room as RoomTold>⟧.plain self.new).pending ≡ None →
-            Waits code (plain_handle ⟦<Room as RoomTold>⟧.plain self.old)
-            (plain_handle ⟦<Room as RoomTold>⟧.plain self.new)
-            (nap_tells (in_box world.old.nap)) (nap_holds (in_box world.old.nap))
-            (nap_holds (in_box world.new.nap))) }
+        ensures waited { let plain = plain_handle ⟦<Room as RoomTold>⟧.plain in
+            is_other_pending (plain self.old).pending Func.Authenticate ≡ false →
+            IfOk result (λ code. (plain self.new).pending ≡ None →
+            Waits code (plain self.old) (plain self.new) (nap_tells (in_box world.old.nap))
+            (nap_holds (in_box world.old.nap)) (nap_holds (in_box world.new.nap))) }
         ensures no_nap { OnErr result (world.new.nap ≡ world.old.nap) }
     {
         self.stack_call(alloc, gear, world, Func::Authenticate, flags)

@@ -45,15 +45,14 @@ impl Handle {
             (length (⟦<Gear as GearTold>⟧.players gear.now))
             ⟦<Room as RoomTold>⟧.tells ⟦<World as WorldTold>⟧.tells
             (room_in self.old) (room_in self.new) world.old world.new }
-        ensures gives { PassGives (⟦<Gear as GearTold>⟧.players gear.now) request
-            (stack_at (plain_handle ⟦<Room as RoomTold>⟧.plain self.old).stacks
-            (stack_type request.func))
-            (⟦<Room as RoomTold>⟧.tells (room_in self.old) && ⟦<World as WorldTold>⟧.tells world.old)
-            kept.old kept.new (past_of paused.old) paused.new result
-            (⟦<Room as RoomTold>⟧.plain (room_in self.old))
-            (⟦<Room as RoomTold>⟧.plain (room_in self.new))
-            (⟦<World as WorldTold>⟧.plain world.old) (⟦<World as WorldTold>⟧.plain world.new)
-            (room_in self.old).conv (room_in self.new).conv world.old world.new }
+        ensures gives { let room = ⟦<Room as RoomTold>⟧.plain in
+            let w = ⟦<World as WorldTold>⟧.plain in
+            PassGives (⟦<Gear as GearTold>⟧.players gear.now) request
+            (stack_at (plain_handle room self.old).stacks (stack_type request.func))
+            (⟦<Room as RoomTold>⟧.tells (room_in self.old)
+            && ⟦<World as WorldTold>⟧.tells world.old) kept.old kept.new (past_of paused.old)
+            paused.new result (room (room_in self.old)) (room (room_in self.new)) (w world.old)
+            (w world.new) (room_in self.old).conv (room_in self.new).conv world.old world.new }
         ensures others { plain_handle ⟦<Room as RoomTold>⟧.plain self.new
             ≡ in_room (⟦<Room as RoomTold>⟧.plain (room_in self.new))
             (plain_handle ⟦<Room as RoomTold>⟧.plain self.old) }

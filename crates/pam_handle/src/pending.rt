@@ -4,7 +4,7 @@ ghost use Rattle.dispatch_core.specs.AnswersSoFar.{past_of};
 ghost use Rattle.dispatch_core.specs.Pending.{first_in, is_other_pending, past_in, pending_after, pending_func, same_func};
 ghost use Rattle.pam_handle.specs.Call.{clears_tokens, code_waited, items_after, items_before, request_behind};
 ghost use Rattle.pam_handle.specs.Pass.{kept_answers};
-ghost use Rattle.pam_handle.specs.Plain.{pending_of, plain_handle, room_in};
+ghost use Rattle.pam_handle.specs.Plain.{Keeps, pending_of, plain_handle, room_in};
 
 use crate::handle::Handle;
 use crate::put_off::PutOff;
@@ -40,8 +40,7 @@ impl Handle {
     // After a pass: if it is incomplete, the call is pending; else the requested delay is dropped.
     pub(crate) fn keep_pending(&mut self, func: Func, paused: Paused, first: Kept)
         requires { (plain_handle ⟦<Room as RoomTold>⟧.plain self.old).pending ≡ None }
-        ensures tells { ⟦<Room as RoomTold>⟧.tells (room_in self.new)
-            ≡ ⟦<Room as RoomTold>⟧.tells (room_in self.old) }
+        ensures tells { Keeps ⟦<Room as RoomTold>⟧.tells (room_in self.old) (room_in self.new) }
         ensures plain { plain_handle ⟦<Room as RoomTold>⟧.plain self.new
             ≡ record (plain_handle ⟦<Room as RoomTold>⟧.plain self.old) {
               room = request_behind paused (plain_handle ⟦<Room as RoomTold>⟧.plain self.old).room;

@@ -44,13 +44,11 @@ impl Handle {
             ⟦<World as WorldTold>⟧.tells ⟦<World as WorldTold>⟧.plain
             result self.old self.new world.old world.new }
         ensures waited { func ≡ Func.Authenticate →
-            is_other_pending (plain_handle ⟦<Room as RoomTold>⟧.plain self.old).pending func
-            ≡ false →
-            IfOk result (λ code. (plain_handle ⟦<Room as RoomTold>⟧.plain self.new).pending ≡ None →
-            Waits code (plain_handle ⟦<Room as RoomTold>⟧.plain self.old)
-            (plain_handle ⟦<Room as RoomTold>⟧.plain self.new)
+            (let plain = plain_handle ⟦<Room as RoomTold>⟧.plain in
+            is_other_pending (plain self.old).pending func ≡ false → IfOk result (λ code.
+            (plain self.new).pending ≡ None → Waits code (plain self.old) (plain self.new)
             (nap_tells (in_box world.old.nap)) (nap_holds (in_box world.old.nap))
-            (nap_holds (in_box world.new.nap))) }
+            (nap_holds (in_box world.new.nap)))) }
         ensures no_nap { OnErr result (world.new.nap ≡ world.old.nap) }
     {
         laws::nothing_grows();
@@ -90,12 +88,13 @@ impl Handle {
             (length (⟦<Gear as GearTold>⟧.players gear.now))
             ⟦<Room as RoomTold>⟧.tells ⟦<World as WorldTold>⟧.tells
             (room_in self.old) (room_in self.new) world.old world.new }
-        ensures give { PassesGive (⟦<Gear as GearTold>⟧.players gear.now) func flags
-            (⟦<Room as RoomTold>⟧.tells (room_in self.old) && ⟦<World as WorldTold>⟧.tells world.old)
-            (kept_answers first.old) (kept_answers first.new) (past_of paused.old) paused.new
-            result (plain_handle ⟦<Room as RoomTold>⟧.plain self.old)
-            (plain_handle ⟦<Room as RoomTold>⟧.plain self.new) (⟦<World as WorldTold>⟧.plain world.old)
-            (⟦<World as WorldTold>⟧.plain world.new) world.old world.new }
+        ensures give { let h = plain_handle ⟦<Room as RoomTold>⟧.plain in
+            let w = ⟦<World as WorldTold>⟧.plain in
+            PassesGive (⟦<Gear as GearTold>⟧.players gear.now) func flags
+            (⟦<Room as RoomTold>⟧.tells (room_in self.old)
+            && ⟦<World as WorldTold>⟧.tells world.old) (kept_answers first.old)
+            (kept_answers first.new) (past_of paused.old) paused.new result
+            (h self.old) (h self.new) (w world.old) (w world.new) world.old world.new }
     {
         dispatch_core::laws::soundness_is_transitive();
         if is_second(func, first) {
