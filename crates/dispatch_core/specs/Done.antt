@@ -18,7 +18,7 @@ use Rattle.stack_walk.specs.Walk.{ServedAs, Walked}
 use Rattle.dispatch_core.specs.declared.request.PassRequest.{PassRequest}
 use Rattle.dispatch_core.specs.declared.pass_memory.PassMemory.{PassMemory}
 use Rattle.dispatch_core.specs.declared.walker.Walker.{Walker}
-use Rattle.dispatch_core.specs.Failing.{BreaksAt, IsAtWork, StopsAt, Takes}
+use Rattle.dispatch_core.specs.Failing.{BreaksAt, IsAtWork, IsUntouched, StopsAt, Takes}
 use Rattle.dispatch_core.specs.Index.{walk_on}
 use Rattle.dispatch_core.specs.Lines.{answers_by}
 use Rattle.dispatch_core.specs.Passes.{answer_in, taken_with, turned, visits_with}
@@ -103,3 +103,13 @@ module _ {C World : Type 0} {T : C → Type 0} where
       StopsAt players request.func request.flags stack request.kind kept past
       (room_tell old && world_tell before) (state_of (plain_room old) (plain_world before))
       (state_of (plain_room new) (plain_world after))
+
+  -- an allocation of the pass itself failed, and nothing happened; or it stopped there
+  abbrev pub IsUntouchedOrStops : List Player → PassRequest → Stack → KeptAnswers → List Code
+      → (Room C T → Bool) → (Room C T → PlainRoom) → (World → Bool) → (World → PlainWorld)
+      → Room C T → Room C T → World → World → Type 0
+  IsUntouchedOrStops players request stack kept past room_tell plain_room world_tell plain_world old
+      new before after =
+      IsUntouched (plain_room old) (plain_room new) old.conv new.conv before after
+      ⊎ PassStops players request stack kept past room_tell plain_room world_tell plain_world old
+      new before after

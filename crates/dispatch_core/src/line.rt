@@ -1,10 +1,9 @@
-ghost use Rattle.std.specs.Prelude.{◌≡◌, ◌<◌, ◌≤◌, ◌+◌, ◌&&◌, ◌∷◌, ◌++◌, [], length, map, IfOk, OnOk, OnErr, IsTrue};
+ghost use Rattle.std.specs.Prelude.{◌≡◌, ◌<◌, ◌≤◌, ◌+◌, ◌∷◌, ◌++◌, [], length, map, IfOk, OnOk, OnErr, IsTrue};
 ghost use Rattle.control_words.specs.Stack.{lines_in};
 ghost use Rattle.handler_chain.specs.FlatLines.{rule_at};
-ghost use Rattle.pam_room.specs.State.{state_of};
-ghost use Rattle.pam_room.specs.Stays.{IsReady};
+ghost use Rattle.pam_room.specs.Stays.{AreReady};
 ghost use Rattle.pam_room.specs.Module.{player_of};
-ghost use Rattle.pam_room.specs.Plain.{plain_process, plain_transaction};
+ghost use Rattle.pam_room.specs.Plain.{plain_transaction};
 ghost use Rattle.stack_walk.specs.Pass.{AnswersAs};
 ghost use Rattle.dispatch_core.specs.AnyWorld.{PassStays};
 ghost use Rattle.dispatch_core.specs.Failing.{BreaksAt, IsAtWork, visited_at};
@@ -15,7 +14,7 @@ use crate::paths::Paths;
 use crate::request::PassRequest;
 use handler_chain::Chain;
 use pam_base::{Code, NoMemory};
-use pam_room::{Call, Module, Room, RoomTold, StackLine, World, WorldTold, serve_line};
+use pam_room::{Both, Call, Module, Room, RoomTold, StackLine, Told, World, WorldTold, serve_line};
 use std::alloc::Global;
 
 /// Runs line i: the module that its path names serves the call. Only the module may allocate.
@@ -33,26 +32,19 @@ pub fn ask_line(
     requires names { chain.now.names ≡ map label mods.now }
     requires paths { HasPaths chain.now.nodes i paths.old }
     requires spare { 0 < room.old.transaction.trail.spare }
-    requires ready { IsReady (length mods.now) (plain_transaction room.old.transaction)
-        (plain_process world.old.process) }
+    requires ready { AreReady (length mods.now) room.old world.old }
     ensures stays { PassStays (map (player_of label plays note breaks) mods.now) (length mods.now)
         ⟦<Room as RoomTold>⟧.tells ⟦<World as WorldTold>⟧.tells
         room.old room.new world.old world.new }
-    ensures told { IsTrue (⟦<Room as RoomTold>⟧.tells room.old
-        && ⟦<World as WorldTold>⟧.tells world.old) →
+    ensures told { let seen = ⟦<Both as Told>⟧.seen in IsTrue (seen room.old world.old).tells →
         IfOk result (λ answer. AnswersAs
         (answers_by (map (player_of label plays note breaks) mods.now) request.func request.flags
-        (rule_at chain.now.nodes i) (i + 1)
-        (state_of (⟦<Room as RoomTold>⟧.plain room.old) (⟦<World as WorldTold>⟧.plain world.old)))
-        answer (state_of (⟦<Room as RoomTold>⟧.plain room.new)
-        (⟦<World as WorldTold>⟧.plain world.new))) }
-    ensures broken { IsTrue (⟦<Room as RoomTold>⟧.tells room.old
-        && ⟦<World as WorldTold>⟧.tells world.old) →
+        (rule_at chain.now.nodes i) (i + 1) (seen room.old world.old).state)
+        answer (seen room.new world.new).state) }
+    ensures broken { let seen = ⟦<Both as Told>⟧.seen in IsTrue (seen room.old world.old).tells →
         OnErr result (BreaksAt (map (player_of label plays note breaks) mods.now) request.func
-        request.flags chain.now.nodes i
-        (state_of (⟦<Room as RoomTold>⟧.plain room.old) (⟦<World as WorldTold>⟧.plain world.old))
-        (state_of (⟦<Room as RoomTold>⟧.plain room.new)
-        (⟦<World as WorldTold>⟧.plain world.new))) }
+        request.flags chain.now.nodes i (seen room.old world.old).state
+        (seen room.new world.new).state) }
     ensures visits { OnOk result (length room.new.transaction.trail.visits
         ≡ length room.old.transaction.trail.visits + 1) }
     ensures visited { IfOk result (λ answer. room.new.transaction.trail.visits

@@ -1,12 +1,10 @@
-ghost use Rattle.std.specs.Prelude.{◌≡◌, ◌<◌, ◌≤◌, ◌⊎◌, [], None, Some, true, is_some, length, map, IfOk, OnOk, OnErr, IsNone, IsTrue};
+ghost use Rattle.std.specs.Prelude.{◌≡◌, ◌<◌, ◌≤◌, [], None, Some, true, is_some, length, map, IfOk, OnOk, OnErr, IsNone, IsTrue};
 ghost use Rattle.control_words.specs.Stack.{lines_in};
 ghost use Rattle.frozen_chain.specs.Kept.{empty_cells};
-ghost use Rattle.pam_room.specs.Stays.{IsReady};
+ghost use Rattle.pam_room.specs.Stays.{AreReady};
 ghost use Rattle.pam_room.specs.Module.{player_of};
-ghost use Rattle.pam_room.specs.Plain.{plain_process, plain_transaction};
 ghost use Rattle.dispatch_core.specs.AnyWorld.{PassStays};
-ghost use Rattle.dispatch_core.specs.Done.{PassDone, PassStops};
-ghost use Rattle.dispatch_core.specs.Failing.{IsUntouched};
+ghost use Rattle.dispatch_core.specs.Done.{IsUntouchedOrStops, PassDone, PassStops};
 ghost use Rattle.dispatch_core.specs.AnswersSoFar.{past_of};
 ghost use Rattle.dispatch_core.specs.Paths.{HasPaths};
 ghost use Rattle.dispatch_core.specs.Passes.{LeavesAs, PassesAs, WalksAs, by_place, kept_behind, kept_failed};
@@ -43,8 +41,7 @@ fn walk(
     requires spare { lines_in chain.old.nodes ≤ room.old.transaction.trail.spare }
     requires cells { is_some keeps.old ≡ true →
         keeps.old ≡ Some (empty_cells (lines_in chain.old.nodes)) }
-    requires ready { IsReady (length mods.now) (plain_transaction room.old.transaction)
-        (plain_process world.old.process) }
+    requires ready { AreReady (length mods.now) room.old world.old }
     ensures stays { PassStays (map (player_of label plays note breaks) mods.now) (length mods.now)
         ⟦<Room as RoomTold>⟧.tells ⟦<World as WorldTold>⟧.tells
         room.old room.new world.old world.new }
@@ -99,8 +96,7 @@ fn walk_all(
 ) -> Result<Code, NoMemory>
     requires names { chain.old.names ≡ map label mods.now }
     requires cells { keeps.old ≡ None }
-    requires ready { IsReady (length mods.now) (plain_transaction room.old.transaction)
-        (plain_process world.old.process) }
+    requires ready { AreReady (length mods.now) room.old world.old }
     ensures stays { PassStays (map (player_of label plays note breaks) mods.now) (length mods.now)
         ⟦<Room as RoomTold>⟧.tells ⟦<World as WorldTold>⟧.tells
         room.old room.new world.old world.new }
@@ -112,10 +108,7 @@ fn walk_all(
         result chain.old chain.new room.old room.new world.old world.new }
     ensures paused { OnErr result (paused.new ≡ None) }
     ensures put_off { IfOk result (λ code. IsTrue (is_some paused.new) → code ≡ Code.Incomplete) }
-    ensures stopped { OnErr result
-        (IsUntouched (⟦<Room as RoomTold>⟧.plain room.old) (⟦<Room as RoomTold>⟧.plain room.new)
-        room.old.conv room.new.conv world.old world.new
-        ⊎ PassStops
+    ensures stopped { OnErr result (IsUntouchedOrStops
         (map (player_of label plays note breaks) mods.now) request chain.old.nodes
         (by_place follows.now) (past_of paused.old) ⟦<Room as RoomTold>⟧.tells
         ⟦<Room as RoomTold>⟧.plain ⟦<World as WorldTold>⟧.tells ⟦<World as WorldTold>⟧.plain
@@ -180,8 +173,7 @@ pub fn dispatch(
     world: &mut World,
 ) -> Result<Code, NoMemory>
     requires names { chain.old.names ≡ map label mods.now }
-    requires ready { IsReady (length mods.now) (plain_transaction room.old.transaction)
-        (plain_process world.old.process) }
+    requires ready { AreReady (length mods.now) room.old world.old }
     ensures stays { PassStays (map (player_of label plays note breaks) mods.now) (length mods.now)
         ⟦<Room as RoomTold>⟧.tells ⟦<World as WorldTold>⟧.tells
         room.old room.new world.old world.new }
@@ -194,10 +186,7 @@ pub fn dispatch(
     ensures kept { OnErr result (kept.new ≡ kept_failed request.kind kept.old) }
     ensures paused { OnErr result (paused.new ≡ None) }
     ensures put_off { IfOk result (λ code. IsTrue (is_some paused.new) → code ≡ Code.Incomplete) }
-    ensures stopped { OnErr result
-        (IsUntouched (⟦<Room as RoomTold>⟧.plain room.old) (⟦<Room as RoomTold>⟧.plain room.new)
-        room.old.conv room.new.conv world.old world.new
-        ⊎ PassStops
+    ensures stopped { OnErr result (IsUntouchedOrStops
         (map (player_of label plays note breaks) mods.now) request chain.old.nodes
         (by_place kept.old) (past_of paused.old) ⟦<Room as RoomTold>⟧.tells
         ⟦<Room as RoomTold>⟧.plain ⟦<World as WorldTold>⟧.tells ⟦<World as WorldTold>⟧.plain

@@ -1,10 +1,8 @@
-ghost use Rattle.std.specs.Prelude.{◌≡◌, ◌<◌, ◌≤◌, ◌+◌, ◌*◌, ◌&&◌, [], None, is_some, true, length, map, IfOk, OnOk, IfSome, IsTrue};
+ghost use Rattle.std.specs.Prelude.{◌≡◌, ◌<◌, ◌≤◌, ◌+◌, ◌*◌, [], None, is_some, true, length, map, IfOk, OnOk, IfSome, IsTrue};
 ghost use Rattle.control_words.specs.Stack.{lines_in};
 ghost use Rattle.frozen_chain.specs.Kept.{lines_kept};
-ghost use Rattle.pam_room.specs.State.{state_of};
-ghost use Rattle.pam_room.specs.Stays.{IsReady};
+ghost use Rattle.pam_room.specs.Stays.{AreReady};
 ghost use Rattle.pam_room.specs.Module.{player_of};
-ghost use Rattle.pam_room.specs.Plain.{plain_process, plain_transaction};
 ghost use Rattle.stack_walk.specs.declared.pass_kind.PassKind.{PassKind};
 ghost use Rattle.stack_walk.specs.Pass.{decides, is_incomplete};
 ghost use Rattle.dispatch_core.specs.AnyWorld.{PassStays};
@@ -21,7 +19,7 @@ use frozen_chain::Kept;
 use handler_chain::Chain;
 use pam_base::{Code, NoMemory};
 use pam_room::data_cleanup::laws;
-use pam_room::{Module, Room, RoomTold, World, WorldTold};
+use pam_room::{Both, Module, Room, RoomTold, Told, World, WorldTold};
 use stack_walk::PassKind;
 use std::alloc::Global;
 
@@ -60,18 +58,14 @@ pub fn next_answer(
     requires answers { memory.old.answers.past ≡ [] → 0 < memory.old.answers.room }
     requires paths { HasPaths chain.now.nodes i memory.old.paths }
     requires spare { 0 < room.old.transaction.trail.spare }
-    requires ready { IsReady (length mods.now) (plain_transaction room.old.transaction)
-        (plain_process world.old.process) }
+    requires ready { AreReady (length mods.now) room.old world.old }
     ensures stays { PassStays (map (player_of label plays note breaks) mods.now) (length mods.now)
         ⟦<Room as RoomTold>⟧.tells ⟦<World as WorldTold>⟧.tells
         room.old room.new world.old world.new }
-    ensures told { IsTrue (⟦<Room as RoomTold>⟧.tells room.old
-        && ⟦<World as WorldTold>⟧.tells world.old) → IfOk result (λ answer. GivesLine
-        (map (player_of label plays note breaks) mods.now) request chain.now.nodes i answer
-        memory.old.answers.past memory.new.answers.past
-        (state_of (⟦<Room as RoomTold>⟧.plain room.old) (⟦<World as WorldTold>⟧.plain world.old))
-        (state_of (⟦<Room as RoomTold>⟧.plain room.new)
-        (⟦<World as WorldTold>⟧.plain world.new))) }
+    ensures told { let seen = ⟦<Both as Told>⟧.seen in IsTrue (seen room.old world.old).tells →
+        IfOk result (λ answer. GivesLine (map (player_of label plays note breaks) mods.now)
+        request chain.now.nodes i answer memory.old.answers.past memory.new.answers.past
+        (seen room.old world.old).state (seen room.new world.new).state) }
     ensures line { LineDone (map (player_of label plays note breaks) mods.now) request
         chain.now.nodes i ⟦<Room as RoomTold>⟧.tells ⟦<Room as RoomTold>⟧.plain
         ⟦<World as WorldTold>⟧.tells ⟦<World as WorldTold>⟧.plain
@@ -120,20 +114,16 @@ pub fn walk_line(
     requires answers { memory.old.answers.past ≡ [] → 0 < memory.old.answers.room }
     requires paths { HasPaths chain.old.nodes walker.old.at memory.old.paths }
     requires spare { 0 < room.old.transaction.trail.spare }
-    requires ready { IsReady (length mods.now) (plain_transaction room.old.transaction)
-        (plain_process world.old.process) }
+    requires ready { AreReady (length mods.now) room.old world.old }
     requires cells { is_some keeps.old ≡ true → walker.old.at < lines_kept keeps.old }
     ensures stays { PassStays (map (player_of label plays note breaks) mods.now) (length mods.now)
         ⟦<Room as RoomTold>⟧.tells ⟦<World as WorldTold>⟧.tells
         room.old room.new world.old world.new }
-    ensures told { IsTrue (⟦<Room as RoomTold>⟧.tells room.old
-        && ⟦<World as WorldTold>⟧.tells world.old) → IfOk result (λ answer. TurnsLine
-        (map (player_of label plays note breaks) mods.now) request (by_place follows.now)
-        chain.old.nodes walker.old walker.new answer
+    ensures told { let seen = ⟦<Both as Told>⟧.seen in IsTrue (seen room.old world.old).tells →
+        IfOk result (λ answer. TurnsLine (map (player_of label plays note breaks) mods.now)
+        request (by_place follows.now) chain.old.nodes walker.old walker.new answer
         memory.old.answers.past memory.new.answers.past
-        (state_of (⟦<Room as RoomTold>⟧.plain room.old) (⟦<World as WorldTold>⟧.plain world.old))
-        (state_of (⟦<Room as RoomTold>⟧.plain room.new)
-        (⟦<World as WorldTold>⟧.plain world.new))) }
+        (seen room.old world.old).state (seen room.new world.new).state) }
     ensures line { LineDone (map (player_of label plays note breaks) mods.now) request
         chain.old.nodes walker.old.at ⟦<Room as RoomTold>⟧.tells ⟦<Room as RoomTold>⟧.plain
         ⟦<World as WorldTold>⟧.tells ⟦<World as WorldTold>⟧.plain

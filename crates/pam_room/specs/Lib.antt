@@ -10,5 +10,6 @@ pub mod Stays
 pub mod Module
 pub mod Serve
 pub mod Say
+pub mod Asking
 pub mod Call
 pub mod Plain

@@ -1,10 +1,12 @@
 -- The plain record of each struct (this project's own).
+use Rattle.std.specs.Prelude.{◌≡◌}
 use Rattle.std.specs.declared.alloc.Global.{Global}
 use Rattle.std.specs.declared.dyn_box.DynBox.{DynBox}
 use Rattle.conv_port.specs.Conv.{ConvState}
 use Rattle.pam_outside.specs.Files.{VaultState}
 use Rattle.pam_outside.specs.Time.{ClockState, NapState}
 use Rattle.pam_room.specs.State.{PlainTransaction, PlainRoom, PlainProcess, PlainWorld, room_of, world_of}
+use Rattle.pam_room.specs.Module.{SeenRoom, seen_of}
 use Rattle.pam_room.specs.Call.{PlainCall}
 use Rattle.pam_room.specs.declared.transaction.Transaction.{Transaction}
 use Rattle.pam_room.specs.declared.room.Room.{Room}
@@ -27,6 +29,14 @@ plain_transaction t = record {
   serving = t.serving;
   put_off = t.put_off;
 }
+
+-- what a module sees of a transaction, with what is modelled of its conversation
+abbrev pub seen_in : Transaction → ConvState → SeenRoom
+seen_in t conv = seen_of (room_of (plain_transaction t) conv)
+
+-- of a transaction only its messages changed, and whether the call is incomplete
+abbrev pub OnlySays : Transaction → Transaction → Type 0
+OnlySays old new = new ≡ record old { said = new.said; put_off = new.put_off }
 
 abbrev pub plain_process : Process → PlainProcess
 plain_process p = record { ledger = p.ledger; root = p.root; caller = p.caller }

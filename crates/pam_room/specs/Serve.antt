@@ -1,10 +1,10 @@
 -- How a line of a stack is run (pam.conf(5), Linux-PAM Module Writers' Guide; that a line may be incomplete, and when
 -- replaced data are cleaned up, is this project's own).
-use Rattle.std.specs.Prelude.{◌≡◌, ℕ, Bool, false, if◌then◌else◌, Option, Some, None, List, [], ◌∷◌, ◌++◌, slice_get}
+use Rattle.std.specs.Prelude.{◌≡◌, ℕ, Bool, false, if◌then◌else◌, Option, Some, None, Result, IsTrue, IfOk, OnErr, List, [], ◌∷◌, ◌++◌, slice_get}
 use Rattle.pam_base.specs.declared.code.Code.{Code}
 use Rattle.pam_base.specs.declared.code.Code.TheVariants.{ModuleUnknown, Incomplete}
 use Rattle.data_cleanup.specs.Cleanup.{Notes, swept_list, swept_ledger}
-use Rattle.pam_room.specs.State.{State, scene_in, with_scene}
+use Rattle.pam_room.specs.State.{Seen, State, scene_in, with_scene}
 use Rattle.pam_room.specs.Call.{PlainCall}
 use Rattle.pam_room.specs.Module.{Player, played_in, with_played, notes_of, BreaksIn}
 
@@ -99,3 +99,13 @@ abbrev pub LineBreaks : List Player → Option ℕ → PlainCall → State → S
 LineBreaks players (Some number) call old new =
     PlayerBreaks (slice_get players number) number call old new
 LineBreaks players None call old new = ⊥
+
+-- What a line gives and leaves if all objects are modelled: an Ok is what is recorded of its run, and after an Err the
+-- state is what its module may leave.
+pub record ServesLine {E : Type 0} (result : Result Code E) (players : List Player)
+    (number : Option ℕ) (call : PlainCall) (recorded : Answered → Answered)
+    (old new : Seen) : Type 0 where
+  pub told : IsTrue old.tells → IfOk result (λ code. AnswersAs
+      (recorded (served players number call old.state)) code new.state)
+  pub broken : IsTrue old.tells →
+      OnErr result (LineBreaks players number call old.state new.state)

@@ -72,6 +72,13 @@ world_of vault clock nap process = record {
 abbrev pub state_of : PlainRoom → PlainWorld → State
 state_of room world = record { room = room; world = world }
 
+-- what contracts see of a room and a world: what is modelled, whether all objects that a module gets are, and whether
+-- the sleep is too
+pub record Seen : Type 0 where
+  pub state : State
+  pub lent_tells : Bool
+  pub tells : Bool
+
 -- what a module gets: all of that except the sleep
 pub record Scene : Type 0 where
   pub room : PlainRoom

@@ -1,11 +1,8 @@
-ghost use Rattle.std.specs.Prelude.{◌≡◌, ◌≢◌, ◌≤◌, ◌⊎◌, ◌++◌, ◌∷◌, [], false, Some, None, Ok, Err, IsOk, IsTrue, IfOk, OnOk, OnErr, length};
-ghost use Rattle.item_store.specs.Items.{text_of, with_text};
+ghost use Rattle.std.specs.Prelude.{◌≡◌, ◌≢◌, ◌≤◌, false, None, IsOk, IfOk, length};
 ghost use Rattle.item_store.specs.Access.{is_refused};
-ghost use Rattle.pam_room.specs.State.{room_of};
-ghost use Rattle.pam_room.specs.Module.{seen_of};
-ghost use Rattle.pam_room.specs.Say.{Asks, ConvErrIsCounted, RepliedAtMostOnce, signs, ask_item, login_prompt, token_asked, token_of, user_asked};
-ghost use Rattle.pam_room.specs.Plain.{plain_transaction};
 ghost use Rattle.item_store.specs.declared.access.Access.TheVariants.{ModuleSets};
+ghost use Rattle.pam_room.specs.Asking.{AsksOnce, talk_by};
+ghost use Rattle.pam_room.specs.Say.{ask_item, login_prompt, token_asked, token_of, user_asked};
 
 use crate::bytes::first_bytes;
 use crate::item::{get_item, set_item};
@@ -17,8 +14,8 @@ use pam_base::{ConvErr, ItemName, MAX_TEXT, NoMemory, Refuse, Style, Text};
 use std::alloc::Global;
 
 /// Makes sure that USER is set (`pam_get_user(3)`). If it is, nothing else happens. Otherwise one
-/// EchoOn message is sent, USER_PROMPT if that is set, of which the first 512 bytes count, or
-/// `login: `, and USER is set to the reply.
+/// PAM_PROMPT_ECHO_ON message is sent, USER_PROMPT if that is set, of which the first 512 bytes
+/// count, or `login: `, and USER is set to the reply.
 ///
 /// ConvErr is returned if and only if `say` would return it. If an allocation fails, the question
 /// may be among the messages, a modelled conversation is as it was or has replied to this question
@@ -28,35 +25,12 @@ pub fn get_user(
     transaction: &mut Transaction,
     conv: &mut dyn Conv,
 ) -> Result<(), Refuse<ConvErr>>
-    ensures tells { conv_tells conv.new ≡ conv_tells conv.old }
-    ensures told { IsTrue (conv_tells conv.old) →
-        Asks result
-        (user_asked (seen_of (room_of (plain_transaction transaction.old) (conv_holds conv.old))))
-        (seen_of (room_of (plain_transaction transaction.new) (conv_holds conv.new))) }
-    ensures at_most_once { IsTrue (conv_tells conv.old) → result ≡ Err Refuse.NoMemory →
-        RepliedAtMostOnce Style.EchoOn (login_prompt transaction.old.items.user_prompt)
-        (conv_holds conv.old) (conv_holds conv.new) }
-    ensures shows { ConvErrIsCounted result (signs (conv_faults conv.old)
-        (conv_deferrals conv.old) transaction.old.put_off)
-        (signs (conv_faults conv.new) (conv_deferrals conv.new) transaction.new.put_off) }
-    ensures set { OnOk result (transaction.new.items.user ≢ None) }
+    ensures asks { let talk = talk_by conv_tells conv_holds conv_faults conv_deferrals in
+        AsksOnce result ItemName.User Style.EchoOn
+        (login_prompt transaction.old.items.user_prompt) user_asked
+        (talk transaction.old conv.old) (talk transaction.new conv.new) }
     ensures was_set { transaction.old.items.user ≢ None →
         IsOk result × (transaction.new ≡ transaction.old) }
-    ensures refused { OnErr result (transaction.new.items ≡ transaction.old.items) }
-    ensures items { transaction.new.items ≡ record transaction.old.items {
-      user
-          = transaction.new.items.user;
-    } }
-    ensures said { (transaction.new.said ≡ transaction.old.said)
-        ⊎ (transaction.new.said ≡ transaction.old.said
-        ++ record { style = Style.EchoOn; text = login_prompt transaction.old.items.user_prompt }
-        ∷ []) }
-    ensures others { transaction.new ≡ record transaction.old {
-      items = transaction.new.items;
-      said
-          = transaction.new.said;
-      put_off = transaction.new.put_off;
-    } }
 {
     if get_item(&transaction.items, ItemName::User).is_some() {
         return Ok(());
@@ -72,8 +46,8 @@ pub fn get_user(
     )
 }
 
-/// Asks for a token with one EchoOff message of at most 512 bytes, and sets AUTHTOK, or if `old`
-/// OLDAUTHTOK, to the reply (`pam_get_authtok(3)`).
+/// Asks for a token with one PAM_PROMPT_ECHO_OFF message of at most 512 bytes, and sets AUTHTOK, or
+/// if `old` OLDAUTHTOK, to the reply (`pam_get_authtok(3)`).
 ///
 /// ConvErr is returned if and only if `say` would return it. If an allocation fails, the question
 /// may be among the messages, a modelled conversation is as it was or has replied to this question
@@ -86,30 +60,9 @@ pub fn ask_token(
     prompt: &[u8],
 ) -> Result<(), Refuse<ConvErr>>
     requires { length prompt.now ≤ MAX_TEXT }
-    ensures tells { conv_tells conv.new ≡ conv_tells conv.old }
-    ensures told { IsTrue (conv_tells conv.old) →
-        Asks result
-        (token_asked old prompt.now
-        (seen_of (room_of (plain_transaction transaction.old) (conv_holds conv.old))))
-        (seen_of (room_of (plain_transaction transaction.new) (conv_holds conv.new))) }
-    ensures at_most_once { IsTrue (conv_tells conv.old) → result ≡ Err Refuse.NoMemory →
-        RepliedAtMostOnce Style.EchoOff prompt.now (conv_holds conv.old) (conv_holds conv.new) }
-    ensures shows { ConvErrIsCounted result (signs (conv_faults conv.old)
-        (conv_deferrals conv.old) transaction.old.put_off)
-        (signs (conv_faults conv.new) (conv_deferrals conv.new) transaction.new.put_off) }
-    ensures set { OnOk result (text_of transaction.new.items (token_of old) ≢ None) }
-    ensures refused { OnErr result (transaction.new.items ≡ transaction.old.items) }
-    ensures items { transaction.new.items ≡ with_text transaction.old.items (token_of old)
-        (text_of transaction.new.items (token_of old)) }
-    ensures said { (transaction.new.said ≡ transaction.old.said)
-        ⊎ (transaction.new.said ≡ transaction.old.said
-        ++ record { style = Style.EchoOff; text = prompt.now } ∷ []) }
-    ensures others { transaction.new ≡ record transaction.old {
-      items = transaction.new.items;
-      said
-          = transaction.new.said;
-      put_off = transaction.new.put_off;
-    } }
+    ensures { let talk = talk_by conv_tells conv_holds conv_faults conv_deferrals in
+        AsksOnce result (token_of old) Style.EchoOff prompt.now (token_asked old prompt.now)
+        (talk transaction.old conv.old) (talk transaction.new conv.new) }
 {
     let token = if old {
         ItemName::OldAuthTok
@@ -131,30 +84,9 @@ fn ask(
 ) -> Result<(), Refuse<ConvErr>>
     requires short { length prompt ≤ MAX_TEXT }
     requires settable { is_refused ModuleSets item ≡ false }
-    ensures tells { conv_tells conv.new ≡ conv_tells conv.old }
-    ensures told { IsTrue (conv_tells conv.old) →
-        Asks result
-        (ask_item item style prompt
-        (seen_of (room_of (plain_transaction transaction.old) (conv_holds conv.old))))
-        (seen_of (room_of (plain_transaction transaction.new) (conv_holds conv.new))) }
-    ensures at_most_once { IsTrue (conv_tells conv.old) → result ≡ Err Refuse.NoMemory →
-        RepliedAtMostOnce style prompt (conv_holds conv.old) (conv_holds conv.new) }
-    ensures shows { ConvErrIsCounted result (signs (conv_faults conv.old)
-        (conv_deferrals conv.old) transaction.old.put_off)
-        (signs (conv_faults conv.new) (conv_deferrals conv.new) transaction.new.put_off) }
-    ensures set { OnOk result (text_of transaction.new.items item ≢ None) }
-    ensures refused { OnErr result (transaction.new.items ≡ transaction.old.items) }
-    ensures items { transaction.new.items ≡ with_text transaction.old.items item
-        (text_of transaction.new.items item) }
-    ensures said { (transaction.new.said ≡ transaction.old.said)
-        ⊎ (transaction.new.said ≡ transaction.old.said ++ record { style = style; text = prompt }
-        ∷ []) }
-    ensures others { transaction.new ≡ record transaction.old {
-      items = transaction.new.items;
-      said
-          = transaction.new.said;
-      put_off = transaction.new.put_off;
-    } }
+    ensures { let talk = talk_by conv_tells conv_holds conv_faults conv_deferrals in
+        AsksOnce result item style prompt (ask_item item style prompt)
+        (talk transaction.old conv.old) (talk transaction.new conv.new) }
 {
     let reply = send(alloc, transaction, conv, style, prompt)?;
     set_item(&mut transaction.items, item, reply.text.bytes())?;

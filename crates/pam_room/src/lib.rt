@@ -5,6 +5,7 @@
 #![tactic(auto)]
 
 mod ask;
+mod both;
 mod bytes;
 mod call;
 mod end;
@@ -22,6 +23,7 @@ mod visits;
 mod world;
 
 pub use ask::{ask_token, get_user};
+pub use both::{Both, Told};
 pub use bytes::first_bytes;
 pub use call::{Call, value_in};
 pub use conv_port;

@@ -1,9 +1,7 @@
 ghost use Rattle.std.specs.Prelude.{◌≡◌, ◌≢◌, ◌≤◌, ◌⊎◌, ◌++◌, ◌∷◌, [], Err, IsTrue, IfOk, OnOk, OnErr, length};
 ghost use Rattle.conv_port.specs.Message.{AreReplies, IsExchange, IsReply};
-ghost use Rattle.pam_room.specs.State.{room_of};
-ghost use Rattle.pam_room.specs.Module.{seen_of};
 ghost use Rattle.pam_room.specs.Say.{ConvErrIsCounted, Says, Sends, signs, speak};
-ghost use Rattle.pam_room.specs.Plain.{plain_transaction};
+ghost use Rattle.pam_room.specs.Plain.{OnlySays, seen_in};
 
 use crate::transaction::Transaction;
 use conv_port::{Conv, ConvFault, Message, Messages, Replies, Reply, talk_with};
@@ -12,7 +10,7 @@ use std::alloc::Global;
 use std::mem;
 
 /// Sends messages to the user (`pam_conv(3)`), and returns one reply of at most 512 bytes for each,
-/// an empty one for a message that is no prompt. They are added to the transaction's messages
+/// an empty one for a message that isn't a prompt. They are added to the transaction's messages
 /// first, all or none, and a modelled conversation shows that it got these very messages, as one
 /// exchange.
 ///
@@ -27,11 +25,9 @@ pub fn say(
 ) -> Result<Replies, Refuse<ConvErr>>
     requires { IsExchange messages.now }
     ensures tells { conv_tells conv.new ≡ conv_tells conv.old }
-    ensures told { IsTrue (conv_tells conv.old) →
-        Says result
-        (speak messages.now
-        (seen_of (room_of (plain_transaction transaction.old) (conv_holds conv.old))))
-        (seen_of (room_of (plain_transaction transaction.new) (conv_holds conv.new))) }
+    ensures told { IsTrue (conv_tells conv.old) → Says result
+        (speak messages.now (seen_in transaction.old (conv_holds conv.old)))
+        (seen_in transaction.new (conv_holds conv.new)) }
     ensures untaken { IsTrue (conv_tells conv.old) → result ≡ Err Refuse.NoMemory →
         conv_holds conv.new ≡ conv_holds conv.old }
     ensures shows { ConvErrIsCounted result (signs (conv_faults conv.old)
@@ -42,11 +38,7 @@ pub fn say(
         transaction.new.said ≡ transaction.old.said ++ messages.now }
     ensures all_or_none { (transaction.new.said ≡ transaction.old.said) ⊎
         (transaction.new.said ≡ transaction.old.said ++ messages.now) }
-    ensures others { transaction.new ≡ record transaction.old {
-      said = transaction.new.said;
-      put_off
-          = transaction.new.put_off;
-    } }
+    ensures others { OnlySays transaction.old transaction.new }
 {
     let copies = copies_of(alloc, messages)?;
     append(alloc, &mut transaction.said, copies)?;
@@ -72,11 +64,10 @@ pub fn send(
 ) -> Result<Reply, Refuse<ConvErr>>
     requires { length text ≤ MAX_TEXT }
     ensures tells { conv_tells conv.new ≡ conv_tells conv.old }
-    ensures told { IsTrue (conv_tells conv.old) →
-        Sends result
+    ensures told { IsTrue (conv_tells conv.old) → Sends result
         (speak (record { style = style; text = text } ∷ [])
-        (seen_of (room_of (plain_transaction transaction.old) (conv_holds conv.old))))
-        (seen_of (room_of (plain_transaction transaction.new) (conv_holds conv.new))) }
+        (seen_in transaction.old (conv_holds conv.old)))
+        (seen_in transaction.new (conv_holds conv.new)) }
     ensures untaken { IsTrue (conv_tells conv.old) → result ≡ Err Refuse.NoMemory →
         conv_holds conv.new ≡ conv_holds conv.old }
     ensures shows { ConvErrIsCounted result (signs (conv_faults conv.old)
@@ -88,11 +79,7 @@ pub fn send(
     ensures all_or_none { (transaction.new.said ≡ transaction.old.said)
         ⊎ (transaction.new.said ≡ transaction.old.said ++ record { style = style; text = text }
         ∷ []) }
-    ensures others { transaction.new ≡ record transaction.old {
-      said = transaction.new.said;
-      put_off
-          = transaction.new.put_off;
-    } }
+    ensures others { OnlySays transaction.old transaction.new }
 {
     let mut messages = Messages::new(alloc);
     messages.push(Message { style, text })?;

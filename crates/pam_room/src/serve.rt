@@ -1,12 +1,12 @@
-ghost use Rattle.std.specs.Prelude.{◌≡◌, ◌<◌, ◌≤◌, ◌^◌, ◌+◌, ◌++◌, ◌∷◌, [], ℕ, length, map, slice_get, Some, None, Ok, IfOk, IfSome, OnErr, IsTrue, ◌&&◌};
-ghost use Rattle.data_cleanup.specs.Grows.{Grows};
+ghost use Rattle.std.specs.Prelude.{◌≡◌, ◌<◌, ◌≤◌, ◌^◌, ◌+◌, ◌++◌, ◌∷◌, [], length, map, Some, None, Ok, IfOk, IfSome, OnErr, IsTrue};
 ghost use Rattle.data_cleanup.specs.Sets.{Sets};
-ghost use Rattle.pam_room.specs.State.{scene_in, state_of};
-ghost use Rattle.pam_room.specs.Stays.{Stays, IsReady};
-ghost use Rattle.pam_room.specs.Module.{BreaksIn, PlaysIn, notes_of, player_of};
-ghost use Rattle.pam_room.specs.Serve.{AnswersAs, LineBreaks, answer_or_incomplete, serve_line, served};
-ghost use Rattle.pam_room.specs.Plain.{plain_call, plain_transaction, plain_process};
+ghost use Rattle.pam_room.specs.State.{scene_in};
+ghost use Rattle.pam_room.specs.Stays.{AreReady, BothStay, LineStays};
+ghost use Rattle.pam_room.specs.Module.{BreaksIn, PlaysIn, player_of};
+ghost use Rattle.pam_room.specs.Serve.{ServesLine, answer_or_incomplete, visited};
+ghost use Rattle.pam_room.specs.Plain.{plain_call};
 
+use crate::both::{Both, Told};
 use crate::call::Call;
 use crate::module::Module;
 use crate::room::{Room, RoomTold};
@@ -48,28 +48,13 @@ pub fn serve_line(
     requires there { IfSome line.module_number (λ number. number < length mods.now) }
     requires few { length mods.now < 2 ^ 32 }
     requires spare { 0 < room.old.transaction.trail.spare }
-    requires ready { IsReady (length mods.now) (plain_transaction room.old.transaction)
-        (plain_process world.old.process) }
-    ensures room_tells { ⟦<Room as RoomTold>⟧.tells room.new ≡ ⟦<Room as RoomTold>⟧.tells room.old }
-    ensures world_tells { ⟦<World as WorldTold>⟧.tells world.new
-        ≡ ⟦<World as WorldTold>⟧.tells world.old }
-    ensures nap { world.new.nap ≡ world.old.nap }
-    ensures told { IsTrue (⟦<Room as RoomTold>⟧.tells room.old
-        && ⟦<World as WorldTold>⟧.tells world.old) →
-        IfOk result (λ code. AnswersAs
-        (serve_line
-        (map (player_of label plays note breaks) mods.now) line.module_number line.place line.path
-        (plain_call call.now)
-        (state_of (⟦<Room as RoomTold>⟧.plain room.old) (⟦<World as WorldTold>⟧.plain world.old)))
-        code (state_of (⟦<Room as RoomTold>⟧.plain room.new)
-        (⟦<World as WorldTold>⟧.plain world.new))) }
-    ensures broken { IsTrue (⟦<Room as RoomTold>⟧.tells room.old
-        && ⟦<World as WorldTold>⟧.tells world.old) →
-        OnErr result (LineBreaks (map (player_of label plays note breaks) mods.now)
-        line.module_number (plain_call call.now)
-        (state_of (⟦<Room as RoomTold>⟧.plain room.old) (⟦<World as WorldTold>⟧.plain world.old))
-        (state_of (⟦<Room as RoomTold>⟧.plain room.new)
-        (⟦<World as WorldTold>⟧.plain world.new))) }
+    requires ready { AreReady (length mods.now) room.old world.old }
+    ensures stays { LineStays (map (player_of label plays note breaks) mods.now) (length mods.now)
+        ⟦<Room as RoomTold>⟧.tells ⟦<World as WorldTold>⟧.tells
+        room.old room.new world.old world.new }
+    ensures done { let seen = ⟦<Both as Told>⟧.seen in ServesLine result
+        (map (player_of label plays note breaks) mods.now) line.module_number (plain_call call.now)
+        (visited line.place line.path) (seen room.old world.old) (seen room.new world.new) }
     ensures unknown { line.module_number ≡ None →
         (result ≡ Ok Code.ModuleUnknown) × (world.new ≡ world.old) × (room.new.conv ≡ room.old.conv)
         × (room.new.transaction
@@ -79,18 +64,8 @@ pub fn serve_line(
         ++ record { place = line.place; path = line.path; answer = code } ∷ []) }
     ensures not_visited { OnErr result (room.new.transaction.trail.visits
         ≡ room.old.transaction.trail.visits) }
-    ensures at_work { OnErr result (line.module_number
-        ≡ Some room.new.transaction.serving) }
+    ensures at_work { OnErr result (line.module_number ≡ Some room.new.transaction.serving) }
     ensures spare { room.old.transaction.trail.spare ≤ room.new.transaction.trail.spare + 1 }
-    ensures stays { Stays (plain_transaction room.old.transaction)
-        (plain_transaction room.new.transaction) (plain_process world.old.process)
-        (plain_process world.new.process) }
-    ensures grows { Grows (notes_of (map (player_of label plays note breaks) mods.now))
-        (length mods.now)
-        room.old.transaction.datums world.old.process.ledger room.new.transaction.datums
-        world.new.process.ledger }
-    ensures ready { IsReady (length mods.now) (plain_transaction room.new.transaction)
-        (plain_process world.new.process) }
 {
     laws::nothing_grows();
     let answer = match line.module_number {
@@ -116,39 +91,16 @@ fn serve_by(
     world: &mut World,
 ) -> Result<Code, NoMemory>
     requires there { number < length mods.now }
-    requires ready { IsReady (length mods.now) (plain_transaction room.old.transaction)
-        (plain_process world.old.process) }
-    ensures room_tells { ⟦<Room as RoomTold>⟧.tells room.new ≡ ⟦<Room as RoomTold>⟧.tells room.old }
-    ensures world_tells { ⟦<World as WorldTold>⟧.tells world.new
-        ≡ ⟦<World as WorldTold>⟧.tells world.old }
-    ensures nap { world.new.nap ≡ world.old.nap }
-    ensures told { IsTrue (⟦<Room as RoomTold>⟧.tells room.old
-        && ⟦<World as WorldTold>⟧.tells world.old) →
-        IfOk result (λ code. AnswersAs
-        (served (map (player_of label plays note breaks) mods.now) (Some number)
-        (plain_call call.now)
-        (state_of (⟦<Room as RoomTold>⟧.plain room.old) (⟦<World as WorldTold>⟧.plain world.old)))
-        code (state_of (⟦<Room as RoomTold>⟧.plain room.new)
-        (⟦<World as WorldTold>⟧.plain world.new))) }
-    ensures broken { IsTrue (⟦<Room as RoomTold>⟧.tells room.old
-        && ⟦<World as WorldTold>⟧.tells world.old) →
-        OnErr result (LineBreaks (map (player_of label plays note breaks) mods.now) (Some number)
-        (plain_call call.now)
-        (state_of (⟦<Room as RoomTold>⟧.plain room.old) (⟦<World as WorldTold>⟧.plain world.old))
-        (state_of (⟦<Room as RoomTold>⟧.plain room.new)
-        (⟦<World as WorldTold>⟧.plain world.new))) }
+    requires ready { AreReady (length mods.now) room.old world.old }
+    ensures stays { LineStays (map (player_of label plays note breaks) mods.now) (length mods.now)
+        ⟦<Room as RoomTold>⟧.tells ⟦<World as WorldTold>⟧.tells
+        room.old room.new world.old world.new }
+    ensures done { let seen = ⟦<Both as Told>⟧.seen in ServesLine result
+        (map (player_of label plays note breaks) mods.now) (Some number) (plain_call call.now)
+        (λ a. a) (seen room.old world.old) (seen room.new world.new) }
     ensures serving { room.new.transaction.serving ≡ number }
     ensures trail { room.new.transaction.trail.visits ≡ room.old.transaction.trail.visits }
     ensures spare { room.old.transaction.trail.spare ≤ room.new.transaction.trail.spare }
-    ensures stays { Stays (plain_transaction room.old.transaction)
-        (plain_transaction room.new.transaction) (plain_process world.old.process)
-        (plain_process world.new.process) }
-    ensures grows { Grows (notes_of (map (player_of label plays note breaks) mods.now))
-        (length mods.now)
-        room.old.transaction.datums world.old.process.ledger room.new.transaction.datums
-        world.new.process.ledger }
-    ensures ready { IsReady (length mods.now) (plain_transaction room.new.transaction)
-        (plain_process world.new.process) }
 {
     room.transaction.put_off = false;
     room.transaction.serving = number;
@@ -185,29 +137,16 @@ fn play(
     ensures room_tells { ⟦<Room as RoomTold>⟧.tells room.new ≡ ⟦<Room as RoomTold>⟧.tells room.old }
     ensures world_tells { ⟦<World as WorldTold>⟧.tells world.new
         ≡ ⟦<World as WorldTold>⟧.tells world.old }
-    ensures told { IsTrue (⟦<Room as RoomTold>⟧.tells room.old
-        && ⟦<World as WorldTold>⟧.lent_tells world.old) →
+    ensures told { let seen = ⟦<Both as Told>⟧.seen in IsTrue (seen room.old world.old).lent_tells →
         IfOk result (λ code. PlaysIn (plays handler.now) (plain_call call.now)
-        (scene_in
-        (state_of (⟦<Room as RoomTold>⟧.plain room.old) (⟦<World as WorldTold>⟧.plain world.old)))
-        code
-        (scene_in
-        (state_of (⟦<Room as RoomTold>⟧.plain room.new)
-        (⟦<World as WorldTold>⟧.plain world.new)))) }
-    ensures broken { IsTrue (⟦<Room as RoomTold>⟧.tells room.old
-        && ⟦<World as WorldTold>⟧.lent_tells world.old) →
+        (scene_in (seen room.old world.old).state) code
+        (scene_in (seen room.new world.new).state)) }
+    ensures broken { let seen = ⟦<Both as Told>⟧.seen in
+        IsTrue (seen room.old world.old).lent_tells →
         OnErr result (BreaksIn (breaks handler.now) (plain_call call.now)
-        (scene_in
-        (state_of (⟦<Room as RoomTold>⟧.plain room.old) (⟦<World as WorldTold>⟧.plain world.old)))
-        (scene_in
-        (state_of (⟦<Room as RoomTold>⟧.plain room.new)
-        (⟦<World as WorldTold>⟧.plain world.new)))) }
-    ensures no_nap { world.new.nap ≡ world.old.nap }
-    ensures nap { (⟦<World as WorldTold>⟧.plain world.new).nap
-        ≡ (⟦<World as WorldTold>⟧.plain world.old).nap }
-    ensures stays { Stays (plain_transaction room.old.transaction)
-        (plain_transaction room.new.transaction) (plain_process world.old.process)
-        (plain_process world.new.process) }
+        (scene_in (seen room.old world.old).state) (scene_in (seen room.new world.new).state)) }
+    ensures nap { world.new.nap ≡ world.old.nap }
+    ensures stays { BothStay room.old room.new world.old world.new }
     ensures serving { room.new.transaction.serving ≡ room.old.transaction.serving }
     ensures trail { room.new.transaction.trail.visits ≡ room.old.transaction.trail.visits }
     ensures spare { room.old.transaction.trail.spare ≤ room.new.transaction.trail.spare }

@@ -1,6 +1,6 @@
 ghost use Rattle.std.specs.Prelude.{◌≡◌, [], ◌++◌, length, map, reverse};
 ghost use Rattle.data_cleanup.specs.Cleanup.{AwaitCleanup, swept_list, swept_ledger, ledger_after};
-ghost use Rattle.pam_room.specs.Module.{notes_of, player_of};
+ghost use Rattle.pam_room.specs.Module.{notes_of, player_of, receipt_by};
 
 use crate::module::Module;
 use data_cleanup::{DataList, Datum, Ledger, Receipt, laws};
@@ -48,12 +48,7 @@ pub(crate) fn end_data(mods: &[Box<dyn Module>], datums: DataList, ledger: &mut 
 }
 
 fn tidy_by(owner: &Box<dyn Module>, datum: Datum, status: u32) -> Receipt
-    ensures { result ≡ record {
-      id = datum.id;
-      status = status;
-      note = note owner.now datum.payload
-          status;
-    } }
+    ensures { result ≡ receipt_by (note owner.now) datum status }
 {
     owner.tidy(datum, status)
 }

@@ -15,9 +15,6 @@ pub trait WorldTold {
     ghost use Rattle.std.specs.Prelude.{Bool};
     ghost use Rattle.pam_room.specs.State.{PlainWorld};
 
-    /// Whether the files and the clock, which modules borrow, are modelled.
-    ghost lent_tells: { Self → Bool };
-
     /// Whether files, clock and sleep are modelled.
     ghost tells: { Self → Bool };
 
@@ -27,9 +24,6 @@ pub trait WorldTold {
 impl WorldTold for World {
     ghost use Rattle.std.specs.Prelude.{◌&&◌};
     ghost use Rattle.pam_room.specs.Plain.{plain_world};
-
-    ghost lent_tells = { λ w. (Vault-box w.vault).vault_tells w.vault.value
-        && (Clock-box w.clock).clock_tells w.clock.value };
 
     ghost tells = { λ w. ((Vault-box w.vault).vault_tells w.vault.value
         && (Clock-box w.clock).clock_tells w.clock.value)

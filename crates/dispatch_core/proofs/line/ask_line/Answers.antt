@@ -18,7 +18,7 @@ returns-clause-told g c = λ told.
     let later : State = state_of (plain_room (λ b. (goal.Conv-dyn g (b.vtable, b.value)).conv_holds b.value) c.serve_line.new.room) (plain_world (λ b. (goal.Vault-dyn g (b.vtable, b.value)).vault_holds b.value) (λ b. (goal.Clock-dyn g (b.vtable, b.value)).clock_holds b.value) (λ b. (goal.Nap-dyn g (b.vtable, b.value)).nap_holds b.value) c.serve_line.new.world) in
     line_asked (λ b. (goal.Module-dyn g (b.vtable, b.value)).label b.value) (λ b. (goal.Module-dyn g (b.vtable, b.value)).plays b.value) (λ b. (goal.Module-dyn g (b.vtable, b.value)).note b.value) (λ b. (goal.Module-dyn g (b.vtable, b.value)).breaks b.value) c.args.mods.now c.args.request.func c.args.request.flags c.args.chain.now.nodes c.args.i
     c.serve_line.result c.args.chain.now.names c.module.result (c.args.i + 1) c.take.result c.args-2.result.now start later c.requires.within c.requires.names c.module.ensures refl
-    (c.take.ensures.path ∙ c.requires.paths.each c.args.i (omega arith) c.requires.within) c.args-2.ensures (c.serve_line.ensures.told told)
+    (c.take.ensures.path ∙ c.requires.paths.each c.args.i (omega arith) c.requires.within) c.args-2.ensures (c.serve_line.ensures.done.told told)
 
 pub returns-clause-broken : goal.returns-clause-broken
 returns-clause-broken g c = λ told.
@@ -26,7 +26,7 @@ returns-clause-broken g c = λ told.
     let later : State = state_of (plain_room (λ b. (goal.Conv-dyn g (b.vtable, b.value)).conv_holds b.value) c.serve_line.new.room) (plain_world (λ b. (goal.Vault-dyn g (b.vtable, b.value)).vault_holds b.value) (λ b. (goal.Clock-dyn g (b.vtable, b.value)).clock_holds b.value) (λ b. (goal.Nap-dyn g (b.vtable, b.value)).nap_holds b.value) c.serve_line.new.world) in
     line_broken (λ b. (goal.Module-dyn g (b.vtable, b.value)).label b.value) (λ b. (goal.Module-dyn g (b.vtable, b.value)).plays b.value) (λ b. (goal.Module-dyn g (b.vtable, b.value)).note b.value) (λ b. (goal.Module-dyn g (b.vtable, b.value)).breaks b.value) c.args.mods.now c.args.request.func c.args.request.flags c.args.chain.now.nodes c.args.i
     c.serve_line.result c.args.chain.now.names c.module.result c.args-2.result.now start later c.requires.within c.requires.names c.module.ensures
-    c.args-2.ensures (c.serve_line.ensures.broken told)
+    c.args-2.ensures (c.serve_line.ensures.done.broken told)
 
 pub returns-clause-visited : goal.returns-clause-visited
 returns-clause-visited g c = line_visited c.serve_line.result c.args.chain.now.nodes c.args.i (c.args.i + 1) c.take.result _ _ refl (c.take.ensures.path ∙ c.requires.paths.each c.args.i (omega arith) c.requires.within) c.serve_line.ensures.visited
