@@ -1,10 +1,11 @@
 mod Passing
-mod Calling
 mod Resting
-mod Authenticating
-mod Changing
+mod Going
 mod Stopping
 mod Tracing
+mod Giving
 mod Lacking
 mod Laying
 mod Rows
+mod Waiting
+mod Calling

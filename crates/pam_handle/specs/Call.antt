@@ -1,9 +1,10 @@
 -- The result of an application's call, and what several calls of a transaction have in common (pam_fail_delay(3); that
 -- a call may be incomplete, and what other calls return meanwhile, is this project's own).
-use Rattle.std.specs.Prelude.{◌≡◌, ℕ, Bool, Option, Some, None, List, Result, if◌then◌else◌, ◌==◌}
+use Rattle.std.specs.Prelude.{◌≡◌, ℕ, Bool, true, false, Option, Some, None, List, Result, if◌then◌else◌, ◌==◌}
 use Rattle.std.specs.Result.{result_ok}
 use Rattle.pam_base.specs.declared.code.Code.{Code}
 use Rattle.pam_base.specs.declared.call.Func.{Func}
+use Rattle.pam_base.specs.declared.call.Func.TheVariants.{Authenticate, ChAuthTok}
 use Rattle.pam_base.specs.declared.fault.NoMemory.{NoMemory}
 use Rattle.item_store.specs.Items.{ItemTexts, without_tokens}
 use Rattle.dispatch_core.specs.fail_delay.specs.Delay.{asked_delay}
@@ -71,10 +72,27 @@ abbrev pub items_behind : Option (List Code) → ItemTexts → ItemTexts
 items_behind None items = without_tokens items
 items_behind (Some past) items = items
 
+-- only authenticate and chauthtok clear the tokens
+abbrev pub clears_tokens : Func → Bool
+clears_tokens Authenticate = true
+clears_tokens ChAuthTok = true
+clears_tokens func = false
+
+abbrev pub items_before : Func → Option Pending → ItemTexts → ItemTexts
+items_before func pending items = if clears_tokens func then items_begun pending items else items
+
+abbrev pub items_after : Func → Option (List Code) → ItemTexts → ItemTexts
+items_after func paused items = if clears_tokens func then items_behind paused items else items
+
 -- the code with which a call has ended: none if it is incomplete or ran out of memory
 abbrev pub final_code : Option (List Code) → Result Code NoMemory → Option Code
 final_code None result = result_ok result
 final_code (Some past) result = None
+
+-- the code after which a call waits: only authenticate does
+abbrev pub code_waited : Func → Option (List Code) → Result Code NoMemory → Option Code
+code_waited Authenticate paused result = final_code paused result
+code_waited func paused result = None
 
 -- ---- the wait after an authentication
 

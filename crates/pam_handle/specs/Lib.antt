@@ -19,4 +19,5 @@ pub mod Plain
 pub mod Ready
 pub mod Stopping
 pub mod Trail
+pub mod Passes
 pub mod StackCalled

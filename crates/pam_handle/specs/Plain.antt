@@ -1,4 +1,5 @@
 -- The plain record of a transaction's struct (this project's own).
+use Rattle.std.specs.Prelude.{◌≡◌}
 use Rattle.std.specs.Option.{option_map}
 use Rattle.std.specs.declared.alloc.Global.{Global}
 use Rattle.std.specs.declared.dyn_box.DynBox.{DynBox}
@@ -34,6 +35,10 @@ nodes_in c Session = c.session.nodes
 
 abbrev pub pending_of : PutOff → Pending
 pending_of p = record { func = p.func; past = past_of p.paused; first = kept_answers p.first }
+
+-- what is said of two values is the same
+abbrev pub Keeps : {A B : Type 0} → (A → B) → A → A → Type 0
+Keeps says old new = says new ≡ says old
 
 -- what a box holds, with its type
 abbrev pub in_box : {X : Type 0} {V : X → Type 0} → DynBox X Global V → (x : X) × V x

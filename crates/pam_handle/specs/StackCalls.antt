@@ -1,17 +1,15 @@
 -- The six calls that run a stack: pam_authenticate(3), pam_setcred(3), pam_acct_mgmt(3), pam_open_session(3),
 -- pam_close_session(3), pam_chauthtok(3). Which cached return codes the second of two calls uses is from the Module
 -- Writers' Guide; that a call may be incomplete and is resumed is this project's own.
-use Rattle.std.specs.Prelude.{◌≡◌, ℕ, Bool, true, false, ◌||◌, ◌==◌, if◌then◌else◌, bit_or, Option, Some, None, List, [], Result, IfOk}
+use Rattle.std.specs.Prelude.{ℕ, Bool, true, false, ◌||◌, ◌==◌, if◌then◌else◌, bit_or, Option, Some, None, List, []}
 use Rattle.pam_base.specs.declared.code.Code.{Code}
 use Rattle.pam_base.specs.declared.code.Code.TheVariants as codes
 use Rattle.pam_base.specs.declared.call.Func.{Func}
 use Rattle.pam_base.specs.declared.call.Func.TheVariants.{Authenticate, SetCred, AcctMgmt, OpenSession, CloseSession, ChAuthTok}
-use Rattle.pam_base.specs.declared.fault.NoMemory.{NoMemory}
-use Rattle.dispatch_core.specs.control_words.specs.Stack.{Stack}
 use Rattle.dispatch_core.specs.stack_walk.specs.Route.{KeptAnswers}
 use Rattle.dispatch_core.specs.pam_room.specs.Call.{has_flag, prelim_check}
 use Rattle.dispatch_core.specs.pam_room.specs.Module.{Player}
-use Rattle.dispatch_core.specs.pam_room.specs.State.{PlainRoom, PlainWorld, State, state_of}
+use Rattle.dispatch_core.specs.pam_room.specs.State.{PlainWorld, State, state_of}
 use Rattle.pam_handle.specs.Handle.{PlainHandle}
 use Rattle.dispatch_core.specs.Lines.{answers_by}
 use Rattle.dispatch_core.specs.Calls.{Asking, Held, held, held_behind, first_pass, second_pass}
@@ -83,18 +81,6 @@ authenticated number None code h w =
 abbrev pub changed : Option (List Code) → Code → PlainHandle → PlainWorld → Called
 changed (Some past) code h w = called code h w
 changed None code h w = called code (request_forgotten (tokens_cleared h)) w
-
--- What is left of a change of token (`goes`) is done, whatever else there is in a transaction with this room and this
--- stack: with a result, with what its first pass cached and the codes that are paused, and with the room and world after
--- it.
-abbrev pub ChangesTo : (PlainHandle → PlainWorld → Called) → Result Code NoMemory → Stack → PlainRoom
-    → PlainWorld → Option KeptAnswers → Option (List Code) → PlainRoom → PlainWorld → Type 0
-ChangesTo goes result stack room w first paused later after =
-    (h : PlainHandle) → h.room ≡ room → h.stacks.password ≡ stack → IfOk result (λ code. goes h w
-    ≡ changed paused code (record h {
-      room = later;
-      pending = pending_after ChAuthTok first paused;
-    }) after)
 
 module _ (players : List Player) where
   -- lines return what the meanings of their modules say

@@ -1,5 +1,5 @@
 -- The start of a transaction (pam_start(3)).
-use Rattle.std.specs.Prelude.{◌≡◌, ℕ, List, Option, Some, None, Result, Ok, Err, false}
+use Rattle.std.specs.Prelude.{◌≡◌, ℕ, List, Option, Some, None, Result, Ok, Err, MatchResult, false}
 use Rattle.std.specs.Str.{str_to_ascii_lowercase}
 use Rattle.pam_base.specs.declared.fault.Refuse.{Refuse}
 use Rattle.pam_base.specs.declared.fault.Refuse.TheVariants.{NoMemory, Named}
@@ -11,9 +11,12 @@ use Rattle.dispatch_core.specs.service_load.specs.Load.{loaded, has_folder}
 use Rattle.dispatch_core.specs.service_load.specs.Loading.{texts_of, CountsFaults}
 use Rattle.dispatch_core.specs.service_load.specs.Tree.{tree}
 use Rattle.item_store.specs.Items.{ItemTexts, no_texts}
-use Rattle.dispatch_core.specs.pam_room.specs.State.{PlainWorld, new_transaction, room_of}
+use Rattle.dispatch_core.specs.pam_room.specs.State.{PlainRoom, PlainWorld, new_transaction, room_of}
+use Rattle.dispatch_core.specs.pam_room.specs.declared.room.Room.{Room}
 use Rattle.pam_handle.specs.declared.chains.Chains.{Chains}
-use Rattle.pam_handle.specs.Plain.{stacks_in}
+use Rattle.pam_handle.specs.declared.handle.Handle.{Handle}
+use Rattle.pam_handle.specs.declared.start.StartRefused.{StartRefused}
+use Rattle.pam_handle.specs.Plain.{plain_handle, stacks_in}
 use Rattle.dispatch_core.specs.service_load.specs.Stacks.{Stacks, stacks_of}
 use Rattle.pam_handle.specs.Handle.{PlainHandle}
 
@@ -78,6 +81,12 @@ pub record Opens (s : Started) (handle : PlainHandle) (world : PlainWorld) : Typ
 abbrev pub Refuses : Started → Refuse LoadFault → PlainWorld → Type 0
 Refuses s (Named fault) world = (s.answer ≡ Err fault) × (world ≡ s.world)
 Refuses s NoMemory world = Unit {0}
+
+module _ {X : Type 0} {V : X → Type 0} where
+  abbrev pub StartsAs : (Room X V → PlainRoom) → Started → Result (Handle X V) (StartRefused X V)
+      → PlainWorld → Type 0
+  StartsAs room s result world = MatchResult result
+      (λ handle. Opens s (plain_handle room handle) world) (λ refused. Refuses s refused.why world)
 
 -- with real objects too: the count of failed file accesses rises if a file couldn't be read, and with no other fault
 abbrev pub RefusalCounts : Refuse LoadFault → ℕ → ℕ → Type 0

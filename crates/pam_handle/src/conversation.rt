@@ -1,7 +1,7 @@
 ghost use Rattle.std.specs.Prelude.{◌≡◌, ◌≤◌, IsTrue, length};
 ghost use Rattle.dispatch_core.specs.conv_port.specs.Conv.{TakesOffer};
 ghost use Rattle.pam_handle.specs.Items.{with_conversation};
-ghost use Rattle.pam_handle.specs.Plain.{in_box, plain_handle, room_in};
+ghost use Rattle.pam_handle.specs.Plain.{Keeps, in_box, plain_handle, room_in};
 
 use crate::handle::Handle;
 use dispatch_core::conv_port::{Conv, offer_to};
@@ -26,8 +26,7 @@ impl Handle {
     /// does. If memory runs out, a modelled conversation holds what it held before.
     pub fn offer(&mut self, alloc: Global, text: &[u8]) -> Result<(), NoMemory>
         requires { length text.now ≤ MAX_TEXT }
-        ensures tells { ⟦<Room as RoomTold>⟧.tells (room_in self.new)
-            ≡ ⟦<Room as RoomTold>⟧.tells (room_in self.old) }
+        ensures tells { Keeps ⟦<Room as RoomTold>⟧.tells (room_in self.old) (room_in self.new) }
         ensures told { IsTrue (⟦<Room as RoomTold>⟧.tells (room_in self.old)) →
             TakesOffer result text.now (plain_handle ⟦<Room as RoomTold>⟧.plain self.old).room.conv
             (plain_handle ⟦<Room as RoomTold>⟧.plain self.new).room.conv }

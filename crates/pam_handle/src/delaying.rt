@@ -4,7 +4,7 @@ ghost use Rattle.dispatch_core.specs.fail_delay.specs.Wait.{wait_of};
 ghost use Rattle.pam_base.specs.declared.code.Code.{Code};
 ghost use Rattle.pam_handle.specs.AnyWorld.{WaitsFor, WaitsOnlyAtEnd};
 ghost use Rattle.pam_handle.specs.Call.{WaitsBehind, drawn_by, nap_after, rested_by, waited_by};
-ghost use Rattle.pam_handle.specs.Plain.{in_box};
+ghost use Rattle.pam_handle.specs.Plain.{Keeps, in_box};
 
 use crate::gear::Gear;
 use crate::wait::Wait;
@@ -26,8 +26,7 @@ fn wait(
     waited: &mut Option<Wait>,
 )
     requires { longest ≤ LONGEST_REQUEST }
-    ensures tells { ⟦<World as WorldTold>⟧.tells world.new
-        ≡ ⟦<World as WorldTold>⟧.tells world.old }
+    ensures tells { Keeps ⟦<World as WorldTold>⟧.tells world.old world.new }
     ensures told { (number : Code → ℕ → ℕ) →
         ⟦<DelayFn as DelayTold>⟧.delay_is gear.now.delay number →
         IsTrue (⟦<World as WorldTold>⟧.tells world.old) →
@@ -58,8 +57,7 @@ pub(crate) fn sleep_after(
     waited: &mut Option<Wait>,
 )
     requires { longest ≤ LONGEST_REQUEST }
-    ensures tells { ⟦<World as WorldTold>⟧.tells world.new
-        ≡ ⟦<World as WorldTold>⟧.tells world.old }
+    ensures tells { Keeps ⟦<World as WorldTold>⟧.tells world.old world.new }
     ensures told { (number : Code → ℕ → ℕ) →
         ⟦<DelayFn as DelayTold>⟧.delay_is gear.now.delay number →
         IsTrue (⟦<World as WorldTold>⟧.tells world.old) →
@@ -80,8 +78,7 @@ pub(crate) fn sleep_after(
 // The requested delay; a random word is read only if a delay was requested.
 fn asked_of(longest: u32, world: &mut World) -> u32
     requires { longest ≤ LONGEST_REQUEST }
-    ensures tells { ⟦<World as WorldTold>⟧.tells world.new
-        ≡ ⟦<World as WorldTold>⟧.tells world.old }
+    ensures tells { Keeps ⟦<World as WorldTold>⟧.tells world.old world.new }
     ensures told { IsTrue (⟦<World as WorldTold>⟧.tells world.old) →
         result ≡ asked_delay longest (⟦<World as WorldTold>⟧.plain world.old).clock.word }
     ensures drawn { IsTrue (⟦<World as WorldTold>⟧.tells world.old) →
@@ -115,8 +112,7 @@ fn wait_by(gear: &Gear, delay_on: bool, code: Code, asked: u32) -> Option<u32>
 }
 
 fn rest_for(world: &mut World, wait: u32)
-    ensures tells { ⟦<World as WorldTold>⟧.tells world.new
-        ≡ ⟦<World as WorldTold>⟧.tells world.old }
+    ensures tells { Keeps ⟦<World as WorldTold>⟧.tells world.old world.new }
     ensures told { IsTrue (⟦<World as WorldTold>⟧.tells world.old) →
         ⟦<World as WorldTold>⟧.plain world.new
         ≡ rested_by (Some wait) (⟦<World as WorldTold>⟧.plain world.old) }

@@ -2,7 +2,7 @@ ghost use Rattle.std.specs.Prelude.{◌≡◌};
 ghost use Rattle.dispatch_core.specs.pam_room.specs.Module.{notes_of};
 ghost use Rattle.dispatch_core.specs.pam_room.specs.Plain.{plain_process};
 ghost use Rattle.pam_handle.specs.End.{process_after_end, world_after_end};
-ghost use Rattle.pam_handle.specs.Plain.{plain_handle, room_in};
+ghost use Rattle.pam_handle.specs.Plain.{Keeps, plain_handle, room_in};
 ghost use Rattle.pam_handle.specs.Ready.{IsReadyFor};
 
 use crate::gear::{Gear, GearTold};
@@ -19,8 +19,7 @@ impl Handle {
             (plain_handle ⟦<Room as RoomTold>⟧.plain self)
             (⟦<World as WorldTold>⟧.plain world.old).process }
         ensures conv { result ≡ (room_in self).conv }
-        ensures tells { ⟦<World as WorldTold>⟧.tells world.new
-            ≡ ⟦<World as WorldTold>⟧.tells world.old }
+        ensures tells { Keeps ⟦<World as WorldTold>⟧.tells world.old world.new }
         ensures world { ⟦<World as WorldTold>⟧.plain world.new
             ≡ world_after_end (notes_of (⟦<Gear as GearTold>⟧.players gear.now)) status
             (plain_handle ⟦<Room as RoomTold>⟧.plain self)

@@ -3,7 +3,7 @@ ghost use Rattle.std.specs.Option.{option_copied};
 ghost use Rattle.dispatch_core.specs.env_list.specs.Environment.{after_put, is_deletion, is_refused, value_of, variable_text};
 ghost use Rattle.pam_base.specs.Fault.{bad_item};
 ghost use Rattle.pam_handle.specs.Items.{with_environment};
-ghost use Rattle.pam_handle.specs.Plain.{plain_handle, room_in};
+ghost use Rattle.pam_handle.specs.Plain.{Keeps, plain_handle, room_in};
 
 use crate::handle::Handle;
 use dispatch_core::pam_room::{Room, RoomTold};
@@ -15,13 +15,10 @@ impl Handle {
     /// alone deletes it. BadItem exactly if the name is empty or an unset variable is deleted. A
     /// deletion allocates nothing. If the call is refused or runs out of memory, nothing changes.
     pub fn putenv(&mut self, text: &[u8]) -> Result<(), Refuse<BadItem>>
-        ensures tells { ⟦<Room as RoomTold>⟧.tells (room_in self.new)
-            ≡ ⟦<Room as RoomTold>⟧.tells (room_in self.old) }
-        ensures ok { OnOk result ((plain_handle ⟦<Room as RoomTold>⟧.plain self.new)
-            ≡ with_environment
-            (after_put text.now
-            (plain_handle ⟦<Room as RoomTold>⟧.plain self.old).room.transaction.env)
-            (plain_handle ⟦<Room as RoomTold>⟧.plain self.old)) }
+        ensures tells { Keeps ⟦<Room as RoomTold>⟧.tells (room_in self.old) (room_in self.new) }
+        ensures ok { let plain = plain_handle ⟦<Room as RoomTold>⟧.plain in
+            OnOk result (plain self.new ≡ with_environment
+            (after_put text.now (plain self.old).room.transaction.env) (plain self.old)) }
         ensures err { OnErr result (self.new ≡ self.old) }
         ensures bad_item { (result ≡ Err (Refuse.Named bad_item)) ↔ IsTrue
             (is_refused text.now

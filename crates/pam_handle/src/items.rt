@@ -5,7 +5,7 @@ ghost use Rattle.item_store.specs.Items.{text_of, with_text};
 ghost use Rattle.item_store.specs.declared.access.Access.TheVariants.{ApplicationGets, ApplicationSets};
 ghost use Rattle.pam_base.specs.Fault.{bad_item};
 ghost use Rattle.pam_handle.specs.Items.{with_items};
-ghost use Rattle.pam_handle.specs.Plain.{plain_handle, room_in};
+ghost use Rattle.pam_handle.specs.Plain.{Keeps, plain_handle, room_in};
 
 use crate::handle::Handle;
 use dispatch_core::pam_room::{Room, RoomTold};
@@ -17,12 +17,11 @@ impl Handle {
     /// belong to the modules, and for CONV and FAIL_DELAY, which have their own calls. If the call
     /// is refused or runs out of memory, nothing changes. A pending call stays pending.
     pub fn set_item(&mut self, item: ItemName, value: Option<&[u8]>) -> Result<(), Refuse<BadItem>>
-        ensures tells { ⟦<Room as RoomTold>⟧.tells (room_in self.new)
-            ≡ ⟦<Room as RoomTold>⟧.tells (room_in self.old) }
-        ensures ok { OnOk result ((plain_handle ⟦<Room as RoomTold>⟧.plain self.new) ≡ with_items
-            (with_text
-            (plain_handle ⟦<Room as RoomTold>⟧.plain self.old).room.transaction.items item
-            (option_copied value.entry)) (plain_handle ⟦<Room as RoomTold>⟧.plain self.old)) }
+        ensures tells { Keeps ⟦<Room as RoomTold>⟧.tells (room_in self.old) (room_in self.new) }
+        ensures ok { let plain = plain_handle ⟦<Room as RoomTold>⟧.plain in
+            OnOk result (plain self.new ≡ with_items
+            (with_text (plain self.old).room.transaction.items item (option_copied value.entry))
+            (plain self.old)) }
         ensures err { OnErr result (self.new ≡ self.old) }
         ensures bad_item { (result ≡ Err (Refuse.Named bad_item)) ↔ IsTrue
             (is_refused ApplicationSets item) }

@@ -2,15 +2,12 @@
 //! its items, environment, delays and conversation, and its end. A stack call may return INCOMPLETE; it is resumed when
 //! it is called again.
 //!
-//! Begin at start.rt and authenticate.rt; pass.rt is one pass, pending.rt what a call does before and after it if it is
-//! incomplete.
+//! Begin at start.rt and calls.rt; stack_call.rt is what the six calls have in common, pass.rt one pass, and pending.rt
+//! what a call does before and after its passes if it is incomplete.
 #![tactic(auto)]
 
-mod acct_mgmt;
-mod authenticate;
+mod calls;
 mod chains;
-mod chauthtok;
-mod close_session;
 mod conversation;
 mod delay;
 mod delaying;
@@ -21,12 +18,11 @@ mod gear;
 mod handle;
 mod items;
 mod missing;
-mod open_session;
 mod pass;
 mod pending;
 mod prepare;
 mod put_off;
-mod setcred;
+mod stack_call;
 mod start;
 mod start_cache;
 mod take_told;

@@ -2,9 +2,9 @@ ghost use Rattle.std.specs.Prelude.{◌≡◌, false, None};
 ghost use Rattle.std.specs.Option.{option_map};
 ghost use Rattle.dispatch_core.specs.AnswersSoFar.{past_of};
 ghost use Rattle.dispatch_core.specs.Pending.{first_in, is_other_pending, past_in, pending_after, pending_func, same_func};
-ghost use Rattle.pam_handle.specs.Call.{final_code, items_begun, items_behind, request_behind};
+ghost use Rattle.pam_handle.specs.Call.{clears_tokens, code_waited, items_after, items_before, request_behind};
 ghost use Rattle.pam_handle.specs.Pass.{kept_answers};
-ghost use Rattle.pam_handle.specs.Plain.{pending_of, plain_handle, room_in};
+ghost use Rattle.pam_handle.specs.Plain.{Keeps, pending_of, plain_handle, room_in};
 
 use crate::handle::Handle;
 use crate::put_off::PutOff;
@@ -40,8 +40,7 @@ impl Handle {
     // After a pass: if it is incomplete, the call is pending; else the requested delay is dropped.
     pub(crate) fn keep_pending(&mut self, func: Func, paused: Paused, first: Kept)
         requires { (plain_handle ⟦<Room as RoomTold>⟧.plain self.old).pending ≡ None }
-        ensures tells { ⟦<Room as RoomTold>⟧.tells (room_in self.new)
-            ≡ ⟦<Room as RoomTold>⟧.tells (room_in self.old) }
+        ensures tells { Keeps ⟦<Room as RoomTold>⟧.tells (room_in self.old) (room_in self.new) }
         ensures plain { plain_handle ⟦<Room as RoomTold>⟧.plain self.new
             ≡ record (plain_handle ⟦<Room as RoomTold>⟧.plain self.old) {
               room = request_behind paused (plain_handle ⟦<Room as RoomTold>⟧.plain self.old).room;
@@ -72,29 +71,45 @@ pub(crate) fn resumed_from(pending: Option<PutOff>) -> (Paused, Kept)
     }
 }
 
-/// Clears the tokens before a call that begins, and not before one that is resumed.
-pub(crate) fn clear_unless_pending(items: &mut Items, pending: &Option<PutOff>)
-    ensures { items.new ≡ items_begun (option_map pending_of pending.now) items.old }
+/// Clears the tokens before a call that clears them, if it begins, and not if it is resumed.
+pub(crate) fn clear_before(func: Func, items: &mut Items, pending: &Option<PutOff>)
+    ensures { items.new ≡ items_before func (option_map pending_of pending.now) items.old }
 {
-    if pending.is_none() {
+    if clears_tokens(func) && pending.is_none() {
         items.clear_tokens();
     }
 }
 
-/// Clears the tokens after a call that has ended, and not after an incomplete one.
-pub(crate) fn clear_if_ended(items: &mut Items, paused: &Paused)
-    ensures { items.new ≡ items_behind paused.now items.old }
+/// Clears the tokens after a call that clears them, if it has ended, and not if it is incomplete.
+pub(crate) fn clear_after(func: Func, items: &mut Items, paused: &Paused)
+    ensures { items.new ≡ items_after func paused.now items.old }
 {
-    if paused.is_none() {
+    if clears_tokens(func) && paused.is_none() {
         items.clear_tokens();
     }
 }
 
-/// The code with which a call has ended; none if it is incomplete or ran out of memory.
-pub(crate) fn final_code(answer: &Result<Code, NoMemory>, paused: &Paused) -> Option<Code>
-    ensures { result ≡ final_code paused.now answer.now }
+// Only these two clear the tokens (`pam_authenticate(3)`, `pam_chauthtok(3)`).
+fn clears_tokens(func: Func) -> bool
+    ensures { result ≡ clears_tokens func }
 {
-    if paused.is_none() { answer.ok() } else { None }
+    func == Func::Authenticate || func == Func::ChAuthTok
+}
+
+/// The code after which a call waits: that of an authentication that has ended; none if it is incomplete or ran out of
+/// memory.
+pub(crate) fn code_waited(
+    func: Func,
+    answer: &Result<Code, NoMemory>,
+    paused: &Paused,
+) -> Option<Code>
+    ensures { result ≡ code_waited func paused.now answer.now }
+{
+    if func == Func::Authenticate && paused.is_none() {
+        answer.ok()
+    } else {
+        None
+    }
 }
 
 fn is_same(a: Func, b: Func) -> bool

@@ -5,9 +5,9 @@ ghost use Rattle.dispatch_core.specs.Lines.{names_of};
 ghost use Rattle.dispatch_core.specs.service_load.specs.Load.{AreBounded};
 ghost use Rattle.dispatch_core.specs.service_load.specs.Trees.{stacks_of_trees};
 ghost use Rattle.dispatch_core.specs.service_load.specs.Loading.{CountsFaults, OnlyCalls};
-ghost use Rattle.pam_handle.specs.Plain.{in_box, plain_handle, room_in, stacks_in};
+ghost use Rattle.pam_handle.specs.Plain.{Keeps, in_box, plain_handle, room_in, stacks_in};
 ghost use Rattle.pam_handle.specs.Ready.{IsReadyFor};
-ghost use Rattle.pam_handle.specs.Start.{Opens, Prepares, RefusalCounts, Refuses, first_texts, handle_with, new_handle, started};
+ghost use Rattle.pam_handle.specs.Start.{Prepares, RefusalCounts, StartsAs, first_texts, handle_with, new_handle, started};
 
 use crate::chains::Chains;
 use crate::gear::{Gear, GearTold};
@@ -48,15 +48,12 @@ impl Handle {
         requires service { IsTrue (is_service_name service.now) }
         ensures conv { IfOk result (λ handle. (room_in handle).conv ≡ conv) }
         ensures given_back { IfErr result (λ refused. refused.conv ≡ conv) }
-        ensures tells { ⟦<World as WorldTold>⟧.tells world.new
-            ≡ ⟦<World as WorldTold>⟧.tells world.old }
+        ensures tells { Keeps ⟦<World as WorldTold>⟧.tells world.old world.new }
         ensures told { IsTrue (vault_tells (in_box world.old.vault)) →
-            (let s = started number service.now (option_copied user.entry) (conv_holds conv)
-            (names_of (⟦<Gear as GearTold>⟧.players gear.now))
-            (⟦<World as WorldTold>⟧.plain world.old) in
-            MatchResult result (λ handle. Opens s (plain_handle ⟦<Room as RoomTold>⟧.plain handle)
-            (⟦<World as WorldTold>⟧.plain world.new)) (λ refused. Refuses s refused.why
-            (⟦<World as WorldTold>⟧.plain world.new))) }
+            (let plain = ⟦<World as WorldTold>⟧.plain in
+            let s = started number service.now (option_copied user.entry) (conv_holds conv)
+            (names_of (⟦<Gear as GearTold>⟧.players gear.now)) (plain world.old) in
+            StartsAs ⟦<Room as RoomTold>⟧.plain s result (plain world.new)) }
         ensures calls { IsTrue (vault_tells (in_box world.old.vault)) →
             OnlyCalls (⟦<World as WorldTold>⟧.plain world.old).vault
             (⟦<World as WorldTold>⟧.plain world.new).vault }
@@ -94,15 +91,12 @@ impl Handle {
         requires service { IsTrue (is_service_name service.now) }
         ensures conv { IfOk result (λ handle. (room_in handle).conv ≡ conv) }
         ensures given_back { IfErr result (λ refused. refused.conv ≡ conv) }
-        ensures tells { ⟦<World as WorldTold>⟧.tells world.new
-            ≡ ⟦<World as WorldTold>⟧.tells world.old }
+        ensures tells { Keeps ⟦<World as WorldTold>⟧.tells world.old world.new }
         ensures told { IsTrue (vault_tells (in_box world.old.vault)) →
-            (let s = started number service.now (option_copied user.entry) (conv_holds conv)
-            (names_of (⟦<Gear as GearTold>⟧.players gear.now))
-            (⟦<World as WorldTold>⟧.plain world.old) in
-            MatchResult result (λ handle. Opens s (plain_handle ⟦<Room as RoomTold>⟧.plain handle)
-            (⟦<World as WorldTold>⟧.plain world.new)) (λ refused. Refuses s refused.why
-            (⟦<World as WorldTold>⟧.plain world.new))) }
+            (let plain = ⟦<World as WorldTold>⟧.plain in
+            let s = started number service.now (option_copied user.entry) (conv_holds conv)
+            (names_of (⟦<Gear as GearTold>⟧.players gear.now)) (plain world.old) in
+            StartsAs ⟦<Room as RoomTold>⟧.plain s result (plain world.new)) }
         ensures calls { IsTrue (vault_tells (in_box world.old.vault)) →
             OnlyCalls (⟦<World as WorldTold>⟧.plain world.old).vault
             (⟦<World as WorldTold>⟧.plain world.new).vault }
@@ -138,8 +132,7 @@ fn prepare(
     cache: &mut StartCache,
 ) -> Result<(Items, Chains), Refuse<LoadFault>>
     requires { length (⟦<Gear as GearTold>⟧.players gear.now) < 2 ^ 32 }
-    ensures tells { ⟦<World as WorldTold>⟧.tells world.new
-        ≡ ⟦<World as WorldTold>⟧.tells world.old }
+    ensures tells { Keeps ⟦<World as WorldTold>⟧.tells world.old world.new }
     ensures told { IsTrue (vault_tells (in_box world.old.vault)) →
         Prepares result (⟦<World as WorldTold>⟧.plain world.old)
         (⟦<World as WorldTold>⟧.plain world.new).vault service.now }

@@ -1,6 +1,6 @@
 ghost use Rattle.std.specs.Prelude.{◌≡◌};
 ghost use Rattle.pam_handle.specs.Items.{all_told};
-ghost use Rattle.pam_handle.specs.Plain.{plain_handle, room_in};
+ghost use Rattle.pam_handle.specs.Plain.{Keeps, plain_handle, room_in};
 
 use crate::handle::Handle;
 use crate::wait::Wait;
@@ -22,8 +22,7 @@ impl Handle {
     /// The messages, the lines run and the last wait since it was last called. Only this call empties them. Allocates
     /// nothing.
     pub fn take_told(&mut self, alloc: Global) -> Told
-        ensures tells { ⟦<Room as RoomTold>⟧.tells (room_in self.new)
-            ≡ ⟦<Room as RoomTold>⟧.tells (room_in self.old) }
+        ensures tells { Keeps ⟦<Room as RoomTold>⟧.tells (room_in self.old) (room_in self.new) }
         ensures said { result.said ≡ (plain_handle
             ⟦<Room as RoomTold>⟧.plain self.old).room.transaction.said }
         ensures trail { result.trail.visits ≡ (plain_handle

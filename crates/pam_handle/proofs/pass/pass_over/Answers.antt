@@ -2,7 +2,7 @@ use Rattle.std.proofs.Common.{map, ◌∙◌, ap}
 use Rattle.dispatch_core.specs.pam_room.specs.Module.{player_of}
 use Rattle.dispatch_core.specs.AnswersSoFar.{past_of}
 use Rattle.pam_handle.proofs.Passing.{names_of_players, pass_by_trail, pass_ready, pass_sound, pass_stopped, pass_told}
-use Rattle.pam_handle.proofs.pass.pass.Goals as goal
+use Rattle.pam_handle.proofs.pass.pass_over.Goals as goal
 
 pub dispatch-requires-clause-names : goal.dispatch-requires-clause-names
 dispatch-requires-clause-names g c = rw c.deref.ensures.value (c.requires.names ∙ names_of_players _ _ _ _ c.args.gear.now.mods.items)

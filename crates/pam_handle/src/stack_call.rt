@@ -1,0 +1,167 @@
+ghost use Rattle.std.specs.Prelude.{◌≡◌, ◌&&◌, false, None, IfOk, OnErr, length};
+ghost use Rattle.dispatch_core.specs.AnyWorld.{PassStays};
+ghost use Rattle.dispatch_core.specs.AnswersSoFar.{past_of};
+ghost use Rattle.dispatch_core.specs.Pending.{is_other_pending};
+ghost use Rattle.pam_handle.specs.AnyWorld.{Waits};
+ghost use Rattle.pam_handle.specs.Pass.{kept_answers};
+ghost use Rattle.pam_handle.specs.Passes.{PassesGive, authenticated_with, cached_of, first_request, is_followed, is_second, opened_with, second_request};
+ghost use Rattle.pam_handle.specs.Plain.{in_box, plain_handle, room_in};
+ghost use Rattle.pam_handle.specs.Ready.{IsReadyFor};
+ghost use Rattle.pam_handle.specs.StackCalled.{StackCalled};
+
+use crate::delaying::sleep_after;
+use crate::flags::{first_flags, is_refused};
+use crate::gear::{Gear, GearTold};
+use crate::handle::Handle;
+use crate::pass::kind_of;
+use crate::pending::{clear_after, clear_before, code_waited, resumed_from};
+use data_cleanup::laws;
+use dispatch_core::fail_delay::{DelayFn, DelayTold};
+use dispatch_core::pam_room::{Room, RoomTold, World, WorldTold};
+use dispatch_core::stack_walk::PassKind;
+use dispatch_core::{PassRequest, Paused};
+use frozen_chain::Kept;
+use pam_base::{Code, Func, NoMemory, UPDATE_AUTHTOK};
+use std::alloc::Global;
+use std::mem;
+
+impl Handle {
+    // A call of one of the six functions that run a stack, begun or resumed.
+    pub(crate) fn stack_call(
+        &mut self,
+        alloc: Global,
+        gear: &Gear,
+        world: &mut World,
+        func: Func,
+        flags: u32,
+    ) -> Result<Code, NoMemory>
+        requires { IsReadyFor (⟦<Gear as GearTold>⟧.players gear.now)
+            (plain_handle ⟦<Room as RoomTold>⟧.plain self.old)
+            (⟦<World as WorldTold>⟧.plain world.old).process }
+        ensures called { StackCalled func flags (⟦<Gear as GearTold>⟧.players gear.now)
+            (⟦<DelayFn as DelayTold>⟧.delay_is gear.now.delay)
+            ⟦<Room as RoomTold>⟧.tells ⟦<Room as RoomTold>⟧.plain
+            ⟦<World as WorldTold>⟧.tells ⟦<World as WorldTold>⟧.plain
+            result self.old self.new world.old world.new }
+        ensures waited { func ≡ Func.Authenticate →
+            (let plain = plain_handle ⟦<Room as RoomTold>⟧.plain in
+            is_other_pending (plain self.old).pending func ≡ false → IfOk result (λ code.
+            (plain self.new).pending ≡ None → Waits code (plain self.old) (plain self.new)
+            (nap_tells (in_box world.old.nap)) (nap_holds (in_box world.old.nap))
+            (nap_holds (in_box world.new.nap)))) }
+        ensures no_nap { OnErr result (world.new.nap ≡ world.old.nap) }
+    {
+        laws::nothing_grows();
+        if is_refused(func, flags) {
+            return Ok(Code::SystemErr);
+        }
+        if self.is_other_pending(func) {
+            return Ok(Code::Abort);
+        }
+        clear_before(func, &mut self.room.transaction.items, &self.pending);
+        let (mut paused, mut first) = resumed_from(self.pending.take());
+        let result = self.passes(alloc, gear, world, func, flags, &mut first, &mut paused);
+        let longest = self.room.transaction.delay.longest();
+        clear_after(func, &mut self.room.transaction.items, &paused);
+        let ended = code_waited(func, &result, &paused);
+        sleep_after(gear, world, self.delay_on, longest, ended, &mut self.waited);
+        self.keep_pending(func, paused, first);
+        result
+    }
+
+    // The passes that are left of a call: one, or in a change of token two, the second of which uses the codes that the
+    // first has cached.
+    fn passes(
+        &mut self,
+        alloc: Global,
+        gear: &Gear,
+        world: &mut World,
+        func: Func,
+        flags: u32,
+        first: &mut Kept,
+        paused: &mut Paused,
+    ) -> Result<Code, NoMemory>
+        requires { IsReadyFor (⟦<Gear as GearTold>⟧.players gear.now)
+            (plain_handle ⟦<Room as RoomTold>⟧.plain self.old)
+            (⟦<World as WorldTold>⟧.plain world.old).process }
+        ensures stays { PassStays (⟦<Gear as GearTold>⟧.players gear.now)
+            (length (⟦<Gear as GearTold>⟧.players gear.now))
+            ⟦<Room as RoomTold>⟧.tells ⟦<World as WorldTold>⟧.tells
+            (room_in self.old) (room_in self.new) world.old world.new }
+        ensures give { let h = plain_handle ⟦<Room as RoomTold>⟧.plain in
+            let w = ⟦<World as WorldTold>⟧.plain in
+            PassesGive (⟦<Gear as GearTold>⟧.players gear.now) func flags
+            (⟦<Room as RoomTold>⟧.tells (room_in self.old)
+            && ⟦<World as WorldTold>⟧.tells world.old) (kept_answers first.old)
+            (kept_answers first.new) (past_of paused.old) paused.new result
+            (h self.old) (h self.new) (w world.old) (w world.new) world.old world.new }
+    {
+        dispatch_core::laws::soundness_is_transitive();
+        if is_second(func, first) {
+            return self.pass(alloc, gear, world, second_request(flags), first, paused);
+        }
+        first.drop_all();
+        let mut cached = self.swap_cached(func, Kept::none());
+        let request = first_request(func, flags, &cached);
+        let result = self.pass(alloc, gear, world, request, &mut cached, paused);
+        let own = self.swap_cached(func, cached);
+        let code = result?;
+        if !is_followed(func, code) {
+            return Ok(code);
+        }
+        *first = own;
+        self.pass(alloc, gear, world, second_request(flags), first, paused)
+    }
+
+    // Puts codes in the place of the cached ones that belong to a call, and returns those. If none belong to it, it
+    // returns the codes themselves.
+    fn swap_cached(&mut self, func: Func, kept: Kept) -> Kept
+        ensures cached { result ≡ cached_of func self.old.authenticated self.old.opened kept }
+        ensures new { self.new ≡ record self.old {
+          authenticated = authenticated_with func kept self.old.authenticated;
+          opened = opened_with func kept self.old.opened;
+        } }
+    {
+        match func {
+            Func::Authenticate | Func::SetCred => mem::replace(&mut self.authenticated, kept),
+            Func::OpenSession | Func::CloseSession => mem::replace(&mut self.opened, kept),
+            Func::AcctMgmt | Func::ChAuthTok => kept,
+        }
+    }
+}
+
+// The first pass of a call, with the cached codes that belong to it.
+fn first_request(func: Func, flags: u32, cached: &Kept) -> PassRequest
+    ensures { result ≡ first_request func flags (kept_answers cached.now) }
+{
+    PassRequest {
+        func,
+        flags: first_flags(func, flags),
+        kind: kind_of(func, cached),
+    }
+}
+
+// The second pass of a change of token.
+fn second_request(flags: u32) -> PassRequest
+    ensures { result ≡ second_request flags }
+{
+    PassRequest {
+        func: Func::ChAuthTok,
+        flags: flags | UPDATE_AUTHTOK,
+        kind: PassKind::Follow,
+    }
+}
+
+// Whether only the second pass of a change of token is left: the codes of the first are there.
+fn is_second(func: Func, first: &Kept) -> bool
+    ensures { result ≡ is_second func first.now }
+{
+    func == Func::ChAuthTok && first.held()
+}
+
+// Whether a second pass follows a first one with this code: in a change of token, if it is SUCCESS.
+fn is_followed(func: Func, code: Code) -> bool
+    ensures { result ≡ is_followed func code }
+{
+    func == Func::ChAuthTok && code == Code::Success
+}
