@@ -1,9 +1,11 @@
 ghost use Rattle.std.specs.Prelude.{◌≡◌, ◌++◌, Some, OnOk, codes, decimal, string_bytes};
+ghost use Rattle.service_load.specs.FirstFault.{fault_at};
 ghost use Rattle.report_lines.specs.Line.{code_words, number_words, pending_words, refused_words, value_words, words_text};
 
-use crate::code::write_code;
+use crate::code::write_code_line;
 use crate::number::write_number;
-use pam_base::{Code, Func, NoMemory, Text, code_name, code_number, push_quoted};
+use crate::quoted::write_quoted_line;
+use pam_base::{Code, FaultKind, Func, NoMemory, Text, code_name, code_number, push_quoted};
 use script_lang::func_word;
 use service_load::LoadFault;
 use std::alloc::AllocError;
@@ -33,9 +35,7 @@ pub fn write_code_result(
         ++ words_text handle command.now (code_words code)) }
 {
     write_heading(text, handle, command)?;
-    write_code(text, code)?;
-    text.push_str("\n")?;
-    Ok(())
+    write_code_line(text, code)
 }
 
 // Adds the handle and the command, with a space after each.
@@ -59,8 +59,31 @@ pub fn write_refused_result(
     ensures { OnOk result (string_bytes text.new ≡ string_bytes text.old
         ++ words_text handle command.now (refused_words fault.now)) }
 {
-    write!(text, "{handle} {command} ")?;
-    write_refused(text, fault)?;
+    let file = fault.file.bytes();
+    write_refusal_result(
+        text,
+        handle,
+        command,
+        file,
+        u64::from(fault.line),
+        fault.kind,
+    )
+}
+
+/// The same, for a line number of up to 64 bits.
+pub fn write_refusal_result(
+    text: &mut String,
+    handle: u32,
+    command: &str,
+    file: &[u8],
+    line: u64,
+    kind: FaultKind,
+) -> Result<(), NoMemory>
+    ensures { OnOk result (string_bytes text.new ≡ string_bytes text.old
+        ++ words_text handle command.now (refused_words (fault_at file.now line kind))) }
+{
+    write_heading(text, handle, command)?;
+    write_refusal(text, file, line, kind)?;
     text.push_str("\n")?;
     Ok(())
 }
@@ -91,9 +114,7 @@ fn write_set_result(
         ++ words_text handle command.now (value_words (Some set.now))) }
 {
     write!(text, "{handle} {command} set ")?;
-    push_quoted(text, set.bytes())?;
-    text.push_str("\n")?;
-    Ok(())
+    write_quoted_line(text, set.bytes())
 }
 
 /// Adds the result of a call that waits for another one: `ABORT 26 pending NAME`.
@@ -132,11 +153,18 @@ pub fn write_refused(text: &mut String, fault: &LoadFault) -> Result<(), NoMemor
     ensures { OnOk result (string_bytes text.new ≡ string_bytes text.old
         ++ refused_words fault.now) }
 {
+    write_refusal(text, fault.file.bytes(), u64::from(fault.line), fault.kind)
+}
+
+// The same, for a line number of up to 64 bits.
+fn write_refusal(text: &mut String, file: &[u8], line: u64, kind: FaultKind) -> Result<(), NoMemory>
+    ensures { OnOk result (string_bytes text.new ≡ string_bytes text.old
+        ++ refused_words (fault_at file.now line kind)) }
+{
     text.push_str("refused ")?;
-    push_quoted(text, fault.file.bytes())?;
-    let line = fault.line;
-    let name = fault.kind.name();
-    let number = fault.kind.number();
+    push_quoted(text, file)?;
+    let name = kind.name();
+    let number = kind.number();
     write!(text, " {line} {name} {number}")?;
     Ok(())
 }

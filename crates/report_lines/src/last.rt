@@ -16,6 +16,13 @@ pub fn read_fault_line() -> &'static str
 pub fn script_line(alloc: Global, line: u32, kind: ScriptKind) -> Result<String, NoMemory>
     ensures { IfOk result (λ text. string_bytes text ≡ script_text line kind) }
 {
+    script_fault_line(alloc, u64::from(line), kind)
+}
+
+/// The same, for a line number of up to 64 bits.
+pub fn script_fault_line(alloc: Global, line: u64, kind: ScriptKind) -> Result<String, NoMemory>
+    ensures { IfOk result (λ text. string_bytes text ≡ script_text line kind) }
+{
     let name = kind.name();
     let number = kind.number();
     Ok(format!(in alloc; "script {line} {name} {number}\n")?)

@@ -2,8 +2,9 @@ ghost use Rattle.std.specs.Prelude.{◌≡◌, ◌++◌, OnOk, codes, decimal, s
 ghost use Rattle.stack_walk.specs.Retell.{seen_at};
 ghost use Rattle.report_lines.specs.Line.{cleanup_text, message_text, missing_text, names_text, status_words, variable_text, visit_text, wait_text};
 
-use crate::code::write_code;
+use crate::code::{write_code, write_code_line};
 use crate::number::write_number;
+use crate::quoted::write_quoted_line;
 use pam_base::{Code, NoMemory, Style, push_quoted};
 use std::alloc::AllocError;
 
@@ -19,9 +20,7 @@ pub fn write_said(
 {
     let style = style.number();
     write!(text, "{handle} say {style} ")?;
-    push_quoted(text, message)?;
-    text.push_str("\n")?;
-    Ok(())
+    write_quoted_line(text, message)
 }
 
 /// Adds the line of a rule that was run, `H line PLACE MODULE NAME NUMBER`.
@@ -35,22 +34,34 @@ pub fn write_visited(
     ensures { OnOk result (string_bytes text.new ≡ string_bytes text.old
         ++ visit_text handle (seen_at place module.now answer)) }
 {
+    write_visit(text, handle, u64::from(place), module, answer)
+}
+
+/// The same, for a rule number of up to 64 bits.
+pub fn write_visit(
+    text: &mut String,
+    handle: u32,
+    place: u64,
+    module: &[u8],
+    answer: Code,
+) -> Result<(), NoMemory>
+    ensures { OnOk result (string_bytes text.new ≡ string_bytes text.old
+        ++ visit_text handle (seen_at place module.now answer)) }
+{
     write_place(text, handle, place)?;
     push_quoted(text, module)?;
     text.push_str(" ")?;
-    write_code(text, answer)?;
-    text.push_str("\n")?;
-    Ok(())
+    write_code_line(text, answer)
 }
 
 // Adds the handle and the number of the rule that was run, up to the module's name.
-fn write_place(text: &mut String, handle: u32, place: u32) -> Result<(), AllocError>
+fn write_place(text: &mut String, handle: u32, place: u64) -> Result<(), AllocError>
     ensures { OnOk result (string_bytes text.new ≡ string_bytes text.old
         ++ (decimal handle ++ codes " line " ++ decimal place ++ codes " ")) }
 {
     write_number(text, u64::from(handle))?;
     text.push_str(" line ")?;
-    write_number(text, u64::from(place))?;
+    write_number(text, place)?;
     text.push_str(" ")
 }
 
@@ -61,6 +72,28 @@ pub fn write_cleaned(
     id: u64,
     status: u32,
     note: u32,
+    owner: &[u8],
+    datum: &[u8],
+) -> Result<(), NoMemory>
+    ensures { OnOk result (string_bytes text.new ≡ string_bytes text.old
+        ++ cleanup_text handle (record {
+          id = id;
+          status = status;
+          note = note;
+          owner = owner.now;
+          datum = datum.now;
+        })) }
+{
+    write_cleanup(text, handle, id, status, u64::from(note), owner, datum)
+}
+
+/// The same, for a note of up to 64 bits.
+pub fn write_cleanup(
+    text: &mut String,
+    handle: u32,
+    id: u64,
+    status: u32,
+    note: u64,
     owner: &[u8],
     datum: &[u8],
 ) -> Result<(), NoMemory>
@@ -86,9 +119,7 @@ fn write_names(text: &mut String, owner: &[u8], datum: &[u8]) -> Result<(), NoMe
 {
     push_quoted(text, owner)?;
     text.push_str(" ")?;
-    push_quoted(text, datum)?;
-    text.push_str("\n")?;
-    Ok(())
+    write_quoted_line(text, datum)
 }
 
 fn write_status(text: &mut String, status: u32) -> Result<(), AllocError>
@@ -108,6 +139,20 @@ pub fn write_waited(
     ensures { OnOk result (string_bytes text.new ≡ string_bytes text.old
         ++ wait_text handle code asked wait) }
 {
+    write_wait(text, handle, code, u64::from(asked), u64::from(wait))
+}
+
+/// The same, for numbers of up to 64 bits.
+pub fn write_wait(
+    text: &mut String,
+    handle: u32,
+    code: Code,
+    asked: u64,
+    wait: u64,
+) -> Result<(), NoMemory>
+    ensures { OnOk result (string_bytes text.new ≡ string_bytes text.old
+        ++ wait_text handle code asked wait) }
+{
     write!(text, "{handle} wait ")?;
     write_code(text, code)?;
     write!(text, " {asked} {wait}\n")?;
@@ -120,9 +165,7 @@ pub fn write_missing(text: &mut String, handle: u32, module: &[u8]) -> Result<()
         ++ missing_text handle module.now) }
 {
     write!(text, "{handle} note missing ")?;
-    push_quoted(text, module)?;
-    text.push_str("\n")?;
-    Ok(())
+    write_quoted_line(text, module)
 }
 
 /// Adds the line of a variable, `H env NAME=VALUE`.
@@ -131,7 +174,5 @@ pub fn write_variable(text: &mut String, handle: u32, variable: &[u8]) -> Result
         ++ variable_text handle variable.now) }
 {
     write!(text, "{handle} env ")?;
-    push_quoted(text, variable)?;
-    text.push_str("\n")?;
-    Ok(())
+    write_quoted_line(text, variable)
 }
