@@ -6,6 +6,5 @@ pub mod Forms
 pub mod Reading
 pub mod Printing
 pub mod Commands
-pub mod Padding
 pub mod Tested
 mod Rows

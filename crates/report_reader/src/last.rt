@@ -1,5 +1,3 @@
-ghost use Rattle.std.specs.Prelude.{◌≡◌, ◌∷◌, ◌++◌, [], IfOk, string_bytes};
-ghost use Rattle.report_lines.specs.Line.{refused_at, script_text, unread};
 ghost use Rattle.report_reader.specs.Form.{Reads};
 ghost use Rattle.report_reader.specs.Guess.{guessed_last, if_printed};
 ghost use Rattle.report_reader.specs.Says.{lasts};
@@ -8,8 +6,8 @@ use crate::form::Form;
 use crate::names::script_fault_in;
 use crate::printed::if_printed;
 use crate::words::{after_space, before_space, number_of};
-use pam_base::{NoMemory, ScriptKind};
-use report_lines::read_fault_line;
+use pam_base::NoMemory;
+use report_lines::{read_fault_line, script_fault_line};
 use std::alloc::Global;
 
 /// Reads the last line of a run that ended early.
@@ -21,15 +19,6 @@ pub fn read_last(alloc: Global, line: &[u8]) -> Result<Option<Form>, NoMemory>
     }
     let words = after_space(line);
     let kind = script_fault_in(before_space(after_space(words)));
-    let text = script_line(alloc, number_of(before_space(words)), kind)?;
+    let text = script_fault_line(alloc, number_of(before_space(words)), kind)?;
     Ok(if_printed(text.as_str(), line, Form::Last))
-}
-
-// The text for a script that is refused at this line, whatever number that is.
-fn script_line(alloc: Global, line: u64, kind: ScriptKind) -> Result<String, NoMemory>
-    ensures { IfOk result (λ text. string_bytes text ≡ script_text line kind) }
-{
-    let name = kind.name();
-    let number = kind.number();
-    Ok(format!(in alloc; "script {line} {name} {number}\n")?)
 }

@@ -5,7 +5,7 @@ ghost use Rattle.report_reader.specs.Guess.{guessed_result, guessed_told, read_l
 use crate::form::Form;
 use crate::last::read_last;
 use crate::outcome::read_result;
-use crate::told::{read_cleanup, read_message, read_missing, read_variable, read_visit, read_wait};
+use crate::told::{guess_told, read_told};
 use crate::words::{after_space, before_space, number_of};
 use pam_base::{NoMemory, are_digits};
 use std::alloc::Global;
@@ -56,19 +56,8 @@ fn read_words(
         (told_or line.now number (guessed_told word.now words.now)
         (guessed_result word.now words.now)) }
 {
-    if word == b"say".as_slice() {
-        read_message(alloc, line, number, words)
-    } else if word == b"line".as_slice() {
-        read_visit(alloc, line, number, words)
-    } else if word == b"clean".as_slice() {
-        read_cleanup(alloc, line, number, words)
-    } else if word == b"wait".as_slice() {
-        read_wait(alloc, line, number, words)
-    } else if word == b"note".as_slice() {
-        read_missing(alloc, line, number, words)
-    } else if word == b"env".as_slice() {
-        read_variable(alloc, line, number, words)
-    } else {
-        read_result(alloc, line, number, word, words)
+    match guess_told(alloc, word, words)? {
+        Some(guess) => read_told(alloc, line, number, guess),
+        None => read_result(alloc, line, number, word, words),
     }
 }

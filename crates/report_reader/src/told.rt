@@ -1,179 +1,198 @@
-ghost use Rattle.std.specs.Prelude.{◌≡◌, None, if◌then◌else◌};
-ghost use Rattle.report_lines.specs.Line.{told_cleanup, told_missing, told_variable, told_visit};
-ghost use Rattle.report_reader.specs.Form.{Reads};
-ghost use Rattle.report_reader.specs.Guess.{guessed_cleanup, guessed_message, guessed_seen, guessed_wait, has_form, if_printed};
-ghost use Rattle.report_reader.specs.Says.{tells};
+ghost use Rattle.std.specs.Prelude.{◌≡◌, ◌++◌, Some, None, OnOk, if◌then◌else◌, string_bytes};
+ghost use Rattle.report_lines.specs.Line.{told_cleanup, told_missing, told_text, told_variable, told_visit};
+ghost use Rattle.report_reader.specs.Form.{Reads, told_of};
+ghost use Rattle.report_reader.specs.Guess.{guessed_cleanup, guessed_message, guessed_seen, guessed_told, guessed_wait, has_form, if_printed};
+ghost use Rattle.report_reader.specs.Guesses.{IsToldGuess, told_in};
+ghost use Rattle.report_reader.specs.Says.{bare_told, tells};
 ghost use Rattle.report_reader.specs.Words.{after_space, unquoted};
 
 use crate::form::Form;
 use crate::names::{code_in, style_in};
-use crate::printed::{if_printed, push_cleaned, push_visit, push_waited};
+use crate::printed::if_printed;
 use crate::quoted::unquoted;
 use crate::words::{after_space, before_last, before_space, last_word, number_of, status_of};
-use pam_base::{NoMemory, first_place};
-use report_lines::{write_missing, write_said, write_variable};
+use pam_base::{Code, NoMemory, Style, Text, first_place};
+use report_lines::{
+    write_cleanup, write_missing, write_said, write_variable, write_visit, write_wait,
+};
 use stack_walk::Seen;
 use std::alloc::Global;
 
-/// Reads the line of a message, after its word: `STYLE TEXT`.
-pub fn read_message(
-    alloc: Global,
-    line: &[u8],
-    number: u32,
-    words: &[u8],
-) -> Result<Option<Form>, NoMemory>
-    ensures { Reads result (if_printed line.now (tells number (guessed_message words.now))) }
-{
-    let style = style_in(number_of(before_space(words)));
-    let message = unquoted(alloc, after_space(words))?;
-    let mut text = String::new(alloc);
-    write_said(&mut text, number, style, message.bytes())?;
-    Ok(if_printed(
-        text.as_str(),
-        line,
-        Form::Told {
-            number,
-            visit: None,
-        },
-    ))
+/// What a line before a result may say.
+#[derive(Debug, Drop)]
+pub enum ToldGuess {
+    Message {
+        style: Style,
+        text: Text,
+    },
+    Visit(Seen),
+    /// The names of the module and of its data are one text, with a space between them.
+    Cleanup {
+        id: u64,
+        status: u32,
+        note: u64,
+        names: Text,
+    },
+    Wait {
+        code: Code,
+        asked: u64,
+        wait: u64,
+    },
+    Missing(Text),
+    Variable(Text),
 }
 
-/// Reads the line of a rule that was run: `PLACE MODULE NAME NUMBER`.
-pub fn read_visit(
-    alloc: Global,
-    line: &[u8],
-    number: u32,
-    words: &[u8],
-) -> Result<Option<Form>, NoMemory>
-    ensures { Reads result
-        (if_printed line.now (tells number (told_visit (guessed_seen words.now)))) }
+/// What a line may say, by its word; None if it has the word of a result.
+pub fn guess_told(alloc: Global, word: &[u8], words: &[u8]) -> Result<Option<ToldGuess>, NoMemory>
+    ensures { IsToldGuess result (guessed_told word.now words.now) }
 {
-    let place = number_of(before_space(words));
+    if word == b"say".as_slice() {
+        guess_message(alloc, words)
+    } else if word == b"line".as_slice() {
+        guess_visit(alloc, words)
+    } else if word == b"clean".as_slice() {
+        guess_cleanup(alloc, words)
+    } else if word == b"wait".as_slice() {
+        Ok(Some(guess_wait(words)))
+    } else if word == b"note".as_slice() {
+        guess_missing(alloc, words)
+    } else if word == b"env".as_slice() {
+        guess_variable(alloc, words)
+    } else {
+        Ok(None)
+    }
+}
+
+// A message: `STYLE TEXT`.
+fn guess_message(alloc: Global, words: &[u8]) -> Result<Option<ToldGuess>, NoMemory>
+    ensures { IsToldGuess result (Some (guessed_message words.now)) }
+{
+    Ok(Some(ToldGuess::Message {
+        style: style_in(number_of(before_space(words))),
+        text: unquoted(alloc, after_space(words))?,
+    }))
+}
+
+// A rule that was run: `PLACE MODULE NAME NUMBER`.
+fn guess_visit(alloc: Global, words: &[u8]) -> Result<Option<ToldGuess>, NoMemory>
+    ensures { IsToldGuess result (Some (told_visit (guessed_seen words.now))) }
+{
     let named = before_last(after_space(words));
-    let name = unquoted(alloc, before_last(named))?;
-    let answer = code_in(last_word(named));
-    let mut text = String::new(alloc);
-    push_visit(&mut text, number, place, name.bytes(), answer)?;
-    Ok(if_printed(
-        text.as_str(),
-        line,
-        Form::Told {
-            number,
-            visit: Some(Seen {
-                place,
-                name,
-                answer,
-            }),
-        },
-    ))
+    Ok(Some(ToldGuess::Visit(Seen {
+        place: number_of(before_space(words)),
+        name: unquoted(alloc, before_last(named))?,
+        answer: code_in(last_word(named)),
+    })))
 }
 
-/// Reads the line of module data that was cleaned up: `ID STATUS NOTE MODULE DATUM`.
-pub fn read_cleanup(
-    alloc: Global,
-    line: &[u8],
-    number: u32,
-    words: &[u8],
-) -> Result<Option<Form>, NoMemory>
-    ensures { Reads result
-        (if_printed line.now (tells number (told_cleanup (guessed_cleanup words.now)))) }
+// Module data that was cleaned up: `ID STATUS NOTE MODULE DATUM`.
+fn guess_cleanup(alloc: Global, words: &[u8]) -> Result<Option<ToldGuess>, NoMemory>
+    ensures { IsToldGuess result (Some (told_cleanup (guessed_cleanup words.now))) }
 {
     let behind_id = after_space(words);
     let behind_status = after_space(behind_id);
-    let names = unquoted(alloc, after_space(behind_status))?;
-    let mut text = String::new(alloc);
-    push_cleaned(
-        &mut text,
-        number,
-        number_of(before_space(words)),
-        status_of(before_space(behind_id)),
-        number_of(before_space(behind_status)),
-        before_space(names.bytes()),
-        after_space(names.bytes()),
-    )?;
-    Ok(if_printed(
-        text.as_str(),
-        line,
-        Form::Told {
-            number,
-            visit: None,
-        },
-    ))
+    Ok(Some(ToldGuess::Cleanup {
+        id: number_of(before_space(words)),
+        status: status_of(before_space(behind_id)),
+        note: number_of(before_space(behind_status)),
+        names: unquoted(alloc, after_space(behind_status))?,
+    }))
 }
 
-/// Reads the line of a delay: `NAME NUMBER ASKED WAIT`.
-pub fn read_wait(
-    alloc: Global,
-    line: &[u8],
-    number: u32,
-    words: &[u8],
-) -> Result<Option<Form>, NoMemory>
-    ensures { Reads result (if_printed line.now (tells number (guessed_wait words.now))) }
+// A delay: `NAME NUMBER ASKED WAIT`.
+fn guess_wait(words: &[u8]) -> ToldGuess
+    ensures { told_in result ≡ guessed_wait words.now }
 {
     let behind_code = after_space(after_space(words));
-    let mut text = String::new(alloc);
-    push_waited(
-        &mut text,
-        number,
-        code_in(before_space(words)),
-        number_of(before_space(behind_code)),
-        number_of(after_space(behind_code)),
-    )?;
-    Ok(if_printed(
-        text.as_str(),
-        line,
-        Form::Told {
-            number,
-            visit: None,
-        },
-    ))
+    ToldGuess::Wait {
+        code: code_in(before_space(words)),
+        asked: number_of(before_space(behind_code)),
+        wait: number_of(after_space(behind_code)),
+    }
 }
 
-/// Reads the line of a module that is missing: `missing MODULE`.
-pub fn read_missing(
+// A module that is missing: `missing MODULE`.
+fn guess_missing(alloc: Global, words: &[u8]) -> Result<Option<ToldGuess>, NoMemory>
+    ensures { IsToldGuess result (Some (told_missing (unquoted (after_space words.now)))) }
+{
+    Ok(Some(ToldGuess::Missing(unquoted(alloc, after_space(words))?)))
+}
+
+// A variable: `NAME=VALUE`.
+fn guess_variable(alloc: Global, words: &[u8]) -> Result<Option<ToldGuess>, NoMemory>
+    ensures { IsToldGuess result (Some (told_variable (unquoted words.now))) }
+{
+    Ok(Some(ToldGuess::Variable(unquoted(alloc, words)?)))
+}
+
+/// Reads a line before a result: what it may say, if that is printed as the line.
+pub fn read_told(
     alloc: Global,
     line: &[u8],
     number: u32,
-    words: &[u8],
+    guess: ToldGuess,
 ) -> Result<Option<Form>, NoMemory>
-    ensures { Reads result
-        (if_printed line.now (tells number (told_missing (unquoted (after_space words.now))))) }
+    ensures { Reads result (if has_form (told_in guess)
+        then if_printed line.now (tells number (told_in guess)) else None) }
 {
-    let name = unquoted(alloc, after_space(words))?;
-    let mut text = String::new(alloc);
-    write_missing(&mut text, number, name.bytes())?;
-    Ok(if_printed(
-        text.as_str(),
-        line,
-        Form::Told {
-            number,
-            visit: None,
-        },
-    ))
-}
-
-/// Reads the line of a variable: `NAME=VALUE`.
-pub fn read_variable(
-    alloc: Global,
-    line: &[u8],
-    number: u32,
-    words: &[u8],
-) -> Result<Option<Form>, NoMemory>
-    ensures { Reads result (if has_form (told_variable (unquoted words.now))
-        then if_printed line.now (tells number (told_variable (unquoted words.now))) else None) }
-{
-    let variable = unquoted(alloc, words)?;
-    if first_place(b'=', variable.bytes()).is_none() {
+    if !guess.has_form() {
         return Ok(None);
     }
     let mut text = String::new(alloc);
-    write_variable(&mut text, number, variable.bytes())?;
-    Ok(if_printed(
-        text.as_str(),
-        line,
-        Form::Told {
-            number,
-            visit: None,
-        },
-    ))
+    guess.write(&mut text, number)?;
+    let visit = guess.into_visit();
+    Ok(if_printed(text.as_str(), line, Form::Told { number, visit }))
+}
+
+impl ToldGuess {
+    // Whether it can be printed: a variable has a `=`.
+    fn has_form(&self) -> bool
+        ensures { result ≡ has_form (told_in self.now) }
+    {
+        match self {
+            ToldGuess::Variable(text) => first_place(b'=', text.bytes()).is_some(),
+            _ => true,
+        }
+    }
+
+    // Adds the line that says it.
+    fn write(&self, text: &mut String, number: u32) -> Result<(), NoMemory>
+        ensures { OnOk result (string_bytes text.new ≡ string_bytes text.old
+            ++ told_text number (told_in self.now)) }
+    {
+        match self {
+            ToldGuess::Message {
+                style,
+                text: message,
+            } => write_said(text, number, *style, message.bytes()),
+            ToldGuess::Visit(seen) => {
+                write_visit(text, number, seen.place, seen.name.bytes(), seen.answer)
+            }
+            ToldGuess::Cleanup {
+                id,
+                status,
+                note,
+                names,
+            } => {
+                let owner = before_space(names.bytes());
+                let datum = after_space(names.bytes());
+                write_cleanup(text, number, *id, *status, *note, owner, datum)
+            }
+            ToldGuess::Wait { code, asked, wait } => {
+                write_wait(text, number, *code, *asked, *wait)
+            }
+            ToldGuess::Missing(name) => write_missing(text, number, name.bytes()),
+            ToldGuess::Variable(variable) => write_variable(text, number, variable.bytes()),
+        }
+    }
+
+    // The line of a stack that it says was run.
+    fn into_visit(self) -> Option<Seen>
+        ensures { told_of result ≡ bare_told (told_in self) }
+    {
+        match self {
+            ToldGuess::Visit(seen) => Some(seen),
+            _ => None,
+        }
+    }
 }

@@ -1,6 +1,0 @@
-use Rattle.std.proofs.Common.{rules, arith}
-use Rattle.report_reader.proofs.printed.push_status.Goals as goal
-use Rattle.report_reader.proofs.Padding.{status_is_padded}
-
-pub returns : goal.returns
-returns c = rw (← status_is_padded c.args.status (omega arith)) (search rules)
