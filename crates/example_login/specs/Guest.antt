@@ -5,7 +5,8 @@ use Rattle.pam_base.specs.declared.code.Code.{Code}
 use Rattle.pam_base.specs.declared.code.Code.TheVariants.{Success, UserUnknown}
 use Rattle.pam_base.specs.declared.call.Func.{Func}
 use Rattle.pam_base.specs.declared.call.Func.TheVariants.{Authenticate, SetCred, AcctMgmt, OpenSession, CloseSession, ChAuthTok}
-use Rattle.pam_room.specs.Module.{Plays, answered}
+use Rattle.pam_room.specs.Module.{Plays}
+use Rattle.mod_basic.specs.AtOnce.{plays_at_once}
 
 abbrev pub is_guest : Option (List ℕ) → Bool
 is_guest None = false
@@ -20,4 +21,4 @@ guest_code CloseSession user = Success
 guest_code ChAuthTok user = Success
 
 abbrev pub guest_plays : Plays
-guest_plays call room held sight = answered (guest_code call.func room.items.user) room sight
+guest_plays = plays_at_once (λ call items caller. guest_code call.func items.user)

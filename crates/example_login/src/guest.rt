@@ -1,47 +1,29 @@
 ghost use Rattle.std.specs.Prelude.{◌≡◌, codes};
 ghost use Rattle.std.specs.Option.{option_copied};
-ghost use Rattle.pam_room.specs.Module.{length_note, never_breaks};
-ghost use Rattle.example_login.specs.Guest.{guest_code, guest_plays, is_guest};
+ghost use Rattle.example_login.specs.Guest.{guest_code, is_guest};
 
-use conv_port::Conv;
-use data_cleanup::{Datum, Receipt};
-use pam_base::{Code, Func, ItemName, NoMemory};
-use pam_outside::{Clock, Vault};
-use pam_room::{Call, Module, Process, Transaction, get_item, spend_by_length};
-use std::alloc::Global;
+use mod_basic::{AtOnce, AtOnceModule};
+use pam_base::{Code, Func, ItemName};
+use pam_room::item_store::Items;
+use pam_room::{Call, get_item};
 
 /// A module of the application's own: who is named `guest` is known, and nobody else.
-#[derive(Drop)]
-pub struct Guest;
+pub type Guest = AtOnceModule<GuestRules>;
 
-impl Module for Guest {
-    ghost label = { λ _. codes "pam_guest" };
+/// What `Guest` returns.
+pub struct GuestRules;
 
-    ghost plays = { λ _. guest_plays };
+impl AtOnce for GuestRules {
+    ghost label = { codes "pam_guest" };
 
-    ghost note = { λ _. length_note };
+    ghost code_of = { λ call items caller. guest_code call.func items.user };
 
-    ghost breaks = { λ _. never_breaks };
-
-    fn name(&self) -> &[u8] {
+    fn name() -> &'static [u8] {
         b"pam_guest"
     }
 
-    fn serve(
-        &self,
-        _alloc: Global,
-        call: &Call,
-        transaction: &mut Transaction,
-        _process: &mut Process,
-        _conv: &mut dyn Conv,
-        _vault: &mut dyn Vault,
-        _clock: &mut dyn Clock,
-    ) -> Result<Code, NoMemory> {
-        Ok(guest_code(call.func, get_item(&transaction.items, ItemName::User)))
-    }
-
-    fn tidy(&self, datum: Datum, status: u32) -> Receipt {
-        spend_by_length(datum, status)
+    fn code_of(call: &Call, items: &Items, _caller: u32) -> Code {
+        guest_code(call.func, get_item(items, ItemName::User))
     }
 }
 

@@ -26,7 +26,7 @@ fn main(rt: HostRuntime) -> io::Result<ExitCode> {
     let mut mods: Vec<Box<dyn Module>> = Vec::new(alloc);
     mods.push(Box::new(alloc, Permit::new())?)?;
     mods.push(Box::new(alloc, Probe::new())?)?;
-    mods.push(Box::new(alloc, Guest)?)?;
+    mods.push(Box::new(alloc, Guest::new())?)?;
     let delay = |_code: Code, asked: u32| -> u32 { asked.min(3_000_000) };
     let gear = Gear {
         mods,

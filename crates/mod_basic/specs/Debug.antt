@@ -6,8 +6,9 @@ use Rattle.pam_base.specs.declared.code.Code.{Code}
 use Rattle.pam_base.specs.declared.code.Code.TheVariants.{Success}
 use Rattle.pam_base.specs.declared.call.Func.{Func}
 use Rattle.pam_base.specs.declared.call.Func.TheVariants.{Authenticate, SetCred, AcctMgmt, OpenSession, CloseSession, ChAuthTok}
-use Rattle.pam_room.specs.Call.{has_flag, prelim_check, value_among}
-use Rattle.pam_room.specs.Module.{Plays, answered}
+use Rattle.pam_room.specs.Call.{PlainCall, has_flag, prelim_check, value_among}
+use Rattle.pam_room.specs.Module.{Plays}
+use Rattle.mod_basic.specs.AtOnce.{plays_at_once}
 
 -- the argument of a function; the two passes of chauthtok have one each
 abbrev pub debug_key : Func → Bool → List ℕ
@@ -23,7 +24,9 @@ abbrev pub code_or_success : Option (List ℕ) → Code
 code_or_success None = Success
 code_or_success (Some word) = unwrap_or (code_of_word word) Success
 
+abbrev pub debug_code : PlainCall → Code
+debug_code call =
+    code_or_success (value_among (debug_key call.func (has_flag call.flags prelim_check)) call.args)
+
 abbrev pub debug_plays : Plays
-debug_plays call room held sight =
-    answered (code_or_success (value_among (debug_key call.func (has_flag call.flags prelim_check))
-    call.args)) room sight
+debug_plays = plays_at_once (λ call items caller. debug_code call)

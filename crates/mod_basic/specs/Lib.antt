@@ -1,3 +1,4 @@
+pub mod AtOnce
 pub mod Permit
 pub mod Deny
 pub mod Debug

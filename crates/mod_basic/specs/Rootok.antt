@@ -4,7 +4,8 @@ use Rattle.pam_base.specs.declared.code.Code.{Code}
 use Rattle.pam_base.specs.declared.code.Code.TheVariants.{Success, AuthErr, ModuleUnknown}
 use Rattle.pam_base.specs.declared.call.Func.{Func}
 use Rattle.pam_base.specs.declared.call.Func.TheVariants.{Authenticate, SetCred, AcctMgmt, OpenSession, CloseSession, ChAuthTok}
-use Rattle.pam_room.specs.Module.{Plays, answered}
+use Rattle.pam_room.specs.Module.{Plays}
+use Rattle.mod_basic.specs.AtOnce.{plays_at_once}
 
 abbrev pub is_root : ℕ → Code
 is_root caller = if caller == 0 then Success else AuthErr
@@ -19,4 +20,4 @@ rootok_code CloseSession caller = ModuleUnknown
 rootok_code ChAuthTok caller = is_root caller
 
 abbrev pub rootok_plays : Plays
-rootok_plays call room held sight = answered (rootok_code call.func sight.caller) room sight
+rootok_plays = plays_at_once (λ call items caller. rootok_code call.func caller)

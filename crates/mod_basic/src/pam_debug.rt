@@ -1,58 +1,27 @@
 ghost use Rattle.std.specs.Prelude.{◌≡◌, codes};
 ghost use Rattle.std.specs.Option.{option_copied};
 ghost use Rattle.pam_room.specs.Call.{has_flag, prelim_check};
-ghost use Rattle.pam_room.specs.Module.{length_note, never_breaks};
-ghost use Rattle.mod_basic.specs.Debug.{code_or_success, debug_key, debug_plays};
+ghost use Rattle.mod_basic.specs.Debug.{code_or_success, debug_code, debug_key};
 
-use conv_port::Conv;
-use data_cleanup::{Datum, Receipt};
-use pam_base::{Code, Func, NoMemory, PRELIM_CHECK, code_named};
-use pam_outside::{Clock, Vault};
-use pam_room::{Call, Module, Process, Transaction, spend_by_length};
-use std::alloc::Global;
+use crate::at_once::AtOnce;
+use pam_base::{Code, Func, PRELIM_CHECK, code_named};
+use pam_room::Call;
+use pam_room::item_store::Items;
 
-/// `pam_debug(8)`: returns the code that an argument names, one argument for each function and two
-/// for chauthtok: `auth=`, `cred=`, `acct=`, `prechauthtok=`, `chauthtok=`, `open_session=`,
-/// `close_session=`. SUCCESS if the argument is missing or names no code.
-#[derive(Drop)]
-pub struct Debug;
+/// What `Debug` returns.
+pub struct DebugRules;
 
-impl Debug {
-    /// Creates the module, which has no state.
-    pub fn new() -> Self {
-        Debug
-    }
-}
+impl AtOnce for DebugRules {
+    ghost label = { codes "pam_debug" };
 
-impl Module for Debug {
-    ghost label = { λ _. codes "pam_debug" };
+    ghost code_of = { λ call items caller. debug_code call };
 
-    ghost plays = { λ _. debug_plays };
-
-    ghost note = { λ _. length_note };
-
-    ghost breaks = { λ _. never_breaks };
-
-    fn name(&self) -> &[u8] {
+    fn name() -> &'static [u8] {
         b"pam_debug"
     }
 
-    fn serve(
-        &self,
-        _alloc: Global,
-        call: &Call,
-        _transaction: &mut Transaction,
-        _process: &mut Process,
-        _conv: &mut dyn Conv,
-        _vault: &mut dyn Vault,
-        _clock: &mut dyn Clock,
-    ) -> Result<Code, NoMemory> {
-        let word = call.value(key_of(call));
-        Ok(code_or_success(word))
-    }
-
-    fn tidy(&self, datum: Datum, status: u32) -> Receipt {
-        spend_by_length(datum, status)
+    fn code_of(call: &Call, _items: &Items, _caller: u32) -> Code {
+        code_or_success(call.value(key_of(call)))
     }
 }
 

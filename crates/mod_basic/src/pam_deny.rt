@@ -1,53 +1,25 @@
 ghost use Rattle.std.specs.Prelude.{◌≡◌, codes};
-ghost use Rattle.pam_room.specs.Module.{length_note, never_breaks};
-ghost use Rattle.mod_basic.specs.Deny.{denial, deny_plays};
+ghost use Rattle.mod_basic.specs.Deny.{denial};
 
-use conv_port::Conv;
-use data_cleanup::{Datum, Receipt};
-use pam_base::{Code, Func, NoMemory};
-use pam_outside::{Clock, Vault};
-use pam_room::{Call, Module, Process, Transaction, spend_by_length};
-use std::alloc::Global;
+use crate::at_once::AtOnce;
+use pam_base::{Code, Func};
+use pam_room::Call;
+use pam_room::item_store::Items;
 
-/// `pam_deny(8)`: the failure of each of the six functions.
-#[derive(Drop)]
-pub struct Deny;
+/// What `Deny` returns.
+pub struct DenyRules;
 
-impl Deny {
-    /// Creates the module, which has no state.
-    pub fn new() -> Self {
-        Deny
-    }
-}
+impl AtOnce for DenyRules {
+    ghost label = { codes "pam_deny" };
 
-impl Module for Deny {
-    ghost label = { λ _. codes "pam_deny" };
+    ghost code_of = { λ call items caller. denial call.func };
 
-    ghost plays = { λ _. deny_plays };
-
-    ghost note = { λ _. length_note };
-
-    ghost breaks = { λ _. never_breaks };
-
-    fn name(&self) -> &[u8] {
+    fn name() -> &'static [u8] {
         b"pam_deny"
     }
 
-    fn serve(
-        &self,
-        _alloc: Global,
-        call: &Call,
-        _transaction: &mut Transaction,
-        _process: &mut Process,
-        _conv: &mut dyn Conv,
-        _vault: &mut dyn Vault,
-        _clock: &mut dyn Clock,
-    ) -> Result<Code, NoMemory> {
-        Ok(denial(call.func))
-    }
-
-    fn tidy(&self, datum: Datum, status: u32) -> Receipt {
-        spend_by_length(datum, status)
+    fn code_of(call: &Call, _items: &Items, _caller: u32) -> Code {
+        denial(call.func)
     }
 }
 

@@ -1,54 +1,25 @@
 ghost use Rattle.std.specs.Prelude.{◌≡◌, codes};
-ghost use Rattle.pam_room.specs.Module.{length_note, never_breaks};
-ghost use Rattle.mod_basic.specs.Rootok.{rootok_code, rootok_plays};
+ghost use Rattle.mod_basic.specs.Rootok.{rootok_code};
 
-use conv_port::Conv;
-use data_cleanup::{Datum, Receipt};
-use pam_base::{Code, Func, NoMemory};
-use pam_outside::{Clock, Vault};
-use pam_room::{Call, Module, Process, Transaction, spend_by_length};
-use std::alloc::Global;
+use crate::at_once::AtOnce;
+use pam_base::{Code, Func};
+use pam_room::Call;
+use pam_room::item_store::Items;
 
-/// `pam_rootok(8)`: whether the calling process is root's. setcred returns SUCCESS; session
-/// functions aren't supported.
-#[derive(Drop)]
-pub struct Rootok;
+/// What `Rootok` returns.
+pub struct RootokRules;
 
-impl Rootok {
-    /// Creates the module, which has no state.
-    pub fn new() -> Self {
-        Rootok
-    }
-}
+impl AtOnce for RootokRules {
+    ghost label = { codes "pam_rootok" };
 
-impl Module for Rootok {
-    ghost label = { λ _. codes "pam_rootok" };
+    ghost code_of = { λ call items caller. rootok_code call.func caller };
 
-    ghost plays = { λ _. rootok_plays };
-
-    ghost note = { λ _. length_note };
-
-    ghost breaks = { λ _. never_breaks };
-
-    fn name(&self) -> &[u8] {
+    fn name() -> &'static [u8] {
         b"pam_rootok"
     }
 
-    fn serve(
-        &self,
-        _alloc: Global,
-        call: &Call,
-        _transaction: &mut Transaction,
-        process: &mut Process,
-        _conv: &mut dyn Conv,
-        _vault: &mut dyn Vault,
-        _clock: &mut dyn Clock,
-    ) -> Result<Code, NoMemory> {
-        Ok(rootok_code(call.func, process.caller))
-    }
-
-    fn tidy(&self, datum: Datum, status: u32) -> Receipt {
-        spend_by_length(datum, status)
+    fn code_of(call: &Call, _items: &Items, caller: u32) -> Code {
+        rootok_code(call.func, caller)
     }
 }
 

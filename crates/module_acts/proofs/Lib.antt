@@ -1,3 +1,4 @@
 mod Carrying
 mod Refusing
 mod Talks_on
+mod Deciding

@@ -5,3 +5,4 @@ pub mod Returns
 pub mod Steps
 pub mod OnlyTalks
 pub mod Uncheck
+pub mod Seen

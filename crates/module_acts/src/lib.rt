@@ -6,8 +6,11 @@
 
 mod asking;
 mod changing;
+mod check;
+mod check_module;
 mod ending;
 pub mod laws;
+mod seen;
 mod speech;
 mod uncheck;
 
@@ -15,6 +18,9 @@ pub use account_files;
 pub use account_files::{data_cleanup, pam_room};
 pub use asking::{exchange, require_token, require_user};
 pub use changing::{answer_and_keep, request_delay, set_token};
+pub use check::Check;
+pub use check_module::CheckModule;
 pub use ending::ended;
+pub use seen::{Seen, account_of};
 pub use speech::{show, user_of};
 pub use uncheck::code_unchecked;

@@ -1,52 +1,35 @@
 ghost use Rattle.std.specs.Prelude.{codes};
-ghost use Rattle.handle_tests.specs.Fakes.{establisher_plays};
-ghost use Rattle.pam_room.specs.Module.{answered, keeps_files, length_note, never_breaks};
+ghost use Rattle.handle_tests.specs.Fakes.{establisher_code};
+ghost use Rattle.pam_room.specs.Module.{answered, keeps_files, length_note};
 
 use conv_port::Conv;
 use data_cleanup::{Datum, Receipt};
-use mod_basic::Probe;
+use mod_basic::{AtOnce, AtOnceModule, Probe};
 use pam_base::{Code, NoMemory};
 use pam_outside::{Clock, Vault};
+use pam_room::item_store::Items;
 use pam_room::{Call, Module, Process, Transaction, laws, spend_by_length};
 use std::alloc::Global;
 use std::test::Fail;
 
 // Answers whether it is called with PAM_ESTABLISH_CRED.
-#[derive(Drop)]
 struct Establisher;
 
-impl Module for Establisher {
-    ghost label = { λ _. codes "establisher" };
+impl AtOnce for Establisher {
+    ghost label = { codes "establisher" };
 
-    ghost plays = { λ _. establisher_plays };
+    ghost code_of = { λ call items caller. establisher_code call };
 
-    ghost note = { λ _. length_note };
-
-    ghost breaks = { λ _. never_breaks };
-
-    fn name(&self) -> &[u8] {
+    fn name() -> &'static [u8] {
         b"establisher"
     }
 
-    fn serve(
-        &self,
-        _alloc: Global,
-        call: &Call,
-        _transaction: &mut Transaction,
-        _process: &mut Process,
-        _conv: &mut dyn Conv,
-        _vault: &mut dyn Vault,
-        _clock: &mut dyn Clock,
-    ) -> Result<Code, NoMemory> {
+    fn code_of(call: &Call, _items: &Items, _caller: u32) -> Code {
         if call.has_flag(2) {
-            Ok(Code::Success)
+            Code::Success
         } else {
-            Ok(Code::CredErr)
+            Code::CredErr
         }
-    }
-
-    fn tidy(&self, datum: Datum, status: u32) -> Receipt {
-        spend_by_length(datum, status)
     }
 }
 
@@ -96,7 +79,7 @@ impl Module for Forgetful {
 /// The modules of the tests: these two, and pam_probe, which sets data too.
 pub fn fakes(alloc: Global) -> Result<Vec<Box<dyn Module>>, Fail> {
     let mut mods: Vec<Box<dyn Module>> = Vec::new(alloc);
-    mods.push(Box::new(alloc, Establisher)?)?;
+    mods.push(Box::new(alloc, AtOnceModule::<Establisher>::new())?)?;
     mods.push(Box::new(alloc, Forgetful)?)?;
     mods.push(Box::new(alloc, Probe::new())?)?;
     Ok(mods)

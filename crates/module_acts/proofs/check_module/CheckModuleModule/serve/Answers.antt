@@ -1,0 +1,17 @@
+use Rattle.account_files.specs.pam_room.specs.Plain.{plain_call}
+use Rattle.account_files.specs.Tells.{clock_of, conv_of, vault_of}
+use Rattle.module_acts.proofs.Deciding.{decided}
+use Rattle.module_acts.proofs.check_module.CheckModuleModule.serve.Goals as goal
+
+pub returns-in-Some-clause-told : goal.returns-in-Some-clause-told
+returns-in-Some-clause-told g c = λ told.
+    c.plays_so.ensures (plain_call c.args.call.now) _ _ c.in-Some.code (rw (← c.in-Some.ensures) (c.act_steps.ensures.answers _ _ _))
+
+pub returns-in-None-clause-told : goal.returns-in-None-clause-told
+returns-in-None-clause-told g c = λ told.
+    let vault = c.args.vault.now in
+    let clock = c.args.clock.now in
+    let vault_tells = (goal.Vault-dyn g vault).vault_tells vault.1 in
+    let clock_tells = (goal.Clock-dyn g clock).clock_tells clock.1 in
+    decided _ (plain_call c.args.call.now) _ _ _ _ c.ended.result c.in-None.ensures (c.plays_so.ensures _ _ _)
+    (c.ended.ensures.finished _ _ _ (c.ask_and_decide-answer.ensures.told (conv_of _ vault_tells clock_tells told) (vault_of _ vault_tells clock_tells told) (clock_of _ vault_tells clock_tells told)))

@@ -1,0 +1,44 @@
+ghost use Rattle.std.specs.Prelude.{◌≡◌, ◌≢◌, None, IsTrue, IfOk, OnOk};
+ghost use Rattle.account_files.specs.Accounts.{account_in, known_passwds};
+ghost use Rattle.account_files.specs.Act.{LooksTo, finds_account};
+ghost use Rattle.account_files.specs.Found.{plain_account};
+ghost use Rattle.module_acts.specs.Seen.{user_seen};
+
+use crate::speech::user_of;
+use account_files::pam_room::{Call, Process, Transaction};
+use account_files::{Account, Accounts};
+use pam_base::NoMemory;
+use pam_outside::Vault;
+use std::alloc::Global;
+
+/// What a module has that only decides: its call, the transaction and the process.
+#[derive(Clone, Copy)]
+pub struct Seen<'a> {
+    pub alloc: Global,
+    pub call: &'a Call<'a>,
+    pub transaction: &'a Transaction,
+    pub process: &'a Process,
+}
+
+/// The user's account. `/etc/passwd` is read here, unless it was read before.
+pub fn account_of(
+    seen: &Seen,
+    accounts: &mut Accounts,
+    vault: &mut dyn Vault,
+) -> Result<Account, NoMemory>
+    requires { seen.now.transaction.now.items.user ≢ None }
+    ensures tells { vault_tells vault.new ≡ vault_tells vault.old }
+    ensures files { IsTrue (vault_tells vault.old) →
+        (vault_holds vault.new).files ≡ (vault_holds vault.old).files }
+    ensures told { IsTrue (vault_tells vault.old) →
+        IfOk result (λ account. LooksTo (finds_account (user_seen seen.now))
+        (plain_account account) seen.now.process.now accounts.old (vault_holds vault.old)
+        accounts.new (vault_holds vault.new)) }
+    ensures read { OnOk result (accounts.new.passwds ≢ None) }
+    ensures account { IfOk result (λ account. plain_account account
+        ≡ account_in (user_seen seen.now) (known_passwds accounts.new)) }
+{
+    accounts.read_passwds(seen.alloc, vault, seen.process)?;
+    let account = accounts.account(seen.alloc, user_of(seen.transaction))?;
+    Ok(account)
+}
